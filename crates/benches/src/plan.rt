@@ -80,7 +80,7 @@ impl<R: Print> Subject<R> for TwoPlans {
         match call {
             Call::Choice => lists_of(&self.spread, ROUND),
             Call::Place => places_in(&self.rows),
-            Call::Fill(task) => u64::from(self.whole.fill(*task, 2, 4_099, &mut self.out).is_ok()),
+            Call::Fill(task) => u64::from(self.whole.fill(*task, 4_099, 2, &mut self.out).is_ok()),
             Call::Set => set(&mut self.out),
             Call::Copy => copy(&mut self.out, &self.other),
             Call::Counts(pages) => counts_of(&self.whole, *pages),
@@ -119,7 +119,7 @@ fn copy(out: &mut [u8], other: &[u8]) -> u64 {
 fn counts_of(plan: &Plan, pages: u64) -> u64 {
     let mut sum = 0u64;
     for place in 0..COUNTS {
-        if let Ok(counts) = plan.counts(1, 2, black_box(4_099 + place), pages) {
+        if let Ok(counts) = plan.counts(1, black_box(4_099 + place), pages, 2) {
             sum = sum.wrapping_add(counts[0]);
         }
     }

@@ -91,10 +91,10 @@ module _ (machine : Hardware) (plan : PlanData) (history : List Command)
             (stands.unmapped task page cpu f) in cc)
       ]
 
-  pub counts-meant : (task cpu first pages node : ℕ) → cpu < plan.nodes
-      → planned_count plan task cpu first pages node ≡ meant_count machine history task cpu first
-      pages node
-  counts-meant task cpu first pages node lt =
+  pub counts-meant : (task first pages cpu node : ℕ) → cpu < plan.nodes
+      → planned_count plan task first pages cpu node ≡ meant_count machine history task first pages
+      cpu node
+  counts-meant task first pages cpu node lt =
       shift (λ page. is_number node (planned_first plan task page cpu))
       (λ page. is_mapped history page && eqb (first_node machine history task page cpu) node)
       first first pages (λ k short. go (first + k))

@@ -14,7 +14,7 @@ first_node machine history task page cpu = slice_index (node_list machine histor
 
 -- how many pages of a span are mapped and have this node as the first of their fallback list
 abbrev pub meant_count : Hardware → List Command → ℕ → ℕ → ℕ → ℕ → ℕ → ℕ
-meant_count machine history task cpu first pages node =
+meant_count machine history task first pages cpu node =
     count_pages (λ page. is_mapped history page
     && (first_node machine history task page cpu == node)) first pages
 

@@ -36,10 +36,10 @@ pub fn every_plan()
         → planned_first plan task page cpu ≡ Some node
         → (is_mapped history page ≡ true) × (node ≡ first_node machine history task page cpu) }
     ensures counts { (machine : Hardware) (plan : PlanData) (history : List Command)
-        (task cpu first pages node : ℕ)
+        (task first pages cpu node : ℕ)
         → PlanStandsFor machine plan history → cpu < plan.nodes
-        → planned_count plan task cpu first pages node
-        ≡ meant_count machine history task cpu first pages node }
+        → planned_count plan task first pages cpu node
+        ≡ meant_count machine history task first pages cpu node }
     ensures span { (machine : Hardware) (plan : PlanData) (history : List Command)
         (first pages cpu : ℕ) (refusal : PlaceRefusal)
         → PlanStandsFor machine plan history

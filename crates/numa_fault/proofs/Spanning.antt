@@ -50,7 +50,7 @@ module _ (frames : List ℕ) (machine : Hardware) (history : List Command) (span
 
 -- a span that stands is not refused
 pub not-refused : (machine : Hardware) (history : List Command) (cpu first pages : ℕ)
-    → SpanStands machine history cpu first pages → (refusal : PlaceRefusal)
+    → SpanStands machine history first pages cpu → (refusal : PlaceRefusal)
     → SpanIsRefused machine history first pages cpu refusal → ⊥
 not-refused machine history cpu first pages stands BadCpu refused = let known = stands.cpu_known in
     absurd (omega arith)

@@ -23,7 +23,7 @@ request_at span k = record { task = span.task; page = span.first + k; cpu = span
 
 -- nothing refuses the span: its cpu is a node of the machine, and each of its pages is mapped
 abbrev pub Stands : Hardware → List Command → Span → Type 0
-Stands machine history span = SpanStands machine history span.cpu span.first span.pages
+Stands machine history span = SpanStands machine history span.first span.pages span.cpu
 
 -- why the span is refused: its cpu is none of the machine's nodes, or else some page isn't mapped
 abbrev pub IsRefused : Hardware → List Command → Span → PlaceRefusal → Type 0

@@ -20,9 +20,9 @@ use std::alloc::Global;
 #[derive(Clone, Copy, Drop)]
 pub struct Span {
     pub task: u32,
-    pub cpu: u32,
     pub first: u64,
     pub pages: usize,
+    pub cpu: u32,
 }
 
 /// Places the pages of a span, whose lists begin with these nodes, up to the first one for which no
@@ -84,7 +84,7 @@ fn place_span(
         seat.old seat.new out.old.items out.new.items result }
 {
     let version = view.version();
-    match view.counts(span.task, span.cpu, span.first, span.pages as u64) {
+    match view.counts(span.task, span.first, span.pages as u64, span.cpu) {
         Ok(_counts) => {}
         Err(PlaceRefusal::BadCpu) => return Err(SpanRefusal::BadCpu),
         Err(PlaceRefusal::Unmapped) => return Err(SpanRefusal::Unmapped(version)),
@@ -95,7 +95,7 @@ fn place_span(
     let Ok(mut choices) = Vec::from_elem(alloc, 0u8, span.pages) else {
         return Err(SpanRefusal::NoMemory);
     };
-    let Ok(()) = view.fill(span.task, span.cpu, span.first, choices.as_mut_slice()) else {
+    let Ok(()) = view.fill(span.task, span.first, span.cpu, choices.as_mut_slice()) else {
         unreachable!()
     };
     let done = place_each(view, pools, seat, span, choices.as_slice(), out);

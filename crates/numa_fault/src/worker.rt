@@ -123,14 +123,14 @@ impl FaultWorker {
         alloc: Global,
         pools: &Pools,
         task: u32,
-        cpu: u32,
         first: u64,
         pages: usize,
+        cpu: u32,
         out: &mut Vec<Placement>,
     ) -> Result<u64, SpanRefusal>
         requires { self.old.seat.table ≡ pools.now.table }
         ensures fault { FaultsOnSpan pools.now.frames
-            (record { task = task; cpu = cpu; first = first; pages = pages })
+            (record { task = task; first = first; pages = pages; cpu = cpu })
             (parts_of self.old) (parts_of self.new) out.old.items out.new.items result }
         ensures table { self.new.seat.table ≡ self.old.seat.table }
         ensures kept { (self.new.kept ≡ self.old.kept) × (self.new.room ≡ self.old.room) }
@@ -140,9 +140,9 @@ impl FaultWorker {
         };
         let span = Span {
             task,
-            cpu,
             first,
             pages,
+            cpu,
         };
         let (reader, answer) = fault_span_by(reader, alloc, pools, &mut self.seat, span, out);
         self.reader = Some(reader);

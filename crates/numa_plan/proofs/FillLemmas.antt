@@ -72,10 +72,10 @@ pub counted_more : (plan : PlanData) (task cpu first page count : ℕ) (old new 
     (found : Found) (rule : RuleData)
     → first ≤ page → count ≤ found.left → IsAt plan.runs page found
     → rule ≡ rule_for plan task found.rule
-    → CountsFirsts plan task cpu first (page - first) old
+    → CountsFirsts plan task first (page - first) cpu old
     → ((node : ℕ) → node < 256 → get_or new node 0 ≡ get_or old node 0 + count_pages
     (λ k. eqb (first_of rule cpu k) node) found.index count)
-    → CountsFirsts plan task cpu first (page + count - first) new
+    → CountsFirsts plan task first (page + count - first) cpu new
 counted_more plan task cpu first page count old new found rule low short at is before here node
     small =
     let test : ℕ → Bool = λ page. is_number node (planned_first plan task page cpu) in
@@ -103,7 +103,7 @@ mapped_more runs first page count found low short at before q from to =
 -- no node has more pages than there are
 pub counted_room : (plan : PlanData) (task cpu first page count : ℕ) (counts : List ℕ)
     (found : Found) → first ≤ page → count ≤ found.left → IsAt plan.runs page found
-    → CountsFirsts plan task cpu first (page - first) counts → (node : ℕ) → node < 256
+    → CountsFirsts plan task first (page - first) cpu counts → (node : ℕ) → node < 256
     → get_or counts node 0 + count < 2 ^ 64
 counted_room plan task cpu first page count counts found low short at before node small =
     omega (
@@ -116,7 +116,7 @@ counted_room plan task cpu first page count counts found low short at before nod
 -- nothing is counted yet
 pub counted_none : (plan : PlanData) (task cpu first : ℕ) (counts : List ℕ)
     → ((node : ℕ) → node < 256 → get_or counts node 0 ≡ 0)
-    → CountsFirsts plan task cpu first (first - first) counts
+    → CountsFirsts plan task first (first - first) cpu counts
 counted_none plan task cpu first counts none node small =
     omega (
       arith,

@@ -56,13 +56,13 @@ is_number number (Some other) = other == number
 
 -- how many pages of a span have this node as the first of their list
 abbrev pub planned_count : PlanData → ℕ → ℕ → ℕ → ℕ → ℕ → ℕ
-planned_count plan task cpu first pages node =
+planned_count plan task first pages cpu node =
     count_pages (λ page. is_number node (planned_first plan task page cpu)) first pages
 
 -- the count of each node is that of the pages of a span which have it as the first of their list
 abbrev pub CountsFirsts : PlanData → ℕ → ℕ → ℕ → ℕ → List ℕ → Type 0
-CountsFirsts plan task cpu first pages counts = (node : ℕ) → node < 256 → slice_index counts node
-    ≡ planned_count plan task cpu first pages node
+CountsFirsts plan task first pages cpu counts = (node : ℕ) → node < 256 → slice_index counts node
+    ≡ planned_count plan task first pages cpu node
 
 -- the first cause that refuses a page
 abbrev pub place_refusal : PlanData → ℕ → ℕ → Option PlaceRefusal

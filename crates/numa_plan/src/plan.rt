@@ -178,7 +178,7 @@ impl Plan {
     /// # Errors
     /// `BadCpu`: the plan has no node `cpu`, even if the span has no pages; else `Unmapped`: a page
     /// of the span has no run. Then nothing has been written.
-    pub fn fill(&self, task: u32, cpu: u32, first: u64, out: &mut [u8]) -> Result<(), PlaceRefusal>
+    pub fn fill(&self, task: u32, first: u64, cpu: u32, out: &mut [u8]) -> Result<(), PlaceRefusal>
         ensures ok { OnOk result ((cpu < self.now.nodes)
             × EachIndex out.new (λ k. planned_first self.now task (first + k) cpu
             ≡ Some (slice_index out.new k))) }
@@ -216,10 +216,10 @@ impl Plan {
     /// # Errors
     /// `BadCpu`: the plan has no node `cpu`, even if the span has no pages; else `Unmapped`: a page
     /// of the span has no run.
-    pub fn counts(&self, task: u32, cpu: u32, first: u64, pages: u64) -> Result<Tally, PlaceRefusal>
+    pub fn counts(&self, task: u32, first: u64, pages: u64, cpu: u32) -> Result<Tally, PlaceRefusal>
         ensures ok { IfOk result (λ counts. (cpu < self.now.nodes)
             × IsMapped self.now.runs first pages
-            × CountsFirsts self.now task cpu first pages counts) }
+            × CountsFirsts self.now task first pages cpu counts) }
         ensures err { IfErr result (λ refusal. RefusesSpan self.now first pages cpu refusal) }
     {
         if cpu >= self.nodes {

@@ -42,14 +42,14 @@ module _ (machine : Hardware) (plan : PlanData) (history : List Command)
     (stands : PlanStandsFor machine plan history) (apart : AreApart 0 plan.runs)
     (cpu first pages : ℕ) (known : cpu < plan.nodes) where
   pub span-stands : ((k : ℕ) → k < pages → is_mapped history (first + k) ≡ true)
-      → SpanStands machine history cpu first pages
+      → SpanStands machine history first pages cpu
   span-stands mapped = record {
     cpu_known = subst (λ (n : ℕ). cpu < n) stands.nodes known;
     mapped = mapped;
     low = λ k l. mapped-low machine plan history stands apart (first + k) cpu known (mapped k l);
   }
 
-  pub span-judged : IsMapped plan.runs first pages → SpanStands machine history cpu first pages
+  pub span-judged : IsMapped plan.runs first pages → SpanStands machine history first pages cpu
   span-judged all =
       span-stands (λ k l. sym (run-mapped machine plan history stands (first + k) cpu known)
       ∙ all (first + k) (omega arith) (omega arith))

@@ -6,7 +6,7 @@ use Rattle.numa_space.specs.declared.command.Command.{Command}
 
 -- the faulting node is one of the machine's, and each page of the span is mapped; so each lies
 -- below page 2^35
-pub record SpanStands (machine : Hardware) (history : List Command) (cpu first pages : ℕ)
+pub record SpanStands (machine : Hardware) (history : List Command) (first pages cpu : ℕ)
     : Type 0 where
   pub cpu_known : cpu < machine.nodes
   pub mapped : (k : ℕ) → k < pages → is_mapped history (first + k) ≡ true

@@ -121,11 +121,11 @@ impl PlanView {
     /// # Errors
     /// `BadCpu`: the machine has no node `cpu`, even if the span has no pages; else `Unmapped`: a
     /// page of the span isn't mapped in this version. Then nothing has been written.
-    pub fn fill(&self, task: u32, cpu: u32, first: u64, out: &mut [u8]) -> Result<(), PlaceRefusal>
+    pub fn fill(&self, task: u32, first: u64, cpu: u32, out: &mut [u8]) -> Result<(), PlaceRefusal>
         ensures ok { OnOk result (EachIndex out.new (λ k. slice_index out.new k
             ≡ first_node self.now.desk.machine self.now.history task (first + k) cpu)) }
         ensures stands { OnOk result
-            (SpanStands self.now.desk.machine self.now.history cpu first (length out.new)) }
+            (SpanStands self.now.desk.machine self.now.history first (length out.new) cpu) }
         ensures lists { OnOk result (EachIndex out.new (λ k.
             IsNodeList (allowed_nodes self.now.desk.machine self.now.history)
             (node_list self.now.desk.machine self.now.history task (first + k) cpu))) }
@@ -137,7 +137,7 @@ impl PlanView {
         let issue: &Issue = &self.reading.get().issue;
         // Tells the proof that the plan's runs are disjoint and end by page 2^35.
         let _ = issue.plan.run_count();
-        issue.plan.fill(task, cpu, first, out)?;
+        issue.plan.fill(task, first, cpu, out)?;
         Ok(())
     }
 
@@ -147,11 +147,11 @@ impl PlanView {
     /// # Errors
     /// `BadCpu`: the machine has no node `cpu`, even if the span has no pages; else `Unmapped`: a
     /// page of the span isn't mapped in this version.
-    pub fn counts(&self, task: u32, cpu: u32, first: u64, pages: u64) -> Result<Tally, PlaceRefusal>
+    pub fn counts(&self, task: u32, first: u64, pages: u64, cpu: u32) -> Result<Tally, PlaceRefusal>
         ensures ok { IfOk result (λ counts. (node : ℕ) → node < 256 → slice_index counts node
-            ≡ meant_count self.now.desk.machine self.now.history task cpu first pages node) }
+            ≡ meant_count self.now.desk.machine self.now.history task first pages cpu node) }
         ensures stands { OnOk result
-            (SpanStands self.now.desk.machine self.now.history cpu first pages) }
+            (SpanStands self.now.desk.machine self.now.history first pages cpu) }
         ensures err { IfErr result (λ refusal. SpanIsRefused
             self.now.desk.machine self.now.history first pages cpu refusal) }
     {
@@ -159,7 +159,7 @@ impl PlanView {
         let issue: &Issue = &self.reading.get().issue;
         // Tells the proof that the plan's runs are disjoint and end by page 2^35.
         let _ = issue.plan.run_count();
-        let counts = issue.plan.counts(task, cpu, first, pages)?;
+        let counts = issue.plan.counts(task, first, pages, cpu)?;
         Ok(counts)
     }
 

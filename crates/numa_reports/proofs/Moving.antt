@@ -55,7 +55,7 @@ filled-pairs : (before after : PlanData) (task cpu first : ℕ) (old new : List 
     → ((k : ℕ) → k < n → planned_first before task (first + k) cpu ≡ Some (get_or old k 0))
     → ((k : ℕ) → k < n → planned_first after task (first + k) cpu ≡ Some (get_or new k 0))
     → count_pages (λ k. eqb (get_or old k 0) from && eqb (get_or new k 0) to) 0 n
-    ≡ planned_moves before after task cpu first n from to
+    ≡ planned_moves before after task first n cpu from to
 filled-pairs before after task cpu first old new n from to filled filled' =
     shift (λ k. eqb (get_or old k 0) from && eqb (get_or new k 0) to)
     (λ page. is_number from (planned_first before task page cpu)
@@ -68,7 +68,7 @@ pub filled-moves : (before after : PlanData) (task cpu first : ℕ) (old new : L
     → ((k : ℕ) → k < length old → planned_first before task (first + k) cpu ≡ Some (get_or old k 0))
     → ((k : ℕ) → k < length new → planned_first after task (first + k) cpu ≡ Some (get_or new k 0))
     → (table table' : List ℕ) → AddsMoves table table' (pairs old new)
-    → AddsMoves table table' (planned_moves before after task cpu first n)
+    → AddsMoves table table' (planned_moves before after task first n cpu)
 filled-moves before after task cpu first old new n long long' filled filled' table table' adds from
     to f t =
     let all = filled-pairs before after task cpu first old new n from to
@@ -98,8 +98,8 @@ module _ (machine : Hardware) (plan : PlanData) (history : List Command)
 pub moves-meant : (machine : Hardware) (before after : PlanData) (old new : List Command)
     (task cpu first pages from to : ℕ) → PlanStandsFor machine before old
     → PlanStandsFor machine after new → cpu < machine.nodes
-    → planned_moves before after task cpu first pages from to ≡ meant_moves machine old new task cpu
-    first pages from to
+    → planned_moves before after task first pages cpu from to ≡ meant_moves machine old new task
+    first pages cpu from to
 moves-meant machine before after old new task cpu first pages from to was is lt =
     shift (λ page. is_number from (planned_first before task page cpu)
     && is_number to (planned_first after task page cpu))

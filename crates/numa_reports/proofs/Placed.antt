@@ -32,9 +32,9 @@ module _ (plan : PlanData) (task cpu first : ℕ) (nodes : List ℕ) (n : ℕ) (
     (filled : (k : ℕ) → k < length nodes → planned_first plan task (first + k) cpu
     ≡ Some (get_or nodes k 0)) where
   -- has each node as often as its pages have it first
-  pub filled-places : (node : ℕ) → planned_count plan task cpu first n node ≡ node_count node nodes
+  pub filled-places : (node : ℕ) → planned_count plan task first n cpu node ≡ node_count node nodes
   filled-places node =
-      ap (λ (m : ℕ). planned_count plan task cpu first m node) (sym long)
+      ap (λ (m : ℕ). planned_count plan task first m cpu node) (sym long)
       ∙ counted-span (λ page. is_number node (planned_first plan task page cpu)) node nodes first
       (λ k lt. ap (is_number node) (filled k lt))
 
@@ -81,12 +81,12 @@ few f first n base (x ∷ counts) are =
 
 -- so all nodes have no more pages than there are
 pub few-planned : (plan : PlanData) (task cpu first n : ℕ) (counts : List ℕ) → length counts ≡ 256
-    → CountsFirsts plan task cpu first n counts → sum counts ≤ n
+    → CountsFirsts plan task first n cpu counts → sum counts ≤ n
 few-planned plan task cpu first n counts long are =
     let all : sum counts ≤ count_pages (λ page. at_least 0 (planned_first plan task page cpu)) first
     n = few (λ page. planned_first plan task page cpu) first n 0 counts (λ k lt.
     let place : k ≡ 0 + k = omega arith in
-    are k (omega (arith, long)) ∙ ap (λ (b : ℕ). planned_count plan task cpu first n b) place) in
+    are k (omega (arith, long)) ∙ ap (λ (b : ℕ). planned_count plan task first n cpu b) place) in
     omega (arith, all, count-most (λ page. at_least 0 (planned_first plan task page cpu)) first n)
 
 -- ---- counts that are moved, a node's after another

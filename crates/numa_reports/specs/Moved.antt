@@ -20,7 +20,7 @@ pairs before after from to = count_pages
 -- how many pages of a span have the one node as the first of their list by the first plan, and the
 -- other by the second
 abbrev pub planned_moves : PlanData → PlanData → ℕ → ℕ → ℕ → ℕ → ℕ → ℕ → ℕ
-planned_moves before after task cpu first pages from to =
+planned_moves before after task first pages cpu from to =
     count_pages (λ page. is_number from (planned_first before task page cpu)
     && is_number to (planned_first after task page cpu)) first pages
 
@@ -31,7 +31,7 @@ goes_to machine history task cpu node page =
 
 -- how many pages of a span are mapped before and after, and go from the one node to the other
 abbrev pub meant_moves : Hardware → List Command → List Command → ℕ → ℕ → ℕ → ℕ → ℕ → ℕ → ℕ
-meant_moves machine before after task cpu first pages from to =
+meant_moves machine before after task first pages cpu from to =
     count_pages (λ page. goes_to machine before task cpu from page
     && goes_to machine after task cpu to page) first pages
 
@@ -47,6 +47,6 @@ pub record HasRoomFor (table : List ℕ) (pages : ℕ) : Type 0 where
 
 -- the table has the pages of a span, for each two nodes
 abbrev pub AreMoves : Hardware → List Command → List Command → ℕ → ℕ → ℕ → ℕ → List ℕ → Type 0
-AreMoves machine before after task cpu first pages table =
+AreMoves machine before after task first pages cpu table =
     (from to : ℕ) → from < 256 → to < 256
-    → moves_in table from to ≡ meant_moves machine before after task cpu first pages from to
+    → moves_in table from to ≡ meant_moves machine before after task first pages cpu from to

@@ -16,18 +16,18 @@ AreNone counts = (node : ℕ) → node < 256 → slice_index counts node ≡ 0
 
 -- each node's count has as many more as pages of the span go there first by the plan
 abbrev pub AddsSpan : PlanData → ℕ → ℕ → ℕ → ℕ → List ℕ → List ℕ → Type 0
-AddsSpan plan task cpu first pages old new =
-    Adds old new (planned_count plan task cpu first pages)
+AddsSpan plan task first pages cpu old new =
+    Adds old new (planned_count plan task first pages cpu)
 
 -- each node's count is that of the mapped pages of the span whose fallback list begins with it
 abbrev pub AreFirsts : Hardware → List Command → ℕ → ℕ → ℕ → ℕ → List ℕ → Type 0
-AreFirsts machine history task cpu first pages counts =
+AreFirsts machine history task first pages cpu counts =
     (node : ℕ) → node < 256
-    → slice_index counts node ≡ meant_count machine history task cpu first pages node
+    → slice_index counts node ≡ meant_count machine history task first pages cpu node
 
 -- the policy that serves the task at the range's first page, and how many of its pages each node is
 -- the first for
 pub record IsPrediction (machine : Hardware) (history : List Command) (task cpu : ℕ)
     (range : Run (Option PolicyRecord)) (said : RangePrediction) : Type 0 where
   pub policy : said.policy ≡ resolved_policy machine history task range.first
-  pub counts : AreFirsts machine history task cpu range.first range.pages said.counts
+  pub counts : AreFirsts machine history task range.first range.pages cpu said.counts

@@ -58,13 +58,13 @@ fn add_filled(
     requires same { length new.old ≡ length old.old }
     requires room { HasRoomFor table.old.items (length old.old) }
     ensures ok { OnOk result (AddsMoves table.old.items table.new.items
-        (planned_moves before.now after.now touch.task touch.cpu first (length old.old))) }
+        (planned_moves before.now after.now touch.task first (length old.old) touch.cpu)) }
     ensures entries { length table.new.items ≡ 65536 }
     ensures err { IfErr result
         (RefusesEither before.now after.now first (length old.old) touch.cpu) }
 {
-    before.fill(touch.task, touch.cpu, first, old)?;
-    after.fill(touch.task, touch.cpu, first, new)?;
+    before.fill(touch.task, first, touch.cpu, old)?;
+    after.fill(touch.task, first, touch.cpu, new)?;
     add_pairs(table, old, new);
     Ok(())
 }
@@ -81,7 +81,7 @@ fn add_block(
     requires few { pages ≤ 4096 }
     requires room { HasRoomFor table.old.items pages }
     ensures ok { OnOk result (AddsMoves table.old.items table.new.items
-        (planned_moves before.now after.now touch.task touch.cpu first pages)) }
+        (planned_moves before.now after.now touch.task first pages touch.cpu)) }
     ensures entries { length table.new.items ≡ 65536 }
     ensures err { IfErr result (RefusesEither before.now after.now first pages touch.cpu) }
 {
@@ -111,7 +111,7 @@ pub(crate) fn add_moves(
     ensures ok { (machine : Hardware) (old new : List Command)
         → PlanStandsFor machine before.now old → PlanStandsFor machine after.now new
         → touch.cpu < machine.nodes → OnOk result (AddsMoves table.old.items table.new.items
-        (meant_moves machine old new touch.task touch.cpu span.first span.pages)) }
+        (meant_moves machine old new touch.task span.first span.pages touch.cpu)) }
     ensures entries { length table.new.items ≡ 65536 }
     ensures left { (left : ℕ) → HasRoomFor table.old.items left → span.pages ≤ left
         → OnOk result (HasRoomFor table.new.items (left - span.pages)) }
@@ -137,7 +137,7 @@ pub(crate) fn add_moves(
 pub(crate) fn has_node(plan: &Plan, node: u32) -> bool
     ensures { result ≡ nat_lt node plan.now.nodes }
 {
-    plan.fill(0, node, 0, &mut []).is_ok()
+    plan.fill(0, 0, node, &mut []).is_ok()
 }
 
 /// A table without pages.
@@ -160,14 +160,14 @@ pub fn span_moves(
     before: &Plan,
     after: &Plan,
     task: u32,
-    cpu: u32,
     first: u64,
     pages: u64,
+    cpu: u32,
 ) -> Result<Vec<u64>, ReportError>
     ensures ok { (machine : Hardware) (old new : List Command)
         → PlanStandsFor machine before.now old → PlanStandsFor machine after.now new
         → cpu < machine.nodes
-        → IfOk result (λ table. AreMoves machine old new task cpu first pages table.items) }
+        → IfOk result (λ table. AreMoves machine old new task first pages cpu table.items) }
     ensures entries { IfOk result (λ table. length table.items ≡ 65536) }
     ensures err { (machine : Hardware) (old new : List Command)
         → PlanStandsFor machine before.now old → PlanStandsFor machine after.now new

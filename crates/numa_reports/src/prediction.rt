@@ -46,8 +46,8 @@ pub fn predict_range(
     space: &Space,
     plan: &Plan,
     task: u32,
-    cpu: u32,
     range: &Run<RangeRecord>,
+    cpu: u32,
 ) -> Result<RangePrediction, PlaceRefusal>
     ensures ok { (history : List Command) → StandsFor space.now history
         → PlanStandsFor space.now.machine plan.now history
@@ -57,7 +57,7 @@ pub fn predict_range(
         (SpanIsRefused space.now.machine history range.now.first range.now.pages cpu) }
     ensures bad_cpu { plan.now.nodes ≤ cpu → result ≡ Err BadCpu }
 {
-    let counts = match plan.counts(task, cpu, range.first, range.pages) {
+    let counts = match plan.counts(task, range.first, range.pages, cpu) {
         Ok(counts) => counts,
         Err(refusal) => return Err(refusal),
     };
@@ -123,10 +123,10 @@ fn predict_next<T: TakeRange>(
     requires known { touch.cpu < space.now.machine.nodes }
     requires none { AreNone said.old.counts }
     requires room { HasRoom all.old
-        (planned_count plan.now touch.task touch.cpu range.now.first range.now.pages) }
+        (planned_count plan.now touch.task range.now.first range.now.pages touch.cpu) }
     ensures none { OnOk result (AreNone said.new.counts) }
-    ensures all { OnOk result (AddsSpan plan.now touch.task touch.cpu
-        range.now.first range.now.pages all.old all.new) }
+    ensures all { OnOk result (AddsSpan plan.now touch.task range.now.first
+        range.now.pages touch.cpu all.old all.new) }
     ensures told { (history : List Command) → StandsFor space.now history
         → PlanStandsFor space.now.machine plan.now history → OnOk result
         (ToldOne T.told (IsPrediction space.now.machine history touch.task touch.cpu)
@@ -156,7 +156,7 @@ pub(crate) fn predict_ranges<T: TakeRange>(
     requires known { touch.cpu < space.now.machine.nodes }
     ensures ok { (history : List Command) → StandsFor space.now history
         → PlanStandsFor space.now.machine plan.now history
-        → IfOk result (AreFirsts space.now.machine history touch.task touch.cpu 0 (2 ^ 35)) }
+        → IfOk result (AreFirsts space.now.machine history touch.task 0 (2 ^ 35) touch.cpu) }
     ensures told { (history : List Command) → StandsFor space.now history
         → PlanStandsFor space.now.machine plan.now history → OnOk result (ToldEach T.told
         (IsPrediction space.now.machine history touch.task touch.cpu) space.now.ranges
@@ -192,7 +192,7 @@ pub fn predict_all<T: TakeRange>(
 ) -> Result<[u64; 256], ReportError>
     ensures ok { (history : List Command) → StandsFor space.now history
         → PlanStandsFor space.now.machine plan.now history
-        → IfOk result (AreFirsts space.now.machine history task cpu 0 (2 ^ 35)) }
+        → IfOk result (AreFirsts space.now.machine history task 0 (2 ^ 35) cpu) }
     ensures told { (history : List Command) → StandsFor space.now history
         → PlanStandsFor space.now.machine plan.now history → OnOk result (ToldEach T.told
         (IsPrediction space.now.machine history task cpu) space.now.ranges taker.old taker.new) }

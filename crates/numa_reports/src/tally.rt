@@ -23,12 +23,12 @@ fn count_filled(
 ) -> Result<(), PlaceRefusal>
     requires few { length nodes.old ≤ 64 }
     requires none { AreNone counts.old }
-    ensures ok { OnOk result (CountsFirsts plan.now touch.task touch.cpu
-        range.now.first (length nodes.old) counts.new) }
+    ensures ok { OnOk result (CountsFirsts plan.now touch.task range.now.first
+        (length nodes.old) touch.cpu counts.new) }
     ensures err { IfErr result
         (RefusesSpan plan.now range.now.first (length nodes.old) touch.cpu) }
 {
-    plan.fill(touch.task, touch.cpu, range.first, nodes)?;
+    plan.fill(touch.task, range.first, touch.cpu, nodes)?;
     tally(nodes, counts);
     Ok(())
 }
@@ -41,8 +41,8 @@ pub(crate) fn count_range(
     counts: &mut [u64; 256],
 ) -> Result<(), PlaceRefusal>
     requires { AreNone counts.old }
-    ensures ok { OnOk result (CountsFirsts plan.now touch.task touch.cpu
-        range.now.first range.now.pages counts.new) }
+    ensures ok { OnOk result (CountsFirsts plan.now touch.task range.now.first
+        range.now.pages touch.cpu counts.new) }
     ensures err { IfErr result
         (RefusesSpan plan.now range.now.first range.now.pages touch.cpu) }
 {
@@ -51,7 +51,7 @@ pub(crate) fn count_range(
         let mut nodes = [0u8; FEW];
         return count_filled(plan, touch, range, &mut nodes[..pages as usize], counts);
     }
-    *counts = plan.counts(touch.task, touch.cpu, range.first, pages)?;
+    *counts = plan.counts(touch.task, range.first, pages, touch.cpu)?;
     Ok(())
 }
 

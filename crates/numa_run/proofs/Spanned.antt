@@ -135,7 +135,7 @@ module _ (machine : Hardware) (plan : PlanData) (history : List Command)
       ((span-meant machine plan history stands first pages cpu refusal).0 is)))
 
   pub count-ok : (task first pages cpu : ℕ) (counts : List ℕ) → cpu < plan.nodes
-      → IsMapped plan.runs first pages → CountsFirsts plan task cpu first pages counts
+      → IsMapped plan.runs first pages → CountsFirsts plan task first pages cpu counts
       → counts_answer plan.version (λ node. slice_index counts node) ≡ count_text machine history
       task first pages cpu
   count-ok task first pages cpu counts lt mapped right =
@@ -143,7 +143,7 @@ module _ (machine : Hardware) (plan : PlanData) (history : List Command)
       (λ page low high. sym (run-mapped machine plan history stands page cpu lt)
       ∙ mapped page low high) in
       let agree = counts-agree (λ node. slice_index counts node)
-      (meant_count machine history task cpu first pages)
-      (λ node low. right node low ∙ counts-meant machine plan history stands task cpu first
-      pages node lt) in
+      (meant_count machine history task first pages cpu)
+      (λ node low. right node low ∙ counts-meant machine plan history stands task first
+      pages cpu node lt) in
       rw none (λ i. codes "v" ++ decimal (stands.version i) ++ codes ":" ++ agree i ++ codes "\n")

@@ -62,7 +62,7 @@ span_text machine history task first pages cpu =
 abbrev pub count_text : Hardware → List Command → ℕ → ℕ → ℕ → ℕ → List ℕ
 count_text machine history task first pages cpu =
     unless_refused (span_refusal_of machine history first pages cpu)
-    (counts_answer (length history) (meant_count machine history task cpu first pages))
+    (counts_answer (length history) (meant_count machine history task first pages cpu))
 
 -- ranges, for which no memory is wanted
 abbrev pub ranges_text : Hardware → List Command → List ℕ

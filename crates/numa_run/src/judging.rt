@@ -40,7 +40,7 @@ fn span_refusal(plan: &Plan, task: u32, first: u64, pages: u64, cpu: u32) -> Opt
     ensures { (machine : Hardware) (history : List Command) → PlanStandsFor machine plan.now history
         → result ≡ span_refusal_of machine history first pages cpu }
 {
-    match plan.counts(task, cpu, first, pages) {
+    match plan.counts(task, first, pages, cpu) {
         Ok(_) => None,
         Err(refusal) => Some(refusal),
     }

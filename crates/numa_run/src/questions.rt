@@ -41,7 +41,7 @@ fn say_firsts<W: Write>(plan: &Plan, first: Request, nodes: &mut [u8], output: &
         → Said W.contents output.old output.new
         (span_text machine history first.task first.page (length nodes.old) first.cpu) }
 {
-    match plan.fill(first.task, first.cpu, first.page, nodes) {
+    match plan.fill(first.task, first.page, first.cpu, nodes) {
         Ok(()) => say_nodes(output, plan.version(), nodes),
         Err(refusal) => say_place_refusal(output, refusal),
     }
@@ -75,7 +75,7 @@ pub(crate) fn say_pages<W: Write>(plan: &Plan, first: Request, pages: u64, outpu
         → Said W.contents output.old output.new
         (count_text machine history first.task first.page pages first.cpu) }
 {
-    match plan.counts(first.task, first.cpu, first.page, pages) {
+    match plan.counts(first.task, first.page, pages, first.cpu) {
         Ok(counts) => say_counts(output, plan.version(), &counts),
         Err(refusal) => say_place_refusal(output, refusal),
     }

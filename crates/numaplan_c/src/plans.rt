@@ -192,9 +192,9 @@ pub extern "C" fn np_plan_fill(
 ) -> u32
     ensures { Asked (plan_in plan.old) (plan_in plan.new) result (nodes.new ≡ nodes.old)
         (λ kept. (answer : Result (Unit {0}) PlaceRefusal) × (result ≡ fill_code answer)
-        × Fills (plan_in plan.old) task cpu first answer nodes.old nodes.new) }
+        × Fills (plan_in plan.old) task first cpu answer nodes.old nodes.new) }
 {
-    match plan.fill(alloc, task, cpu, first, nodes) {
+    match plan.fill(alloc, task, first, cpu, nodes) {
         None => Code::Closed as u32,
         Some(answer) => fill_code(answer),
     }
@@ -214,13 +214,13 @@ pub extern "C" fn np_plan_counts(
     ensures same { plan_in plan.new ≡ plan_in plan.old }
     ensures closed { plan_in plan.old ≡ None → (result ≡ 1) × (counts.new ≡ counts.old) }
     ensures ok { result ≡ 0 → (kept : PlanData) → plan_in plan.old ≡ Some kept →
-        Counts (plan_in plan.old) task cpu first pages (Ok counts.new.pages) }
+        Counts (plan_in plan.old) task first pages cpu (Ok counts.new.pages) }
     ensures err { result ≢ 0 → counts.new ≡ counts.old }
     ensures refused { result ≢ 0 → (kept : PlanData) → plan_in plan.old ≡ Some kept →
         (cause : PlaceRefusal) × (result ≡ place_code cause)
-        × Counts (plan_in plan.old) task cpu first pages (Err cause) }
+        × Counts (plan_in plan.old) task first pages cpu (Err cause) }
 {
-    match plan.counts(alloc, task, cpu, first, pages) {
+    match plan.counts(alloc, task, first, pages, cpu) {
         None => Code::Closed as u32,
         Some(Ok(found)) => {
             counts.pages = found;

@@ -32,15 +32,15 @@ Chooses plan task page cpu (Err (refused.Place cause)) old new =
 -- the same of the first nodes of a span
 abbrev pub Fills : Option PlanData → ℕ → ℕ → ℕ → Result (Unit {0}) PlaceRefusal → List ℕ → List ℕ
     → Type 0
-Fills None task cpu first answer old new = Unit {0}
-Fills (Some plan) task cpu first (Ok done) old new = (cpu < plan.nodes)
+Fills None task first cpu answer old new = Unit {0}
+Fills (Some plan) task first cpu (Ok done) old new = (cpu < plan.nodes)
     × EachIndex new (λ k. planned_first plan task (first + k) cpu ≡ Some (slice_index new k))
-Fills (Some plan) task cpu first (Err cause) old new =
+Fills (Some plan) task first cpu (Err cause) old new =
     RefusesSpan plan first (length old) cpu cause × (new ≡ old)
 
 -- and of how many pages have each node first
 abbrev pub Counts : Option PlanData → ℕ → ℕ → ℕ → ℕ → Result (List ℕ) PlaceRefusal → Type 0
-Counts None task cpu first pages answer = Unit {0}
-Counts (Some plan) task cpu first pages (Ok counts) = (cpu < plan.nodes)
-    × IsMapped plan.runs first pages × CountsFirsts plan task cpu first pages counts
-Counts (Some plan) task cpu first pages (Err cause) = RefusesSpan plan first pages cpu cause
+Counts None task first pages cpu answer = Unit {0}
+Counts (Some plan) task first pages cpu (Ok counts) = (cpu < plan.nodes)
+    × IsMapped plan.runs first pages × CountsFirsts plan task first pages cpu counts
+Counts (Some plan) task first pages cpu (Err cause) = RefusesSpan plan first pages cpu cause

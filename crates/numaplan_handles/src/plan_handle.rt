@@ -130,17 +130,17 @@ impl PlanHandle {
         &mut self,
         alloc: Global,
         task: u32,
-        cpu: u32,
         first: u64,
+        cpu: u32,
         nodes: &mut [u8],
     ) -> Option<Result<(), PlaceRefusal>>
         ensures fills { Asks (λ answer.
-            Fills (plan_in self.old) task cpu first answer nodes.old nodes.new)
+            Fills (plan_in self.old) task first cpu answer nodes.old nodes.new)
             (plan_in self.old) result (plan_in self.new) }
         ensures closed { plan_in self.old ≡ None → nodes.new ≡ nodes.old }
     {
         let kept = self.handle.take(alloc)?;
-        let answer = plan_kept(&kept).fill(task, cpu, first, nodes);
+        let answer = plan_kept(&kept).fill(task, first, cpu, nodes);
         self.handle.put(kept);
         Some(answer)
     }
@@ -154,15 +154,15 @@ impl PlanHandle {
         &mut self,
         alloc: Global,
         task: u32,
-        cpu: u32,
         first: u64,
         pages: u64,
+        cpu: u32,
     ) -> Option<Result<[u64; 256], PlaceRefusal>>
-        ensures { Asks (Counts (plan_in self.old) task cpu first pages)
+        ensures { Asks (Counts (plan_in self.old) task first pages cpu)
             (plan_in self.old) result (plan_in self.new) }
     {
         let kept = self.handle.take(alloc)?;
-        let answer = plan_kept(&kept).counts(task, cpu, first, pages);
+        let answer = plan_kept(&kept).counts(task, first, pages, cpu);
         self.handle.put(kept);
         Some(answer)
     }

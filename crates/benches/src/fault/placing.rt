@@ -110,7 +110,7 @@ impl AtPools {
     /// Places `pages` pages by one call; how many are kept then.
     pub fn fault_span(&mut self, pages: usize) -> u64 {
         let first = black_box(FIRST);
-        let _ = self.worker.fault_span(self.alloc, &self.pools, 1, 0, first, pages, &mut self.kept);
+        let _ = self.worker.fault_span(self.alloc, &self.pools, 1, first, pages, 0, &mut self.kept);
         self.kept.len() as u64
     }
 

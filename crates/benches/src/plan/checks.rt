@@ -6,7 +6,7 @@ use std::io;
 /// What `fill` answers for a span of 10,000 pages.
 fn fills(plan: &Plan, task: u32, first: u64) -> u64 {
     let mut out = [9u8; 10_000];
-    let mut sum = match plan.fill(task, 2, first, &mut out) {
+    let mut sum = match plan.fill(task, first, 2, &mut out) {
         Ok(()) => 1,
         Err(_) => 2,
     };
@@ -18,7 +18,7 @@ fn fills(plan: &Plan, task: u32, first: u64) -> u64 {
 
 /// What `counts` answers for a span.
 fn counts(plan: &Plan, task: u32, first: u64, pages: u64) -> u64 {
-    match plan.counts(task, 2, first, pages) {
+    match plan.counts(task, first, pages, 2) {
         Ok(counts) => mixed_counts(&counts),
         Err(_) => 2,
     }

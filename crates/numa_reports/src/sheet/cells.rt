@@ -41,8 +41,8 @@ fn put_cells(
         }
         None => plan.fill(
             touch.task,
-            touch.cpu,
             range.first,
+            touch.cpu,
             &mut nodes[..pages as usize],
         )?,
     }

@@ -154,10 +154,10 @@ fn block_stays(
     old: &mut [u8],
     new: &mut [u8],
 ) -> bool {
-    if before.fill(touch.task, touch.cpu, first, old).is_err() {
+    if before.fill(touch.task, first, touch.cpu, old).is_err() {
         return false;
     }
-    if after.fill(touch.task, touch.cpu, first, new).is_err() {
+    if after.fill(touch.task, first, touch.cpu, new).is_err() {
         return false;
     }
     *old == *new

@@ -38,7 +38,7 @@ fn expect_page(rt: &impl Abort, found: &Plan, wanted: &Plan, page: u64) {
 
 /// How many pages of a span have each node.
 fn counts_of(plan: &Plan, task: u32, first: u64, pages: u64) -> Result<[u64; 256], PlaceRefusal> {
-    plan.counts(task, 0, first, pages)
+    plan.counts(task, first, pages, 0)
 }
 
 /// The counts of a span are alike.

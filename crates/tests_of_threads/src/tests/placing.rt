@@ -49,7 +49,7 @@ impl Placing {
         out: &mut Vec<Placement>,
     ) -> Result<u64, SpanRefusal> {
         self.worker
-            .fault_span(alloc, &self.pools, 1, cpu, first, pages, out)
+            .fault_span(alloc, &self.pools, 1, first, pages, cpu, out)
     }
 
     /// Whether the worker has the placement's frame.

@@ -19,8 +19,8 @@ returns-clause-fill c machine plan history task page cpu node stands lt is =
     fill-meant machine plan history stands task page cpu node lt is
 
 pub returns-clause-counts : goal.returns-clause-counts
-returns-clause-counts c machine plan history task cpu first pages node stands lt =
-    counts-meant machine plan history stands task cpu first pages node lt
+returns-clause-counts c machine plan history task first pages cpu node stands lt =
+    counts-meant machine plan history stands task first pages cpu node lt
 
 pub returns-clause-span : goal.returns-clause-span
 returns-clause-span c machine plan history first pages cpu refusal stands =

@@ -7,7 +7,7 @@ invariant-loop-page l = record {
   low : l.first ≤ l.page;
   high : l.page ≤ l.end;
   counted : AddsMoves l.fn.table.items l.table.items
-      (planned_moves l.before l.after l.touch.task l.touch.cpu l.first (l.page - l.first));
+      (planned_moves l.before l.after l.touch.task l.first (l.page - l.first) l.touch.cpu);
   entries : length l.table.items ≡ 65536;
 }
 

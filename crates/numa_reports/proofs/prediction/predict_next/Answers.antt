@@ -29,8 +29,8 @@ returns-clause-told g c history stands planned =
               arith,
               c.in_ok-count_range.ensures.ok node small,
               counts-meant c.args.space.now.machine c.args.plan.now history planned
-                  c.args.touch.task
-                  c.args.touch.cpu c.args.range.now.first c.args.range.now.pages node lt,
+                  c.args.touch.task c.args.range.now.first c.args.range.now.pages
+                  c.args.touch.cpu node lt,
             );
       },
       c.in_ok-take.ensures.tells,

@@ -21,5 +21,5 @@ returns-in-Err g c =
     (span-err machine c.args.plan.now history stands c.args.first.page c.args.pages
     c.args.first.cpu c.in-Err.refusal
     (counts_answer (length history)
-    (meant_count machine history c.args.first.task c.args.first.cpu c.args.first.page
-    c.args.pages)) c.in-Err.ensures.err) c.say_place_refusal.ensures
+    (meant_count machine history c.args.first.task c.args.first.page c.args.pages
+    c.args.first.cpu)) c.in-Err.ensures.err) c.say_place_refusal.ensures

@@ -8,7 +8,7 @@ invariant-loop-todo l = record {
   place : l.page + l.todo ≡ l.first + l.pages;
   low : l.first ≤ l.page;
   mapped : IsMapped l.self.runs l.first (l.page - l.first);
-  counted : CountsFirsts l.self l.task l.cpu l.first (l.page - l.first) l.counts;
+  counted : CountsFirsts l.self l.task l.first (l.page - l.first) l.cpu l.counts;
   long : length l.counts ≡ 256;
 }
 
