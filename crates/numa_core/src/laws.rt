@@ -23,14 +23,15 @@ ghost use Rattle.numa_space.specs.declared.placement.Placement.{Placement};
 /// list with an owner; between two Won of one frame the first winner gives the frame back; and the
 /// versions in the Won and Exhausted of one worker never decrease.
 pub fn every_execution()
-    ensures right { (s : Setup) (later earlier : List CoreStep) (m : CoreStep) (placement : Placement) →
+    ensures right { (s : Setup) (later earlier : List CoreStep) (m : CoreStep)
+        (placement : Placement) →
         IsExecution s (later ++ m ∷ earlier) → m.answer ≡ Ok (CoreReply.Won placement) →
         (w : ℕ) × (m.event ≡ Event.Try w placement.frame) × IsRightPlacement s w placement earlier }
     ensures exhausted { (s : Setup) (later earlier : List CoreStep) (m : CoreStep) (version : ℕ) →
         IsExecution s (later ++ m ∷ earlier) → m.answer ≡ Ok (CoreReply.Exhausted version) →
         (w : ℕ) × (worker_of m.event ≡ Some w) × IsExhausted s w version (m ∷ earlier) }
-    ensures given_back { (s : Setup) (later between earlier : List CoreStep) (first second : CoreStep)
-        (v w : ℕ) (frame : Frame) →
+    ensures given_back { (s : Setup) (later between earlier : List CoreStep)
+        (first second : CoreStep) (v w : ℕ) (frame : Frame) →
         IsExecution s (later ++ second ∷ (between ++ first ∷ earlier)) → IsWin v frame first →
         IsWin w frame second →
         list_any (gives_back v frame) between ≡ true }

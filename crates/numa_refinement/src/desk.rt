@@ -43,7 +43,8 @@ pub fn open<R: Wait>(
 /// As `Desk::accept`.
 pub fn accept(desk: &mut Desk, command: &Command) -> Result<u64, Refusal>
     ensures ok { IfOk result (λ version. (s : Setup) (world : World) → IsDeskOf s world desk.old
-        → LeadsTo s world (core_step_of (Event.Accept command.now) (Ok (CoreReply.Accepted version)))
+        → LeadsTo s world
+        (core_step_of (Event.Accept command.now) (Ok (CoreReply.Accepted version)))
         desk.new) }
     ensures err { IfErr result (λ refusal. (s : Setup) (world : World) → IsDeskOf s world desk.old
         → refusal ≢ Refusal.NoMemory
@@ -61,7 +62,8 @@ pub fn publish<R: Wait>(desk: &mut Desk, rt: &R) -> Result<Receipt, NoMemory>
     ensures ok { OnOk result ((s : Setup) (world : World) → IsDeskOf s world desk.old
         → desk.old.pending ≢ []
         → LeadsTo s world
-        (core_step_of Event.Publish (Ok (CoreReply.Published (length (accepted_commands desk.old)))))
+        (core_step_of Event.Publish
+        (Ok (CoreReply.Published (length (accepted_commands desk.old)))))
         desk.new) }
     ensures idle { OnOk result (desk.old.pending ≡ [] → desk.new ≡ desk.old) }
     ensures err { OnErr result ((s : Setup) (world : World) → IsDeskOf s world desk.old

@@ -8,7 +8,8 @@ ghost use Rattle.numa_core.specs.Executions.{CoreStep, IsExhausted, IsExecution}
 ghost use Rattle.numa_core.specs.Executions.{IsRightPlacement, world_of};
 ghost use Rattle.numa_core.specs.Steps.{effect_of, goes_on, going_on, placement_of};
 ghost use Rattle.numa_core.specs.Steps.{put, with_owner};
-ghost use Rattle.numa_core.specs.World.{Setup, World, FrameSearch, opening, frame_search_of, frame_search_after_look};
+ghost use Rattle.numa_core.specs.World.{Setup, World, FrameSearch, opening, frame_search_of};
+ghost use Rattle.numa_core.specs.World.{frame_search_after_look};
 ghost use Rattle.numa_core.specs.World.{may_look, may_try, frame_search_past, owner_of};
 ghost use Rattle.numa_space.specs.declared.event.Event.{Event};
 ghost use Rattle.numa_space.specs.declared.event.CoreReply.{CoreReply};
@@ -22,10 +23,12 @@ ghost use Rattle.numa_pool.specs.declared.view.View.{View};
 ghost use Rattle.numa_space.specs.declared.placement.Placement.{Placement};
 ghost use Rattle.numa_space.specs.declared.request.Request.{Request};
 ghost use Rattle.numa_core.specs.Seats.{fresh};
-ghost use Rattle.numa_refinement.specs.FrameSearches.{IsFrameSearch, TakesTurns, Tells, Turn, steps_of, world_left};
+ghost use Rattle.numa_refinement.specs.FrameSearches.{IsFrameSearch, TakesTurns, Tells, Turn};
+ghost use Rattle.numa_refinement.specs.FrameSearches.{steps_of, world_left};
 ghost use Rattle.numa_refinement.specs.WalkSteps.{IsCoreStep, MayBegin, WalksOn, event_of, told};
 ghost use Rattle.numa_refinement.specs.WalkSteps.{world_after_handover};
-ghost use Rattle.numa_refinement.specs.Moves.{PoolState, IsOpening, Joins, Makes, SeatHolds, Splits};
+ghost use Rattle.numa_refinement.specs.Moves.{PoolState, IsOpening, Joins, Makes, SeatHolds};
+ghost use Rattle.numa_refinement.specs.Moves.{Splits};
 ghost use Rattle.numa_refinement.specs.Plays.{Done, IsPlay, NoneRefused, by_seat};
 ghost use Rattle.numa_refinement.specs.Plays.{pools_of, execution_of, since_of};
 ghost use Rattle.numa_refinement.specs.Tie.{HasMet, HaveMet, IsAt, IsTied, OwnsWhatIsHeld, noted};
@@ -34,18 +37,26 @@ ghost use Rattle.numa_refinement.specs.Tie.{HasMet, HaveMet, IsAt, IsTied, OwnsW
 /// search's, and what the walk may do next the frame search may do. A frame search with a current
 /// node goes on; if each listed node is full it is over, and the reply is Exhausted.
 pub fn walks_are_frame_searches()
-    ensures current { (s : Setup) (frame_search : FrameSearch) (es : List Entry) (n : ℕ) → HasMet frame_search es
+    ensures current { (s : Setup) (frame_search : FrameSearch) (es : List Entry) (n : ℕ)
+        → HasMet frame_search es
         → IsCurrent s.machine.frames es frame_search.nodes n → IsAt s frame_search n }
-    ensures goes_on { (s : Setup) (frame_search : FrameSearch) (es : List Entry) (n : ℕ) → HasMet frame_search es
+    ensures goes_on { (s : Setup) (frame_search : FrameSearch) (es : List Entry) (n : ℕ)
+        → HasMet frame_search es
         → IsCurrent s.machine.frames es frame_search.nodes n
-        → (goes_on s frame_search ≡ CoreReply.Still) × (going_on s frame_search ≡ Some frame_search) }
-    ensures ended { (s : Setup) (frame_search : FrameSearch) (es : List Entry) → HasMet frame_search es
+        → (goes_on s frame_search ≡ CoreReply.Still)
+        × (going_on s frame_search ≡ Some frame_search) }
+    ensures ended { (s : Setup) (frame_search : FrameSearch) (es : List Entry)
+        → HasMet frame_search es
         → AllFull s.machine.frames es frame_search.nodes
-        → (goes_on s frame_search ≡ CoreReply.Exhausted frame_search.version) × (going_on s frame_search ≡ None) }
-    ensures may_look { (s : Setup) (frame_search : FrameSearch) (es : List Entry) (n w : ℕ) → HasMet frame_search es
-        → IsCurrent s.machine.frames es frame_search.nodes n → 64 * w < slice_index s.machine.frames n
+        → (goes_on s frame_search ≡ CoreReply.Exhausted frame_search.version)
+        × (going_on s frame_search ≡ None) }
+    ensures may_look { (s : Setup) (frame_search : FrameSearch) (es : List Entry) (n w : ℕ)
+        → HasMet frame_search es
+        → IsCurrent s.machine.frames es frame_search.nodes n
+        → 64 * w < slice_index s.machine.frames n
         → may_look s frame_search w ≡ true }
-    ensures may_try { (s : Setup) (frame_search : FrameSearch) (es : List Entry) (f : Frame) → HasMet frame_search es
+    ensures may_try { (s : Setup) (frame_search : FrameSearch) (es : List Entry) (f : Frame)
+        → HasMet frame_search es
         → IsNext s.machine.frames es frame_search.nodes f → may_try s frame_search f ≡ true }
 {}
 
@@ -53,13 +64,15 @@ pub fn walks_are_frame_searches()
 /// word of the current node finds taken what a Look at it finds with an owner, and a lost try meets
 /// the frame that a lost Try meets.
 pub fn steps_meet_alike()
-    ensures load { (s : Setup) (world : World) (words : List ℕ) (views : List View) (frame_search : FrameSearch)
+    ensures load { (s : Setup) (world : World) (words : List ℕ) (views : List View)
+        (frame_search : FrameSearch)
         (es : List Entry) (n w : ℕ) → PoolRule s.machine.frames words views
         → OwnsWhatIsHeld world views → HasMet frame_search es
         → w < 64 → IsCurrent s.machine.frames es frame_search.nodes n
         → HasMet (frame_search_after_look s world w frame_search)
         (Entry.Load n w (slice_index words (64 * n + w)) ∷ es) }
-    ensures lost { (frame_search : FrameSearch) (es : List Entry) (f : Frame) → HasMet frame_search es
+    ensures lost { (frame_search : FrameSearch) (es : List Entry) (f : Frame)
+        → HasMet frame_search es
         → HasMet (frame_search_past f frame_search) (Entry.Lost f ∷ es) }
 {}
 
@@ -90,7 +103,8 @@ pub fn load_is_a_look()
     ensures { (s : Setup) (world : World) (since : ℕ → List Entry) (old new : PoolState)
         (id version n w x : ℕ) (frame_search : FrameSearch)
         → WalksOn s world since id frame_search (Entry.Load n w x) old new
-        → IsCoreStep s world version (Event.Look id w) (goes_on s (frame_search_after_look s world w frame_search)) }
+        → IsCoreStep s world version (Event.Look id w)
+        (goes_on s (frame_search_after_look s world w frame_search)) }
 {}
 
 /// A try of a frame that may come next is a Try of the worker, and is answered as the seat found
@@ -99,27 +113,32 @@ pub fn try_is_a_try()
     ensures won { (s : Setup) (world : World) (since : ℕ → List Entry) (old new : PoolState)
         (id version : ℕ) (f : Frame) (frame_search : FrameSearch)
         → WalksOn s world since id frame_search (Entry.Won f) old new
-        → IsCoreStep s world version (Event.Try id f) (CoreReply.Won (placement_of s frame_search f)) }
+        → IsCoreStep s world version (Event.Try id f)
+        (CoreReply.Won (placement_of s frame_search f)) }
     ensures lost { (s : Setup) (world : World) (since : ℕ → List Entry) (old new : PoolState)
         (id version : ℕ) (f : Frame) (frame_search : FrameSearch)
         → WalksOn s world since id frame_search (Entry.Lost f) old new
-        → IsCoreStep s world version (Event.Try id f) (goes_on s (frame_search_past f frame_search)) }
+        → IsCoreStep s world version (Event.Try id f)
+        (goes_on s (frame_search_past f frame_search)) }
 {}
 
 /// After a load or a try the world is tied to the pools as before, and each frame search has met
 /// what the steps found taken.
 pub fn walks_keep_the_tie()
     ensures tied { (s : Setup) (world : World) (since : ℕ → List Entry) (old new : PoolState)
-        (id version : ℕ) (e : Entry) (frame_search : FrameSearch) → WalksOn s world since id frame_search e old new
+        (id version : ℕ) (e : Entry) (frame_search : FrameSearch)
+        → WalksOn s world since id frame_search e old new
         → IsTied s (effect_of s world version (event_of id e)) new }
     ensures met { (s : Setup) (world : World) (since : ℕ → List Entry) (old new : PoolState)
-        (id version : ℕ) (e : Entry) (frame_search : FrameSearch) → WalksOn s world since id frame_search e old new
+        (id version : ℕ) (e : Entry) (frame_search : FrameSearch)
+        → WalksOn s world since id frame_search e old new
         → HaveMet (effect_of s world version (event_of id e)) (noted since id e) }
 {}
 
 /// If its worker is idle, a return of a frame that the seat holds is a Give.
 pub fn return_is_a_give()
-    ensures core_step { (s : Setup) (world : World) (old new : PoolState) (id version : ℕ) (f : Frame)
+    ensures core_step { (s : Setup) (world : World) (old new : PoolState) (id version : ℕ)
+        (f : Frame)
         → IsTied s world old → frame_search_of world id ≡ None → Makes (Entry.Gave f) id old new
         → IsCoreStep s world version (Event.Give id f) CoreReply.Given }
     ensures tied { (s : Setup) (world : World) (old new : PoolState) (id version : ℕ) (f : Frame)
@@ -137,7 +156,8 @@ pub fn begin_starts_a_walk()
         (nodes : List ℕ) → MayBegin s world id version request nodes
         → IsCoreStep s world version (Event.Begin id request)
         (goes_on s (fresh request version nodes)) }
-    ensures frame_search { (s : Setup) (world : World) (id version : ℕ) (request : Request) (nodes : List ℕ)
+    ensures frame_search { (s : Setup) (world : World) (id version : ℕ) (request : Request)
+        (nodes : List ℕ)
         → MayBegin s world id version request nodes
         → frame_search_of (effect_of s world version (Event.Begin id request)) id
         ≡ going_on s (fresh request version nodes) }
@@ -173,7 +193,8 @@ pub fn seats_come_and_go()
 /// version whose list for the request that is: the walk's steps are its Looks and Tries, none is
 /// refused, and the last reply tells what the walk found. Then the worker is idle.
 pub fn a_walk_is_a_frame_search()
-    ensures frame_search { (s : Setup) (first : World) (id version : ℕ) (request : Request) (nodes : List ℕ)
+    ensures frame_search { (s : Setup) (first : World) (id version : ℕ) (request : Request)
+        (nodes : List ℕ)
         (found : Option Frame) (turns : List Turn) → MayBegin s first id version request nodes
         → TakesTurns s id (effect_of s first version (Event.Begin id request)) turns
         → IsWalk s.machine.frames nodes found (steps_of turns)
@@ -183,8 +204,8 @@ pub fn a_walk_is_a_frame_search()
         (found : Option Frame) (turns : List Turn) → MayBegin s first id version request nodes
         → TakesTurns s id (effect_of s first version (Event.Begin id request)) turns
         → IsWalk s.machine.frames nodes found (steps_of turns)
-        → frame_search_of (world_left s id (effect_of s first version (Event.Begin id request)) turns) id
-        ≡ None }
+        → frame_search_of
+        (world_left s id (effect_of s first version (Event.Begin id request)) turns) id ≡ None }
 {}
 
 /// Every interleaving of steps of the seats, in which each seat walks the lists that its worker

@@ -33,8 +33,8 @@ pub enum Otherwise {
     PutsBackWeight,
     /// It accepts allowed nodes of which none has memory, and allows all nodes with memory.
     AllowsAllMemory,
-    /// It accepts an mbind of length 0 before it checks whether mode, flag and nodes go together. By
-    /// the documents that is no command, so [`otherwise_of`] doesn't answer this.
+    /// It accepts an mbind of length 0 before it checks whether mode, flag and nodes go together.
+    /// By the documents that is no command, so [`otherwise_of`] doesn't answer this.
     OverlooksPolicy,
     /// A change of the allowed nodes leaves a policy with other nodes: this one, and perhaps more.
     LeavesNodes(Parted),

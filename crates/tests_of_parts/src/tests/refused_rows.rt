@@ -19,7 +19,8 @@ fn counted(rt: &impl Abort, alloc: Global) -> SharedRows<u32> {
     rows
 }
 
-/// What row is wanted at a place: the place, unless three rows were put in that of rows 300 and 301.
+/// What row is wanted at a place: the place, unless three rows were put in that of rows 300 and
+/// 301.
 fn wanted_at(place: u32, is_put_in: bool) -> u32 {
     match place {
         300..=302 if is_put_in => place.wrapping_sub(293),

@@ -27,8 +27,8 @@ struct Flags {
     leaves: AtomicU64,
 }
 
-/// Holds a view of version 1, which the reader has learnt, until a publish has returned, and a while
-/// longer. The version.
+/// Holds a view of version 1, which the reader has learnt, until a publish has returned, and a
+/// while longer. The version.
 fn hold<R: Wait + Abort + Clock>(rt: &R, reader: PlanReader, receipt: Receipt, flags: &Flags) -> u64
     requires { receipt.desk ≡ reader.desk }
 {
