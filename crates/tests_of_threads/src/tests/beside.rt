@@ -71,7 +71,7 @@ fn submit_all<K: DeskName>(
 /// What the looks of one reader were: how many wrong ones, no entry among them, how many different
 /// versions, and the newest.
 #[derive(Clone, Copy, Drop)]
-struct Tally {
+struct LookCounts {
     wrong: u64,
     versions: u64,
     newest: u64,
@@ -91,7 +91,7 @@ fn meant(version: u64) -> Result<(u8, u8), PlaceRefusal> {
     Ok((first, 1 - first))
 }
 
-impl Tally {
+impl LookCounts {
     /// Whether a look saw what its version means, and none before what was seen.
     fn is_right(&self, seen: Seen) -> bool {
         let (version, row) = seen;
@@ -99,9 +99,9 @@ impl Tally {
     }
 
     /// With one look more.
-    fn and(self, seen: Option<Seen>) -> Tally {
+    fn and(self, seen: Option<Seen>) -> LookCounts {
         let Some(seen) = seen else {
-            return Tally {
+            return LookCounts {
                 wrong: self.wrong.saturating_add(1),
                 ..self
             };
@@ -112,7 +112,7 @@ impl Tally {
         } else {
             0
         };
-        Tally {
+        LookCounts {
             wrong: self.wrong.saturating_add(wrong),
             versions: self.versions.saturating_add(new),
             newest: seen.0,
@@ -121,9 +121,9 @@ impl Tally {
 }
 
 /// Looks until the last submit has returned, and at least `LOOKS` times.
-fn look_on(reader: PlanReader, progress: &Progress) -> (PlanReader, Tally) {
+fn look_on(reader: PlanReader, progress: &Progress) -> (PlanReader, LookCounts) {
     let mut held = reader;
-    let mut tally = Tally {
+    let mut counts = LookCounts {
         wrong: 0,
         versions: 0,
         newest: 0,
@@ -134,10 +134,10 @@ fn look_on(reader: PlanReader, progress: &Progress) -> (PlanReader, Tally) {
         }
         let (back, seen) = look(held);
         held = back;
-        tally = tally.and(seen);
+        counts = counts.and(seen);
         progress.looks.fetch_add(1, Ordering::SeqCst);
     }
-    (held, tally)
+    (held, counts)
 }
 
 /// Looks beside the submits: the last version, and what the looks were. The reader has learnt
@@ -146,19 +146,19 @@ fn look_beside<K: DeskName + Send + Sync>(
     rt: &(impl Threads + Wait + Abort + Sync),
     lock: &SharedDesk<K>,
     reader: PlanReader,
-) -> (u64, Tally) {
+) -> (u64, LookCounts) {
     let progress = Progress {
         looks: AtomicU64::new(0),
         done: AtomicU64::new(0),
     };
     let told = &progress;
-    let ((reader, tally), last) = join(
+    let ((reader, counts), last) = join(
         rt,
         move || look_on(reader, told),
         move || submit_all(rt, lock, told),
     );
     see(rt, reader, Some((SUBMITS, Ok((0, 1)))));
-    (last, tally)
+    (last, counts)
 }
 
 /// The same on a desk that is shared.
@@ -167,18 +167,18 @@ fn run<K: DeskName + Send + Sync>(rt: &(impl Threads + Wait + Abort + Sync), des
 {
     let shared = SharedDesk::<K>::new(desk);
     let reader = shared.reader(rt).expect(rt, "a place");
-    let (last, tally) = look_beside(rt, &shared, reader);
+    let (last, counts) = look_beside(rt, &shared, reader);
     shared.into_desk().end(rt);
-    judge(rt, last, tally);
+    judge(rt, last, counts);
 }
 
 /// Looks at how it went.
-fn judge(rt: &impl Abort, last: u64, tally: Tally) {
-    same(rt, &(last, tally.wrong), &(SUBMITS, 0));
+fn judge(rt: &impl Abort, last: u64, counts: LookCounts) {
+    same(rt, &(last, counts.wrong), &(SUBMITS, 0));
     assert!(rt;
-        tally.versions >= AWAITED,
+        counts.versions >= AWAITED,
         "saw {} versions",
-        tally.versions
+        counts.versions
     );
 }
 
