@@ -8,5 +8,6 @@ pub mod Malformations
 pub mod Misfits
 pub mod Numerals
 pub mod Seeing
+pub mod Spaces
 pub mod Worked
 pub mod WorkedCauses

@@ -1,6 +1,6 @@
 use Rattle.std.specs.Prelude.{◌≡◌, ◌==◌, ℕ, ◌+◌, ◌*◌, ◌^◌, ◌<◌, ◌≤◌, Bool, List, [], ◌∷◌, length}
 use Rattle.std.specs.Prelude.{take, drop, Option, Some, None, nat_lt, MatchOption, true, false}
-use Rattle.std.specs.Prelude.{cond, refl, ◌++◌, codes, ◌≢◌, suc}
+use Rattle.std.specs.Prelude.{cond, refl, ◌++◌, codes, ◌≢◌, suc, ◌&&◌}
 use Rattle.std.proofs.Common.{sym, ◌∙◌, ap, arith, get_or, subst, inl, inr}
 use Rattle.std.specs.Char.{is_digit, digit_value}
 use Rattle.std.specs.List.{list_all}
@@ -130,6 +130,22 @@ hexadecimal_more i value digit small one =
     let next : 16 ^ (i + 1) ≡ 16 ^ i * 16 = ap (λ k. 16 ^ k) after ∙ pow-suc 16 i in
     omega (arith, next, small, one)
 
+-- nineteen decimal digits do, too
+pub decimal_fits : (i value digit : ℕ) → i < 19 → value < 10 ^ i → digit < 10
+    → value * 10 + digit < 2 ^ 64
+decimal_fits i value digit lt small one =
+    let few : i ≤ 18 = omega (arith, lt) in
+    let most : 10 ^ i ≤ 10 ^ 18 = pow-le-pow_right (omega arith) few in
+    let room : value < 10 ^ 18 = omega (arith, most, small) in
+    omega (arith, room, one)
+
+pub decimal_more : (i value digit : ℕ) → value < 10 ^ i → digit < 10
+    → value * 10 + digit < 10 ^ (i + 1)
+decimal_more i value digit small one =
+    let after : i + 1 ≡ suc i = omega arith in
+    let next : 10 ^ (i + 1) ≡ 10 ^ i * 10 = ap (λ k. 10 ^ k) after ∙ pow-suc 10 i in
+    omega (arith, next, small, one)
+
 -- the value of a digit
 pub digit_below : (radix c d : ℕ) → digit_of radix c ≡ Some d → d < radix
 digit_below radix c d h =
@@ -220,5 +236,31 @@ pub number_decimal : (word : List ℕ) → bytes_eq (take 2 word) (codes "0x") �
     → number_of word ≡ numeral_of 10 20 word
 unfolding number_of
 number_decimal word h = rw h refl
+
+-- a list of one
+pub alone : (xs : List ℕ) → 1 ≤ length xs → length xs < 2 → xs ≡ get_or xs 0 0 ∷ []
+alone [] some few = absurd (omega arith)
+alone (x ∷ []) some few = refl
+alone (x ∷ y ∷ ys) some few = absurd (omega arith)
+
+one_of : (b : Bool) (n : ℕ) → (b ≡ true → nat_lt n (2 ^ 64) ≡ true)
+    → cond (b && true) (cond (nat_lt n (2 ^ 64)) (Some n) None) None ≡ cond b (Some n) None
+one_of true n fits = rw (fits refl) refl
+one_of false n fits = refl
+
+-- a number of one digit
+one_numeral : (b : ℕ) → numeral_of 10 20 (b ∷ []) ≡ digit_of 10 b
+unfolding numeral_of in_64_bits digit_of
+one_numeral b =
+    let plain : digits_value 10 (b ∷ []) ≡ digit_value b = omega arith in
+    ap (λ v. cond (is_digit b 10 && true) (cond (nat_lt v (2 ^ 64)) (Some v) None) None) plain
+    ∙ one_of (is_digit b 10) (digit_value b) (λ h. grind (arith, nat_tests, h))
+
+and_false : (b : Bool) → (b && false) ≡ false
+and_false true = refl
+and_false false = refl
+
+pub one_digit_is : (b : ℕ) → number_of (b ∷ []) ≡ digit_of 10 b
+one_digit_is b = number_decimal (b ∷ []) (and_false (b == 48)) ∙ one_numeral b
 
 pub ruleset number_steps = (number_grammar, number_hex, number_decimal)

@@ -8,4 +8,5 @@ pub mod Present
 pub mod Replies
 pub mod Tables
 pub mod Texts
+pub mod Words
 pub mod Workers

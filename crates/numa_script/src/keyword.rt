@@ -75,28 +75,109 @@ impl Keyword {
     }
 }
 
-/// The keywords whose names have this many letters.
-fn keywords(letters: usize) -> &'static [Keyword]
-    ensures { result.now ≡ keywords_of letters }
+/// The keyword of three letters with this name.
+fn of_three(first: &[u8]) -> Option<Keyword>
+    ensures { result ≡ keyword_among (keywords_of 3) first.now }
 {
-    match letters {
-        3 => &[Try, Map],
-        4 => &[Span, Look, Give, Maps, Home, Task, Mems, Cpus],
-        5 => &[Place, Begin, Touch, Mbind, Unmap, Rules],
-        6 => &[Counts, Ranges, Weight, Limits],
-        7 => &[Publish, Release, Machine, Inherit],
-        _ => &[],
+    if first == b"try".as_slice() {
+        return Some(Keyword::Try);
     }
+    if first == b"map".as_slice() {
+        return Some(Keyword::Map);
+    }
+    None
 }
 
-/// The first of these keywords whose name this is.
-fn find(keywords: &[Keyword], first: &[u8]) -> Option<Keyword>
-    ensures { result ≡ keyword_among keywords.now first.now }
+/// The keyword of four letters with this name.
+fn of_four(first: &[u8]) -> Option<Keyword>
+    ensures { result ≡ keyword_among (keywords_of 4) first.now }
 {
-    for keyword in keywords {
-        if first == keyword.name().as_bytes() {
-            return Some(*keyword);
-        }
+    if first == b"span".as_slice() {
+        return Some(Keyword::Span);
+    }
+    if first == b"look".as_slice() {
+        return Some(Keyword::Look);
+    }
+    if first == b"give".as_slice() {
+        return Some(Keyword::Give);
+    }
+    if first == b"maps".as_slice() {
+        return Some(Keyword::Maps);
+    }
+    if first == b"home".as_slice() {
+        return Some(Keyword::Home);
+    }
+    if first == b"task".as_slice() {
+        return Some(Keyword::Task);
+    }
+    if first == b"mems".as_slice() {
+        return Some(Keyword::Mems);
+    }
+    if first == b"cpus".as_slice() {
+        return Some(Keyword::Cpus);
+    }
+    None
+}
+
+/// The keyword of five letters with this name.
+fn of_five(first: &[u8]) -> Option<Keyword>
+    ensures { result ≡ keyword_among (keywords_of 5) first.now }
+{
+    if first == b"place".as_slice() {
+        return Some(Keyword::Place);
+    }
+    if first == b"begin".as_slice() {
+        return Some(Keyword::Begin);
+    }
+    if first == b"touch".as_slice() {
+        return Some(Keyword::Touch);
+    }
+    if first == b"mbind".as_slice() {
+        return Some(Keyword::Mbind);
+    }
+    if first == b"unmap".as_slice() {
+        return Some(Keyword::Unmap);
+    }
+    if first == b"rules".as_slice() {
+        return Some(Keyword::Rules);
+    }
+    None
+}
+
+/// The keyword of six letters with this name.
+fn of_six(first: &[u8]) -> Option<Keyword>
+    ensures { result ≡ keyword_among (keywords_of 6) first.now }
+{
+    if first == b"counts".as_slice() {
+        return Some(Keyword::Counts);
+    }
+    if first == b"ranges".as_slice() {
+        return Some(Keyword::Ranges);
+    }
+    if first == b"weight".as_slice() {
+        return Some(Keyword::Weight);
+    }
+    if first == b"limits".as_slice() {
+        return Some(Keyword::Limits);
+    }
+    None
+}
+
+/// The keyword of seven letters with this name.
+fn of_seven(first: &[u8]) -> Option<Keyword>
+    ensures { result ≡ keyword_among (keywords_of 7) first.now }
+{
+    if first == b"publish".as_slice() {
+        return Some(Keyword::Publish);
+    }
+    if first == b"release".as_slice() {
+        return Some(Keyword::Release);
+    }
+    if first == b"machine".as_slice() {
+        return Some(Keyword::Machine);
+    }
+    if first == b"inherit".as_slice() {
+        return Some(Keyword::Inherit);
     }
     None
 }
@@ -106,5 +187,12 @@ fn find(keywords: &[Keyword], first: &[u8]) -> Option<Keyword>
 pub fn read_keyword(first: &[u8]) -> Option<Keyword>
     ensures { result ≡ keyword_of first.now }
 {
-    find(keywords(first.len()), first)
+    match first.len() {
+        3 => of_three(first),
+        4 => of_four(first),
+        5 => of_five(first),
+        6 => of_six(first),
+        7 => of_seven(first),
+        _ => None,
+    }
 }

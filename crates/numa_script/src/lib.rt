@@ -16,6 +16,7 @@ pub mod reply;
 mod rules;
 mod table;
 pub mod tell;
+mod words;
 pub mod work;
 
 pub use line::{Line, MachineLine, Question};

@@ -12,14 +12,14 @@ ghost use Rattle.numa_script.specs.Parts.{words_of};
 use crate::keyword::{Keyword, read_keyword};
 use crate::machine::{Distances, Frames, has_kernel_orders};
 use crate::number::{few_pages, number, small};
-use crate::parts::words;
 use crate::policy::{WordError, read_policy, waits_for_pages};
 use crate::reading::{four, four_words, three, three_words, two, two_words};
 use crate::rules::read_rules;
+use crate::words::Words;
 use crate::work::{Work, begin, give, look, publish, release, touch, try_frame};
 use bitflags::Flags;
 use numa_machine::Rules;
-use numa_mask::{ListFault, NodeMask, Parts, read_list};
+use numa_mask::{ListFault, NodeMask, read_list};
 use numa_mode::{Mode, PolicyFlags, PolicySpec};
 use numa_space::Command;
 use numa_space::Command::{Inherit, Map, SetHome, SetWeight, Unmap};
@@ -122,7 +122,7 @@ pub(crate) fn is_silent_line(line: &[u8]) -> bool
 }
 
 /// `limits R T C`
-fn limits(words: Parts) -> Option<Line>
+fn limits(words: Words) -> Option<Line>
     ensures { result ≡ limits_line words.entry }
 {
     let (ranges, tasks, commands) = three(words)?;
@@ -134,21 +134,21 @@ fn limits(words: Parts) -> Option<Line>
 }
 
 /// `rules RULES`
-fn rules(words: Parts) -> Option<Line>
+fn rules(words: Words) -> Option<Line>
     ensures { result ≡ rules_line words.entry }
 {
     Some(Line::Rules(read_rules(words.only()?)?))
 }
 
 /// `cpus LIST`
-fn cpus(words: Parts) -> Option<Line>
+fn cpus(words: Words) -> Option<Line>
     ensures { result ≡ cpus_line words.entry }
 {
     Some(Line::Cpus(read_list(words.only()?)))
 }
 
 /// `machine NODES MEM FRAMES DIST`
-fn machine<'a>(words: Parts<'a>) -> Option<Line<'a>>
+fn machine<'a>(words: Words<'a>) -> Option<Line<'a>>
     ensures { result ≡ machine_line words.entry }
 {
     let (nodes, memory, frames, distances) = four_words(words)?;
@@ -186,7 +186,7 @@ fn faulty_bind<'a>(start: u64, length: u64, fault: WordError) -> Line<'a>
 }
 
 /// `mbind START LENGTH POLICY`
-fn mbind(words: Parts) -> Option<Line>
+fn mbind(words: Words) -> Option<Line>
     ensures { result ≡ mbind_line words.entry }
 {
     let (start, length, policy) = three_words(words)?;
@@ -203,7 +203,7 @@ fn mbind(words: Parts) -> Option<Line>
 }
 
 /// `task TASK POLICY`
-fn task(words: Parts) -> Option<Line>
+fn task(words: Words) -> Option<Line>
     ensures { result ≡ task_line words.entry }
 {
     let (task, policy) = two_words(words)?;
@@ -215,7 +215,7 @@ fn task(words: Parts) -> Option<Line>
 }
 
 /// `mems LIST`
-fn mems(words: Parts) -> Option<Line>
+fn mems(words: Words) -> Option<Line>
     ensures { result ≡ mems_line words.entry }
 {
     match read_list(words.only()?) {
@@ -225,7 +225,7 @@ fn mems(words: Parts) -> Option<Line>
 }
 
 /// `place TASK ADDR CPU`
-fn place(words: Parts) -> Option<Line>
+fn place(words: Words) -> Option<Line>
     ensures { result ≡ place_line words.entry }
 {
     let (task, address, cpu) = three(words)?;
@@ -233,7 +233,7 @@ fn place(words: Parts) -> Option<Line>
 }
 
 /// `span TASK ADDR PAGES CPU`
-fn span(words: Parts) -> Option<Line>
+fn span(words: Words) -> Option<Line>
     ensures { result ≡ span_line words.entry }
 {
     let (task, address, pages, cpu) = four(words)?;
@@ -247,7 +247,7 @@ fn span(words: Parts) -> Option<Line>
 }
 
 /// `counts TASK ADDR PAGES CPU`
-fn counts(words: Parts) -> Option<Line>
+fn counts(words: Words) -> Option<Line>
     ensures { result ≡ counts_line words.entry }
 {
     let (task, address, pages, cpu) = four(words)?;
@@ -260,7 +260,7 @@ fn counts(words: Parts) -> Option<Line>
 }
 
 /// `ranges`
-fn ranges(mut words: Parts) -> Option<Line>
+fn ranges(mut words: Words) -> Option<Line>
     ensures { result ≡ ranges_line words.entry }
 {
     match words.next() {
@@ -270,7 +270,7 @@ fn ranges(mut words: Parts) -> Option<Line>
 }
 
 /// `maps TASK`
-fn maps(words: Parts) -> Option<Line>
+fn maps(words: Words) -> Option<Line>
     ensures { result ≡ maps_line words.entry }
 {
     Some(Line::Maps(small(words.only()?)?))
@@ -291,7 +291,7 @@ fn work_line<'a>(work: Option<Work>) -> Option<Line<'a>>
 }
 
 /// The line of a keyword and the words after it.
-fn line_after(keyword: Keyword, words: Parts) -> Option<Line>
+fn line_after(keyword: Keyword, words: Words) -> Option<Line>
     ensures { result ≡ line_after keyword words.entry }
 {
     match keyword {
@@ -334,27 +334,22 @@ fn line_after(keyword: Keyword, words: Parts) -> Option<Line>
 }
 
 /// Whether a word of the line is empty: there are two spaces in a row, or one at an end.
-#[tactic(auto, using(crate::proofs::EmptyWords::empty_words))]
 fn has_empty_word(line: &[u8]) -> bool
     ensures { result ≡ has_empty_word line.now }
 {
-    let mut start = 0;
-    for place in 0..line.len() {
-        if line[place] == b' ' {
-            if place == start {
-                return true;
-            }
-            start = place + 1;
+    for word in Words::new(line) {
+        if word.is_empty() {
+            return true;
         }
     }
-    start == line.len()
+    false
 }
 
 /// What a line begins with, and the words behind it.
-fn begun(line: &[u8]) -> Option<(Keyword, Parts<'_>)>
+fn begun(line: &[u8]) -> Option<(Keyword, Words<'_>)>
     ensures { result ≡ begun (words_of line.now) }
 {
-    let mut words = words(line);
+    let mut words = Words::new(line);
     let first = words.next()?;
     let keyword = read_keyword(first)?;
     Some((keyword, words))

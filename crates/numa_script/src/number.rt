@@ -1,5 +1,6 @@
 //! Reading numbers from words of a script.
 ghost use Rattle.std.specs.Prelude.{◌≡◌, ℕ, ◌+◌, ◌*◌, ◌^◌, ◌<◌, ◌≤◌, List, MatchOption, IfSome};
+ghost use Rattle.std.specs.Prelude.{[], ◌∷◌, length};
 ghost use Rattle.numa_script.specs.Numbers.{digit_of, in_64_bits, numeral_of, number_of, small_of};
 ghost use Rattle.numa_script.specs.Numbers.{item_of, page_of, node_of, frame_number_of};
 ghost use Rattle.numa_script.specs.Numbers.{few_of, span_pages_of, below, IsNumber};
@@ -8,6 +9,9 @@ use numa_space::PAGE_BYTES;
 
 /// The most hexadecimal digits of a number.
 const HEXADECIMAL_DIGITS: usize = 16;
+
+/// The most decimal digits that always fit.
+const SAFE_DIGITS: usize = 19;
 
 /// The value of a digit in the radix.
 #[tactic(auto, unfolding(crate::specs::Numbers::digit_of))]
@@ -70,6 +74,46 @@ fn hexadecimal(digits: &[u8]) -> Option<u64>
     Some(value)
 }
 
+/// The value of 1 to 19 decimal digits. It always fits.
+#[tactic(auto, using(crate::proofs::Numerals::numeral_steps))]
+fn short_decimal(digits: &[u8]) -> Option<u64>
+    requires { length digits.now ≤ 19 }
+    ensures { result ≡ numeral_of 10 20 digits.now }
+{
+    if digits.is_empty() {
+        return None;
+    }
+    let mut value = 0u64;
+    for byte in digits {
+        let digit = digit_in(*byte, 10)?;
+        value = value * 10 + u64::from(digit);
+    }
+    Some(value)
+}
+
+/// The value of 1 to 20 decimal digits, if it fits.
+#[inline(always)]
+fn decimal(digits: &[u8]) -> Option<u64>
+    ensures { result ≡ numeral_of 10 20 digits.now }
+{
+    if digits.len() <= SAFE_DIGITS {
+        return short_decimal(digits);
+    }
+    numeral(digits, 10, 20)
+}
+
+/// The value of a decimal digit.
+#[inline(always)]
+#[tactic(auto, using(crate::proofs::Numerals::one_digit_is))]
+fn one_digit(byte: u8) -> Option<u64>
+    ensures { result ≡ number_of (byte ∷ []) }
+{
+    match digit_in(byte, 10) {
+        Some(digit) => Some(u64::from(digit)),
+        None => None,
+    }
+}
+
 /// Reads a number: `0x` and 1 to 16 hexadecimal digits, or 1 to 20 decimal digits that fit 64 bits.
 #[tactic(auto, using(crate::proofs::Numerals::number_steps))]
 pub fn number(word: &[u8]) -> Option<u64>
@@ -77,9 +121,12 @@ pub fn number(word: &[u8]) -> Option<u64>
     ensures grammar { MatchOption result
         ((n : ℕ) → IsNumber word.now n → ⊥) (λ n. IsNumber word.now n) }
 {
+    if let [byte] = word {
+        return one_digit(*byte);
+    }
     match word.strip_prefix(b"0x") {
         Some(digits) => hexadecimal(digits),
-        None => numeral(word, 10, 20),
+        None => decimal(word),
     }
 }
 

@@ -6,7 +6,7 @@ ghost use Rattle.numa_script.specs.Present.{four_words};
 ghost use Rattle.std.specs.Option.{option_map};
 
 use crate::number::{number, small};
-use numa_mask::Parts;
+use crate::words::Words;
 
 /// A number type.
 pub(crate) trait Number: Copy {
@@ -35,7 +35,7 @@ impl Number for u64 {
 
 /// The words, if they are two.
 #[inline(always)]
-pub(crate) fn two_words<'a>(mut words: Parts<'a>) -> Option<(&'a [u8], &'a [u8])>
+pub(crate) fn two_words<'a>(mut words: Words<'a>) -> Option<(&'a [u8], &'a [u8])>
     ensures { option_map (λ v. (v.0.now, v.1.now)) result ≡ two_words words.entry }
 {
     let first = words.next()?;
@@ -45,7 +45,7 @@ pub(crate) fn two_words<'a>(mut words: Parts<'a>) -> Option<(&'a [u8], &'a [u8])
 
 /// The words, if they are three.
 #[inline(always)]
-pub(crate) fn three_words<'a>(mut words: Parts<'a>) -> Option<(&'a [u8], &'a [u8], &'a [u8])>
+pub(crate) fn three_words<'a>(mut words: Words<'a>) -> Option<(&'a [u8], &'a [u8], &'a [u8])>
     ensures { option_map (λ v. (v.0.now, v.1.now, v.2.now)) result ≡ three_words words.entry }
 {
     let first = words.next()?;
@@ -57,7 +57,7 @@ pub(crate) fn three_words<'a>(mut words: Parts<'a>) -> Option<(&'a [u8], &'a [u8
 /// The words, if they are four.
 #[inline(always)]
 pub(crate) fn four_words<'a>(
-    mut words: Parts<'a>,
+    mut words: Words<'a>,
 ) -> Option<(&'a [u8], &'a [u8], &'a [u8], &'a [u8])>
     ensures { option_map (λ v. (v.0.now, v.1.now, v.2.now, v.3.now)) result
         ≡ four_words words.entry }
@@ -71,7 +71,7 @@ pub(crate) fn four_words<'a>(
 
 /// The numbers of the words, if they are two.
 #[inline(always)]
-pub(crate) fn two<A: Number, B: Number>(words: Parts) -> Option<(A, B)>
+pub(crate) fn two<A: Number, B: Number>(words: Words) -> Option<(A, B)>
     ensures { result ≡ two_of A.of_word B.of_word words.entry }
 {
     let (first, second) = two_words(words)?;
@@ -80,7 +80,7 @@ pub(crate) fn two<A: Number, B: Number>(words: Parts) -> Option<(A, B)>
 
 /// The numbers of the words, if they are three.
 #[inline(always)]
-pub(crate) fn three<A: Number, B: Number, C: Number>(words: Parts) -> Option<(A, B, C)>
+pub(crate) fn three<A: Number, B: Number, C: Number>(words: Words) -> Option<(A, B, C)>
     ensures { result ≡ three_of A.of_word B.of_word C.of_word words.entry }
 {
     let (first, second, third) = three_words(words)?;
@@ -89,7 +89,7 @@ pub(crate) fn three<A: Number, B: Number, C: Number>(words: Parts) -> Option<(A,
 
 /// The numbers of the words, if they are four.
 #[inline(always)]
-pub(crate) fn four<A: Number, B: Number, C: Number, D: Number>(words: Parts) -> Option<(A, B, C, D)>
+pub(crate) fn four<A: Number, B: Number, C: Number, D: Number>(words: Words) -> Option<(A, B, C, D)>
     ensures { result ≡ four_of A.of_word B.of_word C.of_word D.of_word words.entry }
 {
     let (first, second, third, fourth) = four_words(words)?;

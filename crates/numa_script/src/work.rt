@@ -6,8 +6,8 @@ ghost use Rattle.numa_script.specs.Workers.{release_work};
 
 use crate::number::{frame_number, node, page, small};
 use crate::reading::{three, two, two_words};
+use crate::words::Words;
 use numa_machine::Frame;
-use numa_mask::Parts;
 use numa_space::{Event, PAGE_BYTES, Request};
 
 /// Work for a worker, or the publication of the commands so far. Workers are numbered from 0.
@@ -22,7 +22,7 @@ pub enum Work {
 }
 
 /// `TASK ADDR CPU`
-fn request(words: Parts) -> Option<Request>
+fn request(words: Words) -> Option<Request>
     ensures { result ≡ request_of words.entry }
 {
     let (task, address, cpu): (u32, u64, u32) = three(words)?;
@@ -31,7 +31,7 @@ fn request(words: Parts) -> Option<Request>
 }
 
 /// `NODE FRAME`
-fn frame(words: Parts) -> Option<Frame>
+fn frame(words: Words) -> Option<Frame>
     ensures { result ≡ frame_of words.entry }
 {
     let (node_word, number_word) = two_words(words)?;
@@ -42,7 +42,7 @@ fn frame(words: Parts) -> Option<Frame>
 }
 
 /// `publish`. `None` is a malformed line.
-pub fn publish(mut words: Parts) -> Option<Work>
+pub fn publish(mut words: Words) -> Option<Work>
     ensures { result ≡ publish_work words.entry }
 {
     match words.next() {
@@ -52,14 +52,14 @@ pub fn publish(mut words: Parts) -> Option<Work>
 }
 
 /// `begin W TASK ADDR CPU`. `None` is a malformed line.
-pub fn begin(mut words: Parts) -> Option<Work>
+pub fn begin(mut words: Words) -> Option<Work>
     ensures { result ≡ begin_work words.entry }
 {
     Some(Work::Event(Event::Begin(small(words.next()?)?, request(words)?)))
 }
 
 /// `look W WORD`. `None` is a malformed line.
-pub fn look(words: Parts) -> Option<Work>
+pub fn look(words: Words) -> Option<Work>
     ensures { result ≡ look_work words.entry }
 {
     let (worker, word) = two(words)?;
@@ -67,28 +67,28 @@ pub fn look(words: Parts) -> Option<Work>
 }
 
 /// `try W NODE FRAME`. `None` is a malformed line.
-pub fn try_frame(mut words: Parts) -> Option<Work>
+pub fn try_frame(mut words: Words) -> Option<Work>
     ensures { result ≡ try_work words.entry }
 {
     Some(Work::Event(Event::Try(small(words.next()?)?, frame(words)?)))
 }
 
 /// `give W NODE FRAME`. `None` is a malformed line.
-pub fn give(mut words: Parts) -> Option<Work>
+pub fn give(mut words: Words) -> Option<Work>
     ensures { result ≡ give_work words.entry }
 {
     Some(Work::Event(Event::Give(small(words.next()?)?, frame(words)?)))
 }
 
 /// `touch W TASK ADDR CPU`. `None` is a malformed line.
-pub fn touch(mut words: Parts) -> Option<Work>
+pub fn touch(mut words: Words) -> Option<Work>
     ensures { result ≡ touch_work words.entry }
 {
     Some(Work::Touch(small(words.next()?)?, request(words)?))
 }
 
 /// `release W ADDR`. `None` is a malformed line.
-pub fn release(words: Parts) -> Option<Work>
+pub fn release(words: Words) -> Option<Work>
     ensures { result ≡ release_work words.entry }
 {
     let (worker, address) = two_words(words)?;
