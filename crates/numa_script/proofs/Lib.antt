@@ -1,6 +1,5 @@
 pub mod Columns
 pub mod Counts
-pub mod Digits
 pub mod Eaches
 pub mod EmptyNumbers
 pub mod EmptyWords

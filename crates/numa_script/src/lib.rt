@@ -14,6 +14,7 @@ pub mod policy;
 mod reading;
 pub mod reply;
 mod rules;
+mod short;
 mod table;
 pub mod tell;
 mod words;

@@ -13,6 +13,7 @@ use crate::names::Named;
 use crate::nodes::{FEW, say_each_node, say_few};
 use crate::policy::WordError;
 use crate::reply::{Reply, Win};
+use crate::short::ShortText;
 use numa_lines::Watched;
 use numa_machine::Frame;
 use numa_space::{CoreRefusal, PlaceRefusal, Refusal};
@@ -35,13 +36,17 @@ fn say_number<W: Write>(output: &mut Watched<W>, text: &[u8], number: u64)
     output.say_number(number);
 }
 
-/// Writes a text and a number as a line.
+/// Writes a short text and a number as a line.
+#[inline(always)]
 fn say_count<W: Write>(output: &mut Watched<W>, text: &[u8], count: u64)
+    requires { length text.now ≤ 16 }
     ensures { Said W.contents output.old output.new (text.now ++ decimal count ++ codes "\n") }
 {
-    output.say(text);
-    output.say_number(count);
-    output.say(b"\n");
+    let mut line = ShortText::new();
+    line.put(b"\n");
+    line.put_number(count);
+    line.put(text);
+    output.say(line.bytes());
 }
 
 /// Writes what is wrong with a list of nodes or a policy.
@@ -103,21 +108,31 @@ fn say_cause<W: Write>(output: &mut Watched<W>, cause: CoreRefusal)
     }
 }
 
-/// Writes a frame: its node, and its number on that node.
-fn say_frame<W: Write>(output: &mut Watched<W>, node: u8, number: u16)
-    ensures { Said W.contents output.old output.new (frame_text node number) }
+/// Puts a frame before a text: its node, and its number on that node.
+#[inline(always)]
+fn put_frame(text: &mut ShortText, node: u8, number: u16)
+    requires { length text.old ≤ 64 }
+    ensures text { text.new ≡ frame_text node number ++ text.old }
+    ensures short { length text.new ≤ length text.old + 36 }
 {
-    say_number(output, b" node ", u64::from(node));
-    say_number(output, b" frame ", u64::from(number));
+    text.put_number(u64::from(number));
+    text.put(b" frame ");
+    text.put_node(node);
+    text.put(b" node ");
 }
 
 /// Writes a frame that was won.
 fn say_win<W: Write>(output: &mut Watched<W>, win: &Win)
     ensures { Said W.contents output.old output.new (win_answer win.now) }
 {
-    say_number(output, b"won v", win.version);
-    say_frame(output, win.node, win.frame);
-    say_count(output, b" rank ", u64::from(win.rank));
+    let mut line = ShortText::new();
+    line.put(b"\n");
+    line.put_number(u64::from(win.rank));
+    line.put(b" rank ");
+    put_frame(&mut line, win.node, win.frame);
+    line.put_number(win.version);
+    line.put(b"won v");
+    output.say(line.bytes());
 }
 
 /// Writes a frame that was given back.
@@ -125,9 +140,11 @@ fn say_back<W: Write>(output: &mut Watched<W>, frame: Frame)
     ensures { Said W.contents output.old output.new
         (codes "back" ++ frame_text frame.node frame.number ++ codes "\n") }
 {
-    output.say(b"back");
-    say_frame(output, frame.node, frame.number);
-    output.say(b"\n");
+    let mut line = ShortText::new();
+    line.put(b"\n");
+    put_frame(&mut line, frame.node, frame.number);
+    line.put(b"back");
+    output.say(line.bytes());
 }
 
 /// Writes a version, with which answers to questions begin.

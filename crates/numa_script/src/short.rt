@@ -1,0 +1,78 @@
+//! Short texts, written from the last byte to the first: a number's digits come in that order, so
+//! that none is moved.
+ghost use Rattle.std.specs.Prelude.{◌≡◌, ◌+◌, ◌≤◌, ◌++◌, [], decimal, length};
+
+use itoa::write_digits;
+use std::marker::Model;
+
+/// The most bytes of a short text.
+const ROOM: usize = 256;
+
+/// A short text as far as it is written: its last part.
+#[derive(Drop)]
+pub(crate) struct ShortText {
+    bytes: [u8; ROOM],
+    start: usize,
+}
+
+impl Model for ShortText {
+    ghost use Rattle.std.specs.Prelude.{ℕ, List, ◌≤◌, drop};
+
+    ghost Value = { List ℕ };
+
+    ghost view = { λ t. drop t.start t.bytes };
+
+    ghost invariant = { λ t. t.start ≤ 256 };
+}
+
+impl ShortText {
+    /// The empty text.
+    #[inline(always)]
+    pub(crate) fn new() -> ShortText
+        ensures { result ≡ [] }
+    {
+        ShortText {
+            bytes: [0; ROOM],
+            start: ROOM,
+        }
+    }
+
+    /// The text.
+    #[inline(always)]
+    pub(crate) fn bytes(&self) -> &[u8]
+        ensures { result.now ≡ self.now }
+    {
+        &self.bytes[self.start..]
+    }
+
+    /// Puts a part before the text.
+    #[inline(always)]
+    pub(crate) fn put(&mut self, part: &[u8])
+        requires { length part.now + length self.old ≤ 256 }
+        ensures { self.new ≡ part.now ++ self.old }
+    {
+        let start = self.start - part.len();
+        self.bytes[start..self.start].copy_from_slice(part);
+        self.start = start;
+    }
+
+    /// Puts a number before the text.
+    #[inline(always)]
+    pub(crate) fn put_number(&mut self, number: u64)
+        requires { length self.old + 20 ≤ 256 }
+        ensures text { self.new ≡ decimal number ++ self.old }
+        ensures short { length self.new ≤ length self.old + 20 }
+    {
+        self.start = write_digits(number, &mut self.bytes, self.start);
+    }
+
+    /// Puts the number of a node before the text.
+    #[inline(always)]
+    pub(crate) fn put_node(&mut self, node: u8)
+        requires { length self.old + 3 ≤ 256 }
+        ensures text { self.new ≡ decimal node ++ self.old }
+        ensures short { length self.new ≤ length self.old + 3 }
+    {
+        self.start = write_digits(u64::from(node), &mut self.bytes, self.start);
+    }
+}
