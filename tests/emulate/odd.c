@@ -258,6 +258,38 @@ static void shared(void) {
     MUST(status_of(child) == 0);
 }
 
+static int mode_at(void *at, unsigned long *mask) {
+    int mode = -1;
+    MUST(syscall(SYS_get_mempolicy, &mode, mask, 1024L, at, 2L) == 0);
+    return mode;
+}
+
+/* Shared memory keeps its policies for all processes, also those that have mapped it before ("Shared Policy" of
+ * NUMA Memory Policy). */
+static void for_all(void) {
+    int file = memfd_create("for-all", 0), to[2], from[2];
+    unsigned long mask[16];
+    char byte = 0, *at;
+    pid_t child;
+    MUST(file >= 0 && ftruncate(file, 16384) == 0 && pipe(to) == 0 && pipe(from) == 0);
+    if ((child = fork()) == 0) {
+        at = mmap(NULL, 16384, PROT_READ | PROT_WRITE, MAP_SHARED, file, 0);
+        MUST(at != MAP_FAILED && bind_to(at + 12288, 4096, 1) == 0 && write(from[1], "x", 1) == 1);
+        MUST(read(to[0], &byte, 1) == 1 && mode_at(at, mask) == BIND && mask[0] == 2);
+        at[0] = at[4096] = 1;
+        MUST(node_of(at) == 1 && node_of(at + 4096) == 1 && mode_at(at + 8192, mask) == 0);
+        exit(3);
+    }
+    MUST(read(from[0], &byte, 1) == 1);
+    at = mmap(NULL, 8192, PROT_READ | PROT_WRITE, MAP_SHARED, file, 0);
+    MUST(at != MAP_FAILED && bind_to(at, 8192, 2) == 0 && munmap(at, 8192) == 0);
+    MUST(write(to[1], "x", 1) == 1 && status_of(child) == 3 << 8);
+    at = mmap(NULL, 8192, PROT_READ | PROT_WRITE, MAP_SHARED, file, 8192);
+    MUST(at != MAP_FAILED && mode_at(at, mask) == 0 && mode_at(at + 4096, mask) == BIND && mask[0] == 1);
+    at[4096] = 1;
+    MUST(node_of(at + 4096) == 0);
+}
+
 static int shares_memory(void *at) {
     *(char *)at = 1;
     return 5;
@@ -295,7 +327,7 @@ int main(int count, char **words) {
     } rows[] = {{"after-exec", after_exec}, {"vfork", by_vfork}, {"exec-from-thread", exec_from_thread},
                 {"signals", signals}, {"threads", threads}, {"children", children}, {"killed", killed},
                 {"areas", areas}, {"apart", apart}, {"closed", closed}, {"moved", moved}, {"read", only_read},
-                {"processes", processes}, {"rights", rights}, {"shared", shared}};
+                {"processes", processes}, {"rights", rights}, {"shared", shared}, {"for-all", for_all}};
     self = words[0];
     for (size_t k = 0; k < sizeof rows / sizeof rows[0]; k++)
         if (count == 2 && !strcmp(rows[k].name, words[1])) {

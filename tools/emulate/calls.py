@@ -5,6 +5,7 @@ import struct
 
 import numaplan
 
+from . import objects
 from .common import move
 from .cpus import getcpu
 from .policies import read_mask, word_of, write_mask
@@ -44,6 +45,7 @@ def mbind(all_, task, start, length, mode, mask, most, flags):
     if astray and not flags & (MOVE | MOVE_ALL):
         refuse_astray(space, start, length, word, astray)
     space.do("mbind", start, length, word)
+    objects.bind(all_, task, start, start + length, word)
     move_astray(all_, task, astray, flags)
     return 0
 
@@ -264,6 +266,7 @@ def set_mempolicy_home_node(all_, task, start, length, node, flags, *_):
     all_.look(task, start, start + length)
     all_.sweep(task, start, min(start + length, TOP))
     task.space.do("set_home", start, length, min(node, 2**32 - 1))
+    objects.set_home(all_, task, start, start + length, node)
     return 0
 
 

@@ -51,7 +51,7 @@ class Machine:
         self.cpus = read_cpus(cpus, self.count, self.cpu_nodes)
         # pages placed on each node, and among them those interleaved, and those touched on a CPU of the node
         self.hits = [[0, 0, 0] for _ in range(self.count)]
-        self.frames = {}  # of objects that processes share: by object and index
+        self.objects = {}  # in memory that processes share
         try:
             self.core()[0].close()
         except TypeError as fault:

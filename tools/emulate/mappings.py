@@ -92,7 +92,7 @@ def moved(space, pieces, old, new):
     space.unmap(from_, from_ + old_length)
     space.unmap(to, to + new_length)
     for place, (start, end, index, _, policy) in enumerate(pieces):
-        if not kept and index == start // PAGE:
+        if not kept[0] and index == start // PAGE:
             index += (to - from_) // PAGE  # (anonymous, and never touched: the index moves too)
         first = to + start - from_
         after = to + new_length if place == len(pieces) - 1 else min(first + end - start, to + new_length)
@@ -104,8 +104,7 @@ def moved(space, pieces, old, new):
             space.do("mbind", first, after - first, word_of(policy.mode, set(policy.asked)))
         if policy and policy.home is not None:
             space.do("set_home", first, after - first, policy.home)
-    for page, (node, frame) in kept.items():
-        space.put(page + (to - from_) // PAGE, node, frame)
+    space.put(kept, (to - from_) // PAGE)
 
 
 def prctl(all_, task, _option, what, start, length, name, *_):

@@ -6,7 +6,8 @@ import errno
 import numaplan
 
 from .areas import Areas, joined, open_spans, shown_name, with_names
-from .common import have, leave, leave_all, share, written
+from .common import leave, leave_all, share, written
+from .objects import have_known, have_new, inherited
 from .placed import Placed
 from .policies import is_interleaved
 from .spans import Spans
@@ -18,7 +19,6 @@ LINES = {
     "map": "map 0x{:x} 0x{:x} 0x{:x}", "unmap": "unmap 0x{:x} 0x{:x}", "mbind": "mbind 0x{:x} 0x{:x} {}",
     "set_task": "task {} {}", "inherit": "inherit {} {}", "set_home": "home 0x{:x} 0x{:x} {}",
 }
-NOT_NEW = -1  # in the place of a node: another process has had the page before
 
 
 class Space:
@@ -28,7 +28,9 @@ class Space:
         self.machine, self.core, self.users = machine, None, 0
         self.leader, self.name = None, "?"  # the process, and its program
         self.last_cpu = None  # of the thread that began last, where CPUs are made up
-        self.placed, self.common = Placed(), {}  # by page its node; its frame where other processes have it too
+        self.faults = None  # where they are told (--exact)
+        self.placed, self.common = Placed(), {}  # by page its node; its frame where others have it since a fork
+        self.objects = Spans()  # by page which object it is of, and how far its index is from its number
         self.spans = Spans()  # what the core has mapped
         self.areas = []  # all of them, as they were when they were last looked at as a whole
         self.names = Spans()  # that the program gave
@@ -83,6 +85,8 @@ class Space:
                     self.lines.append(f"# name: {shown_name(area.name)}")
                 self.do("map", first, after - first, area.index + (first - area.start) // PAGE)
                 self.spans.add(first, after)
+                if area.shared:
+                    inherited(self, area, first, after)
         now = Spans()
         for area in found:
             now.add(area.start, area.end)
@@ -102,8 +106,10 @@ class Space:
 
     def forget(self, start, end):
         """The pages that have an address from start to end aren't there any more."""
-        for page in self.placed.drop(start // PAGE, -(-end // PAGE)):
+        first, after = start // PAGE, -(-end // PAGE)
+        for page in self.placed.drop(first, after):
             leave(self, page)
+        self.objects.remove(first, after)
 
     def placed_between(self, start, end):
         return self.placed.between(start // PAGE, -(-end // PAGE))
@@ -177,27 +183,24 @@ class Space:
             self.place(task, word, cpu, begin, after - begin, area)
 
     def place(self, task, word, cpu, first, count, area):
-        """Places the pages of a run that aren't placed yet. Those of an object that another process has had
-        before are where that one put them."""
-        for low, high in self.placed.runs.gaps(first, first + count):
-            nodes = bytearray(high - low)
-            self.lists().fill(task, cpu, low, nodes)
-            new = self.find_object(area, low, nodes) if area.shared else nodes
-            self.placed.add(low, nodes)
-            for node in set(new) - {NOT_NEW}:
-                self.machine.hits[node][0] += new.count(node)
-                self.machine.hits[node][2] += new.count(node) if node == cpu else 0
-            if self.takes_turns or is_interleaved(word):
-                self.count_turns(word, low, new)
+        """Places the pages of a run that aren't placed yet. Those of an object that a process has had before
+        are where that one put them."""
+        for span in self.placed.runs.gaps(first, first + count):
+            for low, high in have_known(self, area, *span) if area.shared else [span]:
+                nodes = bytearray(high - low)
+                self.lists().fill(task, cpu, low, nodes)
+                self.placed.add(low, nodes)
+                if area.shared:
+                    have_new(self, low, nodes)
+                self.count(word, cpu, low, nodes)
 
-    def find_object(self, area, first, nodes):
-        """Puts the nodes of an object's pages in; gives those of the new ones."""
-        index, new = area.index + first - area.start // PAGE, []
-        for place, node in enumerate(nodes):
-            key = area.shared, index + place
-            nodes[place], is_new = have(self, first + place, self.machine.frames, key, node)
-            new.append(node if is_new else NOT_NEW)
-        return new
+    def count(self, word, cpu, first, nodes):
+        """Counts new pages by node."""
+        for node in set(nodes):
+            self.machine.hits[node][0] += nodes.count(node)
+            self.machine.hits[node][2] += nodes.count(node) if node == cpu else 0
+        if self.takes_turns or is_interleaved(word):
+            self.count_turns(word, first, nodes)
 
     def count_turns(self, word, first, nodes):
         """Counts those of the pages that are interleaved."""
@@ -205,7 +208,7 @@ class Space:
         for start, end, _, policy in self.ranges(begin, begin + len(nodes) * PAGE):
             if is_interleaved(policy or word):
                 some = nodes[(start - begin) // PAGE:(end - begin) // PAGE]
-                for node in set(some) - {NOT_NEW}:
+                for node in set(some):
                     self.machine.hits[node][1] += some.count(node)
 
     def shared_of(self, task, pages):
@@ -218,19 +221,27 @@ class Space:
             return pagemap.is_zeros(page)
 
     def take(self, start, end):
-        """Takes the pages out: by page its node and its frame, to be put elsewhere."""
+        """Takes the pages out, to be put elsewhere: by page its node and its frame; and which are of objects."""
         pages = {page: (self.placed[page], self.common.pop(page, None)) for page in self.placed_between(start, end)}
         for page, (_, frame) in pages.items():
             if frame is not None:
                 del frame.holders[self, page]
-        self.placed.drop(start // PAGE, -(-end // PAGE))
-        return pages
+        first, after = start // PAGE, -(-end // PAGE)
+        self.placed.drop(first, after)
+        objects = self.objects.between(first, after)
+        self.objects.remove(first, after)
+        return pages, objects
 
-    def put(self, page, node, frame):
-        self.placed.add(page, [node])
-        if frame is not None:
-            self.common[page] = frame
-            frame.holders[self, page] = True
+    def put(self, taken, shift):
+        """Puts pages that were taken so many pages behind where they were."""
+        pages, objects = taken
+        for page, (node, frame) in pages.items():
+            self.placed.add(page + shift, [node])
+            if frame is not None:
+                self.common[page + shift] = frame
+                frame.holders[self, page + shift] = True
+        for low, high, (key, index) in objects:
+            self.objects.add(low + shift, high + shift, (key, index - shift))
 
     def copy(self, task):
         """The address space of a child of the task."""
