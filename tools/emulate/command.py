@@ -49,6 +49,8 @@ def read_words(is_real):
         words.add_argument("--mems", metavar="LIST", help="the allowed nodes, as 0-2")
         words.add_argument("--cpus", metavar="NUMBERS",
             help="made-up CPUs in place of this machine's: so many a node, as 4, or for each node, as 4,4,0,0")
+        words.add_argument("--exact", action="store_true",
+            help="each page goes by the thread that touches it first, and when; needs root, and makes touches slow")
     words.add_argument("--rules", choices=RULES,
         help="whose rules count where Linux's documents and its kernel differ (otherwise as FILE says, "
         + ("without one" if is_real else "else") + (" the kernel's)" if is_real else " the documents')"))
@@ -79,16 +81,27 @@ def machine_of(words, is_real):
     return Machine(lines, words.machine, words.mems, words.cpus, words.rules)
 
 
+def kind_of(words, is_real):
+    if is_real or not words.exact:
+        return Recorder if is_real else Emulator
+    from .exact import Exact, why_not  # (each start would take its time)
+
+    fault = why_not()
+    if fault:
+        raise Unfit(f"--exact isn't allowed here: {fault}")
+    return Exact
+
+
 def run(words, room, is_real):
     """The status of the whole."""
     if is_real and not (words.record or words.report or words.expect):
         words.report = "-"
     machine = machine_of(words, is_real)
     outcome, log = Outcome(words, machine, is_real), open_log(words.log)
-    emulator = (Recorder if is_real else Emulator)(machine, room, outcome, log)
+    emulator = kind_of(words, is_real)(machine, room, outcome, log)
     if not is_real:
         make_tree(machine, room)
-    emulator.begin(begin(words.program, None if is_real else room, emulator.watched()))
+    emulator.begin(begin(words.program, None if is_real else room, emulator))
     block_signals()
     status = emulator.serve()
     emulator.say("stops:", ", ".join(f"{name} {count}" for name, count in emulator.stops.most_common()))

@@ -8,12 +8,13 @@ from collections import Counter
 import numaplan
 
 from .calls import ANSWERED
+from .common import pages_on
 from .cpus import OF_MADE_UP
 from .made_up import file_for
 from .mappings import FOLLOWED
 from .space import Space
-from .tracing import CLONE, CONTINUE, EXEC, EXIT, FORK, LISTEN, NAMES, SECCOMP, STOP, TO_CALL_END, TOP, VFORK
-from .tracing import Failed, fail, message_of, peek, poke, ptrace, registers_of, set_registers, text_at
+from .tracing import CLONE, CONTINUE, EXEC, EXIT, FORK, LISTEN, NAMES, ONLY_WITH, SECCOMP, STOP, TO_CALL_END
+from .tracing import TOP, VFORK, Failed, fail, message_of, peek, poke, ptrace, registers_of, set_registers, text_at
 from .vdso import make_getcpu_a_call
 from .waiting import Waiting
 
@@ -32,6 +33,7 @@ class Task:
 
     def __init__(self, number, space, word):
         self.number, self.space, self.word, self.at_end = number, space, word, None
+        self.number_at = 0  # where its number is cleared as it ends (--exact)
         self.is_still = self.ends = False
         space.users += 1
         space.leader = space.leader or number
@@ -49,7 +51,11 @@ class Emulator:
         self.may_move_all = os.geteuid() == 0  # (CAP_SYS_NICE)
         self.answered, self.followed = self.calls_answered(), self.calls_followed()
         self.early, self.has_begun, self.stops = {}, False, Counter()
+        self.unread = []  # (number, status) of tasks that were waited for elsewhere
         self.tasks = {}
+
+    def in_child(self, room):
+        """In the process that is to be the program, with mounts of its own. (--exact has something to do.)"""
 
     def begin(self, first):
         """With a process that is about to become the program."""
@@ -64,8 +70,9 @@ class Emulator:
         return FOLLOWED
 
     def watched(self):
-        """The calls that stop a program."""
-        return {*self.answered, *self.followed, *(("open", "openat") if self.fakes else ())}
+        """The calls that stop a program, each with the word that makes it matter, or None."""
+        names = [*self.answered, *self.followed, *(("open", "openat") if self.fakes else ())]
+        return {name: ONLY_WITH.get(name) for name in names}
 
     def say(self, *words):
         if self.log:
@@ -114,8 +121,7 @@ class Emulator:
         return self.tasks.get(number) or fail(errno.ESRCH)
 
     def pages_on(self, node):
-        spaces = {id(task.space): task.space for task in self.tasks.values()}
-        return sum(list(space.placed.values()).count(node) for space in spaces.values())
+        return pages_on({task.space for task in self.tasks.values()}, self.machine.objects, node)
 
     # ---- a stop before a call
 
@@ -192,8 +198,12 @@ class Emulator:
                 space.do("inherit", number, task.number)
             except numaplan.Refused:  # (too many tasks with a policy: the report says so)
                 child.word = None
+        self.child_begins(task, child)
         if number in self.early:
             self.at_stop(child, self.early.pop(number))
+
+    def child_begins(self, task, child):
+        """Before it has done anything. (--exact has something to do.)"""
 
     def at_exec(self, number, task):
         """The program of a process is another one: its memory is new, its policy is kept."""
@@ -201,10 +211,15 @@ class Emulator:
         old = self.tasks.pop(message_of(number), task)
         self.leave(old)
         task = self.add_task(number, self.space_type(self.machine), old.word, old)
-        if self.fakes and not make_getcpu_a_call(number):
-            self.say(number, "getcpu of the vDSO can't be told")
+        if self.fakes:
+            self.program_begins(task, make_getcpu_a_call(number))
         with open(f"/proc/{number}/comm", encoding="utf-8", errors="replace") as file:
             task.space.name = file.read().rstrip("\n")
+
+    def program_begins(self, task, calls):
+        """With the places in its memory where getcpu is a call now."""
+        if calls is None:
+            self.say(task.number, "getcpu of the vDSO can't be told")
 
     def at_exit(self, task):
         task.ends = True
@@ -268,6 +283,13 @@ class Emulator:
             if task.space.core is not None:
                 standing.append((task.space, task.word))
         self.outcome.write_report(standing)
+
+    def at_turn(self):
+        """Before each look for a task that has stopped. (The same.)"""
+
+    def await_signal(self, awaited):
+        """The first of these signals that has come."""
+        return signal.sigwait(awaited)
 
     def serve(self):
         """Until all have ended: the status of the first process as the shell counts it, None where emulate

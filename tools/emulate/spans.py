@@ -42,6 +42,11 @@ class Spans:
         first, after = self.places(address, address + 1)
         return first < after
 
+    def at(self, address):
+        """The value there, or None."""
+        first, after = self.places(address, address + 1)
+        return self.values[first] if first < after else None
+
     def remove(self, start, end):
         first, after = self.places(start, end)
         if first == after or start >= end:

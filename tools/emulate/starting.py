@@ -43,7 +43,7 @@ def cover(room):
                     f"{target} can't be covered")
 
 
-def run_program(room, program, watched, ready, go):
+def run_program(room, program, emulator, ready, go):
     """In the child; never comes back. It tells the parent that it is ready, and goes on once that traces it.
     With a room its files are put over the machine's."""
     status = OWN_FAULT
@@ -51,11 +51,12 @@ def run_program(room, program, watched, ready, go):
         if room:
             enter_namespace()
             cover(room)
+            emulator.in_child(room)
             LIBC.prctl(NO_HUGE_PAGES, 1, 0, 0, 0)
         os.write(ready, b"r")
         if not os.read(go, 1):
             return
-        install_filter(watched)
+        install_filter(emulator.watched())
         free_signals()
         status = 127
         os.execvp(program[0], program)
@@ -71,7 +72,7 @@ def run_program(room, program, watched, ready, go):
         os._exit(status)
 
 
-def begin(program, room, watched):
+def begin(program, room, emulator):
     """The number of the child, traced, and about to become the program."""
     ready, is_ready = os.pipe()
     go, goes = os.pipe()
@@ -79,7 +80,7 @@ def begin(program, room, watched):
     if child == 0:
         os.close(ready)
         os.close(goes)
-        run_program(room, program, watched, is_ready, go)
+        run_program(room, program, emulator, is_ready, go)
     os.close(is_ready)
     os.close(go)
     if not os.read(ready, 1):

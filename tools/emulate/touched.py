@@ -72,6 +72,11 @@ def is_own(entry):
     return entry >> 56 & 1 == 1
 
 
+def is_protected(entry):
+    """Whether a write to the page is told by userfaultfd(2)."""
+    return entry >> 57 & 1 == 1
+
+
 class Pagemap:
     """Looks at the pages of a task's address space."""
 

@@ -19,14 +19,15 @@ FORK, VFORK, CLONE, EXEC, EXIT, SECCOMP, STOP = 1, 2, 3, 4, 6, 7, 128
 OPTIONS = 1 | 1 << FORK | 1 << VFORK | 1 << CLONE | 1 << EXEC | 1 << EXIT | 1 << SECCOMP | 1 << 20
 
 CALLS = {
-    "open": 2, "mmap": 9, "munmap": 11, "brk": 12, "mremap": 25, "madvise": 28, "execve": 59, "shmdt": 67,
-    "prctl": 157, "sched_setaffinity": 203, "sched_getaffinity": 204, "mbind": 237,
+    "open": 2, "mmap": 9, "munmap": 11, "brk": 12, "mremap": 25, "madvise": 28, "shmat": 30, "execve": 59,
+    "shmdt": 67,
+    "prctl": 157, "sched_setaffinity": 203, "sched_getaffinity": 204, "set_tid_address": 218, "mbind": 237,
     "set_mempolicy": 238, "get_mempolicy": 239, "migrate_pages": 256, "openat": 257,
     "move_pages": 279, "getcpu": 309, "execveat": 322, "rseq": 334, "set_mempolicy_home_node": 450,
 }
 NAMES = {number: name for name, number in CALLS.items()}
 X86_64 = 0xC000003E  # AUDIT_ARCH_X86_64
-# Calls that matter with one word alone: its place, whether it is a bit among others, and the word.
+# Calls that matter mostly with one word alone: its place, whether it is a bit among others, and the word.
 MAP_FIXED, SET_AREA, FORGET = 0x10, 0x53564D41, 4  # (PR_SET_VMA, MADV_DONTNEED)
 ONLY_WITH = {"mmap": (3, True, MAP_FIXED), "prctl": (0, False, SET_AREA), "madvise": (2, False, FORGET)}
 
@@ -80,11 +81,15 @@ def message_of(task):
 
 # ---- memory of a traced program
 
+before_access = []  # what is done before the program's memory is read or written: (task, start, size, is_write)
+
 
 def peek(task, start, size):
     """Bytes of the program's memory, or EFAULT."""
     if size > 1 << 30:
         fail(errno.EFAULT)
+    for do in before_access:
+        do(task, start, size, False)
     try:
         file = os.open(f"/proc/{task}/mem", os.O_RDONLY)
         try:
@@ -100,6 +105,8 @@ def peek(task, start, size):
 
 def poke(task, start, data):
     """Writes to the program's memory, or EFAULT."""
+    for do in before_access:
+        do(task, start, len(data), True)
     try:
         file = os.open(f"/proc/{task}/mem", os.O_RDWR)
         try:
@@ -128,13 +135,13 @@ def cpu_of(task):
 # ---- the filter
 
 
-def filter_program(names):
-    """The instructions of the filter: the named calls stop the program, those of ONLY_WITH with such a word
-    alone; all others, and those of 32-bit programs, go on at full speed."""
+def filter_program(watched):
+    """The instructions of the filter: these calls stop the program, those with a word of ONLY_WITH beside them
+    with such a word alone; all others, and those of 32-bit programs, go on at full speed."""
     load, equal, has_bits, answer = 0x20, 0x15, 0x45, 0x06
     allow, stop = (answer, 0, 0, 0x7FFF0000), (answer, 0, 0, 0x7FF00000)
-    always = [CALLS[name] for name in CALLS if name in names and name not in ONLY_WITH]
-    with_words = [(CALLS[name], *ONLY_WITH[name]) for name in ONLY_WITH if name in names]
+    always = [CALLS[name] for name, word in watched.items() if word is None]
+    with_words = [(CALLS[name], *word) for name, word in watched.items() if word is not None]
     code = [(load, 0, 0, 4), (equal, 1, 0, X86_64), allow, (load, 0, 0, 0)]
     end = len(code) + 4 * len(with_words) + len(always) + 1  # the place of `stop`
     for number, place, is_bit, word in with_words:
@@ -146,9 +153,9 @@ def filter_program(names):
     return b"".join(struct.pack("HBBI", *one) for one in code), len(code)
 
 
-def install_filter(names):
+def install_filter(watched):
     """Puts the filter before this process, for good."""
-    code, count = filter_program(names)
+    code, count = filter_program(watched)
     kept = ctypes.create_string_buffer(code)
     program = ctypes.create_string_buffer(struct.pack("HxxxxxxQ", count, ctypes.addressof(kept)))
     LIBC.prctl(38, 1, 0, 0, 0)  # PR_SET_NO_NEW_PRIVS

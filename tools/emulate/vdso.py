@@ -8,24 +8,27 @@ from .tracing import Failed, peek, poke
 BASE_OF_CODE = 33  # AT_SYSINFO_EHDR, of the list that the kernel hands to a program
 NAMES = (b"__vdso_getcpu", b"getcpu")
 CALL = bytes.fromhex("b835010000" "0f05" "c3")  # mov $309, %eax; syscall; ret
+TO_SYSCALL = 5  # bytes before that instruction
 DYNAMIC_SYMBOLS, SYMBOL, SECTION = 11, struct.Struct("<IBBHQQ"), struct.Struct("<IIQQQQIIQQ")
 
 places = {}  # by the image's bytes, where in it the code is
 
 
 def make_getcpu_a_call(task):
-    """Whether the program's getcpu is a call from now on. It has just been loaded."""
+    """Where the program's getcpu is, which is a call from now on: one place, or none; None where that isn't
+    known. It has just been loaded."""
     try:
         base = base_of(task)
-        if base:
-            image = peek(task, base, 4096)
-            if image not in places:
-                places[image] = place_of(task, base)
-            for place in places[image]:
-                poke(task, base + place, CALL)
-        return True
+        if not base:
+            return []
+        image = peek(task, base, 4096)
+        if image not in places:
+            places[image] = place_of(task, base)
+        for place in places[image]:
+            poke(task, base + place, CALL)
+        return [base + place for place in places[image]]
     except (Failed, OSError, struct.error, IndexError):
-        return False
+        return None
 
 
 def base_of(task):

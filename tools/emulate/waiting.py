@@ -40,6 +40,10 @@ class Waiting:
     def events(self):
         """The number and the status of each task that stops or ends."""
         while self.emulator.tasks:
+            self.emulator.at_turn()
+            if self.emulator.unread:
+                yield self.emulator.unread.pop(0)
+                continue
             try:
                 number, status = os.waitpid(-1, ANY_CHILD | os.WNOHANG)
             except ChildProcessError:
@@ -68,7 +72,7 @@ class Waiting:
         elif is_stopped and signal.sigpending() & BY_TERMINAL:
             self.stop()
             return
-        self.take(signal.sigwait(AWAITED))
+        self.take(self.emulator.await_signal(AWAITED))
 
     def stop(self):
         """The terminal stopped the program, and with it all of its group: once they are still, this one is
