@@ -1,0 +1,9 @@
+pub mod Counting
+pub mod Edits
+pub mod Filtered
+pub mod MoveRows
+pub mod MovedNodes
+pub mod Reaching
+pub mod Stating
+pub mod Summed
+pub mod Tests

@@ -1,0 +1,6 @@
+pub mod Astray
+pub mod Exact
+pub mod Moves
+pub mod Refusals
+pub mod Spots
+pub mod Wholes

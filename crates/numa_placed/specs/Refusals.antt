@@ -1,0 +1,120 @@
+-- Why a call is refused, and the error numbers of that (errno(3)).
+use Rattle.std.specs.Prelude.{◌≡◌, ℕ, ◌+◌, ◌*◌, ◌%◌, ◌^◌, ◌==◌, ◌||◌, Bool, true, not, nat_lt, nat_le}
+use Rattle.std.specs.Prelude.{Option, Some, None, if◌then◌else◌}
+use Rattle.numa_mask.specs.NodeSet.{has, both}
+use Rattle.numa_machine.specs.Machine.{Hardware}
+use Rattle.numa_space.specs.History.{page_count}
+use Rattle.numa_placed.specs.Spots.{is_placed, too_many}
+use Rattle.numa_placed.specs.declared.spot.Spot.{Spot}
+use Rattle.numa_placed.specs.declared.spot.Spot.TheVariants.{Nowhere, Stated, Held}
+use Rattle.numa_placed.specs.declared.refusal.PlacedRefusal.{PlacedRefusal}
+use Rattle.numa_placed.specs.declared.refusal.PlacedRefusal.TheVariants.{Unaligned, OutOfSpace}
+use Rattle.numa_placed.specs.declared.refusal.PlacedRefusal.TheVariants.{NoSuchNode, Occupied}
+use Rattle.numa_placed.specs.declared.refusal.PlacedRefusal.TheVariants.{NodesNotAllowed, Astray}
+use Rattle.numa_placed.specs.declared.refusal.PlacedRefusal.TheVariants.{TooManyRuns, NoMemory}
+use Rattle.numa_placed.specs.declared.refusal.MoveRefusal.{MoveRefusal}
+use Rattle.numa_placed.specs.declared.refusal.MoveRefusal.TheVariants as move
+
+-- ---- error numbers
+
+abbrev pub errno_of : PlacedRefusal → ℕ
+errno_of Unaligned = 22
+errno_of OutOfSpace = 12
+errno_of NoSuchNode = 22
+errno_of Occupied = 17
+errno_of NodesNotAllowed = 22
+errno_of Astray = 5
+errno_of TooManyRuns = 12
+errno_of NoMemory = 12
+
+abbrev pub move_errno_of : MoveRefusal → ℕ
+move_errno_of move.NoSuchNode = 19
+move_errno_of move.NodesNotAllowed = 13
+move_errno_of move.Unmapped = 14
+move_errno_of move.NotPlaced = 2
+move_errno_of move.NoRoom = 12
+move_errno_of move.TooManyRuns = 12
+move_errno_of move.NoMemory = 12
+
+-- ---- causes, in order
+
+-- the first of two causes
+abbrev pub first_of : Option PlacedRefusal → Option PlacedRefusal → Option PlacedRefusal
+first_of None other = other
+first_of (Some cause) other = Some cause
+
+-- the machine lacks the node, or the node has no memory
+abbrev pub lacks_node : Hardware → ℕ → Bool
+lacks_node machine node = nat_le machine.nodes node || not (has machine.memory node)
+
+-- a span begins at a page, and ends at address 2^47 at the latest
+abbrev pub span_cause : ℕ → ℕ → Option PlacedRefusal
+span_cause start bytes =
+    if not (start % 4096 == 0) then Some Unaligned
+    else if nat_lt (2 ^ 47) (start + page_count bytes * 4096) then Some OutOfSpace
+    else None
+
+-- why pages of a span may not be stated to lie on a node
+abbrev pub state_cause : Hardware → ℕ → ℕ → ℕ → Option PlacedRefusal
+state_cause machine start bytes node = first_of (span_cause start bytes)
+    (if lacks_node machine node then Some NoSuchNode else None)
+
+-- why a page may not go into a frame
+abbrev pub hold_cause : ℕ → Spot → Option PlacedRefusal
+hold_cause page spot =
+    if nat_le (2 ^ 35) page then Some OutOfSpace
+    else if is_placed spot then Some Occupied
+    else None
+
+-- why the frame of a page may not be given back
+abbrev pub release_cause : ℕ → Option PlacedRefusal
+release_cause page = if nat_le (2 ^ 35) page then Some OutOfSpace else None
+
+-- why pages may not migrate: none of the nodes is allowed
+abbrev pub migrate_cause : ℕ → ℕ → Option PlacedRefusal
+migrate_cause allowed to = if both to allowed == 0 then Some NodesNotAllowed else None
+
+-- why a page that lies here may not move to a node: one in a frame of another node stays there
+abbrev pub spot_cause : ℕ → Spot → Option MoveRefusal
+spot_cause node Nowhere = Some move.NotPlaced
+spot_cause node (Stated from) = None
+spot_cause node (Held from) = if from == node then None else Some move.NoRoom
+
+-- why a page that lies here, and is mapped or isn't, may not move to a node
+abbrev pub move_cause : Hardware → ℕ → ℕ → Bool → Spot → Option MoveRefusal
+move_cause machine allowed node is_mapped spot =
+    if lacks_node machine node then Some move.NoSuchNode
+    else if not (has allowed node) then Some move.NodesNotAllowed
+    else if not is_mapped then Some move.Unmapped
+    else spot_cause node spot
+
+-- ---- where nothing else stands against a call
+
+-- too many runs, where there would be too many; or memory lacks
+abbrev pub IsLack : (ℕ → Spot) → PlacedRefusal → Type 0
+IsLack after Unaligned = ⊥
+IsLack after OutOfSpace = ⊥
+IsLack after NoSuchNode = ⊥
+IsLack after Occupied = ⊥
+IsLack after NodesNotAllowed = ⊥
+IsLack after Astray = ⊥
+IsLack after TooManyRuns = too_many after ≡ true
+IsLack after NoMemory = Unit {0}
+
+-- the first cause, where there is one, or else a lack
+abbrev pub IsRefusal : Option PlacedRefusal → (ℕ → Spot) → PlacedRefusal → Type 0
+IsRefusal (Some cause) after refusal = refusal ≡ cause
+IsRefusal None after refusal = IsLack after refusal
+
+abbrev pub IsMoveLack : (ℕ → Spot) → MoveRefusal → Type 0
+IsMoveLack after move.NoSuchNode = ⊥
+IsMoveLack after move.NodesNotAllowed = ⊥
+IsMoveLack after move.Unmapped = ⊥
+IsMoveLack after move.NotPlaced = ⊥
+IsMoveLack after move.NoRoom = ⊥
+IsMoveLack after move.TooManyRuns = too_many after ≡ true
+IsMoveLack after move.NoMemory = Unit {0}
+
+abbrev pub IsMoveRefusal : Option MoveRefusal → (ℕ → Spot) → MoveRefusal → Type 0
+IsMoveRefusal (Some cause) after refusal = refusal ≡ cause
+IsMoveRefusal None after refusal = IsMoveLack after refusal

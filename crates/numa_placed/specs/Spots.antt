@@ -1,0 +1,108 @@
+-- Where each page lies, what each call makes of that, and how many runs there are.
+use Rattle.std.specs.Prelude.{ℕ, ◌^◌, ◌&&◌, ◌==◌, Bool, true, false, Option, Some, None}
+use Rattle.std.specs.Prelude.{List, nat_lt, if◌then◌else◌}
+use Rattle.numa_ranges.specs.Runs.{in_pages, page_at}
+use Rattle.numa_ranges.specs.Counts.{count_pages, range_count}
+use Rattle.numa_ranges.specs.declared.run.Run.{Run}
+use Rattle.numa_placed.specs.declared.spot.Spot.{Spot}
+use Rattle.numa_placed.specs.declared.spot.Spot.TheVariants.{Nowhere, Stated, Held}
+use Rattle.numa_placed.specs.declared.change.Change.{Change}
+use Rattle.numa_placed.specs.declared.change.Change.TheVariants.{State, Forget, Hold, Release}
+
+-- ---- a page
+
+-- the node that a page lies on
+abbrev pub node_of : Spot → Option ℕ
+node_of Nowhere = None
+node_of (Stated node) = Some node
+node_of (Held node) = Some node
+
+abbrev pub is_placed : Spot → Bool
+is_placed Nowhere = false
+is_placed (Stated node) = true
+is_placed (Held node) = true
+
+abbrev pub same_spot : Spot → Spot → Bool
+same_spot Nowhere Nowhere = true
+same_spot (Stated a) (Stated b) = a == b
+same_spot (Held a) (Held b) = a == b
+same_spot _ _ = false
+
+-- a page that is stated to lie on a node; one in a frame stays there
+abbrev pub stated_spot : ℕ → Spot → Spot
+stated_spot node Nowhere = Stated node
+stated_spot node (Stated other) = Stated node
+stated_spot node (Held other) = Held other
+
+-- a page of which nothing is stated any more; one in a frame stays there
+abbrev pub forgotten_spot : Spot → Spot
+forgotten_spot Nowhere = Nowhere
+forgotten_spot (Stated node) = Nowhere
+forgotten_spot (Held node) = Held node
+
+-- a page whose frame, if it has one, was given back
+abbrev pub released_spot : Spot → Spot
+released_spot Nowhere = Nowhere
+released_spot (Stated node) = Stated node
+released_spot (Held node) = Nowhere
+
+-- what a change makes of a page
+abbrev pub changed_spot : Change → Spot → Spot
+changed_spot (State node) spot = stated_spot node spot
+changed_spot Forget spot = forgotten_spot spot
+changed_spot (Hold node) spot = Held node
+changed_spot Release spot = released_spot spot
+
+-- ---- all pages
+
+-- where a page lies, by what a map says of it
+abbrev pub spot_in : Option (ℕ × Spot) → Spot
+spot_in None = Nowhere
+spot_in (Some p) = p.1
+
+-- where a page lies, by a list of runs
+abbrev pub spot_at : List (Run Spot) → ℕ → Spot
+spot_at runs page = spot_in (page_at runs page)
+
+-- the pages of a span changed
+abbrev pub changed_spots : ℕ → ℕ → (Spot → Spot) → (ℕ → Spot) → ℕ → Spot
+changed_spots first pages change spots page = if in_pages first pages page
+    then change (spots page) else spots page
+
+-- the mapped pages of a span stated to lie on a node
+abbrev pub stated_spots : (ℕ → Bool) → ℕ → ℕ → ℕ → (ℕ → Spot) → ℕ → Spot
+stated_spots is_mapped first pages node spots page = if in_pages first pages page && is_mapped page
+    then stated_spot node (spots page) else spots page
+
+-- ---- runs
+
+-- a page that lies somewhere, as a page of a map
+abbrev pub placed_page : (ℕ → Spot) → ℕ → Option (ℕ × Spot)
+placed_page spots page = if is_placed (spots page) then Some (page, spots page) else None
+
+-- how many runs there are of pages that lie somewhere: of a run all pages lie alike
+abbrev pub run_count : (ℕ → Spot) → ℕ
+run_count spots = range_count same_spot (placed_page spots)
+
+-- how many there may be
+abbrev pub most_runs : ℕ
+most_runs = 1048576
+
+-- whether there are more runs than there may be
+abbrev pub too_many : (ℕ → Spot) → Bool
+too_many spots = nat_lt most_runs (run_count spots)
+
+-- ---- counts
+
+abbrev pub is_on : ℕ → Spot → Bool
+is_on node Nowhere = false
+is_on node (Stated other) = other == node
+is_on node (Held other) = other == node
+
+-- a number of pages, where they pass
+abbrev pub pages_if : Bool → ℕ → ℕ
+pages_if passes pages = if passes then pages else 0
+
+-- how many pages lie where the test holds
+abbrev pub pages_where : (Spot → Bool) → (ℕ → Spot) → ℕ
+pages_where test spots = count_pages (λ page. test (spots page)) 0 (2 ^ 35)

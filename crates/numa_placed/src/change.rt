@@ -1,0 +1,63 @@
+//! Changes of where a page lies.
+ghost use Rattle.std.specs.Prelude.{◌≡◌};
+ghost use Rattle.numa_placed.specs.Spots.{stated_spot, forgotten_spot, released_spot, changed_spot};
+
+use crate::spot::Spot;
+
+/// A change of the pages of a span.
+#[derive(Clone, Copy)]
+pub(crate) enum Change {
+    /// They lie on a node, unless they are in a frame.
+    State(u8),
+    /// They lie nowhere, unless they are in a frame.
+    Forget,
+    /// They are in a frame of a node.
+    Hold(u8),
+    /// They lie nowhere if they are in a frame.
+    Release,
+}
+
+/// A page that is stated to lie on a node.
+fn stated(node: u8, spot: Spot) -> Spot
+    ensures { result ≡ stated_spot node spot }
+{
+    match spot {
+        Spot::Nowhere => Spot::Stated(node),
+        Spot::Stated(_) => Spot::Stated(node),
+        Spot::Held(other) => Spot::Held(other),
+    }
+}
+
+/// A page of which nothing is stated any more.
+fn forgotten(spot: Spot) -> Spot
+    ensures { result ≡ forgotten_spot spot }
+{
+    match spot {
+        Spot::Nowhere => Spot::Nowhere,
+        Spot::Stated(_) => Spot::Nowhere,
+        Spot::Held(node) => Spot::Held(node),
+    }
+}
+
+/// A page whose frame, if it has one, was given back.
+fn released(spot: Spot) -> Spot
+    ensures { result ≡ released_spot spot }
+{
+    match spot {
+        Spot::Nowhere => Spot::Nowhere,
+        Spot::Stated(node) => Spot::Stated(node),
+        Spot::Held(_) => Spot::Nowhere,
+    }
+}
+
+/// A page after a change.
+pub(crate) fn changed(change: Change, spot: Spot) -> Spot
+    ensures { result ≡ changed_spot change spot }
+{
+    match change {
+        Change::State(node) => stated(node, spot),
+        Change::Forget => forgotten(spot),
+        Change::Hold(node) => Spot::Held(node),
+        Change::Release => released(spot),
+    }
+}

@@ -1,0 +1,118 @@
+//! Changing where the pages of a span lie.
+ghost use Rattle.std.specs.Prelude.{◌≡◌, ◌-◌, ◌^◌, OnOk, OnErr};
+ghost use Rattle.numa_ranges.specs.Maps.{IsSpan};
+ghost use Rattle.numa_placed.specs.Spots.{spot_at, changed_spot, changed_spots, run_count};
+ghost use Rattle.numa_placed.specs.Wholes.{AreWhole, IsChanged, IsEdit, IsKept};
+
+use crate::change::{Change, changed};
+use crate::refusal::PlacedRefusal;
+use crate::spot::Spot;
+use numa_machine::NoMemory;
+use numa_ranges::RangeMap;
+
+/// The most runs of placed pages.
+pub(crate) const MOST_RUNS: usize = 1 << 20;
+
+/// Changes the pages of a span.
+pub(crate) fn change_span(
+    map: &mut RangeMap<Spot>,
+    first: u64,
+    pages: u64,
+    change: Change,
+) -> Result<(), NoMemory>
+    requires span { IsSpan first pages }
+    requires whole { AreWhole map.old.runs }
+    ensures ok { OnOk result (IsChanged first pages (changed_spot change) map.old.runs
+        map.new.runs) }
+    ensures unchanged { OnErr result (map.new ≡ map.old) }
+    ensures limit { map.new.max_ranges ≡ map.old.max_ranges }
+{
+    // Tells the proof how many runs there are, before the change and after it.
+    let _ = map.len();
+    let change_one = |spot: &Spot| -> Spot
+        ensures { result ≡ changed_spot change spot.now }
+    { changed(change, *spot) };
+    let Ok(()) = map.update_span(first, pages, change_one) else {
+        return Err(NoMemory);
+    };
+    let _ = map.len();
+    let _ = map.iter();
+    Ok(())
+}
+
+/// The number of runs of placed pages.
+pub(crate) fn placed_runs(map: &RangeMap<Spot>) -> usize
+    requires whole { AreWhole map.now.runs }
+    requires limit { map.now.max_ranges ≡ 2 ^ 32 - 1 }
+    ensures { result ≡ run_count (spot_at map.now.runs) }
+{
+    // Tells the proof that the count fits.
+    let _ = map.len();
+    let mut count = 0;
+    for run in map.iter() {
+        if run.value.node().is_some() {
+            count += 1;
+        }
+    }
+    count
+}
+
+/// Puts another map in the place of this one, unless it has too many runs.
+pub(crate) fn put(map: &mut RangeMap<Spot>, next: RangeMap<Spot>) -> Result<(), PlacedRefusal>
+    requires whole { AreWhole next.runs }
+    requires kept { IsKept map.old }
+    requires limit { next.max_ranges ≡ map.old.max_ranges }
+    ensures kept { IsKept map.new }
+    ensures edit { IsEdit (spot_at next.runs) map.old result map.new }
+{
+    if placed_runs(&next) > MOST_RUNS {
+        return Err(PlacedRefusal::TooManyRuns);
+    }
+    *map = next;
+    Ok(())
+}
+
+/// Changes the pages of a span where there may be few runs too many: on a copy.
+fn edit_copy(
+    map: &mut RangeMap<Spot>,
+    first: u64,
+    pages: u64,
+    change: Change,
+) -> Result<(), PlacedRefusal>
+    requires span { IsSpan first pages }
+    requires kept { IsKept map.old }
+    ensures kept { IsKept map.new }
+    ensures edit { IsEdit (changed_spots first pages (changed_spot change) (spot_at map.old.runs))
+        map.old result map.new }
+{
+    let Ok(mut next) = map.copy() else {
+        return Err(PlacedRefusal::NoMemory);
+    };
+    let Ok(()) = change_span(&mut next, first, pages, change) else {
+        return Err(PlacedRefusal::NoMemory);
+    };
+    put(map, next)
+}
+
+/// Changes the pages of a span, unless that makes too many runs. Each of the span's ends can make
+/// one: so far from the limit they aren't counted.
+pub(crate) fn edit(
+    map: &mut RangeMap<Spot>,
+    first: u64,
+    pages: u64,
+    change: Change,
+) -> Result<(), PlacedRefusal>
+    requires span { IsSpan first pages }
+    requires kept { IsKept map.old }
+    ensures kept { IsKept map.new }
+    ensures edit { IsEdit (changed_spots first pages (changed_spot change) (spot_at map.old.runs))
+        map.old result map.new }
+{
+    if map.len() > MOST_RUNS - 2 {
+        return edit_copy(map, first, pages, change);
+    }
+    let Ok(()) = change_span(map, first, pages, change) else {
+        return Err(PlacedRefusal::NoMemory);
+    };
+    Ok(())
+}

@@ -1,0 +1,119 @@
+//! Why a call is refused, judged.
+ghost use Rattle.std.specs.Prelude.{◌≡◌, ◌<◌, ◌^◌, ℕ, true, false, is_some, Some, None, OnOk};
+ghost use Rattle.std.specs.Prelude.{MatchResult, IsErrAnd, Ok};
+ghost use Rattle.numa_ranges.specs.Maps.{IsSpan};
+ghost use Rattle.numa_ranges.specs.Runs.{page_at};
+ghost use Rattle.numa_placed.specs.Refusals.{IsLack, IsMoveLack, lacks_node, hold_cause};
+ghost use Rattle.numa_placed.specs.Refusals.{move_cause, release_cause, spot_cause};
+ghost use Rattle.numa_placed.specs.declared.spot.Spot.{Spot};
+
+use crate::refusal::{MoveRefusal, PlacedRefusal};
+use crate::spot::Spot;
+use numa_machine::Machine;
+use numa_space::Space;
+
+/// Whether the machine lacks a node, or the node has no memory.
+pub(crate) fn lacks_node(machine: &Machine, node: u32) -> bool
+    ensures lacks { result ≡ lacks_node machine.now node }
+    ensures byte { result ≡ false → node < 256 }
+{
+    node >= machine.nodes() || !machine.memory().has(node as u8)
+}
+
+/// Whether a page has a node list: those that are mapped have one.
+fn has_list(space: &Space, page: u64) -> bool
+    ensures { result ≡ is_some (page_at space.now.ranges page) }
+{
+    // Tells the proof that the machine has node 0.
+    let _ = space.machine().nodes();
+    space.list_at(0, page, 0).is_ok()
+}
+
+/// Whether a page is mapped.
+fn is_mapped(space: &Space, page: u64) -> bool
+    ensures mapped { result ≡ is_some (page_at space.now.ranges page) }
+    ensures below { result ≡ true → page < 2 ^ 35 }
+{
+    // Tells the proof that all mapped pages are below 2^35.
+    let _ = space.range_iter();
+    has_list(space, page)
+}
+
+/// Refuses a page from 2^35 on.
+pub(crate) fn judge_page(page: u64) -> Result<(), PlacedRefusal>
+    ensures cause { MatchResult result (λ done. release_cause page ≡ None)
+        (λ refusal. release_cause page ≡ Some refusal) }
+    ensures span { OnOk result (IsSpan page 1) }
+{
+    if page >= 1 << 35 {
+        return Err(PlacedRefusal::OutOfSpace);
+    }
+    Ok(())
+}
+
+/// Refuses to put a page that lies here into a frame, unless it may go there.
+pub(crate) fn judge_hold(page: u64, spot: Spot) -> Result<(), PlacedRefusal>
+    ensures cause { MatchResult result (λ done. hold_cause page spot ≡ None)
+        (λ refusal. hold_cause page spot ≡ Some refusal) }
+    ensures span { OnOk result (IsSpan page 1) }
+{
+    if page >= 1 << 35 {
+        return Err(PlacedRefusal::OutOfSpace);
+    }
+    match spot {
+        Spot::Nowhere => Ok(()),
+        Spot::Stated(_) => Err(PlacedRefusal::Occupied),
+        Spot::Held(_) => Err(PlacedRefusal::Occupied),
+    }
+}
+
+/// Refuses to move a page that lies here to a node, unless it may go there.
+fn judge_spot(node: u32, spot: Spot) -> Result<(), MoveRefusal>
+    ensures { MatchResult result (λ done. spot_cause node spot ≡ None)
+        (λ refusal. spot_cause node spot ≡ Some refusal) }
+{
+    match spot {
+        Spot::Nowhere => Err(MoveRefusal::NotPlaced),
+        Spot::Stated(_) => Ok(()),
+        Spot::Held(from) => {
+            if u32::from(from) == node {
+                Ok(())
+            } else {
+                Err(MoveRefusal::NoRoom)
+            }
+        }
+    }
+}
+
+/// Refuses to move a page to a node, unless it may go there.
+pub(crate) fn judge_move(space: &Space, page: u64, node: u32, spot: Spot) -> Result<(), MoveRefusal>
+    ensures cause { MatchResult result (λ done. move_cause space.now.machine space.now.allowed node
+        (is_some (page_at space.now.ranges page)) spot ≡ None)
+        (λ refusal. move_cause space.now.machine space.now.allowed node
+        (is_some (page_at space.now.ranges page)) spot ≡ Some refusal) }
+    ensures byte { OnOk result (node < 256) }
+    ensures span { OnOk result (IsSpan page 1) }
+{
+    if lacks_node(space.machine(), node) {
+        return Err(MoveRefusal::NoSuchNode);
+    }
+    if !space.allowed().has(node as u8) {
+        return Err(MoveRefusal::NodesNotAllowed);
+    }
+    if !is_mapped(space, page) {
+        return Err(MoveRefusal::Unmapped);
+    }
+    judge_spot(node, spot)
+}
+
+/// What a move answers after an edit.
+pub(crate) fn move_outcome(outcome: Result<(), PlacedRefusal>) -> Result<(), MoveRefusal>
+    ensures { MatchResult outcome (λ done. result ≡ Ok done) (λ lack. IsErrAnd result
+        (λ refusal. (after : ℕ → Spot) → IsLack after lack → IsMoveLack after refusal)) }
+{
+    match outcome {
+        Ok(()) => Ok(()),
+        Err(PlacedRefusal::TooManyRuns) => Err(MoveRefusal::TooManyRuns),
+        Err(_) => Err(MoveRefusal::NoMemory),
+    }
+}

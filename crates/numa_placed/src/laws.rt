@@ -1,0 +1,29 @@
+//! Laws about the definitions that the contracts of this crate cite. The functions do nothing: what
+//! each one ensures is a law.
+ghost use Rattle.std.specs.Prelude.{◌≡◌, ◌≢◌, ◌<◌, ◌≤◌, ◌^◌, ℕ, true, false};
+ghost use Rattle.numa_mask.specs.NodeSet.{has, weight_of};
+ghost use Rattle.numa_placed.specs.Moves.{moved_node, moved_spot};
+ghost use Rattle.numa_placed.specs.Spots.{is_placed, pages_where, run_count};
+ghost use Rattle.numa_placed.specs.declared.spot.Spot.{Spot};
+
+/// Pages go from the old set to the new one. Those of a node that the new set has stay where they
+/// are unless the sets have as many nodes; those of a node that the old set lacks stay too, and
+/// where the two sets are one, all do.
+pub fn moved_nodes()
+    ensures into { (old new node : ℕ) → has old node ≡ true → new ≢ 0 → new < 2 ^ 256
+        → has new (moved_node old new node) ≡ true }
+    ensures stays { (old new node : ℕ) → weight_of old ≢ weight_of new → has new node ≡ true
+        → moved_node old new node ≡ node }
+    ensures outside { (old new node : ℕ) → has old node ≡ false → moved_node old new node ≡ node }
+    ensures same { (set node : ℕ) → node < 256 → moved_node set set node ≡ node }
+{}
+
+/// A move keeps the number of pages that lie somewhere, and never makes more runs of them.
+pub fn moves_keep_pages()
+    ensures pages { (old new : ℕ → Spot) (go : ℕ → ℕ)
+        → ((page : ℕ) → new page ≡ moved_spot go (old page))
+        → pages_where is_placed new ≡ pages_where is_placed old }
+    ensures runs { (old new : ℕ → Spot) (go : ℕ → ℕ)
+        → ((page : ℕ) → new page ≡ moved_spot go (old page))
+        → run_count new ≤ run_count old }
+{}

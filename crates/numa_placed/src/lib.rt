@@ -1,0 +1,41 @@
+//! Pages that are there: on which node each lies, and where they go when nodes are taken away or
+//! people move them.
+//!
+//! A space says where a page would be put when it is first touched. [`Placed`] keeps where pages
+//! lie that were put somewhere: each page below 2^35 lies nowhere, on a node, as was stated, or in
+//! a frame of a node that a touch took ([`Spot`]).
+//!
+//! **Moves.** Pages that leave one set of nodes for another go as Linux moves them when the nodes
+//! of a control group change, or by migrate_pages(2): if both sets have as many nodes, the pages of
+//! the k-th go to the k-th; if not, a page on a node that both have stays, and the k-th node's
+//! pages go to the node with ordinal k modulo the new weight. Each page moves at most once in a
+//! call. ([`moved_node`])
+//!
+//! **Frames.** A page in a frame stays there in every move, and is counted as left; stating or
+//! forgetting the pages of a span skips it. Only `release` takes it away.
+//!
+//! **Runs.** A run is a maximal run of pages that lie alike, and there may be 1,048,576 of them.
+//! `follow` and `migrate` never make more, and take no memory.
+//!
+//! A node never fills.
+#![tactic(auto)]
+
+mod astray;
+mod change;
+mod edit;
+mod judge;
+pub mod laws;
+pub mod moved;
+pub mod placed;
+pub mod refusal;
+mod shift;
+mod spans;
+pub mod spot;
+mod tally;
+mod targets;
+
+pub use moved::Moved;
+pub use placed::Placed;
+pub use refusal::{MoveRefusal, PlacedRefusal};
+pub use spot::Spot;
+pub use targets::moved_node;

@@ -1,0 +1,298 @@
+//! Where pages lie.
+ghost use Rattle.std.specs.Prelude.{◌≡◌, ◌≤◌, ◌<◌, ℕ, OnOk, OnErr, IfOk, IfErr, Some, None, false};
+ghost use Rattle.std.specs.Prelude.{is_some, slice_index, MatchResult};
+ghost use Rattle.numa_mask.specs.NodeSet.{both};
+ghost use Rattle.numa_ranges.specs.Runs.{AreApart, AreMaximal, page_at};
+ghost use Rattle.numa_space.specs.History.{page_of, page_count};
+ghost use Rattle.numa_placed.specs.Astray.{strict_cause};
+ghost use Rattle.numa_placed.specs.Moves.{IsMove, moved_node};
+ghost use Rattle.numa_placed.specs.Refusals.{IsRefusal, IsMoveRefusal, state_cause, span_cause};
+ghost use Rattle.numa_placed.specs.Refusals.{hold_cause, migrate_cause, move_cause, release_cause};
+ghost use Rattle.numa_placed.specs.Spots.{spot_at, is_on, pages_where, run_count, too_many};
+ghost use Rattle.numa_placed.specs.Spots.{changed_spots, stated_spots, stated_spot, forgotten_spot};
+ghost use Rattle.numa_placed.specs.Spots.{released_spot};
+ghost use Rattle.numa_placed.specs.Wholes.{AreWhole};
+ghost use Rattle.numa_placed.specs.declared.spot.Spot.TheVariants.{Nowhere, Held};
+
+use crate::astray::has_astray;
+use crate::change::Change;
+use crate::edit::{edit, placed_runs};
+use crate::judge::{judge_hold, judge_move, judge_page, lacks_node, move_outcome};
+use crate::moved::Moved;
+use crate::refusal::{MoveRefusal, PlacedRefusal};
+use crate::shift::shift;
+use crate::spans::{span_of, state_span};
+use crate::spot::Spot;
+use crate::tally::counts;
+use numa_machine::NoMemory;
+use numa_mask::NodeMask;
+use numa_ranges::{RangeIter, RangeMap};
+use numa_space::Space;
+use std::alloc::Global;
+use std::marker::Model;
+
+/// Where each page lies.
+#[derive(Drop)]
+pub struct Placed {
+    map: RangeMap<Spot>,
+}
+
+impl Model for Placed {
+    ghost use Rattle.std.specs.Prelude.{List};
+    ghost use Rattle.numa_ranges.specs.declared.run.Run.{Run};
+    ghost use Rattle.numa_placed.specs.declared.spot.Spot.{Spot};
+    ghost use Rattle.numa_placed.specs.Wholes.{IsKept};
+
+    ghost Value = { List (Run Spot) };
+
+    ghost view = { λ a. a.map.runs };
+
+    ghost invariant = { λ a. IsKept a.map };
+}
+
+impl Placed {
+    /// Pages that all lie nowhere.
+    ///
+    /// # Errors
+    /// `NoMemory`: there is no memory for their run.
+    pub fn new(alloc: Global) -> Result<Placed, NoMemory>
+        ensures { IfOk result (λ placed. (page : ℕ) → spot_at placed page ≡ Nowhere) }
+    {
+        let mut map = RangeMap::new(alloc, u32::MAX);
+        let Ok(()) = map.map_span(0, 1 << 35, 0, Spot::Nowhere) else {
+            return Err(NoMemory);
+        };
+        Ok(Placed { map })
+    }
+
+    /// Returns a copy. Later changes of one of the two don't affect the other.
+    ///
+    /// # Errors
+    /// `NoMemory`: there is no memory for the copy's runs.
+    pub fn copy(&self) -> Result<Placed, NoMemory>
+        ensures { IfOk result (λ copy. copy ≡ self.now) }
+    {
+        let Ok(map) = self.map.copy() else {
+            return Err(NoMemory);
+        };
+        Ok(Placed { map })
+    }
+
+    /// Where a page lies, by a binary search. A page from 2^35 on lies nowhere.
+    pub fn at(&self, page: u64) -> Spot
+        ensures { result ≡ spot_at self.now page }
+    {
+        match self.map.at(page) {
+            Some((_, spot)) => spot,
+            None => Spot::Nowhere,
+        }
+    }
+
+    /// The maximal runs of pages that lie alike, in ascending order. They have all pages below
+    /// 2^35, those that lie nowhere too, each with its own number as its index.
+    pub fn iter(&self) -> RangeIter<'_, Spot>
+        ensures runs { result ≡ self.now }
+        ensures rising { AreApart 0 self.now }
+        ensures maximal { AreMaximal self.now }
+        ensures whole { AreWhole self.now }
+    {
+        self.map.iter()
+    }
+
+    /// The number of runs of pages that lie somewhere.
+    pub fn runs(&self) -> usize
+        ensures runs { result ≡ run_count (spot_at self.now) }
+        ensures at_most { result ≤ 1048576 }
+    {
+        placed_runs(&self.map)
+    }
+
+    /// The number of pages that lie on each node.
+    pub fn counts(&self) -> [u64; 256]
+        ensures { (node : ℕ) → node < 256
+            → slice_index result node ≡ pages_where (is_on node) (spot_at self.now) }
+    {
+        counts(&self.map)
+    }
+
+    /// States that the mapped pages of a span lie on a node. Pages in frames stay there. Start and
+    /// length are in bytes, as those of a command to a space.
+    ///
+    /// # Errors
+    /// The first of these that applies; nothing has changed: `Unaligned`, `OutOfSpace`,
+    /// `NoSuchNode`, `TooManyRuns`, `NoMemory`, as [`PlacedRefusal`] says. Near the limit,
+    /// `NoMemory` can come before `TooManyRuns`.
+    pub fn state(
+        &mut self,
+        space: &Space,
+        start: u64,
+        length: u64,
+        node: u32,
+    ) -> Result<(), PlacedRefusal>
+        ensures accepted { OnOk result
+            (state_cause space.now.machine start length node ≡ None) }
+        ensures ok { OnOk result ((page : ℕ) → spot_at self.new page
+            ≡ stated_spots (λ p. is_some (page_at space.now.ranges p)) (page_of start)
+            (page_count length) node (spot_at self.old) page) }
+        ensures few { OnOk result (too_many (spot_at self.new) ≡ false) }
+        ensures err { IfErr result (IsRefusal (state_cause space.now.machine start length node)
+            (stated_spots (λ p. is_some (page_at space.now.ranges p)) (page_of start)
+            (page_count length) node (spot_at self.old))) }
+        ensures unchanged { OnErr result (self.new ≡ self.old) }
+    {
+        // Tells the proof that there are few runs.
+        let _ = &self.map;
+        let (first, pages) = span_of(start, length)?;
+        if lacks_node(space.machine(), node) {
+            return Err(PlacedRefusal::NoSuchNode);
+        }
+        if pages == 0 {
+            return Ok(());
+        }
+        state_span(&mut self.map, space, first, pages, node as u8)
+    }
+
+    /// Takes away what was stated of the pages of a span, as is done when they are unmapped. Pages
+    /// in frames stay there.
+    ///
+    /// # Errors
+    /// The first of these that applies; nothing has changed: `Unaligned`, `OutOfSpace`,
+    /// `TooManyRuns`, `NoMemory`, as [`PlacedRefusal`] says. Near the limit, `NoMemory` can come
+    /// before `TooManyRuns`.
+    pub fn forget(&mut self, start: u64, length: u64) -> Result<(), PlacedRefusal>
+        ensures accepted { OnOk result (span_cause start length ≡ None) }
+        ensures ok { OnOk result ((page : ℕ) → spot_at self.new page
+            ≡ changed_spots (page_of start) (page_count length) forgotten_spot (spot_at self.old)
+            page) }
+        ensures few { OnOk result (too_many (spot_at self.new) ≡ false) }
+        ensures err { IfErr result (IsRefusal (span_cause start length)
+            (changed_spots (page_of start) (page_count length) forgotten_spot
+            (spot_at self.old))) }
+        ensures unchanged { OnErr result (self.new ≡ self.old) }
+    {
+        // Tells the proof that there are few runs.
+        let _ = &self.map;
+        let (first, pages) = span_of(start, length)?;
+        if pages == 0 {
+            return Ok(());
+        }
+        edit(&mut self.map, first, pages, Change::Forget)
+    }
+
+    /// Notes that a touch put a page into a frame of a node.
+    ///
+    /// # Errors
+    /// The first of these that applies; nothing has changed: `OutOfSpace`, `Occupied`,
+    /// `TooManyRuns`, `NoMemory`, as [`PlacedRefusal`] says.
+    pub fn hold(&mut self, page: u64, node: u8) -> Result<(), PlacedRefusal>
+        ensures accepted { OnOk result (hold_cause page (spot_at self.old page) ≡ None) }
+        ensures ok { OnOk result ((other : ℕ) → spot_at self.new other
+            ≡ changed_spots page 1 (λ spot. Held node) (spot_at self.old) other) }
+        ensures few { OnOk result (too_many (spot_at self.new) ≡ false) }
+        ensures err { IfErr result (IsRefusal (hold_cause page (spot_at self.old page))
+            (changed_spots page 1 (λ spot. Held node) (spot_at self.old))) }
+        ensures unchanged { OnErr result (self.new ≡ self.old) }
+    {
+        judge_hold(page, self.at(page))?;
+        edit(&mut self.map, page, 1, Change::Hold(node))
+    }
+
+    /// Notes that the frame of a page was given back: it lies nowhere then. A page that is in no
+    /// frame stays as it is.
+    ///
+    /// # Errors
+    /// The first of these that applies; nothing has changed: `OutOfSpace`, `TooManyRuns`,
+    /// `NoMemory`, as [`PlacedRefusal`] says.
+    pub fn release(&mut self, page: u64) -> Result<(), PlacedRefusal>
+        ensures accepted { OnOk result (release_cause page ≡ None) }
+        ensures ok { OnOk result ((other : ℕ) → spot_at self.new other
+            ≡ changed_spots page 1 released_spot (spot_at self.old) other) }
+        ensures few { OnOk result (too_many (spot_at self.new) ≡ false) }
+        ensures err { IfErr result (IsRefusal (release_cause page)
+            (changed_spots page 1 released_spot (spot_at self.old))) }
+        ensures unchanged { OnErr result (self.new ≡ self.old) }
+    {
+        judge_page(page)?;
+        edit(&mut self.map, page, 1, Change::Release)
+    }
+
+    /// Refuses to set a policy of this list for a span where pages lie on other nodes, as mbind(2)
+    /// does with MPOL_MF_STRICT. Pages that lie nowhere don't count. Of `DEFAULT`, `LOCAL` and
+    /// `PREFERRED` without nodes the list is empty. Start and length are in bytes.
+    ///
+    /// # Errors
+    /// The first of these that applies: `Unaligned`, `OutOfSpace`, `Astray`, as [`PlacedRefusal`]
+    /// says.
+    pub fn judge_strict(
+        &self,
+        start: u64,
+        length: u64,
+        list: &NodeMask,
+    ) -> Result<(), PlacedRefusal>
+        ensures { MatchResult result
+            (λ done. strict_cause (spot_at self.now) start length list.now ≡ None)
+            (λ refusal. strict_cause (spot_at self.now) start length list.now ≡ Some refusal) }
+    {
+        let (first, pages) = span_of(start, length)?;
+        if has_astray(&self.map, first, pages, list) {
+            return Err(PlacedRefusal::Astray);
+        }
+        Ok(())
+    }
+
+    /// Moves a page to a node, as move_pages(2) does. A page that lies there stays.
+    ///
+    /// # Errors
+    /// The first of these that applies; nothing has changed: `NoSuchNode`, `NodesNotAllowed`,
+    /// `Unmapped`, `NotPlaced`, `NoRoom`, `TooManyRuns`, `NoMemory`, as [`MoveRefusal`] says.
+    pub fn move_page(&mut self, space: &Space, page: u64, node: u32) -> Result<(), MoveRefusal>
+        ensures accepted { OnOk result (move_cause space.now.machine space.now.allowed node
+            (is_some (page_at space.now.ranges page)) (spot_at self.old page) ≡ None) }
+        ensures ok { OnOk result ((other : ℕ) → spot_at self.new other
+            ≡ changed_spots page 1 (stated_spot node) (spot_at self.old) other) }
+        ensures few { OnOk result (too_many (spot_at self.new) ≡ false) }
+        ensures err { IfErr result (IsMoveRefusal (move_cause space.now.machine space.now.allowed
+            node (is_some (page_at space.now.ranges page)) (spot_at self.old page))
+            (changed_spots page 1 (stated_spot node) (spot_at self.old))) }
+        ensures unchanged { OnErr result (self.new ≡ self.old) }
+    {
+        judge_move(space, page, node, self.at(page))?;
+        let outcome = edit(&mut self.map, page, 1, Change::State(node as u8));
+        move_outcome(outcome)
+    }
+
+    /// Moves pages as Linux does when the allowed nodes change from one set to another and their
+    /// memory is to migrate: those of each node to its [`moved_node`](crate::moved_node). It
+    /// doesn't allocate and can't fail.
+    pub fn follow(&mut self, old: &NodeMask, new: &NodeMask) -> Moved
+        ensures { IsMove (spot_at self.old) (moved_node old.now new.now) (spot_at self.new)
+            result }
+    {
+        shift(&mut self.map, old, new)
+    }
+
+    /// Moves pages from one set of nodes to the allowed nodes of another, as migrate_pages(2) does.
+    /// It doesn't allocate.
+    ///
+    /// # Errors
+    /// `NodesNotAllowed`: no node of `to` is allowed. Then nothing has changed.
+    pub fn migrate(
+        &mut self,
+        space: &Space,
+        from: &NodeMask,
+        to: &NodeMask,
+    ) -> Result<Moved, PlacedRefusal>
+        ensures ok { IfOk result (λ moved. (migrate_cause space.now.allowed to.now ≡ None)
+            × IsMove (spot_at self.old) (moved_node from.now (both to.now space.now.allowed))
+            (spot_at self.new) moved) }
+        ensures err { IfErr result (λ refusal. migrate_cause space.now.allowed to.now
+            ≡ Some refusal) }
+        ensures unchanged { OnErr result (self.new ≡ self.old) }
+    {
+        let targets = to.and(&space.allowed());
+        if targets.is_empty() {
+            return Err(PlacedRefusal::NodesNotAllowed);
+        }
+        Ok(self.follow(from, &targets))
+    }
+}

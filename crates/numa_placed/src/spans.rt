@@ -1,0 +1,128 @@
+//! Stating where the mapped pages of a span lie.
+ghost use Rattle.std.specs.Prelude.{◌≡◌, ◌+◌, ◌<◌, ◌≤◌, ◌^◌, ◌&&◌, ℕ, true, is_some, None, Some};
+ghost use Rattle.std.specs.Prelude.{OnOk, MatchResult, if◌then◌else◌};
+ghost use Rattle.numa_ranges.specs.Maps.{IsSpan};
+ghost use Rattle.numa_ranges.specs.Runs.{end_of, in_pages, page_at};
+ghost use Rattle.numa_space.specs.History.{page_of, page_count};
+ghost use Rattle.numa_placed.specs.Refusals.{span_cause};
+ghost use Rattle.numa_placed.specs.Spots.{spot_at, stated_spot, stated_spots};
+ghost use Rattle.numa_placed.specs.Wholes.{AreWhole, IsEdit, IsKept};
+
+use crate::change::Change;
+use crate::edit::{change_span, edit, put};
+use crate::refusal::PlacedRefusal;
+use crate::spot::Spot;
+use numa_machine::NoMemory;
+use numa_ranges::{RangeMap, Run};
+use numa_space::{PAGE_BYTES, RangeRecord, Space};
+
+/// The first page of a span and the number of its pages.
+pub(crate) fn span_of(start: u64, length: u64) -> Result<(u64, u64), PlacedRefusal>
+    ensures span { MatchResult result (λ span. (span_cause start length ≡ None)
+        × (span.0 ≡ page_of start) × (span.1 ≡ page_count length))
+        (λ refusal. span_cause start length ≡ Some refusal) }
+    ensures within { MatchResult result (λ span. span.0 + span.1 ≤ 2 ^ 35) (λ refusal. Unit {0}) }
+{
+    if start % PAGE_BYTES != 0 {
+        return Err(PlacedRefusal::Unaligned);
+    }
+    let pages = length / PAGE_BYTES + u64::from(length % PAGE_BYTES != 0);
+    if start > 1 << 47 || pages > (1 << 35) - start / PAGE_BYTES {
+        return Err(PlacedRefusal::OutOfSpace);
+    }
+    Ok((start / PAGE_BYTES, pages))
+}
+
+/// Whether one range of the space has all pages of a span.
+fn is_in_one(space: &Space, first: u64, pages: u64) -> bool
+    requires span { IsSpan first pages }
+    ensures { result ≡ true → (page : ℕ) → in_pages first pages page ≡ true
+        → is_some (page_at space.now.ranges page) ≡ true }
+{
+    let end = first + pages;
+    for range in space.range_iter() {
+        if range.first > first {
+            return false;
+        }
+        if end - range.first <= range.pages {
+            return true;
+        }
+    }
+    false
+}
+
+/// States where the pages lie that a range and a span share.
+fn state_range(
+    map: &mut RangeMap<Spot>,
+    range: &Run<RangeRecord>,
+    first: u64,
+    pages: u64,
+    node: u8,
+) -> Result<(), NoMemory>
+    requires span { IsSpan first pages }
+    requires range { end_of range.now ≤ 2 ^ 35 }
+    requires whole { AreWhole map.old.runs }
+    ensures whole { OnOk result (AreWhole map.new.runs) }
+    ensures spots { OnOk result ((page : ℕ) → spot_at map.new.runs page
+        ≡ (if in_pages first pages page && in_pages range.now.first range.now.pages page
+        then stated_spot node (spot_at map.old.runs page) else spot_at map.old.runs page)) }
+    ensures limit { map.new.max_ranges ≡ map.old.max_ranges }
+{
+    let from = first.max(range.first);
+    let to = (first + pages).min(range.first + range.pages);
+    if from >= to {
+        return Ok(());
+    }
+    change_span(map, from, to - from, Change::State(node))
+}
+
+/// States where the mapped pages of a span lie, range by range.
+fn state_ranges(
+    map: &mut RangeMap<Spot>,
+    space: &Space,
+    first: u64,
+    pages: u64,
+    node: u8,
+) -> Result<(), NoMemory>
+    requires span { IsSpan first pages }
+    requires whole { AreWhole map.old.runs }
+    ensures whole { OnOk result (AreWhole map.new.runs) }
+    ensures spots { OnOk result ((page : ℕ) → spot_at map.new.runs page
+        ≡ stated_spots (λ p. is_some (page_at space.now.ranges p)) first pages node
+        (spot_at map.old.runs) page) }
+    ensures limit { map.new.max_ranges ≡ map.old.max_ranges }
+{
+    for range in space.range_iter() {
+        let Ok(()) = state_range(map, &range, first, pages, node) else {
+            return Err(NoMemory);
+        };
+    }
+    Ok(())
+}
+
+/// States where the mapped pages of a span lie. If one range has them all, that is one edit; else
+/// it is done on a copy, so that nothing has changed if memory runs out.
+pub(crate) fn state_span(
+    map: &mut RangeMap<Spot>,
+    space: &Space,
+    first: u64,
+    pages: u64,
+    node: u8,
+) -> Result<(), PlacedRefusal>
+    requires span { IsSpan first pages }
+    requires kept { IsKept map.old }
+    ensures kept { IsKept map.new }
+    ensures edit { IsEdit (stated_spots (λ p. is_some (page_at space.now.ranges p)) first pages node
+        (spot_at map.old.runs)) map.old result map.new }
+{
+    if is_in_one(space, first, pages) {
+        return edit(map, first, pages, Change::State(node));
+    }
+    let Ok(mut next) = map.copy() else {
+        return Err(PlacedRefusal::NoMemory);
+    };
+    let Ok(()) = state_ranges(&mut next, space, first, pages, node) else {
+        return Err(PlacedRefusal::NoMemory);
+    };
+    put(map, next)
+}
