@@ -164,7 +164,7 @@ module _ {T : Type 0} where
       (page_at rest page))
       [ None ↦ refl | Some value ↦ rw here (ap (λ n. Some (n, value)) place) ])
 
-  apart-lower : (low from : ℕ) (runs : List (Run T)) → low ≤ from → AreApart from runs
+  pub apart-lower : (low from : ℕ) (runs : List (Run T)) → low ≤ from → AreApart from runs
       → AreApart low runs
   apart-lower low from [] le apart = omega (arith, apart)
   apart-lower low from (run ∷ runs) le apart = (omega (arith, apart.0), apart.1, apart.2, apart.3)

@@ -7,13 +7,13 @@ use Rattle.std.specs.Prelude.{All}
 use Rattle.std.proofs.lemmas.Bool.{cases_Bool}
 use Rattle.std.proofs.lemmas.List.{drop_all, drop_more, take_more_set, get_or-drop}
 use Rattle.std.proofs.lemmas.Grind.{drop_more_same}
-use Rattle.numa_ranges.specs.Runs.{page_at, in_pages, AreApart, Continues, end_of}
+use Rattle.numa_ranges.specs.Runs.{page_at, in_pages, AreApart, AreMaximal, Continues, end_of}
 use Rattle.numa_ranges.specs.Maps.{changed_page}
 use Rattle.numa_ranges.specs.Edits.{IsInRange, IsRevalued, joins, run_and_next, maximal_runs}
 use Rattle.numa_ranges.specs.Edits.{joined_from, with_new_value}
 use Rattle.numa_ranges.specs.declared.run.Run.{Run}
 use Rattle.numa_ranges.proofs.Apart.{apart-bounds}
-use Rattle.numa_ranges.proofs.Joined.{not-joins, joins-continues}
+use Rattle.numa_ranges.proofs.Joined.{not-joins, joins-continues, joined-still}
 
 module _ {T : Type 0} where
   pub next-run : (runs whole : List (Run T)) (i : ℕ) (run : Run T) → i < length runs
@@ -94,6 +94,12 @@ module _ {T : Type 0} (same : T → T → Bool) (exact : (a b : T) → same a b 
       taken ∙ (ap (take (kept + 1)) put
       ∙ (take_more_set runs kept last within
       ∙ (ap (λ l. take kept runs ++ joined_from same l last) (sym none) ∙ so)))
+
+  -- a maximal list is joined already
+  pub maximal-still : (runs : List (Run T)) → AreMaximal runs → maximal_runs same runs ≡ runs
+  maximal-still [] maximal = refl
+  maximal-still (run ∷ runs) maximal =
+      joined-still same exact itself runs run maximal.0 maximal.1
 
   length-joined_from : (runs : List (Run T)) (run : Run T) → length (joined_from same runs run)
       ≤ suc (length runs)

@@ -14,6 +14,7 @@ pub mod Pages
 pub mod Moves
 pub mod Numbered
 pub mod Placed
+pub mod Rewritten
 pub mod Spans
 pub mod Walked
 pub mod Window

@@ -4,12 +4,15 @@ use Rattle.std.proofs.Common.{length, map, take, drop, get_or, refl, sym, ap, su
 use Rattle.std.proofs.Math.ListN.{set}
 use Rattle.std.specs.Prelude.{slice_get, Result, Ok, Err, OnErr}
 use Rattle.std.specs.List.{AllWithin, splice}
-use Rattle.std.proofs.lemmas.Option.{slice_get-map, slice_get-get_or}
+use Rattle.std.proofs.Common.{inl, inr}
+use Rattle.std.proofs.lemmas.Bool.{cases_lt}
+use Rattle.std.proofs.lemmas.Option.{slice_get-map, slice_get-get_or, slice_get_within}
 use Rattle.std.proofs.lemmas.Grind.{flat_map-append}
 use Rattle.std.proofs.lemmas.List.{get_or_default, take_more}
 use Rattle.numa_ranges.specs.Edits.{StartsAround, with_new_value}
-use Rattle.numa_ranges.specs.Runs.{AreApart}
+use Rattle.numa_ranges.specs.Runs.{AreApart, AreMaximal}
 use Rattle.numa_ranges.specs.Numbered.{run_of_row, run_of, runs_of, AreNumbered, IsLonger}
+use Rattle.numa_ranges.specs.Numbered.{AreDifferent}
 use Rattle.numa_ranges.specs.declared.run.Run.{Run}
 use Rattle.numa_ranges.specs.declared.row.Row.{Row}
 use Rattle.numa_ranges.proofs.Apart.{apart-rising}
@@ -239,7 +242,7 @@ module _ {T : Type 0} where
       let head = one-run values x d.value numbered.0 in
       rw head (first-at values xs k row d numbered.1 (omega arith))
 
-  some-value : (values : List T) (n : ℕ) → n < length values → T
+  pub some-value : (values : List T) (n : ℕ) → n < length values → T
   some-value [] n within = absurd (omega arith)
   some-value (v ∷ vs) n within = v
 
@@ -321,3 +324,77 @@ module _ {T : Type 0} where
   pub no-runs : (values : List T) (rows : List Row) → length rows ≡ 0 → runs_of values rows ≡ []
   no-runs values [] none = refl
   no-runs values (row ∷ rows) none = absurd (omega arith)
+
+  -- ---- values that stay different
+
+  pub same-number : (values : List T) (i j : ℕ) (value : T) → AreDifferent values
+      → slice_get values i ≡ Some value → slice_get values j ≡ Some value → i ≡ j
+  same-number values i j value different a b =
+      let li : i < length values = slice_get_within values i value a in
+      let lj : j < length values = slice_get_within values j value b in
+      let at : (k : ℕ) → k < length values → slice_get values k ≡ Some value
+      → get_or values k value ≡ value =
+      λ k l is. let e : Some (get_or values k value) ≡ Some value =
+      sym (slice_get-get_or values k value l) ∙ is in cc in
+      elim (cases_lt i j) [
+        | inl low ↦ absurd (different j lj i value low (at i li a ∙ sym (at j lj b)))
+        | inr high ↦ elim (cases_lt j i) [
+          | inl low ↦ absurd (different i li j value low (at j lj b ∙ sym (at i li a)))
+          | inr top ↦ omega arith
+        ]
+      ]
+
+  -- where no two values are the same, two rows beside each other that had not one value have none
+  pub maximal-different : (old new : List T) (rows : List Row) → AreNumbered old rows
+      → length new ≡ length old → AreDifferent new → AreMaximal (runs_of old rows)
+      → AreMaximal (runs_of new rows)
+  maximal-different old new [] numbered size different maximal = tt
+  maximal-different [] new (row ∷ rows) numbered size different maximal =
+      absurd (omega (arith, numbered.0))
+  maximal-different (v ∷ vs) new (row ∷ []) numbered size different maximal =
+      let within : row.number < length new = omega (arith, numbered.0, size) in
+      rw (one-run new row v within) (tt, tt)
+  maximal-different (v ∷ vs) new (row ∷ next ∷ rows) numbered size different maximal =
+      let old = v ∷ vs in
+      let a : row.number < length new = omega (arith, numbered.0, size) in
+      let b : next.number < length new = omega (arith, numbered.1.0, size) in
+      let before : AreMaximal (record {
+        first = row.first;
+        pages = row.pages;
+        index = row.index;
+        value = get_or old row.number v;
+      } ∷ record {
+        first = next.first;
+        pages = next.pages;
+        index = next.index;
+        value = get_or old next.number v;
+      } ∷ runs_of old rows) =
+      subst AreMaximal (λ i. one-run old row v numbered.0 i
+      ++ (one-run old next v numbered.1.0 i ++ runs_of old rows)) maximal in
+      let rest : AreMaximal (runs_of new (next ∷ rows)) =
+      maximal-different old new (next ∷ rows) numbered.1 size different
+      (subst AreMaximal (λ i. sym (one-run old next v numbered.1.0) i ++ runs_of old rows)
+      before.1) in
+      let after : AreMaximal (record {
+        first = next.first;
+        pages = next.pages;
+        index = next.index;
+        value = get_or new next.number v;
+      } ∷ runs_of new rows) =
+      subst AreMaximal (λ i. one-run new next v b i ++ runs_of new rows) rest in
+      rw (one-run new row v a, one-run new next v b) (
+        λ k.
+            let here : slice_get new row.number ≡ Some (get_or new row.number v) =
+            slice_get-get_or new row.number v a in
+            let there : slice_get new next.number ≡ Some (get_or new row.number v) =
+            slice_get-get_or new next.number v b ∙ ap Some k.value in
+            let one : next.number ≡ row.number =
+            same-number new next.number row.number (get_or new row.number v) different there here
+            in
+            before.0 (record {
+              page = k.page;
+              index = k.index;
+              value = ap (λ n. get_or old n v) one;
+            }),
+        after,
+      )

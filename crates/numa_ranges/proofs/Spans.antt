@@ -4,8 +4,6 @@ use Rattle.std.proofs.Common.{◌∷◌, length, length-take, drop, get_or, refl
 use Rattle.std.proofs.Common.{arith}
 use Rattle.std.specs.Prelude.{All, nat_lt, if◌then◌else◌, false, OnOk, Result, Ok, Err}
 use Rattle.std.proofs.lemmas.Bool.{le-ltb, lt-ltb}
-use Rattle.numa_ranges.specs.Gathered.{Gathered}
-use Rattle.numa_ranges.specs.declared.pieces.Pieces.{Pieces}
 use Rattle.numa_ranges.specs.declared.fault.RangeError.{RangeError}
 use Rattle.numa_ranges.specs.declared.fault.RangeError.TheVariants.{TooManyRanges, NoMemory}
 use Rattle.std.specs.List.{slice_range, splice}
@@ -101,45 +99,34 @@ module _ {T : Type 0} (same : T → T → Bool) (exact : (a b : T) → same a b 
       go false h = h
 
   -- the window of an edit, put in its place
-  pub window-put : (now inside seen new : List (Run T)) (pieces : Pieces T)
-      (from to first end limit : ℕ) (edit : T → Option T) → inside ≡ now → seen ≡ inside
-      → Gathered same pieces (edit_of first end edit (slice_range seen from to))
+  pub window-edited : (now seen new : List (Run T)) (from to first end limit : ℕ)
+      (edit : T → Option T) → seen ≡ now
       → splice now from to (maximal_runs same (edit_of first end edit (slice_range now from to)))
       ≡ maximal_runs same (edit_of first end edit now)
-      → ((added : List (Run T)) → Gathered same pieces added
-      → (new ≡ splice inside from to (maximal_runs same added))
-      × (length (splice inside from to (maximal_runs same added)) ≤ limit))
+      → (new ≡ splice seen from to
+      (maximal_runs same (edit_of first end edit (slice_range seen from to))))
+      × (length new ≤ limit)
       → (new ≡ maximal_runs same (edit_of first end edit now)) × (length new ≤ limit)
-  window-put now inside seen new pieces from to first end limit edit a b gathered whole put =
-      let W = edit_of first end edit (slice_range now from to) in
-      let here : edit_of first end edit (slice_range seen from to) ≡ W =
-      ap (λ l. edit_of first end edit (slice_range l from to)) (b ∙ a) in
-      let done = put W (subst (Gathered same pieces) here gathered) in (
-        done.0 ∙ ap (λ l. splice l from to (maximal_runs same W)) a ∙ whole,
-        omega (arith, done.1, ap length done.0),
-      )
+  window-edited now seen new from to first end limit edit a whole put = (
+    put.0 ∙ (ap (λ l. splice l from to (maximal_runs same
+        (edit_of first end edit (slice_range l from to)))) a ∙ whole),
+    put.1,
+  )
 
-  pub window-refused : (now inside seen : List (Run T)) (pieces : Pieces T)
-      (from to first end limit : ℕ) (refusal : RangeError) (edit : T → Option T) → inside ≡ now
-      → seen ≡ inside
-      → Gathered same pieces (edit_of first end edit (slice_range seen from to))
+  pub window-refused : (now seen : List (Run T)) (from to first end limit : ℕ)
+      (refusal : RangeError) (edit : T → Option T) → seen ≡ now
       → splice now from to (maximal_runs same (edit_of first end edit (slice_range now from to)))
       ≡ maximal_runs same (edit_of first end edit now)
-      → ((added : List (Run T)) → Gathered same pieces added
-      → refusal
-      ≡ (if nat_lt limit (length (splice inside from to (maximal_runs same added)))
-      then TooManyRanges else NoMemory))
+      → refusal ≡ (if nat_lt limit (length (splice seen from to
+      (maximal_runs same (edit_of first end edit (slice_range seen from to)))))
+      then TooManyRanges else NoMemory)
       → refusal
       ≡ (if nat_lt limit (length (maximal_runs same (edit_of first end edit now)))
       then TooManyRanges else NoMemory)
-  window-refused now inside seen pieces from to first end limit refusal edit a b gathered whole
-      put =
-      let W = edit_of first end edit (slice_range now from to) in
-      let here : edit_of first end edit (slice_range seen from to) ≡ W =
-      ap (λ l. edit_of first end edit (slice_range l from to)) (b ∙ a) in
-      put W (subst (Gathered same pieces) here gathered)
-      ∙ ap (λ l. if nat_lt limit (length l) then TooManyRanges else NoMemory)
-      (ap (λ l. splice l from to (maximal_runs same W)) a ∙ whole)
+  window-refused now seen from to first end limit refusal edit a whole put =
+      put ∙ ap (λ l. if nat_lt limit (length l) then TooManyRanges else NoMemory)
+      (ap (λ l. splice l from to (maximal_runs same
+      (edit_of first end edit (slice_range l from to)))) a ∙ whole)
 
 module _ {T : Type 0} where
   pub without-is : (first pages : ℕ) (at : ℕ → Option (ℕ × T))

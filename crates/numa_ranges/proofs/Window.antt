@@ -2,14 +2,16 @@
 use Rattle.std.proofs.Common.{◌≡◌, append-nil, ℕ, zero, suc, ◌+◌, ◌-◌, ◌<◌, ◌≤◌, min, max, Bool}
 use Rattle.std.proofs.Common.{true, Option, Some, None, List, [], ◌∷◌, ◌++◌, length, length-append}
 use Rattle.std.proofs.Common.{length-drop, take, drop, get_or, refl, sym, ap, subst, ◌∙◌, arith}
-use Rattle.std.proofs.Common.{inl, inr}
+use Rattle.std.proofs.Common.{inl, inr, append_assoc}
+use Rattle.std.specs.Prelude.{if◌then◌else◌}
 use Rattle.std.specs.List.{AllWithin, slice_range, splice}
 use Rattle.std.proofs.lemmas.Bool.{cases_lt, lt-ltb, le-ltb}
 use Rattle.std.proofs.lemmas.List.{drop_all, take_more, drop_more, drop-drop, take-append-drop}
 use Rattle.std.proofs.lemmas.List.{get_or-drop, length-take}
 use Rattle.std.proofs.lemmas.List.Concat.{flat_map-append}
-use Rattle.numa_ranges.specs.Runs.{AreApart, AreMaximal, end_of}
+use Rattle.numa_ranges.specs.Runs.{AreApart, AreMaximal, NotContinued, end_of}
 use Rattle.numa_ranges.specs.Edits.{Each, StartsAround, edit_of, parts, part_within, maximal_runs}
+use Rattle.numa_ranges.specs.Edits.{part_before, part_from, MayBegin, MayEnd}
 use Rattle.numa_ranges.specs.declared.run.Run.{Run}
 use Rattle.numa_ranges.proofs.Apart.{apart-from}
 use Rattle.numa_ranges.proofs.Cut.{parts-below, parts-above}
@@ -53,6 +55,35 @@ module _ {T : Type 0} where
   pub maximal-back : (xs ys : List (Run T)) → AreMaximal (xs ++ ys) → AreMaximal ys
   maximal-back [] ys maximal = maximal
   maximal-back (x ∷ xs) ys maximal = maximal-back xs ys maximal.1
+
+  -- a run that is cut at its end is continued, or continues, where it begins
+  pub maximal-shortened : (xs : List (Run T)) (run : Run T) (ys : List (Run T)) (pages : ℕ)
+      → AreMaximal (xs ++ run ∷ ys) → AreMaximal (xs ++ record {
+        first = run.first;
+        pages = pages;
+        index = run.index;
+        value = run.value;
+      } ∷ [])
+  maximal-shortened [] run ys pages maximal = (tt, tt)
+  maximal-shortened (x ∷ []) run ys pages maximal = (
+    λ k. maximal.0 (record { page = k.page; index = k.index; value = k.value }),
+    (tt, tt),
+  )
+  maximal-shortened (x ∷ y ∷ xs) run ys pages maximal =
+      (maximal.0, maximal-shortened (y ∷ xs) run ys pages maximal.1)
+
+  -- a run that is cut at its beginning is continued where it ends
+  pub not_continued-cut : (run cut : Run T) (after : List (Run T)) → end_of cut ≡ end_of run
+      → cut.index + cut.pages ≡ run.index + run.pages → cut.value ≡ run.value
+      → NotContinued run after → NotContinued cut after
+  not_continued-cut run cut [] end index value stops = tt
+  not_continued-cut run cut (next ∷ after) end index value stops =
+      λ k.
+      stops (record {
+        page = omega (arith, k.page, end);
+        index = omega (arith, k.index, index);
+        value = k.value ∙ value;
+      })
 
   -- the runs before the last that starts at a page or before it end there or before
   pub ends-before : (from : ℕ) (runs : List (Run T)) (place page : ℕ) (d : Run T)
@@ -134,13 +165,13 @@ module _ {T : Type 0} where
 
 module _ {T : Type 0} (same : T → T → Bool) (exact : (a b : T) → same a b ≡ true → a ≡ b)
     (itself : (a : T) → same a a ≡ true) where
-  left-seam : (run : Run T) (runs : List (Run T)) (lo first end to : ℕ) (edit : T → Option T)
+  left-wide : (run : Run T) (runs : List (Run T)) (lo first end to : ℕ) (edit : T → Option T)
       → AreApart 0 (run ∷ runs) → AreMaximal (run ∷ runs) → first ≤ end → lo ≤ length (run ∷ runs)
       → StartsAround (run ∷ runs) lo first → lo ≤ to → to ≤ length (run ∷ runs)
       → Each (λ r. (0 < r.pages) × (end_of r ≤ first)) (take (lo - 2) (run ∷ runs))
       × LeftSeam same exact itself (take (lo - 2) (run ∷ runs))
       (edit_of first end edit (slice_range (run ∷ runs) (lo - 2) to))
-  left-seam run runs lo first end to edit apart maximal le within low behind top =
+  left-wide run runs lo first end to edit apart maximal le within low behind top =
       let all = run ∷ runs in
       elim (cases_lt lo 2) [
         | inl few ↦
@@ -175,7 +206,45 @@ module _ {T : Type 0} (same : T → T → Bool) (exact : (a b : T) → same a b 
             )
       ]
 
-  right-seam : (run : Run T) (runs : List (Run T)) (hi first end from : ℕ) (edit : T → Option T)
+  left-near : (run : Run T) (runs : List (Run T)) (lo first end to : ℕ) (edit : T → Option T)
+      → AreApart 0 (run ∷ runs) → AreMaximal (run ∷ runs) → lo ≤ length (run ∷ runs) → 0 < lo
+      → (get_or (run ∷ runs) (lo - 1) run).first < first → lo ≤ to → to ≤ length (run ∷ runs)
+      → Each (λ r. (0 < r.pages) × (end_of r ≤ first)) (take (lo - 1) (run ∷ runs))
+      × LeftSeam same exact itself (take (lo - 1) (run ∷ runs))
+      (edit_of first end edit (slice_range (run ∷ runs) (lo - 1) to))
+  left-near run runs lo first end to edit apart maximal within some starts behind top =
+      let all = run ∷ runs in
+      let from = lo - 1 in
+      let before = get_or all from run in
+      let pages = min before.pages (first - before.first) in
+      let cut : Run T = record {
+        first = before.first;
+        pages = pages;
+        index = before.index;
+        value = before.value;
+      } in
+      let tail = slice_range all (from + 1) to in
+      let rest = part_within first end edit before ++ part_from end before in
+      let head : parts first end edit before ≡ cut ∷ rest =
+      ap (λ b. (if b then cut ∷ [] else []) ++ rest) (lt-ltb before.first first starts) in
+      let opens : edit_of first end edit (slice_range all from to) ≡ cut
+      ∷ (rest ++ edit_of first end edit tail) =
+      ap (edit_of first end edit) (window-first all from to run (omega arith) top)
+      ∙ ap (λ l. l ++ edit_of first end edit tail) head in
+      let around : all ≡ take from all ++ before ∷ drop (from + 1) all =
+      sym (take-append-drop from all)
+      ∙ ap (λ l. take from all ++ l) (drop_more all from run (omega arith)) in (
+        ends-before 0 all from first run apart (omega arith) (omega (arith, starts)),
+        inr (
+          cut,
+          rest ++ edit_of first end edit tail,
+          opens,
+          maximal-shortened (take from all) before (drop (from + 1) all) pages
+              (subst AreMaximal around maximal),
+        ),
+      )
+
+  right-wide : (run : Run T) (runs : List (Run T)) (hi first end from : ℕ) (edit : T → Option T)
       → AreApart 0 (run ∷ runs) → AreMaximal (run ∷ runs) → first ≤ end
       → StartsAround (run ∷ runs) hi end → from ≤ hi
       → Each (λ r. (0 < r.pages) × (end < r.first))
@@ -183,7 +252,7 @@ module _ {T : Type 0} (same : T → T → Bool) (exact : (a b : T) → same a b 
       × RightSeam same exact itself
       (edit_of first end edit (slice_range (run ∷ runs) from (min (length (run ∷ runs)) (hi + 1))))
       (drop (min (length (run ∷ runs)) (hi + 1)) (run ∷ runs))
-  right-seam run runs hi first end from edit apart maximal le high below =
+  right-wide run runs hi first end from edit apart maximal le high below =
       let all = run ∷ runs in
       elim (cases_lt hi (length all)) [
         | inr past ↦
@@ -223,29 +292,124 @@ module _ {T : Type 0} (same : T → T → Bool) (exact : (a b : T) → same a b 
             )
       ]
 
+  right-near : (run : Run T) (runs : List (Run T)) (hi first end from : ℕ) (edit : T → Option T)
+      → AreApart 0 (run ∷ runs) → AreMaximal (run ∷ runs) → hi ≤ length (run ∷ runs)
+      → StartsAround (run ∷ runs) hi end → 0 < hi
+      → end < end_of (get_or (run ∷ runs) (hi - 1) run) → from < hi
+      → Each (λ r. (0 < r.pages) × (end < r.first)) (drop hi (run ∷ runs))
+      × RightSeam same exact itself
+      (edit_of first end edit (slice_range (run ∷ runs) from hi)) (drop hi (run ∷ runs))
+  right-near run runs hi first end from edit apart maximal within high some ends below =
+      let all = run ∷ runs in
+      let place = hi - 1 in
+      let next : place + 1 ≡ hi = omega arith in
+      let last = get_or all place run in
+      let start = max end last.first in
+      let low : last.first ≤ end = high.0 place run (omega arith) (omega arith) in
+      let cut : Run T = record {
+        first = start;
+        pages = end_of last - start;
+        index = last.index + (start - last.first);
+        value = last.value;
+      } in
+      let front = edit_of first end edit (slice_range all from place) in
+      let more = part_before first last ++ part_within first end edit last in
+      let closing : parts first end edit last ≡ more ++ cut ∷ [] =
+      ap (λ b. part_before first last ++ (part_within first end edit last
+      ++ (if b then cut ∷ [] else []))) (lt-ltb end (end_of last) ends)
+      ∙ sym (append_assoc (part_before first last) (part_within first end edit last) (cut ∷ [])) in
+      let closes : edit_of first end edit (slice_range all from hi) ≡ (front ++ more) ++ cut ∷ [] =
+      ap (edit_of first end edit) (window-last all from hi run below within)
+      ∙ flat_map-append (parts first end edit) (slice_range all from place) (last ∷ [])
+      ∙ ap (λ l. front ++ l) (append-nil _ ∙ closing)
+      ∙ sym (append_assoc front more (cut ∷ [])) in
+      let opens : drop place all ≡ last ∷ drop hi all =
+      drop_more all place run (omega arith) ∙ ap (λ n. last ∷ drop n all) next in
+      let split : all ≡ take place all ++ last ∷ drop hi all =
+      sym (take-append-drop place all) ∙ ap (λ l. take place all ++ l) opens in
+      let stands = maximal-back (take place all) (last ∷ drop hi all)
+      (subst AreMaximal split maximal) in (
+        starts-behind 0 all hi end apart high.1,
+        inr (
+          front ++ more,
+          cut,
+          closes,
+          (
+            not_continued-cut last cut (drop hi all) (omega (arith, ends, low))
+                (omega (arith, ends, low)) refl stands.0,
+            stands.1,
+          ),
+        ),
+      )
+
+  left-seam : (run : Run T) (runs : List (Run T)) (lo first end from to : ℕ) (edit : T → Option T)
+      → AreApart 0 (run ∷ runs) → AreMaximal (run ∷ runs) → first ≤ end → lo ≤ length (run ∷ runs)
+      → StartsAround (run ∷ runs) lo first → lo ≤ to → to ≤ length (run ∷ runs)
+      → MayBegin (run ∷ runs) lo first from
+      → Each (λ r. (0 < r.pages) × (end_of r ≤ first)) (take from (run ∷ runs))
+      × LeftSeam same exact itself (take from (run ∷ runs))
+      (edit_of first end edit (slice_range (run ∷ runs) from to))
+  left-seam run runs lo first end from to edit apart maximal le within low behind top begins =
+      elim begins [
+        | inl wide ↦
+            rw wide
+            (left-wide run runs lo first end to edit apart maximal le within low behind top)
+        | inr near ↦
+            rw near.0
+            (left-near run runs lo first end to edit apart maximal within near.1 (near.2 run)
+            behind top)
+      ]
+
+  right-seam : (run : Run T) (runs : List (Run T)) (hi first end from to : ℕ)
+      (edit : T → Option T) → AreApart 0 (run ∷ runs) → AreMaximal (run ∷ runs) → first ≤ end
+      → hi ≤ length (run ∷ runs) → StartsAround (run ∷ runs) hi end → from ≤ hi - 1
+      → MayEnd (run ∷ runs) hi end to
+      → Each (λ r. (0 < r.pages) × (end < r.first)) (drop to (run ∷ runs))
+      × RightSeam same exact itself
+      (edit_of first end edit (slice_range (run ∷ runs) from to)) (drop to (run ∷ runs))
+  right-seam run runs hi first end from to edit apart maximal le within high below ends =
+      elim ends [
+        | inl wide ↦
+            rw wide
+            (right-wide run runs hi first end from edit apart maximal le high
+            (omega (arith, below)))
+        | inr near ↦
+            rw near.0
+            (right-near run runs hi first end from edit apart maximal within high near.1
+            (near.2 run) (omega (arith, below, near.1)))
+      ]
+
   -- an edit of a span, joined, changes only a window of the runs
-  pub edited-window : (runs : List (Run T)) (lo hi first end : ℕ) (edit : T → Option T)
+  pub edited-window : (runs : List (Run T)) (lo hi first end from to : ℕ) (edit : T → Option T)
       → AreApart 0 runs → AreMaximal runs → first ≤ end → lo ≤ length runs
       → StartsAround runs lo first → hi ≤ length runs → StartsAround runs hi end
-      → splice runs (lo - 2) (min (length runs) (hi + 1))
-      (maximal_runs same
-      (edit_of first end edit (slice_range runs (lo - 2) (min (length runs) (hi + 1)))))
-      ≡ maximal_runs same (edit_of first end edit runs)
-  edited-window [] lo hi first end edit apart maximal le within low within' high =
-      let a : lo - 2 ≡ 0 = omega arith in
-      let b : min 0 (hi + 1) ≡ 0 = omega arith in
+      → MayBegin runs lo first from → MayEnd runs hi end to → splice runs from to
+      (maximal_runs same (edit_of first end edit (slice_range runs from to))) ≡ maximal_runs same
+      (edit_of first end edit runs)
+  edited-window [] lo hi first end from to edit apart maximal le within low within' high begins
+      ends =
+      let a : from ≡ 0 = elim begins
+      [ inl wide ↦ omega (arith, wide, within) | inr near ↦ omega (arith, near.0, within) ] in
+      let b : to ≡ 0 = elim ends
+      [ inl wide ↦ omega (arith, wide) | inr near ↦ omega (arith, near.0, within') ] in
       rw (a, b) refl
-  edited-window (run ∷ runs) lo hi first end edit apart maximal le within low within' high =
+  edited-window (run ∷ runs) lo hi first end from to edit apart maximal le within low within' high
+      begins ends =
       let all = run ∷ runs in
-      let from = lo - 2 in
-      let to = min (length all) (hi + 1) in
       let rises : lo ≤ hi = places-rise all lo hi first end le within low high in
-      let left = left-seam run runs lo first end to edit apart maximal le within low (omega arith)
-      (omega arith) in
-      let right = right-seam run runs hi first end from edit apart maximal le high (omega arith) in
+      let below : from ≤ lo - 1 = elim begins
+      [ inl wide ↦ omega (arith, wide) | inr near ↦ omega (arith, near.0) ] in
+      let bounds : (hi ≤ to) × (to ≤ length all) = elim ends [
+        | inl wide ↦ (omega (arith, wide, within'), omega (arith, wide))
+        | inr near ↦ (omega (arith, near.0), omega (arith, near.0, within'))
+      ] in
+      let left = left-seam run runs lo first end from to edit apart maximal le within low
+      (omega (arith, rises, bounds.0)) bounds.1 begins in
+      let right = right-seam run runs hi first end from to edit apart maximal le within' high
+      (omega (arith, rises, below)) ends in
       let W = edit_of first end edit (slice_range all from to) in
       let whole : edit_of first end edit all ≡ take from all ++ (W ++ drop to all) =
-      ap (edit_of first end edit) (around all from to (omega arith))
+      ap (edit_of first end edit) (around all from to (omega (arith, rises, below, bounds.0)))
       ∙ flat_map-append (parts first end edit) (take from all)
       (slice_range all from to ++ drop to all)
       ∙ ap (λ l. edit_of first end edit (take from all) ++ l)

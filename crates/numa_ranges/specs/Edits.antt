@@ -3,6 +3,7 @@
 use Rattle.std.specs.Prelude.{◌≡◌, ℕ, ◌+◌, ◌-◌, ◌<◌, ◌≤◌, ◌^◌, ◌&&◌, Bool, Option, Some, None, List}
 use Rattle.std.specs.Prelude.{[], ◌∷◌, ◌++◌, min, max, length, take, drop, option_map, ◌==◌, nat_lt}
 use Rattle.std.specs.Prelude.{if◌then◌else◌}
+use Rattle.std.specs.Prelude.{slice_index_or, ◌⊎◌}
 use Rattle.std.specs.List.{AllWithin, flat_map}
 use Rattle.numa_ranges.specs.declared.run.Run.{Run}
 use Rattle.numa_ranges.specs.Runs.{in_pages, end_of, page_at, AreApart, AreMaximal}
@@ -149,6 +150,18 @@ pub record HasRoom {T : Type 0} (runs : List (Run T)) (place first last : ℕ) :
   pub maximal : AreMaximal runs
   pub before : Each (λ run. (0 < run.pages) × (end_of run ≤ first)) (take place runs)
   pub behind : Each (λ run. (0 < run.pages) × (last < run.first)) (drop place runs)
+
+-- where the window of an edit may begin, if so many runs start at its first page or before it: two
+-- runs before that, or at the last of them if it begins before the page
+abbrev pub MayBegin : {T : Type 0} → List (Run T) → ℕ → ℕ → ℕ → Type 0
+MayBegin {T} runs place first from = (from ≡ place - 2) ⊎ ((from ≡ place - 1) × (0 < place)
+    × ((d : Run T) → (slice_index_or runs (place - 1) d).first < first))
+
+-- where it may end, if so many runs start at its end or before it: one run after them, or behind
+-- the last of them if it ends after the span
+abbrev pub MayEnd : {T : Type 0} → List (Run T) → ℕ → ℕ → ℕ → Type 0
+MayEnd {T} runs count end to = (to ≡ min (length runs) (count + 1)) ⊎ ((to ≡ count) × (0 < count)
+    × ((d : Run T) → end < end_of (slice_index_or runs (count - 1) d)))
 
 -- a range map came to show this map, which it may have
 pub record Becomes {T : Type 0} (same : T → T → Bool) (old new : Ranges T)

@@ -1,4 +1,5 @@
 pub mod Counts
+pub mod Edited
 pub mod Edits
 pub mod Gathered
 pub mod Maps

@@ -1,6 +1,6 @@
 -- Runs whose values stand in a list of their own, each under a number, which is its place there.
 use Rattle.std.specs.Prelude.{◌≡◌, ℕ, ◌<◌, ◌≤◌, Option, Some, None}
-use Rattle.std.specs.Prelude.{List, [], ◌∷◌, length, slice_get}
+use Rattle.std.specs.Prelude.{List, [], ◌∷◌, length, slice_get, slice_index_or}
 use Rattle.std.specs.List.{flat_map}
 use Rattle.numa_ranges.specs.declared.run.Run.{Run}
 use Rattle.numa_ranges.specs.declared.row.Row.{Row}
@@ -38,3 +38,12 @@ pub record AreRowsOf {T : Type 0} (values : List T) (rows : List Row) (whole : L
 pub record IsLonger {T : Type 0} (old new : List T) : Type 0 where
   pub size : length old ≤ length new
   pub same : (number : ℕ) → number < length old → slice_get new number ≡ slice_get old number
+
+-- no value before a place is the one there
+abbrev pub IsNewAt : {T : Type 0} → List T → ℕ → Type 0
+IsNewAt {T} values place = (k : ℕ) (d : T) → k < place
+    → slice_index_or values k d ≡ slice_index_or values place d → ⊥
+
+-- no two values are the same
+abbrev pub AreDifferent : {T : Type 0} → List T → Type 0
+AreDifferent values = (place : ℕ) → place < length values → IsNewAt values place

@@ -7,42 +7,52 @@ ghost use Rattle.numa_rows.specs.Changes.{Makes};
 ghost use Rattle.numa_ranges.specs.Runs.{AreApart};
 ghost use Rattle.numa_ranges.specs.Edits.{IsInRange, part_before, part_within, part_from};
 ghost use Rattle.numa_ranges.specs.Edits.{edit_of};
-ghost use Rattle.numa_ranges.specs.Gathered.{Gathered};
+ghost use Rattle.numa_ranges.specs.Edited.{IsPlaced};
+ghost use Rattle.numa_ranges.specs.Gathered.{AreGathered, Gathered};
+ghost use Rattle.numa_ranges.specs.Numbered.{AreNumbered, run_of, runs_of};
 
+use crate::edited_row::{EditedRow, value_of};
+use crate::edited_rows::EditedRows;
 use crate::exact::Exact;
 use crate::pieces::Pieces;
 use crate::range_iter::RangeIter;
+use crate::row::Row;
 use crate::run::Run;
 use crate::runs::Runs;
+use numa_rows::{Iter, Owned};
 use std::alloc::Global;
 
-/// Gathers the next `count` runs, with the pages inside the span edited.
+/// Gathers the next `count` rows, with the pages inside the span edited.
 pub(crate) fn gather_edited<T: Exact, F: Fn(&T) -> Option<T>>(
     alloc: Global,
-    rest: &mut RangeIter<'_, T>,
+    rest: &mut Iter<'_, Row, Owned<Row>>,
+    values: &[T],
     count: usize,
     first: u64,
     end: u64,
     edit: &F,
-) -> Pieces<T>
+) -> EditedRows
     requires callable { F.IsAlwaysCallable edit.now }
+    requires numbered { AreNumbered values.now rest.old }
     requires within { count ≤ length rest.old }
     requires len { count ≤ 2 ^ 32 }
-    requires in_range { All IsInRange (take count rest.old) }
+    requires in_range { All IsInRange (take count (runs_of values.now rest.old)) }
     ensures gathered { (change : T → Option T) → Makes F.Fn edit.now change
-        → Gathered T.eq result (edit_of first end change (take count rest.old)) }
+        → AreGathered T.eq change values.now result
+        (edit_of first end change (take count (runs_of values.now rest.old))) }
     ensures count { result.count ≤ 3 * count }
 {
-    let mut pieces = Pieces::new(alloc, count + 2);
+    let mut rows = EditedRows::new(alloc, count + 2);
     for k in 0..count {
-        let Some(run) = rest.next() else {
+        let Some(seen) = rest.next() else {
             unreachable!()
         };
-        add_before(&mut pieces, run, first);
-        add_within(&mut pieces, run, first, end, edit);
-        add_from(&mut pieces, run, end);
+        let row: Row = *seen;
+        add_before(&mut rows, values, row, first, edit);
+        add_within(&mut rows, values, row, first, end, edit);
+        add_from(&mut rows, values, row, end, edit);
     }
-    pieces
+    rows
 }
 
 /// Gathers the runs from one rank to another, with a run inserted at a place between them. `near`
@@ -94,69 +104,101 @@ fn add_all<T: Exact>(pieces: &mut Pieces<T>, rest: &mut RangeIter<'_, T>, count:
     }
 }
 
-/// Adds the part of a run before a page.
-fn add_before<T: Exact>(pieces: &mut Pieces<T>, run: Run<T>, page: u64)
-    requires in_range { IsInRange run }
-    requires room { pieces.old.count < 2 ^ 63 }
-    ensures gathered { (added : List (Run T)) → Gathered T.eq pieces.old added
-        → Gathered T.eq pieces.new (added ++ part_before page run) }
-    ensures count { pieces.new.count ≤ pieces.old.count + 1 }
+/// Adds the part of a row before a page.
+#[inline]
+fn add_before<T: Exact, F: Fn(&T) -> Option<T>>(
+    rows: &mut EditedRows,
+    values: &[T],
+    row: Row,
+    page: u64,
+    edit: &F,
+)
+    requires callable { F.IsAlwaysCallable edit.now }
+    requires placed { IsPlaced row.first row.pages row.index }
+    requires room { rows.old.count < 2 ^ 63 }
+    ensures gathered { (change : T → Option T) → Makes F.Fn edit.now change
+        → (added : List (Run T)) (run : Run T) → run_of values.now row ≡ run ∷ []
+        → AreGathered T.eq change values.now rows.old added
+        → AreGathered T.eq change values.now rows.new (added ++ part_before page run) }
+    ensures count { rows.new.count ≤ rows.old.count + 1 }
 {
-    if run.first < page {
-        pieces.add(Run {
-            pages: run.pages.min(page - run.first),
-            ..run
-        });
+    if row.first < page {
+        let kept = EditedRow {
+            first: row.first,
+            pages: row.pages.min(page - row.first),
+            index: row.index,
+            number: row.number,
+            is_edited: false,
+        };
+        rows.add(values, kept, edit);
     }
 }
 
-/// Adds the part of a run from a page on.
-fn add_from<T: Exact>(pieces: &mut Pieces<T>, run: Run<T>, page: u64)
-    requires room { pieces.old.count < 2 ^ 63 }
-    requires in_range { IsInRange run }
-    ensures count { pieces.new.count ≤ pieces.old.count + 1 }
-    ensures gathered { (added : List (Run T)) → Gathered T.eq pieces.old added
-        → Gathered T.eq pieces.new (added ++ part_from page run) }
+/// Adds the part of a row from a page on.
+#[inline]
+fn add_from<T: Exact, F: Fn(&T) -> Option<T>>(
+    rows: &mut EditedRows,
+    values: &[T],
+    row: Row,
+    page: u64,
+    edit: &F,
+)
+    requires callable { F.IsAlwaysCallable edit.now }
+    requires placed { IsPlaced row.first row.pages row.index }
+    requires room { rows.old.count < 2 ^ 63 }
+    ensures gathered { (change : T → Option T) → Makes F.Fn edit.now change
+        → (added : List (Run T)) (run : Run T) → run_of values.now row ≡ run ∷ []
+        → AreGathered T.eq change values.now rows.old added
+        → AreGathered T.eq change values.now rows.new (added ++ part_from page run) }
+    ensures count { rows.new.count ≤ rows.old.count + 1 }
 {
-    let end = run.first + run.pages;
+    let end = row.first + row.pages;
     if page < end {
-        let start = page.max(run.first);
-        let passed = start - run.first;
-        pieces.add(Run {
+        let start = page.max(row.first);
+        let passed = start - row.first;
+        let kept = EditedRow {
             first: start,
             pages: end - start,
-            index: run.index + passed,
-            value: run.value,
-        });
+            index: row.index + passed,
+            number: row.number,
+            is_edited: false,
+        };
+        rows.add(values, kept, edit);
     }
 }
 
-/// Adds the part of a run between two pages, with the value that `edit` returns, if any.
+/// Adds the part of a row between two pages, with the value that `edit` returns, if any.
+#[inline]
 fn add_within<T: Exact, F: Fn(&T) -> Option<T>>(
-    pieces: &mut Pieces<T>,
-    run: Run<T>,
+    rows: &mut EditedRows,
+    values: &[T],
+    row: Row,
     first: u64,
     end: u64,
     edit: &F,
 )
     requires callable { F.IsAlwaysCallable edit.now }
-    requires in_range { IsInRange run }
-    requires room { pieces.old.count < 2 ^ 63 }
-    ensures gathered { (change : T → Option T) → Makes F.Fn edit.now change → (added : List (Run T))
-        → Gathered T.eq pieces.old added → Gathered T.eq pieces.new
+    requires placed { IsPlaced row.first row.pages row.index }
+    requires room { rows.old.count < 2 ^ 63 }
+    ensures gathered { (change : T → Option T) → Makes F.Fn edit.now change
+        → (added : List (Run T)) (run : Run T) → run_of values.now row ≡ run ∷ []
+        → AreGathered T.eq change values.now rows.old added
+        → AreGathered T.eq change values.now rows.new
         (added ++ part_within first end change run) }
-    ensures count { pieces.new.count ≤ pieces.old.count + 1 }
+    ensures count { rows.new.count ≤ rows.old.count + 1 }
 {
-    let start = first.max(run.first);
-    let stop = end.min(run.first + run.pages);
+    let start = first.max(row.first);
+    let stop = end.min(row.first + row.pages);
     if start < stop {
-        if let Some(value) = edit(&run.value) {
-            pieces.add(Run {
-                first: start,
-                pages: stop - start,
-                index: run.index + (start - run.first),
-                value,
-            });
+        let made = EditedRow {
+            first: start,
+            pages: stop - start,
+            index: row.index + (start - row.first),
+            number: row.number,
+            is_edited: true,
+        };
+        if let Some(_value) = value_of(values, &made, edit) {
+            rows.add(values, made, edit);
         }
     }
 }

@@ -14,6 +14,8 @@
 #![tactic(auto)]
 
 mod edit;
+mod edited_row;
+mod edited_rows;
 mod even;
 mod exact;
 mod fault;

@@ -142,7 +142,7 @@ impl<T: Exact> Pieces<T> {
 }
 
 /// An empty vector, with room for `room` items if there is memory for it.
-fn with_room<T: Copy + Drop>(alloc: Global, room: usize) -> Vec<T>
+pub(crate) fn with_room<T: Copy + Drop>(alloc: Global, room: usize) -> Vec<T>
     ensures { result.items ≡ [] }
 {
     let Ok(items) = Vec::with_capacity(alloc, room) else {

@@ -14,7 +14,7 @@ ghost use Rattle.numa_ranges.specs.Edits.{StartsAround, maximal_runs, edit_of, H
 ghost use Rattle.numa_ranges.specs.Edits.{Becomes, edited_span};
 ghost use Rattle.numa_ranges.specs.Numbered.{AreRowsOf};
 
-use crate::edit::{gather_edited, gather_with};
+use crate::edit::gather_with;
 use crate::exact::Exact;
 use crate::fault::RangeError;
 use crate::pieces::Pieces;
@@ -22,7 +22,7 @@ use crate::range_iter::RangeIter;
 use crate::row::Row;
 use crate::run::Run;
 use crate::runs::Runs;
-use crate::walk::{lacks_page, starts_on};
+use crate::walk::{first_place, lacks_page, last_place, starts_on};
 use numa_rows::{Iter, Owned};
 use std::alloc::{AllocError, Global};
 use std::marker::Model;
@@ -116,6 +116,18 @@ impl<T: Exact> RangeMap<T> {
             → others ≡ self.now.runs }
     {
         self.runs.iter()
+    }
+
+    /// The ranges in ascending order from the last that starts at page `first` or before it, which
+    /// is found by one search. They have every mapped page from `first` on.
+    pub fn iter_from(&self, first: u64) -> RangeIter<'_, T>
+        ensures pages { (page : ℕ) → first ≤ page
+            → page_at result page ≡ page_at self.now.runs page }
+        ensures rising { AreApart 0 result }
+    {
+        let mut near = self.near;
+        let place = self.starts_near(first, &mut near);
+        self.runs.iter_near(place.saturating_sub(1), near)
     }
 
     /// The ranges in ascending order, each with the number of its value, and the values by number:
@@ -345,7 +357,6 @@ impl<T: Exact> RangeMap<T> {
         ensures max_ranges { self.new.max_ranges ≡ self.old.max_ranges }
     {
         self.runs.update_all(&f);
-        self.runs.join();
     }
 
     /// Replaces the value of each mapped page of a span by what `edit` returns for it, or unmaps
@@ -374,9 +385,10 @@ impl<T: Exact> RangeMap<T> {
     {
         let end = first + pages;
         let (from, to) = self.window(place, first, end, near);
-        let mut rest = self.runs.iter_near(from, near);
-        let pieces = gather_edited(self.alloc, &mut rest, to - from, first, end, edit);
-        pieces.put(&mut self.runs, from, to, self.max_ranges, near)?;
+        let limit = self.max_ranges;
+        self.runs.tidy();
+        self.runs
+            .edit_near(from, to, near, first, end, edit, limit)?;
         self.near = near;
         self.edited = place;
         Ok(())
@@ -395,11 +407,9 @@ impl<T: Exact> RangeMap<T> {
             (edit_of first end change (slice_range self.now.runs result.0 result.1)))
             ≡ maximal_runs T.eq (edit_of first end change self.now.runs) }
     {
-        let from = place.saturating_sub(2);
-        let to = self
-            .runs
-            .len()
-            .min(starts_on(&self.runs, place, first, end, near) + 1);
+        let count = starts_on(&self.runs, place, first, end, near);
+        let from = first_place(&self.runs, place, first, near);
+        let to = last_place(&self.runs, count, end, near);
         (from, to)
     }
 

@@ -1,14 +1,19 @@
 //! The runs of a map, with numbers for their values.
 ghost use Rattle.std.specs.Prelude.{◌≡◌, ◌==◌, ◌+◌, ◌<◌, ◌≤◌, ◌^◌, [], length, map, drop, All};
-ghost use Rattle.std.specs.Prelude.{slice_index_or, IfSome, IfOk, OnOk, OnErr};
-ghost use Rattle.std.specs.List.{splice};
+ghost use Rattle.std.specs.Prelude.{slice_index_or, IfSome, IfOk, OnOk, OnErr, IfErr, Option};
+ghost use Rattle.std.specs.Prelude.{if◌then◌else◌, nat_lt};
+ghost use Rattle.std.specs.List.{slice_range, splice};
 ghost use Rattle.numa_rows.specs.Changes.{Makes};
-ghost use Rattle.numa_ranges.specs.Runs.{AreApart};
+ghost use Rattle.numa_ranges.specs.Runs.{AreApart, AreMaximal};
 ghost use Rattle.numa_ranges.specs.Edits.{IsInRange, StartsAround, maximal_runs, with_new_value};
+ghost use Rattle.numa_ranges.specs.Edits.{edit_of};
+ghost use Rattle.numa_ranges.specs.declared.fault.RangeError.TheVariants.{TooManyRanges, NoMemory};
 ghost use Rattle.numa_ranges.specs.Numbered.{AreRowsOf, IsLonger};
 
+use crate::edit::gather_edited;
 use crate::even::starts_beside;
 use crate::exact::Exact;
+use crate::fault::RangeError;
 use crate::join::join_in_place;
 use crate::range_iter::RangeIter;
 use crate::row::{Row, with_value};
@@ -174,6 +179,53 @@ impl<T: Exact> Runs<T> {
         Ok(())
     }
 
+    /// Replaces the runs from one rank to another by what an edit of a span makes of them, joined,
+    /// unless there would be more than `limit`. `near` is a guess at the chunk of the first. Values
+    /// that no run has any more stay until `tidy`.
+    ///
+    /// # Errors
+    /// The first that applies; the runs haven't changed: `TooManyRanges`; `NoMemory`.
+    pub(crate) fn edit_near<F: Fn(&T) -> Option<T>>(
+        &mut self,
+        from: usize,
+        to: usize,
+        near: usize,
+        first: u64,
+        end: u64,
+        edit: &F,
+        limit: u32,
+    ) -> Result<(), RangeError>
+        requires window { (from ≤ to) × (to ≤ length self.old) }
+        requires in_range { All IsInRange (slice_range self.old from to) }
+        requires callable { F.IsAlwaysCallable edit.now }
+        requires function { (change : T → Option T) × Makes F.Fn edit.now change }
+        ensures ok { (change : T → Option T) → Makes F.Fn edit.now change
+            → OnOk result ((self.new ≡ splice self.old from to (maximal_runs T.eq
+            (edit_of first end change (slice_range self.old from to))))
+            × (length self.new ≤ limit)) }
+        ensures err { (change : T → Option T) → Makes F.Fn edit.now change
+            → IfErr result (λ refusal. refusal ≡ (if nat_lt limit (length (splice self.old from to
+            (maximal_runs T.eq (edit_of first end change (slice_range self.old from to)))))
+            then TooManyRanges else NoMemory)) }
+        ensures unchanged { OnErr result (self.new ≡ self.old) }
+    {
+        // Tells the proof that there are fewer than 2^32 rows.
+        let _ = self.rows.len();
+        let mut rest = self.rows.iter_near(from, near);
+        let values = self.values.items();
+        let edited = gather_edited(self.alloc, &mut rest, values, to - from, first, end, edit);
+        edited.put(
+            self.alloc,
+            &mut self.rows,
+            &mut self.values,
+            from,
+            to,
+            near,
+            edit,
+            limit,
+        )
+    }
+
     /// Renumbers the values if there are far more of them than runs. Without memory for that
     /// nothing changes.
     #[inline]
@@ -211,23 +263,21 @@ impl<T: Exact> Runs<T> {
         Some(fresh)
     }
 
-    /// Replaces the value of each run by what `f` returns for it. It doesn't allocate and can't
-    /// fail.
+    /// Replaces the value of each run by what `f` returns for it, and joins each run to the one
+    /// before it if it continues that. Where all values stay different no runs can join, and the
+    /// rows aren't looked at. It doesn't allocate and can't fail.
     pub(crate) fn update_all<F: Fn(&T) -> T>(&mut self, f: &F)
-        requires { F.IsAlwaysCallable f.now }
-        ensures size { length self.new ≡ length self.old }
-        ensures made { (change : T → T) → Makes F.Fn f.now change
-            → self.new ≡ map (with_new_value change) self.old }
+        requires callable { F.IsAlwaysCallable f.now }
+        requires function { (change : T → T) × Makes F.Fn f.now change }
+        requires apart { AreApart 0 self.old }
+        requires maximal { AreMaximal self.old }
+        ensures { (change : T → T) → Makes F.Fn f.now change
+            → self.new ≡ maximal_runs T.eq (map (with_new_value change) self.old) }
     {
         self.values.change_all(f);
-    }
-
-    /// Joins each run to the one before it if it continues that. It doesn't allocate and can't
-    /// fail.
-    pub(crate) fn join(&mut self)
-        requires { All IsInRange self.old }
-        ensures { self.new ≡ maximal_runs T.eq self.old }
-    {
+        if self.values.are_different() {
+            return;
+        }
         join_in_place(&mut self.rows, self.values.items());
     }
 }

@@ -1,8 +1,8 @@
 //! Numbered values.
 ghost use Rattle.std.specs.Prelude.{◌≡◌, ◌<◌, ◌≤◌, ◌^◌, [], length, map, slice_get, Some, IfOk};
-ghost use Rattle.std.specs.Prelude.{IfSome, OnErr};
+ghost use Rattle.std.specs.Prelude.{IfSome, OnErr, true, false};
 ghost use Rattle.numa_rows.specs.Changes.{Makes};
-ghost use Rattle.numa_ranges.specs.Numbered.{IsLonger};
+ghost use Rattle.numa_ranges.specs.Numbered.{AreDifferent, IsLonger, IsNewAt};
 
 use crate::exact::Exact;
 use numa_rows::update_items;
@@ -14,6 +14,9 @@ const TOO_MANY: usize = 1 << 32;
 
 /// The number of last values with which a new one is compared.
 const COMPARED: usize = 16;
+
+/// The number of values of which each is compared with each.
+const FEW: usize = 64;
 
 /// A list of values; the number of a value is its index.
 ///
@@ -109,5 +112,33 @@ impl<T: Exact> Values<T> {
         ensures made { (change : T → T) → Makes F.Fn f.now change → self.new ≡ map change self.old }
     {
         update_items(&mut self.items, f);
+    }
+
+    /// Whether the values are few, and no two of them are equal.
+    pub(crate) fn are_different(&self) -> bool
+        ensures { result ≡ true → AreDifferent self.now }
+    {
+        if self.items.len() > FEW {
+            return false;
+        }
+        for place in 0..self.items.len() {
+            if self.is_before(place) {
+                return false;
+            }
+        }
+        true
+    }
+
+    /// Whether a value before a place is equal to the one there.
+    fn is_before(&self, place: usize) -> bool
+        requires { place < length self.now }
+        ensures { result ≡ false → IsNewAt self.now place }
+    {
+        for earlier in 0..place {
+            if self.items[earlier] == self.items[place] {
+                return true;
+            }
+        }
+        false
     }
 }

@@ -2,7 +2,7 @@
 ghost use Rattle.std.specs.Prelude.{◌≡◌, ◌+◌, ◌≤◌, ◌^◌, length, not, is_some};
 ghost use Rattle.numa_ranges.specs.Runs.{page_at, AreApart};
 ghost use Rattle.numa_ranges.specs.Maps.{any_page};
-ghost use Rattle.numa_ranges.specs.Edits.{StartsAround};
+ghost use Rattle.numa_ranges.specs.Edits.{StartsAround, MayBegin, MayEnd};
 
 use crate::exact::Exact;
 use crate::runs::Runs;
@@ -62,4 +62,34 @@ pub(crate) fn starts_on<T: Exact>(
         count += 1;
     }
     count
+}
+
+/// The place of the first run that an edit from page `first` on can change or join; `place` runs
+/// start at that page or before it. A run that starts before the page stays in front of the edit.
+#[inline]
+pub(crate) fn first_place<T: Exact>(runs: &Runs<T>, place: usize, first: u64, near: usize) -> usize
+    requires within { place ≤ length runs.now }
+    ensures { MayBegin runs.now place first result }
+{
+    if place > 0 && runs.get_near(place - 1, near).first < first {
+        return place - 1;
+    }
+    place.saturating_sub(2)
+}
+
+/// The place behind the last run that an edit up to page `end` can change or join; `count` runs
+/// start at that page or before it. A run that ends after the page stays behind the edit.
+#[inline]
+pub(crate) fn last_place<T: Exact>(runs: &Runs<T>, count: usize, end: u64, near: usize) -> usize
+    requires apart { AreApart 0 runs.now }
+    requires within { count ≤ length runs.now }
+    ensures { MayEnd runs.now count end result }
+{
+    if count > 0 {
+        let last = runs.get_near(count - 1, near);
+        if end < last.first + last.pages {
+            return count;
+        }
+    }
+    runs.len().min(count + 1)
 }

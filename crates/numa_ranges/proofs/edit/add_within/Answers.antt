@@ -1,24 +1,57 @@
 -- The part inside the span has what the edit makes of its value.
-use Rattle.std.proofs.Common.{◌≡◌, ◌++◌, List, Some, None, append-nil, ap, sym, subst, ◌∙◌, refl}
-use Rattle.std.proofs.lemmas.Fn.{says_at}
+use Rattle.std.proofs.Common.{◌≡◌, true, ◌+◌, ◌-◌, ◌++◌, List, Some, None, append-nil}
+use Rattle.std.proofs.Common.{ap, sym, subst, ◌∙◌, refl, min, max, arith}
+use Rattle.numa_ranges.specs.Runs.{end_of}
 use Rattle.numa_ranges.specs.declared.run.Run.{Run}
-use Rattle.numa_ranges.specs.Gathered.{Gathered}
+use Rattle.numa_ranges.specs.Edited.{edited_value}
+use Rattle.numa_ranges.specs.Gathered.{AreGathered}
 use Rattle.numa_ranges.proofs.Window.{within-some, within-none}
+use Rattle.numa_ranges.proofs.Rewritten.{row-has, within-out}
 use Rattle.numa_ranges.proofs.edit.add_within.Goals as goal
 
 pub returns-in-Some-clause-gathered : goal.returns-in-Some-clause-gathered
-returns-in-Some-clause-gathered g c change gives added h =
-    let e : change c.args.run.value ≡ Some c.in-Some.value =
-    sym (gives _ _ (says_at g.F.Fn c.in-Some.ensures refl)) in
-    let all = within-some c.args.first c.args.end c.max-start.result c.min-stop.result change
-    c.args.run c.in-Some.value c.max-start.ensures c.min-stop.ensures c.if-start-stop.true e in
-    subst (λ (l : List (Run g.row.T.Denot)). Gathered g.T.PartialEq.eq c.add.new.self (added ++ l))
-    (sym all) (c.add.ensures.gathered added h)
+returns-in-Some-clause-gathered g c change gives added run one h =
+    let has = row-has c.args.values.now c.args.row run one in
+    let there = sym (c.value_of.ensures change gives) ∙ c.in-Some.is in
+    let e : change run.value ≡ Some c.in-Some._value =
+    sym (ap (edited_value change true) has.holds) ∙ there in
+    let ends : c.args.row.first + c.args.row.pages ≡ end_of run =
+    omega (arith, has.first, has.pages) in
+    let all = within-some c.args.first c.args.end c.max-start.result c.min-stop.result change run
+    c.in-Some._value (c.max-start.ensures ∙ ap (max c.args.first) has.first)
+    (c.min-stop.ensures ∙ ap (min c.args.end) ends) c.if-start-stop.true e in
+    subst (λ (l : List (Run g.row.T.Denot)).
+    AreGathered g.T.PartialEq.eq change c.args.values.now c.add.new.self (added ++ l)) (sym all)
+    (c.add.ensures.gathered change gives added (record {
+      first = c.max-start.result;
+      pages = c.min-stop.result - c.max-start.result;
+      index = run.index + (c.max-start.result - run.first);
+      value = c.in-Some._value;
+    }) (record {
+      first = refl;
+      pages = refl;
+      index = omega (arith, has.index, has.first);
+      value = there;
+    }) h)
 
 pub returns-in_default-clause-gathered : goal.returns-in_default-clause-gathered
-returns-in_default-clause-gathered g c change gives added h =
-    let e : change c.args.run.value ≡ None =
-    sym (gives _ _ (says_at g.F.Fn c.in_default.ensures refl)) in
-    subst (λ (l : List (Run g.row.T.Denot)). Gathered g.T.PartialEq.eq c.args.pieces.now l)
-    (sym (ap (λ l. added ++ l) (within-none c.args.first c.args.end change c.args.run e)
+returns-in_default-clause-gathered g c change gives added run one h =
+    let has = row-has c.args.values.now c.args.row run one in
+    let e : change run.value ≡ None = sym (ap (edited_value change true) has.holds)
+    ∙ (sym (c.value_of.ensures change gives) ∙ c.in_default.is) in
+    subst (λ (l : List (Run g.row.T.Denot)).
+    AreGathered g.T.PartialEq.eq change c.args.values.now c.args.rows.now l)
+    (sym (ap (λ l. added ++ l) (within-none c.args.first c.args.end change run e)
     ∙ append-nil added)) h
+
+pub returns-else-start-stop-clause-gathered : goal.returns-else-start-stop-clause-gathered
+returns-else-start-stop-clause-gathered g c change gives added run one h =
+    let has = row-has c.args.values.now c.args.row run one in
+    let ends : c.args.row.first + c.args.row.pages ≡ end_of run =
+    omega (arith, has.first, has.pages) in
+    let none = within-out c.args.first c.args.end c.max-start.result c.min-stop.result change run
+    (c.max-start.ensures ∙ ap (max c.args.first) has.first)
+    (c.min-stop.ensures ∙ ap (min c.args.end) ends) (omega (arith, c.if-start-stop.false)) in
+    subst (λ (l : List (Run g.row.T.Denot)).
+    AreGathered g.T.PartialEq.eq change c.args.values.now c.args.rows.now l)
+    (sym (ap (λ l. added ++ l) none ∙ append-nil added)) h
