@@ -76,7 +76,7 @@ fn times_of<R: Clock, S: Subject<R>>(rt: &R, subject: &mut S, figure: &Figure<S:
     times
 }
 
-/// A time for each of so many, in picoseconds.
+/// The time for one of `count` calls, in picoseconds.
 fn each(spent: u64, count: u64) -> u128 {
     u128::from(spent) * 1_000 / u128::from(count.max(1))
 }

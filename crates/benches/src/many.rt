@@ -1,5 +1,5 @@
-//! Many ranges of 3 pages, each with a hole of one page behind it: as commands that make them, and
-//! as rows of a plain vector, which figures compare with.
+//! Many ranges of 3 pages, each followed by a hole of one page: as commands that make them, and as
+//! rows of a plain vector, which figures compare with.
 ghost use Rattle.std.specs.Prelude.{◌<◌, ◌^◌};
 
 use numa_examples::flat_machine;
@@ -91,7 +91,7 @@ pub fn page_of(i: u64) -> u64 {
     i.wrapping_mul(40_503) % (4 * RANGES)
 }
 
-/// The ranges as rows, with so many values in turn.
+/// The ranges as rows, with `values` values in turn.
 pub fn rows_of(alloc: Global, values: u64) -> Result<Vec<FlatRow>, AllocError>
     requires { 0 < values }
 {
@@ -102,7 +102,7 @@ pub fn rows_of(alloc: Global, values: u64) -> Result<Vec<FlatRow>, AllocError>
     Ok(rows)
 }
 
-/// The sum of how long the lists are that so many look-ups of a plan find.
+/// The sum of the lengths of the lists that `count` look-ups of a plan find.
 pub fn lists_of(plan: &Plan, count: u64) -> u64 {
     let mut sum = 0u64;
     for i in 0..count {

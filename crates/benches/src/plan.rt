@@ -114,8 +114,8 @@ fn copy(out: &mut [u8], other: &[u8]) -> u64 {
     one_of(out)
 }
 
-/// Asks for the counts of so many pages, from another page on each time; how many pages of all are
-/// on node 0.
+/// Asks for the counts of `pages` pages, from another page on each time. Returns how many of all
+/// these pages are on node 0.
 fn counts_of(plan: &Plan, pages: u64) -> u64 {
     let mut sum = 0u64;
     for place in 0..COUNTS {

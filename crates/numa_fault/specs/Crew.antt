@@ -52,8 +52,7 @@ SameParts old new =
     (w : ℕ) (d : WorkerState) → w < length old
     → parts_of (slice_index_or new w d) ≡ parts_of (slice_index_or old w d)
 
--- at one moment of the pools, when their rule holds, each of the workers has a seat of its own
--- there
+-- in one state of the pools, in which their rule holds, each of the workers has a seat of its own
 pub record HaveSeats (frames : List ℕ) (workers : List WorkerState) : Type 0 where
   pub words : List ℕ
   pub views : List View

@@ -21,8 +21,8 @@ pub record DeskState : Type 0 where
   pub versions : List ℕ
   pub pending : List Command
 
--- a receipt: of which desk, and the history that was published at its moment, with the versions
--- published up to it
+-- a receipt: of which desk, and the history that was published when it was made, with the versions
+-- published up to then
 pub record ReceiptState : Type 0 where
   pub desk : DeskIdentity
   pub history : List Command

@@ -29,8 +29,8 @@ Steps event old new answer =
     (before : CoreState) → old ≡ Some before →
     (after : CoreState) × (new ≡ Some after) × IsStep before event answer after
 
--- the touch took the core from the one state to the other: each legal run that led to the first
--- leads with the steps of a touch that is answered so to the second
+-- the touch took the core from one state to another: each execution that leads to the first leads,
+-- with the steps of a touch that is answered so, to the second
 pub record IsTouched (before : CoreState) (worker : ℕ) (request : Request)
     (answer : Result CoreReply CoreRefusal) (after : CoreState) : Type 0 where
   pub runs : (run : List CoreStep) → LeadsTo run before → (core_steps : List CoreStep)

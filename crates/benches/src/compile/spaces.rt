@@ -4,7 +4,7 @@ use numa_compile::PlannedSpace;
 use numa_space::{Command, Limits};
 use std::alloc::Global;
 
-/// Maps so many ranges, with the policies in turn, and gives a task the first of them.
+/// Maps `ranges` ranges, with the policies in turn, and gives a task the first policy.
 fn add_ranges(alloc: Global, space: &mut PlannedSpace, ranges: u64) -> Option<()> {
     for number in 0..ranges {
         let _ = space.apply(alloc, &map(number));
@@ -15,7 +15,7 @@ fn add_ranges(alloc: Global, space: &mut PlannedSpace, ranges: u64) -> Option<()
     Some(())
 }
 
-/// A space of so many ranges with `POLICIES` distinct policies in turn, and a task with the first
+/// A space of `ranges` ranges with `POLICIES` distinct policies in turn, and a task with the first
 /// of them. Its plan isn't made yet.
 pub fn spread(alloc: Global, ranges: u64) -> Option<PlannedSpace> {
     let limits = Limits::new(65_536, 8, 1_000_000)?;

@@ -38,8 +38,8 @@ fn spread_space(alloc: Global) -> Option<Space> {
     Some(space)
 }
 
-/// A plan of `RANGES` runs of 3 pages, each with a hole of one page behind it, of which page p has
-/// the index p. Four nodes take turns on them, by their weights.
+/// A plan of `RANGES` runs of 3 pages, each followed by a hole of one page; page p has the index p.
+/// Four nodes take turns on them, by their weights.
 pub fn spread(alloc: Global) -> Option<Plan> {
     let space = spread_space(alloc)?;
     let plan = compile(alloc, &space).ok();

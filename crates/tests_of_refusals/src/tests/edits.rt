@@ -32,7 +32,7 @@ static SETS: [&[u8]; 12] = [
 /// How often each call is made.
 const PLACES: u32 = 12;
 
-/// A number, or none, which is told apart from each number.
+/// The sum with a number, or with none, which no number equals.
 fn with_number(sum: u64, number: Option<u32>) -> u64 {
     match number {
         Some(number) => mixed(sum, u64::from(number)),
@@ -137,7 +137,7 @@ fn add_rule(alloc: Global, plan: &mut Plan, place: u32) -> bool
     plan.add_rule(policy, rule, &mut Steps::new()).is_ok()
 }
 
-/// Adds a run behind the others, with the rule of a place.
+/// Adds a run after the others, with the rule of a place.
 fn push_run(plan: &mut Plan, place: u32) -> bool
     requires few { place < 12 }
     requires none { plan.old.tasks ≡ [] }
@@ -403,7 +403,7 @@ fn drop_unused(plan: &mut Plan, number: u32) {
     }
 }
 
-/// Takes the rule of a place's task away, and a rule that was added behind the others.
+/// Takes away the rule of a place's task, and a rule that was added after the others.
 fn take_out(rt: &impl Abort, plan: &mut Plan, place: u32)
     requires { place < 12 }
 {

@@ -6,7 +6,7 @@ use numa_space::Placement;
 use std::alloc::Global;
 use std::process::Abort;
 
-/// How many pages are placed, so many that the tree which keeps them has several levels.
+/// How many pages are placed: enough that the tree which keeps them has several levels.
 const PAGES: u64 = 200;
 
 /// The placement of a page: on node 1, in a frame by its number.

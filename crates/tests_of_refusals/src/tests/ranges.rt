@@ -7,7 +7,7 @@ use numa_ranges::{RangeError, RangeMap};
 use std::alloc::Global;
 use std::process::Abort;
 
-/// How many spans there are, so many that chunks of ranges are cut.
+/// How many spans there are: enough that chunks of ranges are cut.
 const SPANS: u64 = 160;
 
 /// What is done to the spans, in this order.

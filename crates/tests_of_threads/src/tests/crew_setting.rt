@@ -13,8 +13,8 @@ use std::process::Abort;
 use std::sync::Wait;
 use std::thread::Threads;
 
-/// A desk of two nodes with so many frames each, with a place for each of 17 readers, on which so
-/// many pages from page 16 on are mapped in version 1.
+/// A desk of two nodes of `frames` frames, with places for 17 readers. Version 1 maps `pages`
+/// pages from page 16 on.
 pub fn desk(rt: &(impl Wait + Abort), alloc: Global, frames: u32, pages: u64) -> Desk {
     let mut desk = desk_of(rt, alloc, frames, 17);
     publish_map(rt, &mut desk, pages);

@@ -60,8 +60,8 @@ impl Gate for Crossed {
     }
 }
 
-/// So many workers serve the requests, on a machine of two nodes with so many frames each, on which
-/// so many pages are mapped.
+/// `count` workers serve the requests, on a machine of two nodes of `frames` frames, with `pages`
+/// pages mapped.
 fn run_crew<R: Threads + Wait + Abort + Sync, G: Gate + Sync>(
     rt: &R,
     alloc: Global,
@@ -118,7 +118,7 @@ pub struct Counting {
 }
 
 impl Counting {
-    /// A gate for so many requests.
+    /// A gate for `requests` requests.
     pub fn new(rt: &impl Abort, alloc: Global, requests: u64) -> Counting {
         let mut calls = Vec::new(alloc);
         for _ in 0..requests {
@@ -160,9 +160,8 @@ fn in_place(wanted: &[Request], answers: &[Answer]) -> usize {
     right
 }
 
-/// So many workers serve requests for so many pages, for each of which there are frames: how many
-/// answers there are, how many of them stand in their place, and whether the gate was called as it
-/// must be.
+/// `count` workers serve requests for `pages` pages, with a frame for each: how many answers there
+/// are, how many of them are in their place, and whether the gate was called as it must be.
 fn serve_all<R: Threads + Wait + Abort + Sync>(
     rt: &R,
     alloc: Global,
