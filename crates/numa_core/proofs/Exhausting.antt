@@ -116,7 +116,8 @@ pub exhausted : (s : Setup) (past : List CoreStep) (m : CoreStep) (version : ℕ
 exhausted s past m version legal e =
     let answer = replied s (world_of s past) m.version m.event (Exhausted version)
     (subst (λ a. IsAnswer s (world_of s past) m.version m.event a) e legal.2) in
-    let found = exhausted-step s past m.version m.event version legal.0 legal.1 answer.0 answer.1 in (
+    let found =
+    exhausted-step s past m.version m.event version legal.0 legal.1 answer.0 answer.1 in (
       found.0,
       found.1,
       subst (λ a. IsExhausted s found.0 version (core_step m.event m.version a ∷ past)) (sym e)

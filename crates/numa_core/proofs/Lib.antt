@@ -11,6 +11,9 @@ pub mod InARow
 pub mod Cursors
 pub mod Seating
 pub mod Copied
+pub mod Elements
+pub mod EventAnswers
+pub mod CoreExecutions
 pub mod CoreSteps
 pub mod TouchRows
 pub mod TouchLowest

@@ -48,7 +48,7 @@ exhausted-row : answers (four_on (with_frames (1 ∷ 1 ∷ []))) (published exha
 unfolding members fallback_order list_at result_of_touch exhausted
 exhausted-row = refl
 
--- ---- eight frames on each node: each page is placed where its policy says, from the lowest frame up
+-- ---- eight frames on each node: each page is placed where its policy says, the lowest frame first
 
 maps : List Command
 maps = Mbind 0x13000 0x3000 (asked Bind Plain (2 ∷ []))
@@ -68,7 +68,8 @@ maps-row : answers (four_on (with_frames (8 ∷ 8 ∷ 8 ∷ 8 ∷ []))) (publish
 unfolding members fallback_order interleave_node list_at result_of_touch maps
 maps-row = refl
 
--- ---- what is refused, and nodes without frames: they are passed over, and their places in the list count
+-- ---- what is refused, and nodes without frames: they are passed over, and their places in the
+-- list count
 
 refused-row : answers (four_on (with_frames (0 ∷ 0 ∷ 1 ∷ [])))
     (published (Map 0x10000 0x1000 0 ∷ [])) 3 (

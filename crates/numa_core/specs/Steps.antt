@@ -188,6 +188,11 @@ module _ (s : Setup) where
 
 -- ---- answers
 
+-- the answer to a command, a version or a refusal, as that of its Accept
+abbrev pub accept_answer : Result ℕ Refusal → Result CoreReply CoreRefusal
+accept_answer (Ok version) = Ok (Accepted version)
+accept_answer (Err refusal) = Err (Because refusal)
+
 -- the refusal where there is one, else the reply
 abbrev pub refused_or : Option CoreRefusal → CoreReply → Result CoreReply CoreRefusal
 refused_or None reply = Ok reply

@@ -7,7 +7,7 @@ ghost use Rattle.std.specs.Prelude.{OnErr};
 ghost use Rattle.numa_space.specs.Standing.{StandsFor};
 ghost use Rattle.numa_compile.specs.Standing.{IsPlanOf, PlanStandsFor};
 ghost use Rattle.numa_core.specs.World.{World, first_commands, newest_published};
-ghost use Rattle.numa_core.specs.Steps.{IsAnswer, world_after};
+ghost use Rattle.numa_core.specs.Steps.{IsAnswer, accept_answer, world_after};
 ghost use Rattle.numa_core.specs.Executions.{CoreStep};
 ghost use Rattle.numa_core.specs.Standing.{CoreState, CoreStandsFor, HasPast};
 ghost use Rattle.numa_core.specs.Standing.{LeadsTo, core_step_after, setup_of};
@@ -25,7 +25,7 @@ pub use crate::judging::cause_at;
 use crate::state::State;
 use numa_machine::{Machine, NoMemory};
 use numa_plan::Plan;
-use numa_space::{CoreRefusal, CoreReply, Event, Limits, Request, Space};
+use numa_space::{Command, CoreRefusal, CoreReply, Event, Limits, Refusal, Request, Space};
 use std::alloc::Global;
 use std::marker::Model;
 
@@ -119,13 +119,40 @@ impl Core {
         ensures setup { setup_of self.new ≡ setup_of self.old }
     {
         match event {
-            Event::Accept(command) => self.state.accept(command),
+            Event::Accept(command) => match self.accept(&command) {
+                Ok(version) => Ok(CoreReply::Accepted(version)),
+                Err(refusal) => Err(CoreRefusal::Command(refusal)),
+            },
             Event::Publish => self.state.publish(),
             Event::Begin(worker, request) => self.state.begin(worker, request),
             Event::Look(worker, word) => self.state.look(worker, word),
             Event::Try(worker, frame) => self.state.attempt(worker, frame),
             Event::Give(worker, frame) => self.state.give(worker, frame),
         }
+    }
+
+    /// Carries out a command, as the event Accept, and returns the version after it: the number of
+    /// accepted commands. A refused command changes nothing.
+    ///
+    /// # Errors
+    /// As [`Space::apply`].
+    pub fn accept(&mut self, command: &Command) -> Result<u64, Refusal>
+        ensures answer { (world : World) → CoreStandsFor self.old world →
+            IsAnswer (setup_of self.old) world (newest_published world)
+            (Event.Accept command.now) (accept_answer result)
+            × CoreStandsFor self.new (world_after (setup_of self.old) world (newest_published world)
+            (Event.Accept command.now) (accept_answer result)) }
+        ensures executions { (past : List CoreStep) → LeadsTo past self.old →
+            LeadsTo (core_step_after (setup_of self.old) past (Event.Accept command.now)
+            (accept_answer result) ∷ past) self.new }
+        ensures unchanged { OnErr result (self.new ≡ self.old) }
+        ensures setup { setup_of self.new ≡ setup_of self.old }
+    {
+        match self.state.space.apply(self.state.alloc, command) {
+            Ok(()) => {}
+            Err(refusal) => return Err(refusal),
+        }
+        Ok(self.state.space.space().version())
     }
 
     /// A touch of a page by a worker: a Begin of the request, and then, while the worker is busy,

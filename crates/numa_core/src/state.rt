@@ -20,7 +20,7 @@ use numa_compile::{PlannedSpace, compile};
 use numa_machine::{Frame, Machine, NoMemory};
 use numa_plan::Plan;
 use numa_space::event::{CoreRefusal, CoreReply};
-use numa_space::{Command, Limits, Placement, Request};
+use numa_space::{Limits, Placement, Request};
 use std::alloc::Global;
 
 /// The space of all accepted commands with its working plan, the plan of those that are published,
@@ -108,18 +108,6 @@ impl State {
             plan: self.plan.copy(self.alloc)?,
             space: self.space.copy(self.alloc)?,
         })
-    }
-
-    /// Accepts a command, if nothing refuses it.
-    pub(crate) fn accept(&mut self, command: Command) -> Result<CoreReply, CoreRefusal>
-        requires kept { IsKept self.old }
-        ensures { Performs self.old (Event.Accept command) result self.new }
-    {
-        match self.space.apply(self.alloc, &command) {
-            Ok(()) => {}
-            Err(refusal) => return Err(CoreRefusal::Command(refusal)),
-        }
-        Ok(CoreReply::Accepted(self.space.space().version()))
     }
 
     /// Publishes all accepted commands.

@@ -5,8 +5,9 @@ use Rattle.numa_core.specs.Kept.{core_state}
 use Rattle.numa_core.specs.Seats.{SeatFits}
 use Rattle.numa_core.proofs.InARow.{owner_read, place-some}
 use Rattle.std.proofs.lemmas.Result.{on_err_weaker}
-use Rattle.numa_core.proofs.CoreSteps.{setup-set, shown-again, there_at, each-set, owned-follows}
-use Rattle.numa_core.proofs.CoreSteps.{refused-follows, won-follows}
+use Rattle.numa_core.proofs.CoreSteps.{setup-set, shown-again, owned-follows, refused-follows}
+use Rattle.numa_core.proofs.CoreSteps.{won-follows}
+use Rattle.numa_core.proofs.Elements.{there_at, each-set}
 use Rattle.numa_core.proofs.TouchStands.{owner-put}
 use Rattle.numa_core.proofs.TouchTaken.{taken-put}
 use Rattle.numa_core.proofs.state.State.attempt.Goals as goal

@@ -2,7 +2,8 @@ use Rattle.std.proofs.Common.{◌<◌, length, arith, rules}
 use Rattle.std.proofs.lemmas.Result.{err_from_is_err_and}
 use Rattle.numa_core.specs.Kept.{core_state}
 use Rattle.numa_core.specs.Seats.{SeatFits}
-use Rattle.numa_core.proofs.CoreSteps.{setup-set, there_at, each-set, refused-begin, begin-follows}
+use Rattle.numa_core.proofs.CoreSteps.{setup-set, refused-begin, begin-follows}
+use Rattle.numa_core.proofs.Elements.{there_at, each-set}
 use Rattle.numa_core.proofs.state.State.begin.Goals as goal
 
 pub returns-in_err-row : goal.returns-in_err-row

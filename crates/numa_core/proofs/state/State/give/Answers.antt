@@ -1,6 +1,7 @@
 use Rattle.std.proofs.Common.{◌<◌, None, Some, length, slice_set, arith, sym, ap, ◌∙◌, rules}
 use Rattle.numa_core.proofs.InARow.{owner_read, place-some, index_within}
-use Rattle.numa_core.proofs.CoreSteps.{there_at, no_job, give-follows}
+use Rattle.numa_core.proofs.CoreSteps.{no_job, give-follows}
+use Rattle.numa_core.proofs.Elements.{there_at}
 use Rattle.numa_core.proofs.TouchStands.{owner-put}
 use Rattle.numa_core.proofs.state.State.give.Goals as goal
 

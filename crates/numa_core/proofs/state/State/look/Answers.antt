@@ -3,7 +3,8 @@ use Rattle.numa_core.specs.Standing.{setup_of}
 use Rattle.numa_core.specs.Kept.{core_state}
 use Rattle.numa_core.specs.Seats.{SeatFits}
 use Rattle.std.proofs.lemmas.Result.{on_err_weaker}
-use Rattle.numa_core.proofs.CoreSteps.{setup-set, shown-again, there_at, each-set, look-follows}
+use Rattle.numa_core.proofs.CoreSteps.{setup-set, shown-again, look-follows}
+use Rattle.numa_core.proofs.Elements.{there_at, each-set}
 use Rattle.numa_core.proofs.state.State.look.Goals as goal
 
 pub look-requires-clause-fits : goal.look-requires-clause-fits

@@ -1,0 +1,67 @@
+use Rattle.std.proofs.Common.{◌∷◌, ◌≡◌, List, Ok, length, ap, sym, subst, ◌∙◌}
+use Rattle.numa_machine.specs.Machine.{Hardware}
+use Rattle.numa_space.specs.Standing.{SpaceState}
+use Rattle.numa_space.specs.declared.event.Event.TheVariants.{Accept}
+use Rattle.numa_space.specs.declared.event.CoreReply.TheVariants.{Accepted}
+use Rattle.numa_core.specs.Executions.{CoreStep}
+use Rattle.numa_core.specs.Kept.{core_state, Follows}
+use Rattle.numa_core.specs.Standing.{CoreState, LeadsTo, core_step_after, setup_of}
+use Rattle.numa_core.specs.declared.state.State.{State}
+use Rattle.numa_core.proofs.CoreExecutions.{leads_on, past_more}
+use Rattle.numa_core.proofs.CoreSteps.{accept-follows}
+use Rattle.numa_core.proofs.Core.accept.Goals as goal
+
+-- the core's machine, limits and workers stay
+same_setup : (old : State) (after : SpaceState) → after.machine ≡ old.space.machine
+    → after.bounds ≡ old.space.bounds → setup_of (core_state (record old { space = after }))
+    ≡ setup_of (core_state old)
+same_setup old after machine bounds = λ i. record {
+  machine = machine i;
+  bounds = bounds i;
+  workers = length (core_state old).workers;
+}
+
+pub invariant_of-self-2 : goal.invariant_of-self-2
+invariant_of-self-2 c =
+    let old : State = c.self.inside.state in (
+      record {
+        places = c.self.invariant.0.places
+            ∙ ap (λ (m : Hardware). m.frames) (sym c.apply.ensures.machine);
+        seats = c.self.invariant.0.seats;
+        owners = c.self.invariant.0.owners;
+        few = c.self.invariant.0.few;
+        taken = c.self.invariant.0.taken;
+      },
+      past_more (core_state old) (core_state (record old { space = c.apply.new.self }))
+          (Accept c.args.command.now) (Ok (Accepted c.version.result))
+          (same_setup old c.apply.new.self c.apply.ensures.machine c.apply.ensures.bounds)
+          (accept-follows old.space c.apply.new.self old.plan old.seats.items old.owners.items
+          c.args.command.now c.version.result c.in-Ok.ensures.ok c.apply.ensures.machine
+          (c.version.ensures.version ∙ ap (λ (s : SpaceState). s.version) c.space.ensures))
+          c.self.invariant.1,
+    )
+
+pub returns-clause-answer : goal.returns-clause-answer
+returns-clause-answer c =
+    let old : State = c.self.inside.state in
+    let new : CoreState = core_state (record old { space = c.apply.new.self }) in
+    let P : CoreState → Type 0 =
+    λ core. Follows core (Accept c.args.command.now) (Ok (Accepted c.version.result)) new in
+    subst P c.self.view_is (accept-follows old.space c.apply.new.self old.plan old.seats.items
+    old.owners.items c.args.command.now c.version.result c.in-Ok.ensures.ok
+    c.apply.ensures.machine
+    (c.version.ensures.version ∙ ap (λ (s : SpaceState). s.version) c.space.ensures))
+
+pub returns-clause-executions : goal.returns-clause-executions
+returns-clause-executions c =
+    let old : State = c.self.inside.state in
+    let new : CoreState = core_state (record old { space = c.apply.new.self }) in
+    let P : CoreState → Type 0 = λ core. (past : List CoreStep) → LeadsTo past core
+    → LeadsTo (core_step_after (setup_of core) past (Accept c.args.command.now)
+    (Ok (Accepted c.version.result)) ∷ past) new in
+    subst P c.self.view_is (leads_on (core_state old) new (Accept c.args.command.now)
+    (Ok (Accepted c.version.result))
+    (same_setup old c.apply.new.self c.apply.ensures.machine c.apply.ensures.bounds)
+    (accept-follows old.space c.apply.new.self old.plan old.seats.items old.owners.items
+    c.args.command.now c.version.result c.in-Ok.ensures.ok c.apply.ensures.machine
+    (c.version.ensures.version ∙ ap (λ (s : SpaceState). s.version) c.space.ensures)))
