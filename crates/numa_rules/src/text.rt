@@ -66,7 +66,10 @@ impl Text {
         }
     }
 
-    /// Gives the bytes back, and returns whether there was memory for all of them.
+    /// Gives the bytes back.
+    ///
+    /// # Errors
+    /// `AllocError`: there wasn't memory for all of them.
     pub fn end(self, bytes: &mut Vec<u8>) -> Result<(), AllocError> {
         *bytes = self.bytes;
         self.outcome
