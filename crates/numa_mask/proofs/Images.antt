@@ -4,8 +4,9 @@ use Rattle.std.proofs.Common.{◌≡◌, ℕ, zero, suc, ◌%◌, ◌^◌, ◌<�
 use Rattle.std.proofs.Common.{not, ◌&&◌, ◌||◌, cond, eqb, List, [], ◌∷◌, length, get_or}
 use Rattle.std.proofs.Common.{slice_index, map, fold, All, Contains, Option, Some, None, refl, sym}
 use Rattle.std.proofs.Common.{ap, ◌∙◌, arith, inl, inr, eq-eqb, ◌++◌, append_assoc, append-nil}
-use Rattle.std.proofs.Common.{length-append}
-use Rattle.std.proofs.lemmas.Bool.{cases_lt, cases_eq, ne_eqb}
+use Rattle.std.proofs.Common.{length-append, subst}
+use Rattle.std.proofs.lemmas.Bool.{cases_lt, cases_eq, ne_eqb, eqb-true}
+use Rattle.std.proofs.lemmas.Bool.Decides.{nat_tests}
 use Rattle.std.specs.Int.{bit_at}
 use Rattle.std.specs.List.{filter_map, cons_option, list_any}
 use Rattle.std.proofs.lemmas.List.Elements.{All-cons, All-map, All-head, All-tail, All-contains}
@@ -15,6 +16,7 @@ use Rattle.std.proofs.lemmas.Nat.Bits.{same_from_bits}
 use Rattle.std.proofs.lemmas.Nat.{or_lt, pow_below}
 use Rattle.std.proofs.Math.Nat.{mod-le}
 use Rattle.std.proofs.lemmas.List.{length-map}
+use Rattle.std.proofs.lemmas.List.Folds.{Any-from_list_any, list_any_at}
 use Rattle.numa_mask.specs.NodeSet.{has, members, weight_of, nth_member, ordinal_of, with_node}
 use Rattle.numa_mask.specs.NodeSet.{set_of, both, fold_set, onto_set, node_after, remap_set}
 use Rattle.numa_mask.proofs.Sets.{contains-has, members-have, members-below, members-few}
@@ -24,12 +26,7 @@ use Rattle.numa_mask.proofs.Ordinals.{nth-has, nth-within, nth-some}
 
 -- a bit from the test for it
 bit_from : (a b : ℕ) → a < 2 → b < 2 → eqb a 1 ≡ eqb b 1 → a ≡ b
-bit_from zero zero h l e = refl
-bit_from zero (suc zero) h l e = cc
-bit_from (suc zero) zero h l e = cc
-bit_from (suc zero) (suc zero) h l e = refl
-bit_from (suc (suc a)) b h l e = absurd (omega arith)
-bit_from a (suc (suc b)) h l e = absurd (omega arith)
+bit_from a b h l e = grind (arith, nat_tests)
 
 -- sets with the same members are one
 pub same_set : (set other : ℕ) → ((node : ℕ) → has set node ≡ has other node) → set ≡ other
@@ -51,20 +48,10 @@ below-has set node h t = elim (cases_lt node 256) [
 ]
 
 max_bits : (a b : ℕ) → a < 2 → b < 2 → eqb (max a b) 1 ≡ (eqb a 1 || eqb b 1)
-max_bits zero zero h l = refl
-max_bits zero (suc zero) h l = refl
-max_bits (suc zero) zero h l = refl
-max_bits (suc zero) (suc zero) h l = refl
-max_bits (suc (suc a)) b h l = absurd (omega arith)
-max_bits a (suc (suc b)) h l = absurd (omega arith)
+max_bits a b h l = grind (arith, nat_tests)
 
 min_bits : (a b : ℕ) → a < 2 → b < 2 → eqb (min a b) 1 ≡ (eqb a 1 && eqb b 1)
-min_bits zero zero h l = refl
-min_bits zero (suc zero) h l = refl
-min_bits (suc zero) zero h l = refl
-min_bits (suc zero) (suc zero) h l = refl
-min_bits (suc (suc a)) b h l = absurd (omega arith)
-min_bits a (suc (suc b)) h l = absurd (omega arith)
+min_bits a b h l = grind (arith, nat_tests)
 
 pub has-both : (set other node : ℕ) → has (both set other) node ≡ (has set node && has other node)
 has-both set other node = ap (λ b. eqb b 1) (bit_at_and set other node)
@@ -105,24 +92,14 @@ has-set_of nodes node = has-fold 0 nodes node ∙ ap (λ b. b || list_any (λ m.
 
 any-contains : (nodes : List ℕ) (node : ℕ) → list_any (λ m. eqb node m) nodes ≡ true
     → Contains nodes node
-any-contains [] node h = cc
-any-contains (m ∷ nodes) node h =
-    elim (cases_eq node m) [
-      | inl e ↦ (zero, omega arith, sym e)
-      | inr ne ↦
-          let rest : Contains nodes node = any-contains nodes node (rw (ne_eqb node m ne) at h) in
-          (suc rest.0, omega (arith, rest.1), rest.2)
-    ]
+any-contains nodes node h =
+    let at = Any-from_list_any (λ m. eqb node m) nodes h in
+    subst (Contains nodes) (sym (eqb-true node at.1 at.4)) (at.0, at.2, at.3)
 
 contains-any : (nodes : List ℕ) (node k : ℕ) → k < length nodes → get_or nodes k node ≡ node
     → list_any (λ m. eqb node m) nodes ≡ true
-contains-any [] node k h e = absurd (omega arith)
-contains-any (m ∷ nodes) node zero h e = rw (eq-eqb node m (sym e)) refl
-contains-any (m ∷ nodes) node (suc k) h e =
-    let rest : list_any (λ x. eqb node x) nodes ≡ true = contains-any nodes node k (omega arith)
-    e in
-    elim (eqb node m) as (λ b. (b || list_any (λ x. eqb node x) nodes) ≡ true)
-    [ true ↦ refl | false ↦ rest ]
+contains-any nodes node k h e =
+    list_any_at (λ m. eqb node m) nodes k node h (eq-eqb node (get_or nodes k node) (sym e))
 
 -- a node is in the set of a list exactly where it is in the list
 pub set_of-contains : (nodes : List ℕ) (node : ℕ) → has (set_of nodes) node ≡ true

@@ -5,6 +5,8 @@ use Rattle.std.proofs.Common.{Option, Some, None, IsSome, IfSome, ◌↔◌, ref
 use Rattle.std.proofs.Common.{inl, inr}
 use Rattle.std.proofs.lemmas.Bool.{cases_lt, lt-ltb, le-ltb}
 use Rattle.std.proofs.lemmas.List.Sums.{sum_by-cons}
+use Rattle.std.proofs.lemmas.Option.{slice_get-get_or, slice_get_read, slice_get_within}
+use Rattle.std.proofs.lemmas.Option.{get_or_from_slice_get}
 use Rattle.numa_mask.specs.NodeSet.{has, members, weight_of, nth_member, ordinal_of}
 use Rattle.numa_mask.proofs.Sets.{IsRising, members-rising, members-have, members-below}
 use Rattle.numa_mask.proofs.Sets.{members-increasing, contains-has}
@@ -24,15 +26,10 @@ none_smaller low m (n ∷ ns) h r =
 -- what a look-up found
 pub get-some : (ns : List ℕ) (k m : ℕ) → slice_get ns k ≡ Some m → (k < length ns)
     × (get_or ns k m ≡ m)
-get-some [] k m h = cc
-get-some (n ∷ ns) zero m h = (omega arith, let e : n ≡ m = cc in e)
-get-some (n ∷ ns) (suc k) m h = let rest : (k < length ns) × (get_or ns k m ≡ m) =
-    get-some ns k m h in (omega (arith, rest.0), rest.1)
+get-some ns k m h = (slice_get_within ns k m h, get_or_from_slice_get ns k m m h)
 
 pub some-get : (ns : List ℕ) (k m : ℕ) → k < length ns → get_or ns k m ≡ m → slice_get ns k ≡ Some m
-some-get [] k m l e = absurd (omega arith)
-some-get (n ∷ ns) zero m l e = ap Some e
-some-get (n ∷ ns) (suc k) m l e = some-get ns k m (omega arith) e
+some-get ns k m l e = slice_get_read ns (length ns) k m refl l (sym e)
 
 rising_from : (low : ℕ) (ns : List ℕ) (k m : ℕ) → IsRising low ns → slice_get ns k ≡ Some m
     → low ≤ m
@@ -81,17 +78,7 @@ nth-within set k m h =
 -- there is an n-th member for each n below the weight
 pub nth-some : (set k : ℕ) → k < weight_of set
     → nth_member set k ≡ Some (slice_index (members set) k)
-nth-some set k h = at (members set) k h
-  where
-    at : (ns : List ℕ) (k : ℕ) → k < length ns → slice_get ns k ≡ Some (get_or ns k 0)
-    at [] k h = absurd (omega arith)
-    at (n ∷ ns) zero h = refl
-    at (n ∷ ns) (suc k) h = at ns k (omega arith)
-
-get-any : (ns : List ℕ) (k m d : ℕ) → slice_get ns k ≡ Some m → get_or ns k d ≡ m
-get-any [] k m d h = cc
-get-any (n ∷ ns) zero m d h = let e : n ≡ m = cc in e
-get-any (n ∷ ns) (suc k) m d h = get-any ns k m d h
+nth-some set k h = slice_get-get_or (members set) k 0 h
 
 -- no node below the first member is one
 pub first-lowest : (set node other : ℕ) → nth_member set 0 ≡ Some node → other < node
@@ -102,7 +89,7 @@ first-lowest set node other h l =
       | true ↦ λ (t : has set other ≡ true).
           let c : Contains (members set) other =
           contains-has set other (omega (arith, (nth-within set 0 node h).1)) t in
-          let first : get_or (members set) 0 other ≡ node = get-any (members set) 0 node other h in
+          let first : get_or (members set) 0 other ≡ node = get_or_from_slice_get (members set) 0 node other h in
           elim (cases_lt 0 c.0) [
             | inl later ↦
                 absurd (omega (arith, first, c.2, members-increasing set 0 c.0 other later c.1))
