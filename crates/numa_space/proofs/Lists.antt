@@ -46,7 +46,7 @@ index-of_page : (machine : Hardware) (history : List Command) (page : ℕ)
     (page_in machine history page) 0 ≡ index_of history page
 index-of_page machine history page mapped = rw mapped refl
 
--- the node list of a mapped page
+-- the fallback list of a mapped page
 pub list-same : (space : SpaceState) (history : List Command) (task page cpu : ℕ)
     → StandsFor space history → is_some (page_at space.ranges page) ≡ true
     → list_in space task page cpu ≡ node_list space.machine history task page cpu

@@ -244,7 +244,7 @@ policy-in_force space task page sound =
     (if_some-from_for (record_of space.tasks task) (IsInForce space.machine space.allowed)
     (sound.tasks task))
 
--- the node list of any page, for any task and any faulting node
+-- the fallback list of any page, for any task and any faulting node
 pub node-list-sound : (space : SpaceState) (task page cpu : ℕ) → IsSound space
     → space.machine.memory < 2 ^ 256 → IsNodeList space.allowed (list_in space task page cpu)
 node-list-sound space task page cpu sound small =

@@ -1,4 +1,4 @@
--- Worked examples: the node lists that the definitions give.
+-- Worked examples: the fallback lists that the definitions give.
 use Rattle.std.proofs.Common.{◌≡◌, ℕ, ◌^◌, ◌-◌, Some, None, ◌*◌, ◌/◌, ◌%◌, eqb, cond, List, [], ◌∷◌}
 use Rattle.std.proofs.Common.{map, take, replicate, refl}
 use Rattle.std.specs.List.{flat_map, range_with_len}

@@ -1,4 +1,4 @@
--- The node list of a page: on which nodes its memory is looked for, in which order
+-- The fallback list of a page: on which nodes its memory is looked for, in which order
 -- (set_mempolicy(2), "NUMA Memory Policy").
 use Rattle.std.specs.Prelude.{ℕ, ◌&&◌, not, Option, Some, None, List, ◌++◌, filter, slice_index}
 use Rattle.std.specs.Prelude.{unwrap_or}
@@ -63,7 +63,7 @@ setting_of machine history = record {
   weight = node_weight history;
 }
 
--- the node list of a task, a page and a faulting node
+-- the fallback list of a task, a page and a faulting node
 abbrev pub node_list : Hardware → List Command → ℕ → ℕ → ℕ → List ℕ
 node_list machine history task page cpu = list_for (setting_of machine history)
     (resolved_policy machine history task page) cpu (index_of history page)

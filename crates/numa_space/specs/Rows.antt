@@ -1,4 +1,4 @@
--- The node lists in words: which nodes each has, and in which order.
+-- The fallback lists in words: which nodes each has, and in which order.
 use Rattle.std.specs.Prelude.{◌≡◌, ◌≢◌, ◌≤◌, ◌↔◌, ℕ, ◌&&◌, not, Bool, true, IsTrue, List, ◌++◌}
 use Rattle.std.specs.Prelude.{AllPairs, Contains}
 use Rattle.numa_mask.specs.NodeSet.{has, members, both}

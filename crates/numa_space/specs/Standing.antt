@@ -72,7 +72,7 @@ policy_in space task page =
     policy_that_counts (option_and_then (λ at. at.1) (page_at space.ranges page))
     (record_of space.tasks task)
 
--- the node list of a page
+-- the fallback list of a page
 abbrev pub list_in : SpaceState → ℕ → ℕ → ℕ → List ℕ
 list_in space task page cpu = list_for (setting_in space) (policy_in space task page) cpu
     (option_map_or (λ at. at.0) (page_at space.ranges page) 0)

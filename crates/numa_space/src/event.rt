@@ -13,7 +13,7 @@ pub enum Event {
     Accept(Command),
     /// Publish all accepted commands.
     Publish,
-    /// A worker takes a published version, and that version's node list for the request.
+    /// A worker takes a published version, and that version's fallback list for the request.
     Begin(u32, Request),
     /// A worker looks at a word of its current node: the first listed one with a frame that it
     /// hasn't met. Each owned frame there counts as met.

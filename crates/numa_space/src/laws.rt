@@ -25,8 +25,8 @@ pub fn mode_rows()
         → row ≡ list_by_mode setting mode set from index }
 {}
 
-/// Each node list that accepted commands mean, on a machine with memory, isn't empty, has no node
-/// twice, and has only allowed nodes.
+/// Each fallback list that accepted commands mean, on a machine with memory, isn't empty, has no
+/// node twice, and has only allowed nodes.
 pub fn node_lists()
     ensures sound { (machine : Hardware) (bounds : Bounds) (history : List Command)
         (task page cpu : ℕ)

@@ -100,7 +100,7 @@ impl Space {
         self.list_of_page(task, page, cpu)
     }
 
-    /// The node list of a page, from the parts of the space.
+    /// The fallback list of a page, from the parts of the space.
     fn list_of_page(
         &self,
         task: u32,
