@@ -3,7 +3,8 @@ use Rattle.std.proofs.Common.{◌≡◌, ℕ, zero, suc, ◌+◌, ◌-◌, ◌<�
 use Rattle.std.proofs.Common.{Option, Some, None, List, [], ◌∷◌, refl, sym, ap, ◌∙◌, arith, inl}
 use Rattle.std.proofs.Common.{inr, nat_lt}
 use Rattle.std.specs.List.{list_any}
-use Rattle.std.proofs.lemmas.Bool.{cases_Bool, cases_lt, lt-ltb, ltb-true}
+use Rattle.std.proofs.Common.{subst}
+use Rattle.std.proofs.lemmas.Bool.{cases_Bool, cases_lt, le-ltb, lt-ltb, ltb-true}
 use Rattle.numa_mode.specs.Policy.{PolicyRecord}
 use Rattle.numa_ranges.specs.Runs.{page_at, end_of, AreApart}
 use Rattle.numa_ranges.specs.Maps.{any_page}
@@ -127,3 +128,26 @@ pub reaches-next : (test : PageTest) (first end : ℕ)
 reaches-next test first end before rest run steps fails =
     sym (ap (list_any (reaches test first end)) steps
     ∙ ap (λ b. b || list_any (reaches test first end) rest) fails)
+
+-- runs that begin behind the span do not reach into it
+reaches-behind : (test : PageTest) (first end low : ℕ) (runs : List (Run (Option PolicyRecord)))
+    → AreApart low runs → end ≤ low → list_any (reaches test first end) runs ≡ false
+reaches-behind test first end low [] apart past = refl
+reaches-behind test first end low (run ∷ runs) apart past =
+    let out : nat_lt run.first end ≡ false = le-ltb run.first end (omega (arith, apart.0, past)) in
+    rw out
+    (reaches-behind test first end (end_of run) runs apart.3 (omega (arith, apart.0, past)))
+
+pub reaches-past : (test : PageTest) (first end low : ℕ)
+    (before rest : List (Run (Option PolicyRecord))) (run : Run (Option PolicyRecord))
+    → before ≡ run ∷ rest → AreApart low before → end ≤ run.first
+    → list_any (reaches test first end) before ≡ false
+reaches-past test first end low before rest run steps apart past =
+    let here = subst (AreApart low) steps apart in
+    ap (list_any (reaches test first end)) steps
+    ∙ reaches-behind test first end end (run ∷ rest) (past, here.1, here.2, here.3) (omega arith)
+
+pub apart-next : (low : ℕ) (before rest : List (Run (Option PolicyRecord)))
+    (run : Run (Option PolicyRecord)) → before ≡ run ∷ rest → AreApart low before
+    → AreApart (end_of run) rest
+apart-next low before rest run steps apart = (subst (AreApart low) steps apart).3

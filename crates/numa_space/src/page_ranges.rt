@@ -238,7 +238,10 @@ impl Pages {
             pages }
     {
         let end = first + pages;
-        for run in self.map.iter() {
+        for run in self.map.iter_from(first) {
+            if run.first >= end {
+                return false;
+            }
             if reaches(test, &run, first, end) {
                 return true;
             }
