@@ -1,5 +1,6 @@
 //! Keywords: the first words of lines.
-ghost use Rattle.std.specs.Prelude.{◌≡◌, ℕ, Option, Some, List};
+ghost use Rattle.std.specs.Prelude.{◌≡◌, ℕ, Option, Some, List, length};
+ghost use Rattle.std.specs.Str.{bytes_eq};
 ghost use Rattle.numa_script.specs.Lines.{first_word_of, keywords_of, keyword_among, keyword_of};
 
 use Keyword::*;
@@ -75,14 +76,30 @@ impl Keyword {
     }
 }
 
+/// Whether a word is this name, which is as long: letter by letter, so that the compiler has the
+/// letters of the name.
+#[inline(always)]
+fn is(word: &[u8], name: &[u8]) -> bool
+    requires { length word.now ≡ length name.now }
+    ensures { result ≡ bytes_eq word.now name.now }
+{
+    for place in 0..name.len() {
+        if word[place] != name[place] {
+            return false;
+        }
+    }
+    true
+}
+
 /// The keyword of three letters with this name.
 fn of_three(first: &[u8]) -> Option<Keyword>
+    requires { length first.now ≡ 3 }
     ensures { result ≡ keyword_among (keywords_of 3) first.now }
 {
-    if first == b"try".as_slice() {
+    if is(first, b"try") {
         return Some(Keyword::Try);
     }
-    if first == b"map".as_slice() {
+    if is(first, b"map") {
         return Some(Keyword::Map);
     }
     None
@@ -90,30 +107,31 @@ fn of_three(first: &[u8]) -> Option<Keyword>
 
 /// The keyword of four letters with this name.
 fn of_four(first: &[u8]) -> Option<Keyword>
+    requires { length first.now ≡ 4 }
     ensures { result ≡ keyword_among (keywords_of 4) first.now }
 {
-    if first == b"span".as_slice() {
+    if is(first, b"span") {
         return Some(Keyword::Span);
     }
-    if first == b"look".as_slice() {
+    if is(first, b"look") {
         return Some(Keyword::Look);
     }
-    if first == b"give".as_slice() {
+    if is(first, b"give") {
         return Some(Keyword::Give);
     }
-    if first == b"maps".as_slice() {
+    if is(first, b"maps") {
         return Some(Keyword::Maps);
     }
-    if first == b"home".as_slice() {
+    if is(first, b"home") {
         return Some(Keyword::Home);
     }
-    if first == b"task".as_slice() {
+    if is(first, b"task") {
         return Some(Keyword::Task);
     }
-    if first == b"mems".as_slice() {
+    if is(first, b"mems") {
         return Some(Keyword::Mems);
     }
-    if first == b"cpus".as_slice() {
+    if is(first, b"cpus") {
         return Some(Keyword::Cpus);
     }
     None
@@ -121,24 +139,25 @@ fn of_four(first: &[u8]) -> Option<Keyword>
 
 /// The keyword of five letters with this name.
 fn of_five(first: &[u8]) -> Option<Keyword>
+    requires { length first.now ≡ 5 }
     ensures { result ≡ keyword_among (keywords_of 5) first.now }
 {
-    if first == b"place".as_slice() {
+    if is(first, b"place") {
         return Some(Keyword::Place);
     }
-    if first == b"begin".as_slice() {
+    if is(first, b"begin") {
         return Some(Keyword::Begin);
     }
-    if first == b"touch".as_slice() {
+    if is(first, b"touch") {
         return Some(Keyword::Touch);
     }
-    if first == b"mbind".as_slice() {
+    if is(first, b"mbind") {
         return Some(Keyword::Mbind);
     }
-    if first == b"unmap".as_slice() {
+    if is(first, b"unmap") {
         return Some(Keyword::Unmap);
     }
-    if first == b"rules".as_slice() {
+    if is(first, b"rules") {
         return Some(Keyword::Rules);
     }
     None
@@ -146,18 +165,19 @@ fn of_five(first: &[u8]) -> Option<Keyword>
 
 /// The keyword of six letters with this name.
 fn of_six(first: &[u8]) -> Option<Keyword>
+    requires { length first.now ≡ 6 }
     ensures { result ≡ keyword_among (keywords_of 6) first.now }
 {
-    if first == b"counts".as_slice() {
+    if is(first, b"counts") {
         return Some(Keyword::Counts);
     }
-    if first == b"ranges".as_slice() {
+    if is(first, b"ranges") {
         return Some(Keyword::Ranges);
     }
-    if first == b"weight".as_slice() {
+    if is(first, b"weight") {
         return Some(Keyword::Weight);
     }
-    if first == b"limits".as_slice() {
+    if is(first, b"limits") {
         return Some(Keyword::Limits);
     }
     None
@@ -165,18 +185,19 @@ fn of_six(first: &[u8]) -> Option<Keyword>
 
 /// The keyword of seven letters with this name.
 fn of_seven(first: &[u8]) -> Option<Keyword>
+    requires { length first.now ≡ 7 }
     ensures { result ≡ keyword_among (keywords_of 7) first.now }
 {
-    if first == b"publish".as_slice() {
+    if is(first, b"publish") {
         return Some(Keyword::Publish);
     }
-    if first == b"release".as_slice() {
+    if is(first, b"release") {
         return Some(Keyword::Release);
     }
-    if first == b"machine".as_slice() {
+    if is(first, b"machine") {
         return Some(Keyword::Machine);
     }
-    if first == b"inherit".as_slice() {
+    if is(first, b"inherit") {
         return Some(Keyword::Inherit);
     }
     None

@@ -1,12 +1,27 @@
 //! Short texts, written from the last byte to the first: a number's digits come in that order, so
 //! that none is moved.
-ghost use Rattle.std.specs.Prelude.{◌≡◌, ◌+◌, ◌≤◌, ◌++◌, [], decimal, length};
+ghost use Rattle.std.specs.Prelude.{◌≡◌, ◌+◌, ◌≤◌, ◌++◌, [], decimal, drop, length};
 
 use itoa::write_digits;
 use std::marker::Model;
 
 /// The most bytes of a short text.
 const ROOM: usize = 256;
+
+/// Writes the digits of a number so that they end at a place, and returns where they start.
+#[inline(always)]
+fn write_number(number: u64, bytes: &mut [u8; ROOM], end: usize) -> usize
+    requires room { length (decimal number) ≤ end }
+    requires within { end ≤ 256 }
+    ensures start { result + length (decimal number) ≡ end }
+    ensures written { drop result bytes.new ≡ decimal number ++ drop end bytes.old }
+{
+    if number < 10 {
+        bytes[end - 1] = b'0' + number as u8;
+        return end - 1;
+    }
+    write_digits(number, bytes, end)
+}
 
 /// A short text as far as it is written: its last part.
 #[derive(Drop)]
@@ -63,7 +78,7 @@ impl ShortText {
         ensures text { self.new ≡ decimal number ++ self.old }
         ensures short { length self.new ≤ length self.old + 20 }
     {
-        self.start = write_digits(number, &mut self.bytes, self.start);
+        self.start = write_number(number, &mut self.bytes, self.start);
     }
 
     /// Puts the number of a node before the text.
@@ -73,6 +88,6 @@ impl ShortText {
         ensures text { self.new ≡ decimal node ++ self.old }
         ensures short { length self.new ≤ length self.old + 3 }
     {
-        self.start = write_digits(u64::from(node), &mut self.bytes, self.start);
+        self.start = write_number(u64::from(node), &mut self.bytes, self.start);
     }
 }

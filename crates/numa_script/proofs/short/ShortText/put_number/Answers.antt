@@ -3,15 +3,16 @@ use Rattle.std.proofs.Common.{length-drop}
 use Rattle.std.proofs.lemmas.Fmt.{length-decimal-le}
 use Rattle.numa_script.proofs.short.ShortText.put_number.Goals as goal
 
-pub write_digits-self-inside-requires : goal.write_digits-self-inside-requires
-write_digits-self-inside-requires c =
+pub write_number-self-inside-requires : goal.write_number-self-inside-requires
+write_number-self-inside-requires c =
     let long : length (decimal c.args.number) ≤ 20 =
     length-decimal-le 20 c.args.number (omega arith) (omega arith) c.ranges.number.fits in
     let same : length (drop c.self.inside.start c.self.inside.bytes) ≡ length c.args.self.now =
-    ap length c.self.view_is in (
-      omega (arith, long, same, length-drop c.self.inside.start c.self.inside.bytes),
-      omega arith,
-    )
+    ap length c.self.view_is in
+    record {
+      room = omega (arith, long, same, length-drop c.self.inside.start c.self.inside.bytes);
+      within = omega arith;
+    }
 
 pub returns-clause-short : goal.returns-clause-short
 returns-clause-short c =
@@ -19,8 +20,8 @@ returns-clause-short c =
     length-decimal-le 20 c.args.number (omega arith) (omega arith) c.ranges.number.fits in
     let same : length (drop c.self.inside.start c.self.inside.bytes) ≡ length c.args.self.now =
     ap length c.self.view_is in
-    let all : length (drop c.write_digits-self-inside.result c.write_digits-self-inside.new.buf)
+    let all : length (drop c.write_number-self-inside.result c.write_number-self-inside.new.bytes)
     ≡ length (decimal c.args.number) + length (drop c.self.inside.start c.self.inside.bytes) =
-    ap length c.write_digits-self-inside.ensures.written
+    ap length c.write_number-self-inside.ensures.written
     ∙ length-append (decimal c.args.number) (drop c.self.inside.start c.self.inside.bytes) in
     omega (arith, all, long, same)
