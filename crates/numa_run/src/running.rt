@@ -39,6 +39,26 @@ fn won_by(answer: Result<CoreReply, CoreRefusal>) -> Result<Placement, Reply>
     }
 }
 
+/// Makes the plan of all accepted commands, if there is memory for it. It is a separate function, so
+/// that a question about a machine with a plan uses no stack for it.
+#[cold]
+#[inline(never)]
+fn make_plan(core: &mut Core)
+    ensures { core.new ≡ core.old }
+{
+    let _ = core.prepare();
+}
+
+/// Makes that plan, if there is none.
+#[inline(always)]
+fn prepare(core: &mut Core)
+    ensures { core.new ≡ core.old }
+{
+    if core.accepted_plan().is_none() {
+        make_plan(core);
+    }
+}
+
 /// The effect of a line once a machine is ready.
 #[derive(Drop)]
 pub(crate) enum Taken {
@@ -154,7 +174,7 @@ impl Running {
             return false;
         }
         // On out-of-memory there may be no plan to ask.
-        let _ = self.core.prepare();
+        prepare(&mut self.core);
         let Some(plan) = self.core.accepted_plan() else {
             say_starved(output);
             return true;
@@ -241,7 +261,7 @@ impl Running {
             return None;
         }
         // On out-of-memory there may be no plan.
-        let _ = self.core.prepare();
+        prepare(&mut self.core);
         let Some(plan) = self.core.accepted_plan() else {
             return Some(CoreRefusal::NoMemory);
         };

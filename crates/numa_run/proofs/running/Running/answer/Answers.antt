@@ -28,9 +28,9 @@ returns-in-Place-clause-answer g c =
     λ state stands.
     let ready =
     same-core c.args.self.now
-    (record { core = c.prepare.new.self; resident = c.args.self.now.resident }) state
+    (record { core = c.prepare.new.core; resident = c.args.self.now.resident }) state
     c.prepare.ensures refl stands in
-    let machine = c.prepare.new.self.space.machine in
+    let machine = c.prepare.new.core.space.machine in
     let history = state.world.history in
     let plan = c.in-Some.ensures.meaning state.world ready.core.world in
     let text = ap (λ (f : Request). place_text machine history f.task f.page f.cpu)
@@ -48,9 +48,9 @@ returns-in-Span-clause-answer g c =
     λ state stands.
     let ready =
     same-core c.args.self.now
-    (record { core = c.prepare.new.self; resident = c.args.self.now.resident }) state
+    (record { core = c.prepare.new.core; resident = c.args.self.now.resident }) state
     c.prepare.ensures refl stands in
-    let machine = c.prepare.new.self.space.machine in
+    let machine = c.prepare.new.core.space.machine in
     let history = state.world.history in
     let plan = c.in-Some.ensures.meaning state.world ready.core.world in
     let text =
@@ -71,9 +71,9 @@ returns-in-Counts-clause-answer g c =
     λ state stands.
     let ready =
     same-core c.args.self.now
-    (record { core = c.prepare.new.self; resident = c.args.self.now.resident }) state
+    (record { core = c.prepare.new.core; resident = c.args.self.now.resident }) state
     c.prepare.ensures refl stands in
-    let machine = c.prepare.new.self.space.machine in
+    let machine = c.prepare.new.core.space.machine in
     let history = state.world.history in
     let plan = c.in-Some.ensures.meaning state.world ready.core.world in
     let text =

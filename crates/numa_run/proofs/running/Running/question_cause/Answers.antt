@@ -12,9 +12,9 @@ returns-in-None c =
     λ state stands.
     let ready =
     same-core c.args.self.now
-    (record { core = c.prepare.new.self; resident = c.args.self.now.resident }) state
+    (record { core = c.prepare.new.core; resident = c.args.self.now.resident }) state
     c.prepare.ensures refl stands in
-    let machine = c.prepare.new.self.space.machine in
+    let machine = c.prepare.new.core.space.machine in
     let history = state.world.history in
     let plan = c.in-Some.ensures.meaning state.world ready.core.world in
     let why = c.refusal_by_plan.ensures machine history plan in (
@@ -31,9 +31,9 @@ returns-in-Some-BadCpu c =
     λ state stands.
     let ready =
     same-core c.args.self.now
-    (record { core = c.prepare.new.self; resident = c.args.self.now.resident }) state
+    (record { core = c.prepare.new.core; resident = c.args.self.now.resident }) state
     c.prepare.ensures refl stands in
-    let machine = c.prepare.new.self.space.machine in
+    let machine = c.prepare.new.core.space.machine in
     let history = state.world.history in
     let plan = c.in-Some.ensures.meaning state.world ready.core.world in
     let why = c.refusal_by_plan.ensures machine history plan in
@@ -51,9 +51,9 @@ returns-in-Some-Unmapped c =
     λ state stands.
     let ready =
     same-core c.args.self.now
-    (record { core = c.prepare.new.self; resident = c.args.self.now.resident }) state
+    (record { core = c.prepare.new.core; resident = c.args.self.now.resident }) state
     c.prepare.ensures refl stands in
-    let machine = c.prepare.new.self.space.machine in
+    let machine = c.prepare.new.core.space.machine in
     let history = state.world.history in
     let plan = c.in-Some.ensures.meaning state.world ready.core.world in
     let why = c.refusal_by_plan.ensures machine history plan in
