@@ -58,10 +58,12 @@ def move(space, page, node):
         move_of_object(space.machine.objects[key], key, page + shift, node)
 
 
-def written(space, pages, pagemap):
-    """Those of the common pages that the space has written to, and has for its own now. By the page's number;
-    where that isn't told, of two that have a page each the younger process has the new one."""
-    for page, entry in pagemap.entries([page for page in pages if page in space.common]):
+def written(space, first, after, pagemap):
+    """Those of the common pages from first on that the space has written to, and has for its own now. By the page's
+    number; where that isn't told, of two that have a page each the younger process has the new one."""
+    some, span = space.common, range(first, after)
+    pages = [page for page in some if page in span] if len(some) < len(span) else [page for page in span if page in some]
+    for page, entry in pagemap.entries(pages):
         frame, number = space.common[page], number_of(entry)
         is_other = number != frame.number if number and frame.number else next(iter(frame.holders))[0] is not space
         if is_own(entry) and is_other:

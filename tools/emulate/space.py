@@ -139,7 +139,7 @@ class Space:
         there = Spans()
         with Pagemap(task) as pagemap, Areas(task) as areas:
             if self.common:
-                for page in list(written(self, self.placed_between(start, end), pagemap)):
+                for page in list(written(self, start // PAGE, end // PAGE, pagemap)):
                     self.forget(page * PAGE, (page + 1) * PAGE)
             for first, count in list(self.placeable(pagemap, areas, start, end)):
                 there.add(first, first + count)
