@@ -65,7 +65,10 @@ fn copy_kept(kept: &Kept, alloc: Global) -> Result<Plan, NoMemory>
 }
 
 /// The plan of a core's accepted commands: a copy of the one that it keeps.
-fn compile_kept(kept: &mut Kept, alloc: Global) -> Result<Plan, NoMemory>
+///
+/// # Errors
+/// `NoMemory`: there is no memory for the plan.
+pub fn compile_kept(kept: &mut Kept, alloc: Global) -> Result<Plan, NoMemory>
     requires core { is_core (Some kept.old) ≡ true }
     ensures same { kept.new ≡ kept.old }
     ensures plan { IfOk result (Compiles (core_of (Some kept.old))) }

@@ -26,7 +26,7 @@ use numa_space::{RangeRecord, Space};
 use std::alloc::{AllocError, Global};
 
 /// The core that is kept.
-pub(crate) fn core_kept(kept: &Kept) -> &Core
+pub fn core_kept(kept: &Kept) -> &Core
     requires core { is_core (Some kept.now) ≡ true }
     ensures core { core_of (Some kept.now) ≡ Some result.now }
 {

@@ -61,7 +61,7 @@ impl Handle {
     }
 
     /// Takes the value out, which closes it.
-    pub(crate) fn take(&mut self, alloc: Global) -> Option<Box<Kept>>
+    pub fn take(&mut self, alloc: Global) -> Option<Box<Kept>>
         ensures taken { MatchOption result (self.old.held.kept ≡ None)
             (λ kept. self.old.held.kept ≡ Some kept.value) }
         ensures closed { self.new.held.kept ≡ None }
@@ -77,7 +77,7 @@ impl Handle {
     }
 
     /// Puts a value into a closed handle.
-    pub(crate) fn put(&mut self, kept: Box<Kept>)
+    pub fn put(&mut self, kept: Box<Kept>)
         requires closed { self.old.held.kept ≡ None }
         ensures kept { self.new.held.kept ≡ Some kept.value }
     {

@@ -17,7 +17,8 @@ mod script_handle;
 mod search;
 mod seat_handle;
 
-pub use core_handle::CoreHandle;
+pub use core_handle::{CoreHandle, compile_kept};
+pub use core_questions::core_kept;
 pub use dialog::{Dialog, LineRefusal};
 pub use handle::Handle;
 pub use held::HeapSlot;

@@ -1,0 +1,147 @@
+//! The words of the program, over texts in memory.
+
+use crate::lines::lines_of;
+use crate::report::{Report, report_of};
+use crate::sources::{ScriptText, first_of, named, scripts_of};
+use numa_reports::{Format, FreePages, Touch, Written};
+use numa_traces::{ReplayError, Shape};
+use numa_words::{Ended, Halt};
+use std::alloc::{AllocError, Global};
+
+/// What is wrong with the lines of a script, and what a running kernel would do differently with
+/// one, as [`numa_words::check`] writes it: the answer, without messages.
+///
+/// # Errors
+/// `AllocError`: out of memory.
+pub fn check(alloc: Global, script: ScriptText<'_>) -> Result<Report, AllocError> {
+    let scripts = scripts_of(alloc, script)?;
+    let mut answer = Vec::new(alloc);
+    let ended = match numa_words::check(alloc, scripts, &mut answer) {
+        Ok(ended) => Ok(ended),
+        Err(why) => Err(Halt::Stopped(why)),
+    };
+    report_of(answer, Vec::new(alloc), ended)
+}
+
+/// Where all mapped pages would go after a script, as [`numa_words::predict`] writes it.
+///
+/// # Errors
+/// `AllocError`: out of memory.
+pub fn predict(
+    alloc: Global,
+    script: ScriptText<'_>,
+    asked: Touch,
+    format: Format,
+    free: &[FreePages],
+) -> Result<Report, AllocError> {
+    let scripts = scripts_of(alloc, script)?;
+    let mut answer = Vec::new(alloc);
+    let mut told = Vec::new(alloc);
+    let ended = numa_words::predict(alloc, scripts, asked, format, free, &mut answer, &mut told);
+    report_of(answer, told, ended)
+}
+
+/// The difference that lines make, after a script without them.
+fn diff_by(
+    alloc: Global,
+    script: ScriptText<'_>,
+    lines: &[String],
+    asked: Touch,
+) -> Result<Report, AllocError> {
+    let scripts = first_of(alloc, script)?;
+    let mut answer = Vec::new(alloc);
+    let mut told = Vec::new(alloc);
+    let ended = numa_words::diff(alloc, scripts, lines, asked, &mut answer, &mut told);
+    report_of(answer, told, ended)
+}
+
+/// Which pages would go to another node after the lines behind a script than before them, as
+/// [`numa_words::diff`] writes it.
+///
+/// # Errors
+/// `AllocError`: out of memory.
+pub fn diff(alloc: Global, script: ScriptText<'_>, asked: Touch) -> Result<Report, AllocError> {
+    let lines = lines_of(alloc, script.then)?;
+    let report = diff_by(alloc, script, lines.as_slice(), asked);
+    drop(lines);
+    report
+}
+
+/// Why a page would go where it goes after a script, as [`numa_words::explain`] writes it.
+///
+/// # Errors
+/// `AllocError`: out of memory.
+pub fn explain(
+    alloc: Global,
+    script: ScriptText<'_>,
+    asked: Touch,
+    page: u64,
+) -> Result<Report, AllocError> {
+    let scripts = scripts_of(alloc, script)?;
+    let mut answer = Vec::new(alloc);
+    let mut told = Vec::new(alloc);
+    let ended = numa_words::explain(alloc, scripts, asked, page, &mut answer, &mut told);
+    report_of(answer, told, ended)
+}
+
+/// The message about a line of a trace that can't be replayed.
+fn message_of(alloc: Global, place: u64, why: ReplayError) -> Result<Vec<u8>, AllocError> {
+    let mut line = Written::new(alloc);
+    line.put_form(b"trace:$: ", &[place]);
+    line.put(why.text().as_bytes());
+    line.put(b"\n");
+    line.take()
+}
+
+/// Appends the message about the line of a trace that ended a replay, if one did.
+fn tell_access(
+    alloc: Global,
+    told: &mut Vec<u8>,
+    ended: &Result<Ended, Halt>,
+) -> Result<(), AllocError> {
+    let Err(Halt::BadAccess(place, why)) = ended else {
+        return Ok(());
+    };
+    let message = message_of(alloc, *place, *why)?;
+    told.extend_from_slice(message.as_slice())
+}
+
+/// A replay's report, with a message about the line that ended it, if one did.
+fn replay_of(
+    alloc: Global,
+    answer: Vec<u8>,
+    told: Vec<u8>,
+    ended: Result<Ended, Halt>,
+) -> Result<Report, AllocError> {
+    let mut told = told;
+    match tell_access(alloc, &mut told, &ended) {
+        Ok(()) => report_of(answer, told, ended),
+        Err(fault) => {
+            drop(answer);
+            drop(told);
+            Err(fault)
+        }
+    }
+}
+
+/// What a trace meets after a script, as [`numa_words::replay`] writes it. Messages call the trace
+/// `trace`; the last is about the line that can't be replayed, if there is one.
+///
+/// # Errors
+/// `AllocError`: out of memory.
+pub fn replay(
+    alloc: Global,
+    script: ScriptText<'_>,
+    trace: &[u8],
+    format: Shape,
+) -> Result<Report, AllocError> {
+    let traces = named(alloc, "trace", trace)?;
+    let Ok(scripts) = scripts_of(alloc, script) else {
+        drop(traces);
+        return Err(AllocError);
+    };
+    let mut answer = Vec::new(alloc);
+    let mut told = Vec::new(alloc);
+    let ended = numa_words::replay(alloc, scripts, traces, format, &mut answer, &mut told);
+    replay_of(alloc, answer, told, ended)
+}
