@@ -101,6 +101,7 @@ enum np_answer {
     NP_BAD_LIMITS = 54,         /* over 65,536 ranges or 1,024 tasks */
     NP_BAD_WORKERS = 55,        /* no worker, or more than 16 */
     NP_BAD_RULES = 56, NP_BAD_ORDERS = 57, /* no number of enum np_rules, of enum np_orders */
+    NP_BAD_FORMAT = 58, /* no number of enum np_format, or none in which the question is answered */
 
     /* a list of nodes, as "0,2-3", is faulty */
     NP_LIST_EMPTY = 60,     /* an item without a byte */
@@ -115,8 +116,12 @@ enum np_answer {
     NP_FLAGS_FORBIDDEN = 73,
     NP_NODES_MISSING = 74,
 
-    NP_NO_POLICY = 75,      /* the word says "default", which is no policy */
-    NP_NO_NODE_ALLOWED = 76 /* the set of allowed nodes is empty */
+    NP_NO_POLICY = 75,       /* the word says "default", which is no policy */
+    NP_NO_NODE_ALLOWED = 76, /* the set of allowed nodes is empty */
+
+    /* a question about a script has no answer */
+    NP_NO_MACHINE = 80, /* no line of the script makes a machine */
+    NP_BAD_ACCESS = 81  /* a line of the trace can't be replayed */
 };
 
 /* ---- types */
@@ -132,18 +137,6 @@ typedef struct np_plan {
     bool is_open_;
     void *at_;
 } np_plan;
-
-/* A seat at pools of frames: what one thread takes frames with, and the frames that it holds. */
-typedef struct np_seat {
-    bool is_open_;
-    void *at_;
-} np_seat;
-
-/* A frame: its node, and its number among the node's frames, from 0. */
-typedef struct np_frame {
-    uint8_t node;
-    uint16_t number;
-} np_frame;
 
 /* A script that is given line by line, with the answer to its last line. */
 typedef struct np_script {
@@ -206,14 +199,12 @@ typedef struct np_range {
 /* (the library's own sizes are proved where the types are written) */
 #if defined(__cplusplus) && __cplusplus >= 201103L
 static_assert(sizeof(np_core) == 16 && sizeof(np_plan) == 16, "a handle");
-static_assert(sizeof(np_seat) == 16 && sizeof(np_frame) == 4, "a seat, a frame");
 static_assert(sizeof(np_limits) == 12 && sizeof(np_placement) == 32, "a struct");
 static_assert(sizeof(np_counts) == 2048 && sizeof(np_range) == 24, "a struct");
 static_assert(sizeof(np_nodes) == 32 && sizeof(np_script) == 16, "a struct, a handle");
 static_assert(sizeof(np_options) == 40 && sizeof(np_policy) == 72, "a struct");
 #elif defined(__STDC_VERSION__) && __STDC_VERSION__ >= 201112L
 _Static_assert(sizeof(np_core) == 16 && sizeof(np_plan) == 16, "a handle");
-_Static_assert(sizeof(np_seat) == 16 && sizeof(np_frame) == 4, "a seat, a frame");
 _Static_assert(sizeof(np_limits) == 12 && sizeof(np_placement) == 32, "a struct");
 _Static_assert(sizeof(np_counts) == 2048 && sizeof(np_range) == 24, "a struct");
 _Static_assert(sizeof(np_options) == 40 && sizeof(np_policy) == 72, "a struct");
@@ -378,43 +369,6 @@ uint32_t np_plan_fill(np_plan *plan, uint32_t task, uint32_t cpu, uint64_t first
 uint32_t np_plan_counts(np_plan *plan, uint32_t task, uint32_t cpu, uint64_t first, uint64_t pages,
                         np_counts *counts);
 
-/* ---- pools of frames, which threads share without a lock: each has a seat of its own. Every
- * frame is free at first, and held by one seat from where that takes it until that gives it
- * back. A call waits for no other. Pools are apart from the frames of any core. */
-
-/* Opens pools of the frames of a machine, described as for np_core_open, with a first seat
- * that holds nothing. They need 512 bytes for each node, and as much again for each seat. They
- * are freed with the last of their seats. NP_OPEN; 60 to 63; 50 to 53; NP_NO_MEMORY. */
-uint32_t np_seat_open(np_seat *seat, const uint8_t *memory, size_t memory_length,
-                      const uint32_t *frames, size_t nodes, const uint8_t *distances,
-                      size_t distances_count);
-
-/* Makes a seat at the same pools, which holds nothing, in `other`: for another thread. NP_OPEN
- * where `other` keeps one, NP_CLOSED where `seat` keeps none, NP_NO_MEMORY. */
-uint32_t np_seat_split(np_seat *seat, np_seat *other);
-
-/* Takes a free frame of the first of the listed nodes that has one. `nodes` is a list as
- * np_plan_choice writes it; a node that the machine lacks has no frame. `frame` gets the
- * frame, and `rank` the node's place in the list, from 0. NP_ALL_TAKEN where each frame of
- * each listed node was found taken at some time during this call, also for an empty list: the
- * call took none, and `frame` and `rank` are as they were. Needs no memory. NP_CLOSED. */
-uint32_t np_seat_take(np_seat *seat, const uint8_t *nodes, size_t count, np_frame *frame,
-                      size_t *rank);
-
-/* Gives back a frame that the seat holds. NP_NOT_OWNED where the seat doesn't hold it: it is
- * free, or another seat's, or no frame of the machine. Needs no memory. NP_CLOSED. */
-uint32_t np_seat_give(np_seat *seat, uint8_t node, uint16_t number);
-
-/* Gives all frames that `other` holds to `seat`, and closes `other`. Both have to be seats at
- * the same pools, from one np_seat_open by np_seat_split: this is for the caller to see to, as
- * no call can tell. Needs no memory. NP_CLOSED where either keeps none, and then both are as
- * they were. */
-uint32_t np_seat_join(np_seat *seat, np_seat *other);
-
-/* Lets go of the seat. Frames that it still holds stay taken as long as the pools last, so
- * give them back first, or join the seat to another. */
-void np_seat_close(np_seat *seat);
-
 /* ---- sets of nodes, and policy words. A set is a value: nothing is to be freed. */
 
 /* Reads a list of nodes, as "0-2,5". 60 to 63. */
@@ -499,4 +453,7 @@ uint32_t np_answer_errno(uint32_t code, uint32_t *number);
 #ifdef __cplusplus
 }
 #endif
+
+#include "numaplan_pools.h"
+#include "numaplan_reports.h"
 #endif

@@ -15,20 +15,23 @@ system keeps libraries. Not proved; what it calls is.
 from __future__ import annotations
 
 from ._causes import CAUSES as CAUSES
-from ._causes import AllTaken, AnswerLost, BadCpu, BadDistance, BadLimits, BadNodeCount, BadOffset
+from ._causes import AllTaken, AnswerLost, BadAccess, BadCpu, BadDistance, BadFormat, BadLimits
+from ._causes import BadNodeCount, BadOffset
 from ._causes import BadOrders, BadRules, BadTry, BadWeight, BadWorkers, BothFlags, Busy, Closed
 from ._causes import CommandsSpent, EmptyLength, Exhausted, FlagsForbidden, Hole, Idle
-from ._causes import ListBackwards, ListBadDigit, ListEmpty, ListTooHigh, NoMemory, NoMemoryNode
+from ._causes import ListBackwards, ListBadDigit, ListEmpty, ListTooHigh, NoMachine, NoMemory
+from ._causes import NoMemoryNode
 from ._causes import NoNodeAllowed, NoPolicy, NoPolicyThere, NoRange, NoRoom, NoSuchNode
 from ._causes import NoSuchWorker, NodesForbidden
 from ._causes import NodesMissing, NodesNotAllowed, NotOwned, NotSupported, Open, OutOfSpace
 from ._causes import Overlap, PlacedTwice, Refused, TooManyFrames, TooManyRanges, TooManyTasks
 from ._causes import Unaligned, Unknown, UnknownMode, Unmapped
-from ._cores import Core, Placement, Policy, Range
+from ._cores import Core, Explanation, Placement, Policy, Prediction, Range
 from ._library import LIBRARY
 from ._plans import Plan
 from ._progress import progress
 from ._questions import Answer, Question
+from ._reports import Report, check, diff, explain, predict, replay
 from ._scripts import Script
 from ._seats import Frame, Seat
 from ._sweeps import sweep
@@ -37,19 +40,24 @@ from ._values import effective, nodes, nodes_text, policy_text, rebind
 
 __version__ = "0.10.0"
 __all__ = [
-    "Answer", "Core", "Frame", "Placement", "Plan", "Policy", "Question", "Range", "Script", "Seat",
-    "effective", "nodes", "nodes_text", "policy_text", "progress", "rebind", "sweep", "write_table",
-    "AllTaken", "AnswerLost", "BadCpu", "BadDistance", "BadLimits", "BadNodeCount", "BadOffset",
+    "Answer", "Core", "Explanation", "Frame", "Placement", "Plan", "Policy", "Prediction",
+    "Question", "Range", "Report", "Script", "Seat",
+    "check", "diff", "effective", "explain", "nodes", "nodes_text", "policy_text", "predict",
+    "progress", "rebind", "replay", "sweep", "write_table",
+    "AllTaken", "AnswerLost", "BadAccess", "BadCpu", "BadDistance", "BadFormat", "BadLimits",
+    "BadNodeCount", "BadOffset",
     "BadOrders", "BadRules", "BadTry", "BadWeight", "BadWorkers", "BothFlags", "Busy", "CAUSES",
-    "Closed", "CommandsSpent", "EmptyLength", "Exhausted", "FlagsForbidden", "Hole", "Idle", "ListBackwards", "ListBadDigit",
-    "ListEmpty", "ListTooHigh", "NoMemory", "NoMemoryNode", "NoNodeAllowed", "NoPolicy",
+    "Closed", "CommandsSpent", "EmptyLength", "Exhausted", "FlagsForbidden", "Hole", "Idle",
+    "ListBackwards", "ListBadDigit", "ListEmpty", "ListTooHigh", "NoMachine", "NoMemory",
+    "NoMemoryNode", "NoNodeAllowed", "NoPolicy",
     "NoPolicyThere", "NoRange", "NoRoom", "NoSuchNode", "NoSuchWorker", "NodesForbidden",
     "NodesMissing", "NodesNotAllowed", "NotOwned", "NotSupported", "Open", "OutOfSpace", "Overlap",
     "PlacedTwice", "Refused", "TooManyFrames", "TooManyRanges", "TooManyTasks", "Unaligned",
     "Unknown", "UnknownMode", "Unmapped",
 ]
 # (as users name them, also where they are pickled)
-for _one in (Answer, Core, Frame, Placement, Plan, Policy, Question, Range, Script, Seat):
+for _one in (Answer, Core, Explanation, Frame, Placement, Plan, Policy, Prediction, Question, Range,
+             Report, Script, Seat):
     _one.__module__ = __name__
 
 

@@ -30,6 +30,12 @@ def call(name: str, *arguments: Any) -> int:
     return code
 
 
+def code_of(name: str, *arguments: Any) -> int:
+    """Calls a function of the library, and gives its answer."""
+    code: int = getattr(LIBRARY, "np_" + name)(*arguments)
+    return code
+
+
 def encoded(words: str) -> tuple[bytes, int]:
     """A text as an argument: its bytes, and how many they are."""
     data = words.encode()

@@ -3,7 +3,7 @@
 from __future__ import annotations
 
 from ctypes import byref, c_uint32
-from typing import Any, ClassVar
+from typing import Any, ClassVar, Sequence
 
 from ._library import LIBRARY
 
@@ -13,7 +13,8 @@ class Refused(Exception):
     the cause and what to do."""
 
     number: ClassVar[int] = 0
-    words: ClassVar[str] = "the call was refused"
+    words: str = "the call was refused"
+    messages: Sequence[str] = ()  # (what is wrong with lines of a script that was asked about)
 
     def __init_subclass__(cls, **rest: Any) -> None:
         super().__init_subclass__(**rest)
@@ -226,6 +227,11 @@ class BadOrders(Refused):
     number, words = 57, "no orders have this number; numaplan.h has those that there are"
 
 
+class BadFormat(Refused):
+    number = 58
+    words = "no format has this number, or the question isn't answered in it; take text"
+
+
 # ---- lists of nodes, policy words
 
 
@@ -275,6 +281,19 @@ class NoPolicy(Refused):
 
 class NoNodeAllowed(Refused):
     number, words = 76, "no node is allowed; name one"
+
+
+# ---- scripts and traces that are asked about
+
+
+class NoMachine(Refused):
+    number = 80
+    words = "no line of the script makes a machine; begin with one, as machine 2 0-1 8 flat"
+
+
+class BadAccess(Refused):
+    number = 81
+    words = "a line of the trace can't be replayed; the last message tells which, and why"
 
 
 CAUSES: dict[int, type[Refused]] = {cause.number: cause for cause in Refused.__subclasses__()}

@@ -3,11 +3,11 @@
 from __future__ import annotations
 
 from ctypes import byref, c_size_t, c_uint8, c_uint64
-from typing import Iterator, NamedTuple, Sequence
+from typing import Iterator, Mapping, NamedTuple, Sequence
 
 from ._calls import STILL, Owner, call, encoded, members, written
 from ._judged import list_of, u8, u16, u32, u64
-from ._library import Limits, PlacedPage, Span, StandingPolicy
+from ._library import Limits, PlacedPage, Span, StandingPolicy, ToldExplanation
 from ._machines import description, options_of, read_hardware
 from ._plans import Plan
 
@@ -44,6 +44,40 @@ class Policy(NamedTuple):
     home: "int | None"
     asked: list[int]
     nodes: list[int]
+
+
+class Prediction(NamedTuple):
+    """Where all mapped pages would go: how many to each node that gets some, how many find no free
+    page, and what is left of the free pages of the nodes that were named."""
+
+    nodes: dict[int, int]
+    exhausted: int
+    left: dict[int, int]
+
+
+class Explanation(NamedTuple):
+    """Why a page would go where it goes.
+
+    scope: whose policy serves it: "range", "task" or "system", which is local allocation
+    policy: that policy; None is local allocation
+    rule: what puts the nodes in order: "local", "preferred", "bind", "preferred many",
+        "interleave" or "weighted interleave"
+    node: the node in whose order they are: the faulting one, the home, the lowest of the policy's,
+        or the one whose turn it is
+    index: the page's index, in pages, by which nodes take turns
+    turn: the place of its turn among how many; None where nodes take no turns"""
+
+    scope: str
+    policy: "Policy | None"
+    rule: str
+    node: int
+    index: int
+    turn: "tuple[int, int] | None"
+
+
+SCOPES = ["range", "task", "system"]  # (enum np_scope, and enum np_rule)
+RULES = ["local", "preferred", "bind", "preferred many", "interleave", "weighted interleave"]
+ALL_PAGES = 2**35  # (as many as can be mapped)
 
 
 class Core(Owner):
@@ -199,6 +233,35 @@ class Core(Owner):
         call("core_task_policy", self._at, u32("task", task), byref(policy))
         return _policy(policy)
 
+    def predict(self, task: int, cpu: int,
+                free: "Mapping[int, int] | None" = None) -> Prediction:
+        """Where all mapped pages would go by all accepted commands, if a task touched each of them
+        now on a CPU of node `cpu`, in order of address. By `free` nodes have so many free pages,
+        and others never run out."""
+        touch, counts = (u32("task", task), u32("cpu", cpu)), (c_uint64 * 256)()
+        call("core_predict", self._at, *touch, byref(counts))
+        mapped = sum(counts)
+        if not free:
+            return Prediction(_some(counts), 0, {})
+        named = {u8("a node of free", node): u64("free pages", pages)
+                 for node, pages in free.items()}
+        room = [min(named.get(node, ALL_PAGES), ALL_PAGES) for node in range(256)]
+        left = (c_uint64 * 256)(*room)
+        call("core_fill", self._at, *touch, byref(left))
+        taken = [before - after for before, after in zip(room, left)]
+        rest = {node: pages - taken[node] for node, pages in named.items()}
+        return Prediction(_some(taken), mapped - sum(taken), rest)
+
+    def explain(self, task: int, page: int, cpu: int) -> Explanation:
+        """Why the page of a number (address / 4096) would go where it goes by all accepted commands,
+        if a task touched it now on a CPU of node `cpu`."""
+        told = ToldExplanation()
+        call("core_explain", self._at, u32("task", task), u64("page", page), u32("cpu", cpu),
+             byref(told))
+        turn = (told.place, told.places) if told.places else None
+        return Explanation(SCOPES[told.scope], _policy(told.policy), RULES[told.rule], told.node,
+                           told.index, turn)
+
     def maps(self, task: int, placements: Sequence[Placement] = ()) -> str:
         """The ranges as /proc/PID/numa_maps shows them, with the policy by which a fault of this
         task is served, and with the pages of these placements."""
@@ -255,6 +318,11 @@ def _policy(told: StandingPolicy) -> "Policy | None":
         return None
     home = told.home if told.home < NO_HOME else None
     return Policy(told.mode, home, members(told.asked), members(told.nodes))
+
+
+def _some(counts: Sequence[int]) -> dict[int, int]:
+    """The numbers of the nodes that have some."""
+    return {node: count for node, count in enumerate(counts) if count}
 
 
 def _request(worker: int, task: int, page: int, cpu: int) -> tuple[int, int, int, int]:

@@ -12,6 +12,7 @@ if TYPE_CHECKING:
 
 RULES = ["document", "linux"]
 ORDERS = ["nearest", "kernel"]
+FORMATS = ["text", "json", "csv", "svg"]
 
 
 def _within(name: str, value: SupportsIndex, most: int) -> int:
@@ -66,6 +67,13 @@ def orders_number(orders: str) -> int:
     if orders not in ORDERS:
         raise ValueError(f"orders is {orders!r}; it has to be 'nearest' or 'kernel'")
     return ORDERS.index(orders)
+
+
+def format_number(name: str) -> int:
+    """The format of a report, as a number of numaplan_reports.h."""
+    if name not in FORMATS:
+        raise ValueError(f"format is {name!r}; it has to be 'text', 'json', 'csv' or 'svg'")
+    return FORMATS.index(name)
 
 
 def bytes_to_write(name: str, buffer: WriteableBuffer) -> "tuple[Array[c_uint8], int]":

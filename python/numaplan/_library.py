@@ -60,8 +60,34 @@ class TakenFrame(ctypes.Structure):
     _fields_ = [("node", c_uint8), ("number", c_uint16)]
 
 
+class AskedReport(ctypes.Structure):
+    """np_question."""
+
+    _fields_ = [(name, c_uint32) for name in ("task", "cpu", "rules", "format")]
+
+
+class FreePages(ctypes.Structure):
+    """np_free."""
+
+    _fields_ = [("pages", c_uint64), ("node", c_uint8)]
+
+
+class ToldReport(ctypes.Structure):
+    """np_report."""
+
+    _fields_ = [("answer", c_size_t), ("messages", c_size_t), ("faulty", c_uint64)]
+
+
+class ToldExplanation(ctypes.Structure):
+    """np_explanation."""
+
+    _fields_ = [("policy", StandingPolicy), ("index", c_uint64), ("place", c_uint64),
+                ("places", c_uint64), ("scope", c_uint32), ("rule", c_uint32), ("node", c_uint32)]
+
+
 _HANDLE, _TEXT, _U32, _U64 = POINTER(Handle), c_char_p, c_uint32, c_uint64
 _ROOM = [POINTER(c_uint8), c_size_t, POINTER(c_size_t)]
+_ASKED, _TOLD = POINTER(AskedReport), [c_void_p, c_size_t, POINTER(ToldReport)]
 _OPENED_BY = [_TEXT, c_size_t, POINTER(_U32), c_size_t, _TEXT, c_size_t, POINTER(Limits), _U32]
 _SIGNATURES = {
     "core_open_by": [_HANDLE, *_OPENED_BY, POINTER(Options)],
@@ -108,6 +134,14 @@ _SIGNATURES = {
     "script_run": [_TEXT, c_size_t, *_ROOM],
     "script_open_by": [_HANDLE, _U32],
     "answer_errno": [_U32, POINTER(_U32)],
+    "check": [_TEXT, c_size_t, _U32, *_TOLD],
+    "predict": [_TEXT, c_size_t, _TEXT, c_size_t, _ASKED, c_void_p, c_size_t, *_TOLD],
+    "diff": [_TEXT, c_size_t, _TEXT, c_size_t, _ASKED, *_TOLD],
+    "explain": [_TEXT, c_size_t, _TEXT, c_size_t, _ASKED, _U64, *_TOLD],
+    "replay": [_TEXT, c_size_t, _TEXT, c_size_t, _TEXT, c_size_t, _ASKED, *_TOLD],
+    "core_predict": [_HANDLE, _U32, _U32, POINTER(_U64 * 256)],
+    "core_fill": [_HANDLE, _U32, _U32, POINTER(_U64 * 256)],
+    "core_explain": [_HANDLE, _U32, _U64, _U32, POINTER(ToldExplanation)],
     "version": [],
 }
 

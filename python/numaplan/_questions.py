@@ -2,16 +2,13 @@
 
 from __future__ import annotations
 
-import json
 import os
 import re
-from contextlib import ExitStack, contextmanager
-from typing import Any, Iterable, Iterator, Mapping, NamedTuple, Sequence, Union
+from typing import Any, Iterable, Mapping, NamedTuple, Sequence
 
+from ._causes import Refused
 from ._judged import rules_number, u8, u32, u64
-from ._program import Ran, run
-
-Text = Union[str, "os.PathLike[str]", bytes]
+from ._reports import Text, diff, predict, replay
 
 
 class Question(NamedTuple):
@@ -123,82 +120,42 @@ def answer(question: Question) -> Answer:
     """The answer to a judged question, but for its number and question. Raises nothing."""
     try:
         return _predicted(question) if question.trace is None else _replayed(question)
+    except Refused as cause:
+        return failure(f"{type(cause).__name__}: {cause}")
+    except OSError as fault:
+        return failure(f"can't read {fault.filename!r}: {fault.strerror}")
     except Exception as fault:
         return failure(f"{type(fault).__name__}: {fault}")
 
 
 def _predicted(question: Question) -> Answer:
-    touch = ["--task", str(question.task), "--node", str(question.node)]
-    free = ",".join(f"{node}={pages}" for node, pages in (question.free or {}).items())
-    ran = _run(question, ["predict", "--format=json", *touch, *([f"--free={free}"] if free else [])])
-    if ran.failed:
-        return failure(ran.failed)
-    total = json.loads(ran.answer)["total"]
-    found = _answer(faults=ran.told, nodes=_table(total["nodes"], "node", "pages"),
-                    exhausted=total.get("exhausted", 0), json=ran.answer)
-    if not question.lines:
+    script, lines = question.script, question.lines
+    touch: dict[str, Any] = {
+        "task": question.task, "node": question.node, "rules": question.rules,
+    }
+    report = predict(script, lines, free=question.free, **touch)
+    total = report.json["total"]
+    found = _answer(faults=report.messages, nodes=_table(total["nodes"], "node", "pages"),
+                    exhausted=total.get("exhausted", 0), json=report.text)
+    if not lines:
         return found
-    then = [f"--then={line}" for line in question.lines]
-    ran = _run(question._replace(lines=()), ["diff", *touch, *then])
-    if ran.failed:
-        return failure(ran.failed)
-    moves = re.findall(r"N(\d+)->N(\d+)=(\d+)", ran.answer.splitlines()[-1])
+    moves = re.findall(r"N(\d+)->N(\d+)=(\d+)", _last_line(diff(script, lines, **touch).text))
     return found._replace(moved={(int(a), int(b)): int(pages) for a, b, pages in moves})
 
 
+def _last_line(text: str) -> str:
+    return text[text.rindex("\n", 0, -1) + 1:] if text.count("\n") > 1 else text
+
+
 def _replayed(question: Question) -> Answer:
-    ran = _run(question, ["replay", "--format=json"])
-    if ran.failed:
-        return failure(ran.failed)
-    total = json.loads(ran.answer)["total"]
+    trace = question.trace or b""
+    report = replay(question.script, trace, question.lines, rules=question.rules)
+    total = report.json["total"]
     counts = {key: total[key] for key in ("placed", "exhausted", "unserved")}
-    return _answer(faults=ran.told, nodes=_table(total["nodes"], "node", "accesses"), **counts,
-                   distances=_table(total["distances"], "distance", "accesses"), json=ran.answer)
+    return _answer(faults=report.messages, nodes=_table(total["nodes"], "node", "accesses"),
+                   distances=_table(total["distances"], "distance", "accesses"), json=report.text,
+                   **counts)
 
 
 def _table(rows: "list[dict[str, int]]", key: str, value: str) -> dict[int, int]:
     return {row[key]: row[value] for row in rows}
-
-
-def _run(question: Question, words: Sequence[str]) -> Ran:
-    """Runs a word of the program on a question's script, trace and lines. Bytes are handed in as
-    standard input or as files without a name, which are told as `trace` and `--then`."""
-    script = question.script
-    files: list[int] = []
-    names: dict[str, str] = {}
-    with ExitStack() as stack:
-
-        def named(text: Text, name: str) -> str:
-            if not isinstance(text, bytes):
-                return os.fspath(text)
-            file = stack.enter_context(_file_of(text))
-            files.append(file)
-            names[f"/dev/fd/{file}:"] = f"{name}:"
-            return f"/dev/fd/{file}"
-
-        words = [*words, "--lenient", f"--rules={question.rules}"]
-        if question.trace is not None:
-            words.append(f"--trace={named(question.trace, 'trace')}")
-        words += ["--", "-" if isinstance(script, bytes) else os.fspath(script)]
-        if question.lines:
-            words.append(named("\n".join(question.lines).encode(), "--then"))
-        ran = run(words, script if isinstance(script, bytes) else b"", files)
-    return Ran(ran.answer, [_renamed(line, names) for line in ran.told], _renamed(ran.failed, names))
-
-
-@contextmanager
-def _file_of(data: bytes) -> Iterator[int]:
-    """An open file without a name that holds these bytes."""
-    file = os.memfd_create("numaplan")
-    try:
-        with open(file, "wb", closefd=False) as written:
-            written.write(data)
-        yield file
-    finally:
-        os.close(file)
-
-
-def _renamed(text: str, names: Mapping[str, str]) -> str:
-    for name, shown in names.items():
-        text = text.replace(name, shown)
-    return text

@@ -31,10 +31,10 @@ def sweep(questions: "Iterable[Question | tuple[Any, ...]]", executor: "Executor
 
     The questions go to processes of this machine, as many as `workers` or one a processor. Or they
     go to the workers of an executor that is handed in: of concurrent.futures, Dask
-    (`client.get_executor()`) or MPI (mpi4py's `MPIPoolExecutor()`). These need this package and the
-    program numaplan; `workers` is how many they are, where the executor doesn't tell. They share
-    nothing: a script or trace that is named is read where it is asked about, by its absolute name,
-    and one in bytes is sent there.
+    (`client.get_executor()`) or MPI (mpi4py's `MPIPoolExecutor()`). These need this package;
+    `workers` is how many they are, where the executor doesn't tell. They share nothing: a script or
+    trace that is named is read where it is asked about, by its absolute name, and one in bytes is
+    sent there. A worker answers in its own process, by `predict`, `diff` and `replay`.
 
     Questions are taken from the iterable some time ahead of their answers. A faulty one is a
     ValueError or a TypeError. What a lost worker hadn't answered is asked again, without others
@@ -178,8 +178,7 @@ class _Asking:
 
 
 def _begin_worker() -> None:
-    """An interrupt at the terminal ends the programs that answer, and the process that sweeps; a
-    worker then ends with that."""
+    """An interrupt at the terminal ends the process that sweeps; a worker then ends with that."""
     signal.signal(signal.SIGINT, lambda *_: None)
 
 

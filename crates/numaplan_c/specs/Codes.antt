@@ -8,9 +8,10 @@
 --     40, 41     the worker goes on; every frame of every listed node is met
 --     42         every frame of every listed node was found taken
 --     50 to 55   the machine, the limits or the workers are refused
---     56, 57     no rules, or no orders, have this number
+--     56 to 58   no rules, no orders, or no format, have this number
 --     60 to 63   a list of nodes is faulty
 --     70 to 76   a policy word is faulty, says no policy, or no node is allowed
+--     80, 81     a script makes no machine; a line of a trace can't be replayed
 use Rattle.std.specs.Prelude.{ℕ, Option, Some, None, Result, Ok, Err}
 use Rattle.numa_mask.specs.declared.list.ListFault.{ListFault}
 use Rattle.numa_mask.specs.declared.list.ListFault.TheVariants as list

@@ -1,4 +1,5 @@
 pub mod Codes
+pub mod Explanations
 pub mod Border
 pub mod Options
 pub mod Questions
@@ -9,4 +10,6 @@ pub mod Standing
 pub mod Texts
 pub mod Ranges
 pub mod Pools
+pub mod Predictions
+pub mod Reports
 pub mod Version

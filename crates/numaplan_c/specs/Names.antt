@@ -51,19 +51,20 @@ call_names =
     ∷ named 40 (codes "Still") ∷ named 41 (codes "Exhausted") ∷ named 42 (codes "AllTaken")
     ∷ []
 
--- faults of machines, lists and policy words
+-- faults of machines, lists, policy words and questions about scripts
 abbrev pub fault_names : List Named
 fault_names =
     named 50 (codes "BadNodeCount") ∷ named 51 (codes "NoMemoryNode")
     ∷ named 52 (codes "BadDistance") ∷ named 53 (codes "TooManyFrames")
     ∷ named 54 (codes "BadLimits") ∷ named 55 (codes "BadWorkers")
-    ∷ named 56 (codes "BadRules") ∷ named 57 (codes "BadOrders")
+    ∷ named 56 (codes "BadRules") ∷ named 57 (codes "BadOrders") ∷ named 58 (codes "BadFormat")
     ∷ named 60 (codes "ListEmpty") ∷ named 61 (codes "ListBadDigit")
     ∷ named 62 (codes "ListBackwards") ∷ named 63 (codes "ListTooHigh")
     ∷ named 70 (codes "UnknownMode") ∷ named 71 (codes "BothFlags")
     ∷ named 72 (codes "NodesForbidden") ∷ named 73 (codes "FlagsForbidden")
     ∷ named 74 (codes "NodesMissing") ∷ named 75 (codes "NoPolicy")
-    ∷ named 76 (codes "NoNodeAllowed") ∷ []
+    ∷ named 76 (codes "NoNodeAllowed")
+    ∷ named 80 (codes "NoMachine") ∷ named 81 (codes "BadAccess") ∷ []
 
 -- the name of a number, without a byte where it has none
 abbrev pub name_in : List Named → ℕ → List ℕ

@@ -59,10 +59,16 @@ pub(crate) enum Code {
     BadRules = 56,
     /// No orders have this number.
     BadOrders = 57,
+    /// No format has this number, or the answer isn't in it.
+    BadFormat = 58,
     /// The policy word is that of no policy.
     NoPolicy = 75,
     /// No node is allowed.
     NoNodeAllowed = 76,
+    /// No line of the script makes a machine.
+    NoMachine = 80,
+    /// A line of the trace can't be replayed.
+    BadAccess = 81,
 }
 
 /// The code of a command's refusal: most are in order from 10; a later one has a later number.

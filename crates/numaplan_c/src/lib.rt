@@ -4,8 +4,10 @@
 //! the call, and handles that begin as zero bytes and are passed to one call at a time.
 #![tactic(auto)]
 
+mod asking;
 mod codes;
 mod commands;
+mod explanations;
 mod keeping;
 mod listings;
 mod machines;
@@ -16,7 +18,9 @@ mod options;
 mod plans;
 mod policies;
 mod pools;
+mod predictions;
 mod ranges;
+mod reports;
 mod scripts;
 mod standing;
 mod texts;

@@ -55,8 +55,8 @@ static CALL_NAMES: [(u32, &[u8]); 18] = [
     (42, b"AllTaken"),
 ];
 
-/// The names of the codes of errors in machines, lists and policy words.
-static FAULT_NAMES: [(u32, &[u8]); 19] = [
+/// The names of the codes of errors in machines, lists, policy words and questions about scripts.
+static FAULT_NAMES: [(u32, &[u8]); 22] = [
     (50, b"BadNodeCount"),
     (51, b"NoMemoryNode"),
     (52, b"BadDistance"),
@@ -65,6 +65,7 @@ static FAULT_NAMES: [(u32, &[u8]); 19] = [
     (55, b"BadWorkers"),
     (56, b"BadRules"),
     (57, b"BadOrders"),
+    (58, b"BadFormat"),
     (60, b"ListEmpty"),
     (61, b"ListBadDigit"),
     (62, b"ListBackwards"),
@@ -76,6 +77,8 @@ static FAULT_NAMES: [(u32, &[u8]); 19] = [
     (74, b"NodesMissing"),
     (75, b"NoPolicy"),
     (76, b"NoNodeAllowed"),
+    (80, b"NoMachine"),
+    (81, b"BadAccess"),
 ];
 
 /// The name of a code in a table, empty if it has none.

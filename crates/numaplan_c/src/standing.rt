@@ -77,7 +77,7 @@ fn none_told() -> NpPolicy
 }
 
 /// The C struct of a policy, or of none.
-fn told(policy: Option<Record>) -> NpPolicy
+pub(crate) fn told(policy: Option<Record>) -> NpPolicy
     ensures { TellsPolicy policy result }
 {
     match policy {

@@ -98,6 +98,8 @@ causes! {
         "no rules have this number; numaplan.h has those that there are";
     57 BAD_ORDERS "BadOrders"
         "no orders have this number; numaplan.h has those that there are";
+    58 BAD_FORMAT "BadFormat"
+        "no format has this number, or the question isn't answered in it; take text";
     60 LIST_EMPTY "ListEmpty"
         "nothing stands where a node should; name one, or leave out the comma";
     61 LIST_BAD_DIGIT "ListBadDigit"
@@ -120,6 +122,10 @@ causes! {
         "default is no policy; name one";
     76 NO_NODE_ALLOWED "NoNodeAllowed"
         "no node is allowed; name one";
+    80 NO_MACHINE "NoMachine"
+        "no line of the script makes a machine; begin with one, as machine 2 0-1 8 flat";
+    81 BAD_ACCESS "BadAccess"
+        "a line of the trace can't be replayed; the last message tells which, and why";
 }
 
 impl Refused {

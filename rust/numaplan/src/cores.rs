@@ -26,7 +26,7 @@ pub struct Policy {
 }
 
 /// A policy before it is told: none.
-fn untold() -> StandingPolicy {
+pub(crate) fn untold() -> StandingPolicy {
     StandingPolicy {
         mode: 0,
         home: 256,
@@ -37,7 +37,7 @@ fn untold() -> StandingPolicy {
 
 impl StandingPolicy {
     /// The policy, where it is one.
-    fn told(&self) -> Option<Policy> {
+    pub(crate) fn told(&self) -> Option<Policy> {
         (self.mode != 0).then(|| Policy {
             mode: self.mode,
             home: u8::try_from(self.home).ok(),
@@ -69,7 +69,7 @@ impl Iterator for Ranges<'_> {
 /// A core: commands, published versions, and workers that look for frames.
 #[derive(Debug)]
 #[must_use]
-pub struct Core(Handle);
+pub struct Core(pub(crate) Handle);
 
 // SAFETY: what a handle keeps is proved `Send` (numaplan_handles, `Held`), and `&mut` gives it to one call
 // at a time.

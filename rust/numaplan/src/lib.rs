@@ -22,18 +22,22 @@
 mod calls;
 mod causes;
 mod cores;
+mod explanations;
 mod options;
 mod plans;
 mod raw;
+mod reports;
 mod scripts;
 mod seats;
 mod values;
 
 pub use causes::Refused;
 pub use cores::{Core, Policy, Range, Ranges};
+pub use explanations::{Explanation, OrderRule, Scope};
 pub use options::{Options, Orders, Rules};
 pub use plans::Plan;
 pub use raw::{Frame, Placement};
+pub use reports::{Format, Question, Report, Unanswered};
 pub use scripts::Script;
 pub use seats::Seat;
 pub use values::{effective, nodes, nodes_text, policy_text, rebind, rebind_by};

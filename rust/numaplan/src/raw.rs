@@ -67,6 +67,39 @@ pub(crate) struct StandingPolicy {
     pub nodes: Nodes,
 }
 
+#[repr(C)]
+pub(crate) struct AskedReport {
+    pub task: u32,
+    pub cpu: u32,
+    pub rules: u32,
+    pub format: u32,
+}
+
+#[repr(C)]
+pub(crate) struct FreePages {
+    pub pages: u64,
+    pub node: u8,
+}
+
+#[repr(C)]
+#[derive(Default)]
+pub(crate) struct ToldReport {
+    pub answer: usize,
+    pub messages: usize,
+    pub faulty: u64,
+}
+
+#[repr(C)]
+pub(crate) struct ToldExplanation {
+    pub policy: StandingPolicy,
+    pub index: u64,
+    pub place: u64,
+    pub places: u64,
+    pub scope: u32,
+    pub rule: u32,
+    pub node: u32,
+}
+
 /// Where a page was placed: by this version, on this frame of this node, at this rank of its list.
 #[repr(C)]
 #[derive(Clone, Copy, Debug, Default, PartialEq, Eq)]
@@ -85,6 +118,8 @@ const _: () = assert!(size_of::<Placement>() == 32 && size_of::<Counts>() == 204
 const _: () = assert!(size_of::<Span>() == 24);
 const _: () = assert!(size_of::<Nodes>() == 32);
 const _: () = assert!(size_of::<Options>() == 40 && size_of::<StandingPolicy>() == 72);
+const _: () = assert!(size_of::<AskedReport>() == 16 && size_of::<FreePages>() == 16);
+const _: () = assert!(size_of::<ToldReport>() == 24 && size_of::<ToldExplanation>() == 112);
 
 #[rustfmt::skip]
 #[link(name = "numaplan", kind = "static")]
@@ -137,5 +172,13 @@ extern "C" {
     pub(crate) fn np_script_close(script: &mut Handle);
     pub(crate) fn np_script_line(script: &mut Handle, line: *const u8, length: usize, needed: &mut usize) -> u32;
     pub(crate) fn np_script_answer(script: &mut Handle, answer: *mut u8, room: usize, length: &mut usize) -> u32;
+    pub(crate) fn np_check(script: *const u8, length: usize, rules: u32, text: *mut u8, room: usize, report: &mut ToldReport) -> u32;
+    pub(crate) fn np_predict(script: *const u8, length: usize, lines: *const u8, lines_length: usize, asked: &AskedReport, free_pages: *const FreePages, free_count: usize, text: *mut u8, room: usize, report: &mut ToldReport) -> u32;
+    pub(crate) fn np_diff(script: *const u8, length: usize, lines: *const u8, lines_length: usize, asked: &AskedReport, text: *mut u8, room: usize, report: &mut ToldReport) -> u32;
+    pub(crate) fn np_explain(script: *const u8, length: usize, lines: *const u8, lines_length: usize, asked: &AskedReport, page: u64, text: *mut u8, room: usize, report: &mut ToldReport) -> u32;
+    pub(crate) fn np_replay(script: *const u8, length: usize, lines: *const u8, lines_length: usize, trace: *const u8, trace_length: usize, asked: &AskedReport, text: *mut u8, room: usize, report: &mut ToldReport) -> u32;
+    pub(crate) fn np_core_predict(core: &mut Handle, task: u32, cpu: u32, counts: &mut Counts) -> u32;
+    pub(crate) fn np_core_fill(core: &mut Handle, task: u32, cpu: u32, free_pages: &mut Counts) -> u32;
+    pub(crate) fn np_core_explain(core: &mut Handle, task: u32, page: u64, cpu: u32, explanation: &mut ToldExplanation) -> u32;
     pub(crate) fn np_version() -> u32;
 }

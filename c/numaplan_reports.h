@@ -1,0 +1,140 @@
+/* numaplan_reports.h: the reports of numaplan, for C99 and C++. numaplan.h includes this file, and
+ * its first page counts here too.
+ *
+ * Scripts. The first five calls play a script from a fresh start to its end and answer what the
+ * words `check`, `predict`, `diff`, `explain` and `replay` of the program print, byte for byte.
+ * Lines that are malformed or refused are passed over; messages tell of each. A call reads a
+ * script, and lines that stand behind it, as texts: messages call the script `-`, the lines
+ * `--then` and a trace `trace`.
+ *
+ * Rooms. The answer stands at the beginning of `text`, and the messages behind it. `report` gets
+ * how many bytes each has. NP_NO_ROOM where both together are longer than the room: then `report`
+ * tells what is needed, and `text` is as it was. Where another number than these is answered,
+ * there is no answer, and the messages stand in `text` all the same. After NP_NO_MEMORY,
+ * NP_BAD_RULES and NP_BAD_FORMAT, which come first, nothing has changed.
+ *
+ * Cores. The other calls ask the same of a core, by all accepted commands, and answer structs. */
+#ifndef NUMAPLAN_REPORTS_H
+#define NUMAPLAN_REPORTS_H
+
+#include "numaplan.h"
+
+#ifdef __cplusplus
+extern "C" {
+#endif
+
+/* ---- types */
+
+/* The formats of an answer: lines, one JSON object (RFC 8259), records with a header (RFC 4180), a
+ * picture (SVG 1.1). */
+enum np_format { NP_FORMAT_TEXT = 0, NP_FORMAT_JSON = 1, NP_FORMAT_CSV = 2, NP_FORMAT_SVG = 3 };
+
+/* A question about a script: the task that touches pages, the node of the CPU on which it runs,
+ * whose rules count if no line `rules` gives others (of enum np_rules), and the format of the
+ * answer (of enum np_format). */
+typedef struct np_question {
+    uint32_t task, cpu, rules, format;
+} np_question;
+
+/* How many free pages a node has. */
+typedef struct np_free {
+    uint64_t pages;
+    uint8_t node;
+} np_free;
+
+/* How many bytes an answer has, and the messages behind it; 1 where lines were malformed, refused
+ * or not judged, so that the answer goes by the others alone, else 0. */
+typedef struct np_report {
+    size_t answer, messages;
+    uint64_t faulty;
+} np_report;
+
+/* Whose policy serves a page: that of its range, of the task, or none, which is local
+ * allocation. */
+enum np_scope { NP_SCOPE_RANGE = 0, NP_SCOPE_TASK = 1, NP_SCOPE_SYSTEM = 2 };
+
+/* What puts the nodes of a page in order. LOCAL, PREFERRED and the two INTERLEAVEs: the allowed
+ * nodes in the order of a node: the faulting one, the lowest of the policy's, the one whose turn it
+ * is. BIND: the policy's nodes alone in the order of the home or else the faulting node.
+ * PREFERRED_MANY: the same, and behind them the other allowed nodes. */
+enum np_rule {
+    NP_RULE_LOCAL = 0,
+    NP_RULE_PREFERRED = 1,
+    NP_RULE_BIND = 2,
+    NP_RULE_PREFERRED_MANY = 3,
+    NP_RULE_INTERLEAVE = 4,
+    NP_RULE_WEIGHTED_INTERLEAVE = 5
+};
+
+/* Why a page goes where it goes: the policy that serves it (its mode is 0 where none does), its
+ * index, in pages, the place of its turn among how many (0 of 0 where nodes take no turns), the
+ * scope and the rule (of enum np_scope and np_rule), and the node in whose order the nodes are. */
+typedef struct np_explanation {
+    np_policy policy;
+    uint64_t index, place, places;
+    uint32_t scope, rule, node;
+} np_explanation;
+
+#if defined(__cplusplus) && __cplusplus >= 201103L
+static_assert(sizeof(np_question) == 16 && sizeof(np_free) == 16, "a struct");
+static_assert(sizeof(np_report) == 24 && sizeof(np_explanation) == 112, "a struct");
+#elif defined(__STDC_VERSION__) && __STDC_VERSION__ >= 201112L
+_Static_assert(sizeof(np_question) == 16 && sizeof(np_free) == 16, "a struct");
+_Static_assert(sizeof(np_report) == 24 && sizeof(np_explanation) == 112, "a struct");
+#endif
+
+/* ---- reports on scripts */
+
+/* What is wrong with the lines of a script, and what a running kernel would do otherwise with one
+ * (numaplan check): all of it is the answer. NP_BAD_RULES; NP_NO_MEMORY; NP_NO_ROOM. */
+uint32_t np_check(const uint8_t *script, size_t length, uint32_t rules, uint8_t *text, size_t room,
+                  np_report *report);
+
+/* Where all mapped pages would go, if the task touched each of them now (numaplan predict), where
+ * nodes have so many free pages; others never run out. NP_BAD_RULES; NP_BAD_FORMAT; NP_NO_MEMORY;
+ * NP_NO_MACHINE; NP_NO_SUCH_NODE for free pages of a node that the machine lacks; NP_BAD_CPU. */
+uint32_t np_predict(const uint8_t *script, size_t length, const uint8_t *lines,
+                    size_t lines_length, const np_question *asked, const np_free *free_pages,
+                    size_t free_count, uint8_t *text, size_t room, np_report *report);
+
+/* Which pages would go to another node after the lines than before them (numaplan diff --then).
+ * In text alone. NP_BAD_RULES; NP_BAD_FORMAT; NP_NO_MEMORY; NP_NO_MACHINE; NP_BAD_CPU. */
+uint32_t np_diff(const uint8_t *script, size_t length, const uint8_t *lines, size_t lines_length,
+                 const np_question *asked, uint8_t *text, size_t room, np_report *report);
+
+/* Why the page of a number (its address divided by 4,096) would go where it goes (numaplan
+ * explain). In text alone. NP_BAD_RULES; NP_BAD_FORMAT; NP_NO_MEMORY; NP_NO_MACHINE; NP_BAD_CPU;
+ * NP_UNMAPPED. */
+uint32_t np_explain(const uint8_t *script, size_t length, const uint8_t *lines,
+                    size_t lines_length, const np_question *asked, uint64_t page, uint8_t *text,
+                    size_t room, np_report *report);
+
+/* What a trace of accesses meets on a machine where no page is placed (numaplan replay): a line
+ * `TASK ADDRESS CPU [COUNT]` for each. The question's task and node don't count. In text or JSON.
+ * NP_BAD_RULES; NP_BAD_FORMAT; NP_NO_MEMORY; NP_NO_MACHINE; NP_BAD_ACCESS where a line of the trace
+ * can't be replayed, which the last message tells. */
+uint32_t np_replay(const uint8_t *script, size_t length, const uint8_t *lines, size_t lines_length,
+                   const uint8_t *trace, size_t trace_length, const np_question *asked,
+                   uint8_t *text, size_t room, np_report *report);
+
+/* ---- reports on a core, by all accepted commands, published or not */
+
+/* Counts, for each node, the mapped pages that would go to it, if the task touched each of them now
+ * on a CPU of node `cpu`. The time grows with the ranges, not with the pages. NP_CLOSED,
+ * NP_BAD_CPU, NP_NO_MEMORY. */
+uint32_t np_core_predict(np_core *core, uint32_t task, uint32_t cpu, np_counts *counts);
+
+/* The same where each node has as many free pages as `free_pages` says, which gets what remains of
+ * them once each mapped page, in ascending order, has taken a free page of the first node of its
+ * list that has one, or has gone nowhere. NP_CLOSED, NP_BAD_CPU, NP_NO_MEMORY. */
+uint32_t np_core_fill(np_core *core, uint32_t task, uint32_t cpu, np_counts *free_pages);
+
+/* Tells why a page would go where it goes, if the task touched it now on a CPU of node `cpu`; its
+ * list of nodes is np_plan_choice's. NP_CLOSED, NP_BAD_CPU, NP_UNMAPPED, NP_NO_MEMORY. */
+uint32_t np_core_explain(np_core *core, uint32_t task, uint64_t page, uint32_t cpu,
+                         np_explanation *explanation);
+
+#ifdef __cplusplus
+}
+#endif
+#endif

@@ -1,0 +1,142 @@
+"""What the words of the program answer, asked of the library in this process. Not proved."""
+
+from __future__ import annotations
+
+import json as _json
+import os
+from ctypes import byref, c_size_t, create_string_buffer, string_at
+from typing import Any, Mapping, NamedTuple, Sequence, Union
+
+from ._calls import code_of
+from ._causes import BadAccess, NoRoom, refusal
+from ._judged import format_number, rules_number, u8, u32, u64
+from ._library import AskedReport, FreePages, ToldReport
+
+Text = Union[str, "os.PathLike[str]", bytes]
+
+ROOM = 1 << 16  # bytes, of which most answers have fewer
+
+
+class Report(NamedTuple):
+    """What a word of the program answered.
+
+    text: the answer, as `numaplan WORD` prints it
+    messages: what is wrong with lines of the script, which are passed over; with `check` these are
+        the answer
+    faulty: whether lines were malformed, refused or not judged"""
+
+    text: str
+    messages: list[str]
+    faulty: bool
+
+    @property
+    def json(self) -> Any:
+        """The answer as Python has it, where it was asked for as JSON."""
+        return _json.loads(self.text)
+
+
+def check(script: Text, *, rules: str = "document") -> Report:
+    """What is wrong with the lines of a script, and what a running kernel would do otherwise with
+    them, as `numaplan check` prints it. A script is the name of a file, or its text as bytes."""
+    name, text = read(script)
+    said = _asked("check", [text], rules_number(rules), names={"-": name})
+    return Report(said.text, said.text.splitlines(), said.faulty)
+
+
+def predict(script: Text, lines: Sequence[str] = (), *, task: int = 1, node: int = 0,
+            free: "Mapping[int, int] | None" = None, format: str = "json",
+            rules: str = "document") -> Report:
+    """Where all mapped pages would go after a script, and lines behind it, if `task` touched each of
+    them on a CPU of `node`; by `free` nodes have so many free pages, and others never run out. As
+    `numaplan predict` prints it, in the format "text", "json", "csv" or "svg". Raises NoMachine,
+    BadCpu or NoSuchNode, whose `messages` tell of the script's lines."""
+    named = [FreePages(u64("free pages", pages), u8("a node of free", each))
+             for each, pages in (free or {}).items()]
+    name, text = read(script)
+    asked = AskedReport(u32("task", task), u32("node", node), rules_number(rules),
+                        format_number(format))
+    room = (FreePages * max(len(named), 1))(*named)
+    return _asked("predict", [text, joined(lines)], byref(asked), byref(room), c_size_t(len(named)),
+                  names={"-": name})
+
+
+def diff(script: Text, lines: Sequence[str], *, task: int = 1, node: int = 0,
+         rules: str = "document") -> Report:
+    """Which pages would go to another node after the lines than after the script alone, as
+    `numaplan diff --then` prints it. Raises NoMachine or BadCpu."""
+    name, text = read(script)
+    asked = AskedReport(u32("task", task), u32("node", node), rules_number(rules), 0)
+    return _asked("diff", [text, joined(lines)], byref(asked), names={"-": name})
+
+
+def explain(script: Text, page: int, lines: Sequence[str] = (), *, task: int = 1, node: int = 0,
+            rules: str = "document") -> Report:
+    """Why the page of a number (address / 4096) would go where it goes, as `numaplan explain` prints
+    it. Raises NoMachine, BadCpu or Unmapped."""
+    name, text = read(script)
+    asked = AskedReport(u32("task", task), u32("node", node), rules_number(rules), 0)
+    return _asked("explain", [text, joined(lines)], byref(asked), u64("page", page),
+                  names={"-": name})
+
+
+def replay(script: Text, trace: Text, lines: Sequence[str] = (), *, format: str = "json",
+           rules: str = "document") -> Report:
+    """What a trace of accesses meets after a script on a machine where no page is placed, as
+    `numaplan replay` prints it, in the format "text" or "json". A trace is the name of a file, or
+    its text as bytes: `TASK ADDRESS CPU [COUNT]` a line. Raises NoMachine, or BadAccess, whose last
+    message tells which line can't be replayed."""
+    name, text = read(script)
+    trace_name, accesses = read(trace, "trace")
+    asked = AskedReport(0, 0, rules_number(rules), format_number(format))
+    return _asked("replay", [text, joined(lines), accesses], byref(asked),
+                  names={"-": name, "trace": trace_name})
+
+
+# ---- what is asked
+
+
+def read(text: Text, name: str = "-") -> tuple[str, bytes]:
+    """A text, and the name by which messages call it."""
+    if isinstance(text, bytes):
+        return name, text
+    with open(text, "rb") as file:
+        return os.fspath(text), file.read()
+
+
+def joined(lines: Sequence[str]) -> bytes:
+    """Lines as one text."""
+    return "\n".join([lines] if isinstance(lines, str) else lines).encode()
+
+
+def _asked(word: str, texts: Sequence[bytes], *asked: Any, names: Mapping[str, str]) -> Report:
+    """What a word answers of texts, in a room of its own; once more where it needs a larger one."""
+    words = [part for text in texts for part in (text, c_size_t(len(text)))]
+    size, told, code = ROOM, ToldReport(), NoRoom.number
+    while code == NoRoom.number:
+        room = create_string_buffer(size)
+        code = code_of(word, *words, *asked, byref(room), c_size_t(size), byref(told))
+        size = told.answer + told.messages
+    whole = string_at(room, size)
+    answer, behind = (part.decode("utf-8", "surrogateescape")
+                      for part in (whole[:told.answer], whole[told.answer:]))
+    messages = [_named(line, names) for line in behind.splitlines()]
+    if code:
+        raise _refused(code, messages)
+    if word == "check":
+        answer = "".join(_named(line, names) for line in answer.splitlines(keepends=True))
+    return Report(answer, messages, bool(told.faulty))
+
+
+def _refused(code: int, messages: "list[str]") -> Exception:
+    """What is raised where there is no answer."""
+    fault = refusal(code)
+    fault.messages = messages
+    if isinstance(fault, BadAccess) and messages:
+        fault.words = messages[-1]
+    return fault
+
+
+def _named(line: str, names: Mapping[str, str]) -> str:
+    """A message that calls a text by its name."""
+    mark, colon, rest = line.partition(":")
+    return f"{names.get(mark, mark)}{colon}{rest}"

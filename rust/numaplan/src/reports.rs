@@ -1,0 +1,211 @@
+//! What the words of the program answer. Each call of the library is as `calls` says.
+
+use std::error::Error;
+use std::fmt;
+
+use crate::calls::{done, text_of};
+use crate::raw::{self, AskedReport, FreePages, ToldReport};
+use crate::{Refused, Rules};
+
+/// A script that is asked about, played to its end from a fresh start: its text, in the language of
+/// `numaplan run`, lines that stand behind it, and the task that touches pages on a CPU of a node.
+/// Begin with `Question::of(text)`.
+///
+/// ```
+/// use numaplan::{Format, Question};
+///
+/// let host = "machine 2 0-1 0 flat\nmap 0x10000 0x4000 0x10\ntask 1 interleave:0-1\n";
+/// let report = Question { lines: "mems 0", ..Question::of(host) }.diff()?;
+/// assert_eq!(report.text.lines().last(), Some("total moved=2 N1->N0=2"));
+/// let report = Question::of(host).predict(Format::Json, &[(0, 1)])?;
+/// assert!(report.messages.is_empty());
+/// # Ok::<(), numaplan::Unanswered>(())
+/// ```
+#[derive(Clone, Copy, Debug)]
+#[must_use]
+pub struct Question<'a> {
+    pub script: &'a str,
+    pub lines: &'a str,
+    pub task: u32,
+    pub node: u32,
+    /// Whose rules count unless a line gives others.
+    pub rules: Rules,
+}
+
+/// The format of an answer: lines, a JSON object, records with a header, or a picture.
+#[derive(Clone, Copy, Debug, PartialEq, Eq)]
+pub enum Format {
+    Text,
+    Json,
+    Csv,
+    Svg,
+}
+
+/// What was answered: the text that the word of the program prints, what is wrong with lines, which are
+/// passed over, and whether some were malformed, refused or not judged.
+#[derive(Clone, Debug, PartialEq, Eq)]
+pub struct Report {
+    pub text: String,
+    pub messages: Vec<String>,
+    pub is_faulty: bool,
+}
+
+/// Why there is no answer, and what is wrong with lines; the last message tells which line of a trace
+/// can't be replayed.
+#[derive(Clone, Debug, PartialEq, Eq)]
+pub struct Unanswered {
+    pub cause: Refused,
+    pub messages: Vec<String>,
+}
+
+impl fmt::Display for Unanswered {
+    fn fmt(&self, f: &mut fmt::Formatter<'_>) -> fmt::Result {
+        write!(f, "{}", self.cause)?;
+        match self.messages.last() {
+            Some(message) if self.cause == Refused::BAD_ACCESS => write!(f, ": {message}"),
+            _ => Ok(()),
+        }
+    }
+}
+
+impl Error for Unanswered {}
+
+impl<'a> Question<'a> {
+    /// A question about this script, without lines behind it, of task 1 on node 0, by the documents'
+    /// rules.
+    pub fn of(script: &'a str) -> Question<'a> {
+        Question {
+            script,
+            lines: "",
+            task: 1,
+            node: 0,
+            rules: Rules::Document,
+        }
+    }
+
+    fn asked(&self, format: Format) -> AskedReport {
+        AskedReport {
+            task: self.task,
+            cpu: self.node,
+            rules: self.rules.number(),
+            format: match format {
+                Format::Text => 0,
+                Format::Json => 1,
+                Format::Csv => 2,
+                Format::Svg => 3,
+            },
+        }
+    }
+
+    /// What is wrong with the lines of the script alone, and what a running kernel would do otherwise
+    /// with them: `numaplan check`.
+    pub fn check(&self) -> Result<Report, Unanswered> {
+        told(|text, report| unsafe {
+            raw::np_check(
+                self.script.as_ptr(),
+                self.script.len(),
+                self.rules.number(),
+                text.as_mut_ptr(),
+                text.len(),
+                report,
+            )
+        })
+    }
+
+    /// Where all mapped pages would go, where nodes (the first of each pair) have so many free pages;
+    /// others never run out: `numaplan predict`.
+    pub fn predict(&self, format: Format, free: &[(u8, u64)]) -> Result<Report, Unanswered> {
+        let (asked, free) = (self.asked(format), free.iter());
+        let free: Vec<_> = free.map(|&(node, pages)| FreePages { pages, node }).collect();
+        told(|text, report| unsafe {
+            raw::np_predict(
+                self.script.as_ptr(),
+                self.script.len(),
+                self.lines.as_ptr(),
+                self.lines.len(),
+                &asked,
+                free.as_ptr(),
+                free.len(),
+                text.as_mut_ptr(),
+                text.len(),
+                report,
+            )
+        })
+    }
+
+    /// Which pages would go to another node after the lines than after the script alone:
+    /// `numaplan diff`.
+    pub fn diff(&self) -> Result<Report, Unanswered> {
+        let asked = self.asked(Format::Text);
+        told(|text, report| unsafe {
+            raw::np_diff(
+                self.script.as_ptr(),
+                self.script.len(),
+                self.lines.as_ptr(),
+                self.lines.len(),
+                &asked,
+                text.as_mut_ptr(),
+                text.len(),
+                report,
+            )
+        })
+    }
+
+    /// Why the page of a number (address / 4096) would go where it goes: `numaplan explain`.
+    pub fn explain(&self, page: u64) -> Result<Report, Unanswered> {
+        let asked = self.asked(Format::Text);
+        told(|text, report| unsafe {
+            raw::np_explain(
+                self.script.as_ptr(),
+                self.script.len(),
+                self.lines.as_ptr(),
+                self.lines.len(),
+                &asked,
+                page,
+                text.as_mut_ptr(),
+                text.len(),
+                report,
+            )
+        })
+    }
+
+    /// What a trace of accesses, `TASK ADDRESS CPU [COUNT]` a line, meets where no page is placed, as
+    /// text or JSON: `numaplan replay`.
+    pub fn replay(&self, trace: &str, format: Format) -> Result<Report, Unanswered> {
+        let asked = self.asked(format);
+        told(|text, report| unsafe {
+            raw::np_replay(
+                self.script.as_ptr(),
+                self.script.len(),
+                self.lines.as_ptr(),
+                self.lines.len(),
+                trace.as_ptr(),
+                trace.len(),
+                &asked,
+                text.as_mut_ptr(),
+                text.len(),
+                report,
+            )
+        })
+    }
+}
+
+/// The report that a call writes into a room of bytes: at first of 64 KiB, then of what it needs.
+fn told(mut call: impl FnMut(&mut [u8], &mut ToldReport) -> u32) -> Result<Report, Unanswered> {
+    let (mut room, mut told) = (vec![0; 65_536], ToldReport::default());
+    let mut answer = done(call(&mut room, &mut told));
+    if answer == Err(Refused::NO_ROOM) {
+        room.resize(told.answer + told.messages, 0);
+        answer = done(call(&mut room, &mut told));
+    }
+    let (text, behind) = room[..told.answer + told.messages].split_at(told.answer);
+    let messages = text_of(behind).lines().map(str::to_owned).collect();
+    match answer {
+        Ok(()) => Ok(Report {
+            text: text_of(text),
+            messages,
+            is_faulty: told.faulty != 0,
+        }),
+        Err(cause) => Err(Unanswered { cause, messages }),
+    }
+}

@@ -1,0 +1,199 @@
+/* Reports from C: scripts that are asked about, with just enough room, with less and with none; their
+ * causes; and the same of cores. What the words print is compared by reports.py. Prints what is wrong;
+ * not proved. */
+#include "numaplan_reports.h"
+
+#include <stdio.h>
+#include <stdlib.h>
+#include <string.h>
+
+static int wrong;
+
+#define WANT(got, wanted)                                                                          \
+    do {                                                                                           \
+        unsigned long long got_ = (got), wanted_ = (wanted);                                       \
+        if (got_ != wanted_) {                                                                     \
+            printf("line %d: %s is %llu, not %llu\n", __LINE__, #got, got_, wanted_);              \
+            wrong = 1;                                                                             \
+        }                                                                                          \
+    } while (0)
+
+#define TEXT(words) (const uint8_t *)(words), strlen(words)
+
+/* four interleaved pages, of which a line moves two */
+#define HOST "machine 2 0-1 8 flat\nmap 0x10000 0x4000 0x10\ntask 1 interleave:0-1\n"
+
+static const np_question asked = {1, 0, NP_RULES_DOCUMENT, NP_FORMAT_TEXT};
+static const np_free none[1];
+static uint8_t room[4096];
+static np_report told;
+
+/* Whether the answer and the messages are these, and nothing stands behind them. */
+static bool is_told(const char *answer, const char *messages) {
+    size_t length = strlen(answer);
+    return told.answer == length && told.messages == strlen(messages) &&
+           memcmp(room, answer, length) == 0 &&
+           memcmp(room + length, messages, told.messages) == 0 && room[length + told.messages] == '#';
+}
+
+static void forget(void) {
+    memset(room, '#', sizeof room);
+    told = (np_report){77, 77, 77};
+}
+
+static bool is_untouched(void) {
+    for (size_t k = 0; k < sizeof room; k++)
+        if (room[k] != '#')
+            return false;
+    return true;
+}
+
+static void words(void) {
+    forget();
+    WANT(np_check(TEXT("machine 1 0 0 flat\nmap 1 2 3\n"), 0, room, sizeof room, &told), NP_OK);
+    WANT(is_told("-:2: refused Unaligned EINVAL: START is no multiple of 0x1000; the page begins at 0x0\n",
+                 ""),
+         1);
+    WANT(told.faulty, 1);
+    forget();
+    WANT(np_check(TEXT(HOST), 0, room, sizeof room, &told), NP_OK);
+    WANT(is_told("", ""), 1);
+    WANT(told.faulty, 0);
+    forget();
+    WANT(np_predict(TEXT(HOST), TEXT(""), &asked, none, 0, room, sizeof room, &told), NP_OK);
+    WANT(is_told("00010000-00014000 interleave:0-1 pages=4 N0=2 N1=2\ntotal pages=4 N0=2 N1=2\n", ""), 1);
+    forget();
+    WANT(np_diff(TEXT(HOST), TEXT("mems 0\nmems 7"), &asked, room, sizeof room, &told), NP_OK);
+    WANT(told.faulty, 1);
+    WANT(memcmp(room + told.answer - 23, "total moved=2 N1->N0=2\n", 23), 0);
+    WANT(memcmp(room + told.answer, "--then:2: refused", 17), 0);
+    forget();
+    WANT(np_explain(TEXT(HOST), TEXT(""), &asked, 0x11, room, sizeof room, &told), NP_OK);
+    WANT(memcmp(room, "page ", 5), 0);
+    WANT(told.messages, 0);
+    forget();
+    WANT(np_replay(TEXT(HOST), TEXT(""), TEXT("1 0x10000 0\n1 0x10000 1 3\n"), &asked, room,
+                   sizeof room, &told),
+         NP_OK);
+    WANT(memcmp(room, "task 1 accesses=4 N0=4 D10=1 D20=3 placed=1", 43), 0);
+}
+
+/* With just enough room, with a byte less, with none; messages count too. */
+static void rooms(void) {
+    for (int size = 0; size <= 2; size++) {
+        forget();
+        np_report whole;
+        np_predict(TEXT(HOST "task 1 bend:0\n"), TEXT(""), &asked, none, 0, room, sizeof room, &whole);
+        size_t needed = whole.answer + whole.messages;
+        WANT(whole.messages > 10, 1);
+        forget();
+        size_t here = size == 0 ? needed : size == 1 ? needed - 1 : 0;
+        WANT(np_predict(TEXT(HOST "task 1 bend:0\n"), TEXT(""), &asked, none, 0, room, here, &told),
+             size == 0 ? NP_OK : NP_NO_ROOM);
+        WANT(told.answer, whole.answer);
+        WANT(told.messages, whole.messages);
+        WANT(told.faulty, 1);
+        WANT(size == 0 || is_untouched(), 1);
+    }
+}
+
+static void causes(void) {
+    np_question other = asked;
+    np_free lacking = {5, 2};
+    other.rules = 2;
+    other.format = 9;
+    forget();
+    WANT(np_check(TEXT(HOST), 2, room, sizeof room, &told), NP_BAD_RULES);
+    WANT(np_predict(TEXT(HOST), TEXT(""), &other, none, 0, room, sizeof room, &told), NP_BAD_RULES);
+    other.rules = 1;
+    WANT(np_predict(TEXT(HOST), TEXT(""), &other, none, 0, room, sizeof room, &told), NP_BAD_FORMAT);
+    WANT(np_replay(TEXT(HOST), TEXT(""), TEXT(""), &other, room, sizeof room, &told), NP_BAD_FORMAT);
+    WANT(np_diff(TEXT(HOST), TEXT(""), &other, room, sizeof room, &told), NP_BAD_FORMAT);
+    WANT(np_explain(TEXT(HOST), TEXT(""), &other, 0, room, sizeof room, &told), NP_BAD_FORMAT);
+    WANT(told.answer == 77 && told.faulty == 77 && is_untouched(), 1);
+    other = asked;
+    other.cpu = 2;
+    WANT(np_predict(TEXT("limits 1 1 1"), TEXT(""), &asked, none, 0, room, sizeof room, &told),
+         NP_NO_MACHINE);
+    WANT(told.answer + told.messages, 0);
+    WANT(np_predict(TEXT(HOST), TEXT("x"), &other, none, 0, room, sizeof room, &told), NP_BAD_CPU);
+    WANT(memcmp(room, "--then:1:1: bad words", 21), 0); /* messages, where there is no answer */
+    WANT(told.answer, 0);
+    WANT(np_diff(TEXT(HOST), TEXT(""), &other, room, sizeof room, &told), NP_BAD_CPU);
+    WANT(np_explain(TEXT(HOST), TEXT(""), &other, 0x10, room, sizeof room, &told), NP_BAD_CPU);
+    WANT(np_explain(TEXT(HOST), TEXT(""), &asked, 0xf, room, sizeof room, &told), NP_UNMAPPED);
+    WANT(np_predict(TEXT(HOST), TEXT(""), &asked, &lacking, 1, room, sizeof room, &told),
+         NP_NO_SUCH_NODE);
+    forget();
+    WANT(np_replay(TEXT(HOST), TEXT(""), TEXT("1 0x10000 0\n\n1 2 3 4 5"), &asked, room,
+                   sizeof room, &told),
+         NP_BAD_ACCESS);
+    WANT(is_told("", "trace:3: bad words: a line of a trace is TASK ADDRESS CPU [COUNT]\n"), 1);
+    /* bytes that are no UTF-8 are told as faulty, or are a comment's */
+    forget();
+    WANT(np_diff(TEXT(HOST), TEXT("# \xff\n\xff\nmems 0"), &asked, room, sizeof room, &told), NP_OK);
+    WANT(memcmp(room + told.answer, "--then:2:1: bad words", 21), 0);
+}
+
+static void cores(void) {
+    const uint8_t distances[] = {10, 20, 20, 10};
+    const uint32_t frames[] = {8, 8};
+    const np_limits limits = {64, 8, 1000};
+    np_core core = {0}, zero = {0};
+    np_counts counts = {{7}}, left;
+    np_explanation said = {0};
+    WANT(np_core_predict(&core, 1, 0, &counts), NP_CLOSED);
+    WANT(np_core_fill(&core, 1, 0, &counts), NP_CLOSED);
+    WANT(np_core_explain(&core, 1, 0x10, 0, &said), NP_CLOSED);
+    WANT(counts.pages[0], 7);
+    WANT(memcmp(&core, &zero, sizeof core) == 0, 1);
+    WANT(np_core_open(&core, TEXT("0-1"), frames, 2, distances, 4, &limits, 1), NP_OK);
+    WANT(np_core_map(&core, 0x10000, 0x5000, 0x10), NP_OK);
+    WANT(np_core_set_task(&core, 1, TEXT("interleave:0-1")), NP_OK);
+    WANT(np_core_mbind(&core, 0x14000, 0x1000, TEXT("bind=static:1")), NP_OK);
+    WANT(np_core_predict(&core, 1, 2, &counts), NP_BAD_CPU);
+    WANT(counts.pages[0], 7);
+    WANT(np_core_predict(&core, 1, 0, &counts), NP_OK);
+    WANT(counts.pages[0], 2);
+    WANT(counts.pages[1], 3);
+    WANT(counts.pages[2], 0);
+    /* of the pages 0x10, 0x12 to node 0, 0x11, 0x13, and 0x14 alone to node 1: where node 1 has one free
+     * page and node 0 three, 0x13 goes to node 0, and 0x14 nowhere */
+    left = (np_counts){{3, 1}};
+    WANT(np_core_fill(&core, 1, 2, &left), NP_BAD_CPU);
+    WANT(left.pages[0], 3);
+    WANT(np_core_fill(&core, 1, 0, &left), NP_OK);
+    WANT(left.pages[0], 0);
+    WANT(left.pages[1], 0);
+    WANT(np_core_explain(&core, 1, 0x10, 2, &said), NP_BAD_CPU);
+    WANT(np_core_explain(&core, 1, 0xf, 0, &said), NP_UNMAPPED);
+    WANT(said.places, 0);
+    WANT(np_core_explain(&core, 1, 0x13, 0, &said), NP_OK);
+    WANT(said.scope, NP_SCOPE_TASK);
+    WANT(said.rule, NP_RULE_INTERLEAVE);
+    WANT(said.index, 0x13);
+    WANT(said.place, 1);
+    WANT(said.places, 2);
+    WANT(said.node, 1);
+    WANT(said.policy.mode, 3); /* MPOL_INTERLEAVE */
+    WANT(np_core_explain(&core, 1, 0x14, 0, &said), NP_OK);
+    WANT(said.scope, NP_SCOPE_RANGE);
+    WANT(said.rule, NP_RULE_BIND);
+    WANT(said.policy.mode, 0x8002); /* MPOL_BIND, MPOL_F_STATIC_NODES */
+    WANT(said.policy.nodes.words[0], 2);
+    WANT(said.places, 0);
+    WANT(np_core_explain(&core, 2, 0x10, 1, &said), NP_OK);
+    WANT(said.scope, NP_SCOPE_SYSTEM);
+    WANT(said.rule, NP_RULE_LOCAL);
+    WANT(said.node, 1);
+    WANT(said.policy.mode, 0);
+    np_core_close(&core);
+}
+
+int main(void) {
+    words();
+    rooms();
+    causes();
+    cores();
+    return wrong;
+}
