@@ -5,9 +5,11 @@ use Rattle.clap.specs.declared.error.kind.ErrorKind.TheVariants as kind
 use Rattle.clap.proofs.OnLiterals.{clap_on_literals}
 use Rattle.numa_machine.specs.declared.rules.Rules.TheVariants.{Document, Linux}
 use Rattle.numa_command_line.specs.Asked.{doings_asked}
-use Rattle.numa_command_line.specs.Grammar.{AreChoices, Choices, format_names, program, rules_names}
-use Rattle.numa_command_line.specs.Grammar.{shape_names}
-use Rattle.numa_command_line.specs.Jobs.{Doings, check, run, scripts, storm}
+use Rattle.numa_reports.specs.declared.sheet.Format.TheVariants as format
+use Rattle.numa_command_line.specs.Grammar.{AreChoices, Choices, diff_formats, plain_formats}
+use Rattle.numa_command_line.specs.Grammar.{predict_formats, program, replay_formats, rules_names}
+use Rattle.numa_command_line.specs.Grammar.{test_formats}
+use Rattle.numa_command_line.specs.Jobs.{Doings, check, expect, run, scripts, storm}
 use Rattle.numa_command_line.specs.Usage.{Names}
 
 -- names that lie nowhere
@@ -17,19 +19,33 @@ names_of texts =
 
 abbrev pub some_choices : Choices
 some_choices = record {
-  formats = names_of format_names;
-  shapes = names_of shape_names;
+  run = names_of plain_formats;
+  check = names_of plain_formats;
+  expect = names_of test_formats;
+  predict = names_of predict_formats;
+  diff = names_of diff_formats;
+  explain = names_of plain_formats;
+  replay = names_of replay_formats;
   rules =
       names_of rules_names;
 }
 
 pub are_choices : AreChoices some_choices
-are_choices = record { formats = refl; shapes = refl; rules = refl }
+are_choices = record {
+  run = refl;
+  check = refl;
+  expect = refl;
+  predict = refl;
+  diff = refl;
+  explain = refl;
+  replay = refl;
+  rules = refl;
+}
 
 run_of_files : (c : Choices)
     → doings_asked (program c) (codes "numaplan" ∷ codes "run" ∷ codes "--echo" ∷ codes "a"
     ∷ codes "-" ∷ [])
-    ≡ Some (scripts (codes "a" ∷ codes "-" ∷ []) Document (run true))
+    ≡ Some (scripts (codes "a" ∷ codes "-" ∷ []) Document (run true format.Text))
 unfolding clap_on_literals
 run_of_files c = refl
 

@@ -12,8 +12,8 @@ use Rattle.numa_command_line.specs.Asked.{job_named, name_of, rows_behind, scrip
 use Rattle.numa_command_line.specs.Asked.{word_named, work_asked}
 use Rattle.numa_command_line.specs.Jobs.{Asking, Doing, Doings, Text, ask, diff, doings_of, explain}
 use Rattle.numa_command_line.specs.Jobs.{predict, scripts, storm}
-use Rattle.numa_command_line.specs.Values.{format_in, frees_in, is_on, page_in, rules_in, texts_at}
-use Rattle.numa_command_line.specs.Values.{touch_in, workers_in}
+use Rattle.numa_command_line.specs.Values.{format_in, frees_in, is_on, page_in, rules_in, small_at}
+use Rattle.numa_command_line.specs.Values.{texts_at, touch_in, workers_in}
 use Rattle.numa_command_line.specs.declared.command.Subcommand.{Subcommand}
 use Rattle.numa_command_line.specs.declared.command.Subcommand.TheVariants as word
 use Rattle.numa_command_line.specs.declared.jobs.Job.{Job}
@@ -30,6 +30,7 @@ label word.Predict = codes "predict"
 label word.Diff = codes "diff"
 label word.Explain = codes "explain"
 label word.Replay = codes "replay"
+label word.Shell = codes "shell"
 
 -- a test of a name against a word's, where the tests behind it name theirs
 one_of_words : (name : Text) (w found : Subcommand) (rest : Option Subcommand)
@@ -49,7 +50,8 @@ named_word name found =
     (one_of_words name word.Expect found _ (one_of_words name word.Predict found _
     (one_of_words name word.Diff found _
     (one_of_words name word.Explain found _
-    (one_of_words name word.Replay found None (λ none. cc)))))))
+    (one_of_words name word.Replay found _
+    (one_of_words name word.Shell found None (λ none. cc))))))))
 
 asked_name : (touch : Option Touch) (lenient : Bool) (question : Option Asking) (named : Text)
     (doing : Doing)
@@ -79,12 +81,14 @@ work_name word.Predict rows doing e =
     (mapped_name (predict (format_in rows)) (codes "predict") (λ free. refl) (frees_in rows)) e
 work_name word.Diff rows doing e =
     asked_name (touch_in rows) (is_on (codes "lenient") rows)
-    (Some (diff (texts_at (codes "then") rows))) (codes "diff") doing
+    (Some (diff (texts_at (codes "then") rows) (format_in rows))) (codes "diff") doing
     (λ what is. ap asking_name (sym (some_is _ what is))) e
 work_name word.Explain rows doing e =
     asked_name (touch_in rows) (is_on (codes "lenient") rows) _ (codes "explain") doing
-    (mapped_name explain (codes "explain") (λ page. refl) (page_in rows)) e
+    (mapped_name (λ page. explain page (small_at (codes "pages") rows) (format_in rows))
+    (codes "explain") (λ page. refl) (page_in rows)) e
 work_name word.Replay rows doing e = ap doing_name (sym (some_is _ doing e))
+work_name word.Shell rows doing e = ap doing_name (sym (some_is _ doing e))
 
 scripts_name : (files : List Text) (rows : List Row) (work : Option Doing) (d : Doings)
     (named : Text)

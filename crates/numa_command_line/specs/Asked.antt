@@ -9,8 +9,9 @@ use Rattle.clap.specs.declared.error.kind.ErrorKind.{ErrorKind}
 use Rattle.clap.specs.declared.error.kind.ErrorKind.TheVariants as kind
 use Rattle.numa_command_line.specs.Grammar.{IsProgram}
 use Rattle.numa_command_line.specs.Jobs.{Asking, Doing, Doings, Text, ask, check, diff, doings_of}
-use Rattle.numa_command_line.specs.Jobs.{expect, explain, predict, replay, run, scripts, storm}
-use Rattle.numa_command_line.specs.Values.{format_in, frees_in, is_on, page_in, rules_in, shape_in}
+use Rattle.numa_command_line.specs.Jobs.{expect, explain, predict, replay, run, scripts, shell}
+use Rattle.numa_command_line.specs.Jobs.{storm}
+use Rattle.numa_command_line.specs.Values.{format_in, frees_in, is_on, page_in, rules_in, small_at}
 use Rattle.numa_command_line.specs.Values.{texts_at, touch_in, workers_in}
 use Rattle.numa_command_line.specs.declared.command.Subcommand.{Subcommand}
 use Rattle.numa_command_line.specs.declared.command.Subcommand.TheVariants as word
@@ -28,6 +29,7 @@ word_named name =
     else if bytes_eq name (codes "diff") then Some word.Diff
     else if bytes_eq name (codes "explain") then Some word.Explain
     else if bytes_eq name (codes "replay") then Some word.Replay
+    else if bytes_eq name (codes "shell") then Some word.Shell
     else None
 
 -- a question of where a task touches pages
@@ -37,15 +39,19 @@ asked_in rows question = option_and_then (λ what. option_map (λ touch.
 
 -- what a word asks to be done with scripts, by what the parse found of its arguments
 abbrev pub work_asked : Subcommand → List Row → Option Doing
-work_asked word.Run rows = Some (run (is_on (codes "echo") rows))
-work_asked word.Check rows = Some check
-work_asked word.Expect rows = Some expect
+work_asked word.Run rows = Some (run (is_on (codes "echo") rows) (format_in rows))
+work_asked word.Check rows = Some (check (format_in rows))
+work_asked word.Expect rows = Some (expect (format_in rows) (is_on (codes "ignore-versions") rows)
+    (is_on (codes "update") rows))
 work_asked word.Predict rows =
     asked_in rows (option_map (predict (format_in rows)) (frees_in rows))
-work_asked word.Diff rows = asked_in rows (Some (diff (texts_at (codes "then") rows)))
-work_asked word.Explain rows = asked_in rows (option_map explain (page_in rows))
-work_asked word.Replay rows = Some (replay (texts_at (codes "trace") rows) (shape_in rows)
+work_asked word.Diff rows =
+    asked_in rows (Some (diff (texts_at (codes "then") rows) (format_in rows)))
+work_asked word.Explain rows = asked_in rows (option_map
+    (λ page. explain page (small_at (codes "pages") rows) (format_in rows)) (page_in rows))
+work_asked word.Replay rows = Some (replay (texts_at (codes "trace") rows) (format_in rows)
     (is_on (codes "lenient") rows))
+work_asked word.Shell rows = Some shell
 
 abbrev pub scripts_asked : List Row → Subcommand → Option Doings
 scripts_asked rows word =
@@ -75,15 +81,16 @@ doings_asked program words = doings_found words (subcommand_of program words)
 -- the name of the word that asks for this
 abbrev pub asking_name : Asking → Text
 asking_name (predict format free) = codes "predict"
-asking_name (diff lines) = codes "diff"
-asking_name (explain page) = codes "explain"
+asking_name (diff lines format) = codes "diff"
+asking_name (explain page pages format) = codes "explain"
 
 abbrev pub doing_name : Doing → Text
-doing_name (run echo) = codes "run"
-doing_name check = codes "check"
-doing_name expect = codes "expect"
+doing_name (run echo format) = codes "run"
+doing_name (check format) = codes "check"
+doing_name (expect format any_version update) = codes "expect"
 doing_name (ask touch what lenient) = asking_name what
 doing_name (replay trace format lenient) = codes "replay"
+doing_name shell = codes "shell"
 
 abbrev pub name_of : Doings → Text
 name_of (scripts files rules what) = doing_name what

@@ -23,11 +23,21 @@ node = needed true (number_or (codes "node") (codes "cpu"))
 abbrev pub format : Names → Rule
 format = choice (codes "format") (codes "text")
 
-abbrev pub format_names : List Text
-format_names = codes "text" ∷ codes "json" ∷ codes "csv" ∷ codes "svg" ∷ []
+-- in which a word answers
+abbrev pub plain_formats : List Text
+plain_formats = codes "text" ∷ codes "json" ∷ []
 
-abbrev pub shape_names : List Text
-shape_names = codes "text" ∷ codes "json" ∷ []
+abbrev pub test_formats : List Text
+test_formats = codes "text" ∷ codes "json" ∷ codes "tap" ∷ []
+
+abbrev pub predict_formats : List Text
+predict_formats = codes "text" ∷ codes "json" ∷ codes "csv" ∷ codes "svg" ∷ codes "html" ∷ []
+
+abbrev pub diff_formats : List Text
+diff_formats = codes "text" ∷ codes "json" ∷ codes "svg" ∷ codes "html" ∷ []
+
+abbrev pub replay_formats : List Text
+replay_formats = codes "text" ∷ codes "json" ∷ codes "html" ∷ []
 
 abbrev pub rules : Names → Rule
 rules = choice (codes "rules") (codes "document")
@@ -42,28 +52,35 @@ IsWord name arguments reads_lines word =
     (word.name.now ≡ name) × (map rule_said word.arguments.now ≡ arguments)
     × (word.reads_lines ≡ reads_lines)
 
-abbrev pub run_arguments : List Rule
-run_arguments = flag (codes "echo") ∷ files ∷ []
+abbrev pub run_arguments : Names → List Rule
+run_arguments formats = flag (codes "echo") ∷ format formats ∷ files ∷ []
 
-abbrev pub check_arguments : List Rule
-check_arguments = files ∷ []
+abbrev pub check_arguments : Names → List Rule
+check_arguments formats = format formats ∷ files ∷ []
 
-abbrev pub expect_arguments : List Rule
-expect_arguments = needed true files ∷ []
+abbrev pub expect_arguments : Names → List Rule
+expect_arguments formats =
+    format formats ∷ flag (codes "ignore-versions") ∷ flag (codes "update") ∷ needed true files ∷ []
 
 abbrev pub predict_arguments : Names → List Rule
 predict_arguments formats =
     task ∷ node ∷ format formats ∷ option (codes "free") ∷ lenient ∷ files ∷ []
 
-abbrev pub diff_arguments : List Rule
-diff_arguments = task ∷ node ∷ needed true (options (codes "then")) ∷ lenient ∷ files ∷ []
+abbrev pub diff_arguments : Names → List Rule
+diff_arguments formats =
+    task ∷ node ∷ needed true (options (codes "then")) ∷ format formats ∷ lenient ∷ files ∷ []
 
-abbrev pub explain_arguments : List Rule
-explain_arguments = task ∷ node ∷ lenient ∷ needed true (bare (codes "ADDRESS")) ∷ files ∷ []
+abbrev pub explain_arguments : Names → List Rule
+explain_arguments formats =
+    task ∷ node ∷ number (codes "pages") ∷ format formats ∷ lenient
+    ∷ needed true (bare (codes "ADDRESS")) ∷ files ∷ []
 
 abbrev pub replay_arguments : Names → List Rule
-replay_arguments shapes =
-    needed true (option (codes "trace")) ∷ format shapes ∷ lenient ∷ files ∷ []
+replay_arguments formats =
+    needed true (option (codes "trace")) ∷ format formats ∷ lenient ∷ files ∷ []
+
+abbrev pub shell_arguments : List Rule
+shell_arguments = files ∷ []
 
 abbrev pub storm_arguments : List Rule
 storm_arguments = needed true (option (codes "workers")) ∷ []
@@ -72,16 +89,26 @@ storm_arguments = needed true (option (codes "workers")) ∷ []
 
 -- the names that an argument may have as its value, which lie somewhere
 pub record Choices : Type 0 where
-  pub formats : Names
-  pub shapes : Names
+  pub run : Names
+  pub check : Names
+  pub expect : Names
+  pub predict : Names
+  pub diff : Names
+  pub explain : Names
+  pub replay : Names
   pub rules : Names
 
 abbrev pub AreNames : List Text → Names → Type 0
 AreNames texts names = map (λ name. name.now) names.now ≡ texts
 
 pub record AreChoices (c : Choices) : Type 0 where
-  pub formats : AreNames format_names c.formats
-  pub shapes : AreNames shape_names c.shapes
+  pub run : AreNames plain_formats c.run
+  pub check : AreNames plain_formats c.check
+  pub expect : AreNames test_formats c.expect
+  pub predict : AreNames predict_formats c.predict
+  pub diff : AreNames diff_formats c.diff
+  pub explain : AreNames plain_formats c.explain
+  pub replay : AreNames replay_formats c.replay
   pub rules : AreNames rules_names c.rules
 
 abbrev pub word : Text → List Rule → Shape
@@ -105,15 +132,16 @@ reader names name arguments =
 
 abbrev pub program : Choices → App
 program c =
-    with_subcommand (with_subcommand (with_subcommand (with_subcommand
+    with_subcommand (with_subcommand (with_subcommand (with_subcommand (with_subcommand
     (with_subcommand (with_subcommand (with_subcommand (with_subcommand bare_program
-    (reader c.rules (codes "run") run_arguments))
-    (reader c.rules (codes "check") check_arguments))
-    (reader c.rules (codes "expect") expect_arguments))
-    (reader c.rules (codes "predict") (predict_arguments c.formats)))
-    (reader c.rules (codes "diff") diff_arguments))
-    (reader c.rules (codes "explain") explain_arguments))
-    (reader c.rules (codes "replay") (replay_arguments c.shapes)))
+    (reader c.rules (codes "run") (run_arguments c.run)))
+    (reader c.rules (codes "check") (check_arguments c.check)))
+    (reader c.rules (codes "expect") (expect_arguments c.expect)))
+    (reader c.rules (codes "predict") (predict_arguments c.predict)))
+    (reader c.rules (codes "diff") (diff_arguments c.diff)))
+    (reader c.rules (codes "explain") (explain_arguments c.explain)))
+    (reader c.rules (codes "replay") (replay_arguments c.replay)))
+    (reader c.rules (codes "shell") shell_arguments))
     (word (codes "storm") storm_arguments)
 
 -- the command is the program's, wherever the names lie

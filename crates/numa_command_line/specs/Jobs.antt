@@ -6,7 +6,6 @@ use Rattle.numa_machine.specs.declared.rules.Rules.{Rules}
 use Rattle.numa_reports.specs.declared.filling.FreePages.{FreePages}
 use Rattle.numa_reports.specs.declared.sheet.Format.{Format}
 use Rattle.numa_reports.specs.declared.touch.Touch.{Touch}
-use Rattle.numa_traces.specs.declared.report.Shape.{Shape}
 use Rattle.numa_command_line.specs.declared.jobs.Job.{Job}
 use Rattle.numa_command_line.specs.declared.jobs.Job.TheVariants.{Scripts, Storm}
 use Rattle.numa_command_line.specs.declared.jobs.JobFault.{JobFault}
@@ -15,7 +14,7 @@ use Rattle.numa_command_line.specs.declared.jobs.PageQuestion.{PageQuestion}
 use Rattle.numa_command_line.specs.declared.jobs.PageQuestion.TheVariants.{Predict, Diff, Explain}
 use Rattle.numa_command_line.specs.declared.jobs.ScriptJob.{ScriptJob}
 use Rattle.numa_command_line.specs.declared.jobs.ScriptJob.TheVariants.{Run, Check, Expect, Ask}
-use Rattle.numa_command_line.specs.declared.jobs.ScriptJob.TheVariants.{Replay}
+use Rattle.numa_command_line.specs.declared.jobs.ScriptJob.TheVariants.{Replay, Shell}
 
 -- a storm is of as many workers as a crew may have
 abbrev pub CanBeDone : Job → Type 0
@@ -29,16 +28,17 @@ Text = List ℕ
 
 pub data Asking : Type 0 where
   predict : Format → List FreePages → Asking
-  diff : List Text → Asking
-  explain : ℕ → Asking
+  diff : List Text → Format → Asking
+  explain : ℕ → Option ℕ → Format → Asking
 
 -- with the rules that count where the scripts say nothing of them
 pub data Doing : Type 0 where
-  run : Bool → Doing
-  check : Doing
-  expect : Doing
+  run : Bool → Format → Doing
+  check : Format → Doing
+  expect : Format → Bool → Bool → Doing
   ask : Touch → Asking → Bool → Doing
-  replay : List Text → Shape → Bool → Doing
+  replay : List Text → Format → Bool → Doing
+  shell : Doing
 
 pub data Doings : Type 0 where
   scripts : List Text → Rules → Doing → Doings
@@ -46,15 +46,16 @@ pub data Doings : Type 0 where
 
 abbrev pub question_of : PageQuestion → Asking
 question_of (Predict format free) = predict format free.items
-question_of (Diff lines) = diff (map string_bytes lines.items)
-question_of (Explain page) = explain page
+question_of (Diff lines format) = diff (map string_bytes lines.items) format
+question_of (Explain page pages format) = explain page pages format
 
 abbrev pub work_of : ScriptJob → Doing
-work_of (Run echo) = run echo
-work_of Check = check
-work_of Expect = expect
+work_of (Run echo format) = run echo format
+work_of (Check format) = check format
+work_of (Expect format any_version update) = expect format any_version update
 work_of (Ask asked question lenient) = ask asked (question_of question) lenient
 work_of (Replay trace format lenient) = replay (map string_bytes trace.items) format lenient
+work_of Shell = shell
 
 abbrev pub doings_of : Job → Doings
 doings_of (Scripts files rules work) = scripts (map string_bytes files.items) rules (work_of work)

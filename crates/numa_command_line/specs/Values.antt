@@ -18,8 +18,6 @@ use Rattle.numa_reports.specs.declared.sheet.Format.{Format}
 use Rattle.numa_reports.specs.declared.sheet.Format.TheVariants as format
 use Rattle.numa_reports.specs.declared.touch.Touch.{Touch}
 use Rattle.numa_script.specs.Numbers.{node_of, number_of}
-use Rattle.numa_traces.specs.declared.report.Shape.{Shape}
-use Rattle.numa_traces.specs.declared.report.Shape.TheVariants as shape
 use Rattle.numa_command_line.specs.Jobs.{Text}
 
 -- ---- flags, texts and numbers
@@ -57,16 +55,12 @@ format_named name =
     if bytes_eq name (codes "json") then format.Json
     else if bytes_eq name (codes "csv") then format.Csv
     else if bytes_eq name (codes "svg") then format.Svg
+    else if bytes_eq name (codes "html") then format.Html
+    else if bytes_eq name (codes "tap") then format.Tap
     else format.Text
 
 abbrev pub format_in : List Row → Format
 format_in rows = option_map_or format_named (first_of (codes "format") rows) format.Text
-
-abbrev pub shape_named : Text → Shape
-shape_named name = if bytes_eq name (codes "json") then shape.Json else shape.Text
-
-abbrev pub shape_in : List Row → Shape
-shape_in rows = option_map_or shape_named (first_of (codes "format") rows) shape.Text
 
 -- as many workers as a crew may have
 abbrev pub crew_of : ℕ → Option ℕ

@@ -10,6 +10,7 @@ ghost use Rattle.numa_command_line.specs.Jobs.{CanBeDone, IsMade, doings_of, wor
 use crate::found::{is_on, texts_at};
 use crate::jobs::{Job, JobFault, ScriptJob};
 use crate::program::program;
+use crate::words::format::format_in;
 use crate::words::{diff, explain, predict, replay, rules, storm};
 use clap::error::ErrorKind;
 use clap::{ArgMatches, Command, Error};
@@ -28,6 +29,7 @@ pub(crate) enum Subcommand {
     Diff,
     Explain,
     Replay,
+    Shell,
 }
 
 /// The subcommand with this name.
@@ -42,6 +44,7 @@ fn word_of(name: &str) -> Option<Subcommand>
         "diff" => Some(Subcommand::Diff),
         "explain" => Some(Subcommand::Explain),
         "replay" => Some(Subcommand::Replay),
+        "shell" => Some(Subcommand::Shell),
         _ => None,
     }
 }
@@ -68,13 +71,21 @@ fn work_of(alloc: Global, word: Subcommand, matches: &ArgMatches<'_>) -> Result<
     match word {
         Subcommand::Run => Ok(ScriptJob::Run {
             echo: is_on(matches, "echo"),
+            format: format_in(matches),
         }),
-        Subcommand::Check => Ok(ScriptJob::Check),
-        Subcommand::Expect => Ok(ScriptJob::Expect),
+        Subcommand::Check => Ok(ScriptJob::Check {
+            format: format_in(matches),
+        }),
+        Subcommand::Expect => Ok(ScriptJob::Expect {
+            format: format_in(matches),
+            any_version: is_on(matches, "ignore-versions"),
+            update: is_on(matches, "update"),
+        }),
         Subcommand::Predict => predict::work(alloc, matches),
         Subcommand::Diff => diff::work(alloc, matches),
         Subcommand::Explain => explain::work(alloc, matches),
         Subcommand::Replay => replay::work(alloc, matches),
+        Subcommand::Shell => Ok(ScriptJob::Shell),
     }
 }
 

@@ -132,6 +132,28 @@ where
     }
 }
 
+/// Opens files, each with its name, and then standard input, of the name `-`, unless a file is that.
+///
+/// # Errors
+/// `Usage`: a file can't be opened, with its name and the cause.
+pub fn open_with_typed<R>(rt: &R, names: &[String]) -> Result<Texts<R>, JobFault>
+where
+    R: Files + Input + Eprint + AllocGlobal,
+    R::Reader: IsTerminal,
+{
+    let mut texts = open_all(rt, names)?;
+    if names.is_empty() || names.iter().any(|name| name.as_str() == "-") {
+        return Ok(texts);
+    }
+    match add_file(rt, "-", &mut texts) {
+        Ok(()) => Ok(texts),
+        Err(fault) => {
+            drop(texts);
+            Err(fault)
+        }
+    }
+}
+
 /// The open files without their names.
 ///
 /// # Errors

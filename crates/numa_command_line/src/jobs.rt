@@ -3,7 +3,6 @@ ghost use Rattle.numa_command_line.specs.Jobs.{IsRefusal};
 
 use numa_machine::Rules;
 use numa_reports::{Format, FreePages, Touch};
-use numa_traces::Shape;
 use std::alloc::{AllocError, Global};
 
 /// A question about pages that a task would touch.
@@ -15,9 +14,17 @@ pub enum PageQuestion {
         free: Vec<FreePages>,
     },
     /// Which pages would go elsewhere after these further lines.
-    Diff(Vec<String>),
-    /// Why this page goes where it goes.
-    Explain(u64),
+    Diff {
+        lines: Vec<String>,
+        format: Format,
+    },
+    /// Why this page goes where it goes; with `pages`, by which rules the pages go from it on, as
+    /// many as that.
+    Explain {
+        page: u64,
+        pages: Option<u32>,
+        format: Format,
+    },
 }
 
 /// What to do with scripts, which are read in order.
@@ -26,11 +33,19 @@ pub enum ScriptJob {
     /// Answer them; with `echo`, write each line beside its answer.
     Run {
         echo: bool,
+        format: Format,
     },
-    /// Compare worked scripts with the answers to their lines.
-    Expect,
     /// Report what is wrong with them.
-    Check,
+    Check {
+        format: Format,
+    },
+    /// Compare worked scripts with the answers to their lines, with `any_version` whatever their
+    /// versions; with `update`, write the answers that they get into their files.
+    Expect {
+        format: Format,
+        any_version: bool,
+        update: bool,
+    },
     /// Answer a question about the state that they lead to. With `lenient`, malformed and refused
     /// lines are no error.
     Ask {
@@ -41,9 +56,11 @@ pub enum ScriptJob {
     /// Replay the trace of the file `trace` after them, leniently.
     Replay {
         trace: Vec<String>,
-        format: Shape,
+        format: Format,
         lenient: bool,
     },
+    /// Play them, and answer the lines that are typed then.
+    Shell,
 }
 
 /// The jobs of the program.

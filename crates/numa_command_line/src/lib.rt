@@ -17,7 +17,7 @@ mod usage;
 mod words;
 
 pub use command::job;
-pub use files::{Source, Texts, open_all, without_names};
+pub use files::{Source, Texts, open_all, open_with_typed, without_names};
 pub use folders::open_worked;
 pub use jobs::{Job, JobFault, PageQuestion, ScriptJob};
 pub use output::{Outlet, Output};

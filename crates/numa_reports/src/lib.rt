@@ -21,5 +21,7 @@ pub use filling::{FreePages, fill_all};
 pub use moves::span_moves;
 pub use outlook::{Outlook, PageSpan, common_spans, outlook_of};
 pub use prediction::{RangePrediction, TakeRange, predict_all, predict_range};
-pub use sheet::{Format, Object, Written, difference_text, filling_text, prediction_text};
+pub use sheet::{
+    Format, Items, Object, Written, cycles_text, difference_text, filling_text, prediction_text,
+};
 pub use touch::Touch;

@@ -69,6 +69,26 @@ fn otherwise_words(otherwise: &Otherwise) -> &'static str {
     }
 }
 
+/// Appends what a running kernel would do differently with a line.
+fn put_otherwise(text: &mut Text, otherwise: &Otherwise) {
+    text.put("a kernel ");
+    match otherwise {
+        Otherwise::LeavesNodes(parted) => put_parted(text, parted),
+        _ => text.put(otherwise_words(otherwise)),
+    }
+    text.put(SEE);
+}
+
+/// Appends what a running kernel would do differently with a line, without a position.
+///
+/// # Errors
+/// `AllocError`: out of memory. A part may have been appended.
+pub fn say_otherwise(text: &mut Vec<u8>, otherwise: &Otherwise) -> Result<(), AllocError> {
+    let mut written = Text::of(text);
+    put_otherwise(&mut written, otherwise);
+    written.end(text)
+}
+
 /// Appends a message about a line: its position, by the name of its text and its number there from
 /// 1, and what a running kernel would do differently with it.
 ///
@@ -83,12 +103,8 @@ pub fn say_hint(
     let mut written = Text::of(text);
     written.put(name);
     written.put_number(":", place);
-    written.put(": a kernel ");
-    match otherwise {
-        Otherwise::LeavesNodes(parted) => put_parted(&mut written, parted),
-        _ => written.put(otherwise_words(otherwise)),
-    }
-    written.put(SEE);
+    written.put(": ");
+    put_otherwise(&mut written, otherwise);
     written.put("\n");
     written.end(text)
 }

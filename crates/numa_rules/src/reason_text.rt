@@ -69,7 +69,7 @@ fn put_others_passed(text: &mut Text, said: &Explanation) {
 }
 
 /// Writes the line of the policy: which one applies, and why the others don't.
-fn put_policy(text: &mut Text, said: &Explanation) {
+pub(crate) fn put_policy(text: &mut Text, said: &Explanation) {
     let owner = match said.scope {
         Scope::Range => "\npolicy: the range",
         Scope::Task => "\npolicy: the task",
@@ -92,7 +92,7 @@ fn put_set(text: &mut Text, words: &str, set: &NodeMask) {
 }
 
 /// The line of the sets.
-fn put_sets(text: &mut Text, said: &Explanation) {
+pub(crate) fn put_sets(text: &mut Text, said: &Explanation) {
     let effective = match &said.policy {
         Some(policy) => policy.effective(),
         None => NodeMask::empty(),
@@ -112,7 +112,7 @@ fn put_node(text: &mut Text, machine: &Machine, words: &str, node: u8, from: u32
 }
 
 /// Whether nodes are in a kernel's order, not the nearest first.
-fn is_kernel_order(machine: &Machine) -> bool {
+pub(crate) fn is_kernel_order(machine: &Machine) -> bool {
     match machine.fallback() {
         Fallback::Nearest => false,
         Fallback::Kernel(_) => true,

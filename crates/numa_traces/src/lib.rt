@@ -21,5 +21,5 @@ pub use fault::{AccessError, ReplayError};
 pub use memory::Memory;
 pub use reading::{Replaying, replay_lines};
 pub use replay::Replay;
-pub use report::{Shape, report_text};
+pub use report::report_text;
 pub use tallies::{Tallies, Tally, Way};

@@ -3,18 +3,9 @@ use crate::replay::Replay;
 use crate::summary::Summary;
 use crate::tallies::{Tally, Way};
 use numa_machine::Machine;
-use numa_reports::{Object, Written};
+use numa_reports::{Format, Object, Written};
 use serde_json::Value;
 use std::alloc::{AllocError, Global};
-
-/// The format of a report.
-#[derive(Clone, Copy)]
-pub enum Shape {
-    /// A line for each task, and one for the total.
-    Text,
-    /// One JSON object (RFC 8259).
-    Json,
-}
 
 /// Writes the parts of a summary. After it ran out of memory nothing more is written.
 trait Tell {
@@ -114,7 +105,7 @@ fn summary_text(alloc: Global, task: Option<u32>, said: &Summary) -> Result<Vec<
 /// A report being written.
 #[derive(Drop)]
 struct Sheet {
-    format: Shape,
+    format: Format,
     written: Written,
     // The task whose accesses are being added up, if there is one, and the text before its object.
     task: Option<u32>,
@@ -139,7 +130,7 @@ fn say_line(written: &mut Written, said: &Summary) {
 
 impl Sheet {
     /// The state before the first task.
-    fn new(alloc: Global, format: Shape) -> Sheet {
+    fn new(alloc: Global, format: Format) -> Sheet {
         Sheet {
             format,
             written: Written::new(alloc),
@@ -157,14 +148,14 @@ impl Sheet {
         };
         let written = &mut self.written;
         match self.format {
-            Shape::Text => {
-                written.put_form(b"task $", &[task as u64]);
-                say_line(written, &self.of_task);
-            }
-            Shape::Json => {
+            Format::Json | Format::Html => {
                 written.put(self.before.as_bytes());
                 self.before = ",\n";
                 say_object(written, Some(task), &self.of_task);
+            }
+            _ => {
+                written.put_form(b"task $", &[task as u64]);
+                say_line(written, &self.of_task);
             }
         }
     }
@@ -187,21 +178,21 @@ impl Sheet {
         self.end_task();
         let written = &mut self.written;
         match self.format {
-            Shape::Text => {
-                written.put(b"total");
-                say_line(written, &self.of_all);
-            }
-            Shape::Json => {
+            Format::Json | Format::Html => {
                 written.put(b"\n],\"total\":");
                 say_object(written, None, &self.of_all);
                 written.put(b"}\n");
+            }
+            _ => {
+                written.put(b"total");
+                say_line(written, &self.of_all);
             }
         }
     }
 
     /// Writes the report of a replay.
     fn say(&mut self, machine: &Machine, replay: &Replay) {
-        if let Shape::Json = self.format {
+        if let Format::Json | Format::Html = self.format {
             self.written.put(b"{\"tasks\":[");
         }
         for (way, tally) in replay.tallies().iter() {
@@ -233,7 +224,7 @@ pub fn report_text(
     alloc: Global,
     machine: &Machine,
     replay: &Replay,
-    format: Shape,
+    format: Format,
 ) -> Result<Vec<u8>, AllocError> {
     let mut sheet = Sheet::new(alloc, format);
     sheet.say(machine, replay);

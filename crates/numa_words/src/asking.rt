@@ -1,12 +1,15 @@
 //! Predictions and differences after scripts.
 use crate::findings::{Ended, Findings};
 use crate::halt::{Halt, halt_of};
+use crate::page::{Page, page_of, view_text};
 use crate::playing::{Scripts, play};
 use crate::question::{space_after, space_of, write};
 use numa_compile::compile;
 use numa_lines::{RunFault, TakeLine};
+use numa_plan::Plan;
 use numa_reports::{Format, FreePages, Outlook, Touch, difference_text, filling_text, outlook_of};
 use numa_run::Script;
+use numa_space::Space;
 use std::alloc::Global;
 use std::io::{Read, Write};
 
@@ -33,6 +36,52 @@ fn lacking_node(free: &[FreePages], nodes: u32) -> Option<u8> {
     }
 }
 
+/// Where all mapped pages of a space would go by its plan, as a text.
+fn prediction_by(
+    alloc: Global,
+    space: &Space,
+    plan: &Plan,
+    asked: Touch,
+    format: Format,
+    free: &[FreePages],
+) -> Result<Vec<u8>, Halt> {
+    if let Format::Html = format {
+        let view = view_text(alloc, space, plan, asked, free)?;
+        return page_of(alloc, "prediction", "before", view.as_slice());
+    }
+    match filling_text(alloc, space, plan, asked, format, free) {
+        Ok(text) => Ok(text),
+        Err(fault) => Err(halt_of(fault, space.machine().nodes())),
+    }
+}
+
+/// Where all mapped pages of a space would go, if they were touched now, as a text.
+fn prediction_in(
+    alloc: Global,
+    space: &Space,
+    asked: Touch,
+    format: Format,
+    free: &[FreePages],
+) -> Result<Vec<u8>, Halt> {
+    let Ok(plan) = compile(alloc, space) else {
+        return Err(Halt::Stopped(RunFault::Memory));
+    };
+    let text = prediction_by(alloc, space, &plan, asked, format, free);
+    drop(plan);
+    text
+}
+
+/// Where all mapped pages would go now, if they were touched, as lines.
+///
+/// # Errors
+/// `NoMachine`, `NoNode`, or `Stopped`: out of memory.
+pub fn predicted(alloc: Global, script: &Script, asked: Touch) -> Result<Vec<u8>, Halt> {
+    match space_of(script) {
+        Ok(space) => prediction_in(alloc, space, asked, Format::Text, &[]),
+        Err(halt) => Err(halt),
+    }
+}
+
 /// Finishes the messages, and returns where all mapped pages would go, if they were touched now, as
 /// a text.
 fn prediction<T: Write>(
@@ -50,15 +99,7 @@ fn prediction<T: Write>(
     if let Some(node) = lacking_node(free, nodes) {
         return Err(Halt::NoFreeNode(node, nodes));
     }
-    let Ok(plan) = compile(alloc, space) else {
-        return Err(Halt::Stopped(RunFault::Memory));
-    };
-    let text = filling_text(alloc, space, &plan, asked, format, free);
-    drop(plan);
-    match text {
-        Ok(text) => Ok(text),
-        Err(fault) => Err(halt_of(fault, nodes)),
-    }
+    prediction_in(alloc, space, asked, format, free)
 }
 
 /// Plays the scripts, and writes where all mapped pages would go, if they were touched now. Nodes
@@ -97,34 +138,100 @@ fn play_lines<T: Write>(findings: &mut Findings<T>, lines: &[String]) -> Result<
     findings.end()
 }
 
-/// The difference of two outlooks as a text.
-fn difference_of(
+/// What a difference is asked of: the state before, and in a page its object too.
+#[derive(Drop)]
+struct Before {
+    outlook: Outlook,
+    view: Vec<u8>,
+}
+
+/// The object of a state, if a page is asked for.
+fn view_in(
+    alloc: Global,
+    script: &Script,
+    outlook: &Outlook,
+    asked: Touch,
+    format: Format,
+) -> Result<Vec<u8>, Halt> {
+    let Format::Html = format else {
+        return Ok(Vec::new(alloc));
+    };
+    view_text(alloc, space_of(script)?, &outlook.plan, asked, &[])
+}
+
+/// The difference of two outlooks, as a text or, in a page, its object.
+fn difference_between(
     alloc: Global,
     before: &Outlook,
-    script: &Script,
+    after: &Outlook,
+    nodes: u32,
     asked: Touch,
+    format: Format,
 ) -> Result<Vec<u8>, Halt> {
-    let nodes = match space_of(script) {
-        Ok(space) => space.machine().nodes(),
-        Err(halt) => return Err(halt),
+    let shown = match format {
+        Format::Html => Format::Json,
+        format => format,
     };
-    let after = match outlook_in(alloc, script) {
-        Ok(after) => after,
-        Err(halt) => return Err(halt),
-    };
-    let text = difference_text(alloc, before, &after, nodes, asked.task, asked.cpu);
-    drop(after);
-    match text {
+    match difference_text(alloc, before, after, nodes, asked.task, asked.cpu, shown) {
         Ok(text) => Ok(text),
         Err(fault) => Err(halt_of(fault, nodes)),
     }
 }
 
+/// The difference to an outlook as a text, or as a page.
+fn difference_to(
+    alloc: Global,
+    before: &Before,
+    script: &Script,
+    after: &Outlook,
+    asked: Touch,
+    format: Format,
+) -> Result<Vec<u8>, Halt> {
+    let nodes = space_of(script)?.machine().nodes();
+    let text = difference_between(alloc, &before.outlook, after, nodes, asked, format)?;
+    let Format::Html = format else {
+        return Ok(text);
+    };
+    let view = view_in(alloc, script, after, asked, format)?;
+    let mut page = Page::new(alloc, "difference");
+    page.put("difference", text.as_slice());
+    page.put("before", before.view.as_slice());
+    page.put("after", view.as_slice());
+    page.end()
+}
+
+/// The difference to the state of a script.
+fn difference_of(
+    alloc: Global,
+    before: &Before,
+    script: &Script,
+    asked: Touch,
+    format: Format,
+) -> Result<Vec<u8>, Halt> {
+    let after = outlook_in(alloc, script)?;
+    let text = difference_to(alloc, before, script, &after, asked, format);
+    drop(after);
+    text
+}
+
 /// The state of the space to which the script led. Without a machine, what is wrong with the script
 /// is written first.
-fn outlook_before<T: Write>(alloc: Global, findings: &mut Findings<T>) -> Result<Outlook, Halt> {
+fn state_before<T: Write>(
+    alloc: Global,
+    findings: &mut Findings<T>,
+    asked: Touch,
+    format: Format,
+) -> Result<Before, Halt> {
     match outlook_in(alloc, findings.script()) {
-        Ok(outlook) => Ok(outlook),
+        Ok(outlook) => {
+            match view_in(alloc, findings.script(), &outlook, asked, format) {
+                Ok(view) => Ok(Before { outlook, view }),
+                Err(halt) => {
+                    drop(outlook);
+                    Err(halt)
+                }
+            }
+        }
         Err(halt) => match findings.end() {
             Ok(()) => Err(halt),
             Err(why) => Err(Halt::Stopped(why)),
@@ -135,13 +242,14 @@ fn outlook_before<T: Write>(alloc: Global, findings: &mut Findings<T>) -> Result
 /// Plays the lines, and returns which pages go elsewhere after them, as a text.
 fn difference_from<T: Write>(
     alloc: Global,
-    before: &Outlook,
+    before: &Before,
     findings: &mut Findings<T>,
     lines: &[String],
     asked: Touch,
+    format: Format,
 ) -> Result<Vec<u8>, Halt> {
     match play_lines(findings, lines) {
-        Ok(()) => difference_of(alloc, before, findings.script(), asked),
+        Ok(()) => difference_of(alloc, before, findings.script(), asked, format),
         Err(why) => Err(Halt::Stopped(why)),
     }
 }
@@ -152,12 +260,13 @@ fn difference<T: Write>(
     findings: &mut Findings<T>,
     lines: &[String],
     asked: Touch,
+    format: Format,
 ) -> Result<Vec<u8>, Halt> {
-    let before = match outlook_before(alloc, findings) {
+    let before = match state_before(alloc, findings, asked, format) {
         Ok(before) => before,
         Err(halt) => return Err(halt),
     };
-    let text = difference_from(alloc, &before, findings, lines, asked);
+    let text = difference_from(alloc, &before, findings, lines, asked, format);
     drop(before);
     text
 }
@@ -174,12 +283,13 @@ pub fn diff<R: Read + Drop, W: Write, T: Write + Drop>(
     scripts: Scripts<R>,
     lines: &[String],
     asked: Touch,
+    format: Format,
     output: &mut W,
     told: T,
 ) -> Result<Ended, Halt> {
     let Scripts { texts, rules } = scripts;
     let mut findings = play(alloc, texts, Findings::new(alloc, rules, told))?;
-    let text = difference(alloc, &mut findings, lines, asked);
+    let text = difference(alloc, &mut findings, lines, asked, format);
     let ended = findings.ended();
     drop(findings);
     write(text, ended, output)

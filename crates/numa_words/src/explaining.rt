@@ -1,42 +1,23 @@
-//! Why a page goes where it goes, after scripts.
+//! Why pages go where they go, after scripts.
 use crate::findings::{Ended, Findings};
 use crate::halt::Halt;
 use crate::playing::{Scripts, play};
 use crate::question::{space_of, write};
+use crate::reasons::{explanation_of, shown, text_of};
+use crate::stretches::{PageInterval, stretches_of};
 use numa_lines::RunFault;
-use numa_machine::Machine;
-use numa_reports::Touch;
-use numa_rules::{Explanation, ReasonError, by_other_rules, say_by_other, say_explanation};
-use numa_space::{PlaceRefusal, Space};
+use numa_reports::{Format, Touch};
+use numa_rules::{Explanation, by_other_rules, say_by_other};
+use numa_run::Script;
+use numa_space::Space;
 use std::alloc::Global;
 use std::io::{Read, Write};
 
-/// Reasons as a text.
-fn text_of(alloc: Global, machine: &Machine, said: &Explanation) -> Result<Vec<u8>, Halt> {
-    let mut text = Vec::new(alloc);
-    match say_explanation(&mut text, machine, said) {
-        Ok(()) => Ok(text),
-        Err(_) => {
-            drop(text);
-            Err(Halt::Stopped(RunFault::Memory))
-        }
-    }
-}
-
-/// Why a page of a space would go where it goes, as a text.
-fn reasons_in(alloc: Global, space: &Space, asked: Touch, page: u64) -> Result<Vec<u8>, Halt> {
-    match numa_rules::explain(alloc, space, asked.task, page, asked.cpu) {
-        Ok(said) => {
-            let text = text_of(alloc, space.machine(), &said);
-            drop(said);
-            text
-        }
-        Err(ReasonError::NoMemory) => Err(Halt::Stopped(RunFault::Memory)),
-        Err(ReasonError::Refused(PlaceRefusal::Unmapped)) => Err(Halt::Unmapped),
-        Err(ReasonError::Refused(PlaceRefusal::BadCpu)) => {
-            Err(Halt::NoNode(space.machine().nodes()))
-        }
-    }
+/// The pages to be explained: one, or from it on as many as `pages`.
+#[derive(Clone, Copy)]
+pub struct AskedPages {
+    pub page: u64,
+    pub pages: Option<u32>,
 }
 
 /// Appends a line to an explanation if the page goes elsewhere by the other rules.
@@ -62,25 +43,54 @@ fn with_other(
     }
 }
 
-/// Why a page would go where it goes after played lines, and by which rules, if that matters.
+/// Why a page would go where it goes, and by which rules, if that matters.
+fn reasons_in(
+    alloc: Global,
+    space: &Space,
+    other: Option<&Space>,
+    asked: Touch,
+    said: &Explanation,
+    format: Format,
+) -> Result<Vec<u8>, Halt> {
+    let text = text_of(alloc, space, said)?;
+    let whole = match other {
+        Some(other) => with_other(text, space, other, asked, said.page)?,
+        None => text,
+    };
+    shown(alloc, said, whole, format)
+}
+
+/// Why a page goes where it goes now, as lines.
+///
+/// # Errors
+/// `NoMachine`, `NoNode`, `Unmapped`, or `Stopped`: out of memory.
+pub fn explained(alloc: Global, script: &Script, asked: Touch, page: u64) -> Result<Vec<u8>, Halt> {
+    let space = space_of(script)?;
+    let said = explanation_of(alloc, space, asked, page)?;
+    let text = text_of(alloc, space, &said);
+    drop(said);
+    text
+}
+
+/// The same after played lines, or by which rules a span's pages go.
 fn reasons<T: Write>(
     alloc: Global,
     findings: &Findings<T>,
     asked: Touch,
-    page: u64,
+    asked_for: AskedPages,
+    format: Format,
 ) -> Result<Vec<u8>, Halt> {
-    let space = match space_of(findings.script()) {
-        Ok(space) => space,
-        Err(halt) => return Err(halt),
-    };
-    let text = match reasons_in(alloc, space, asked, page) {
-        Ok(text) => text,
-        Err(halt) => return Err(halt),
-    };
-    match findings.other_space() {
-        Some(other) => with_other(text, space, other, asked, page),
-        None => Ok(text),
+    let space = space_of(findings.script())?;
+    let first = asked_for.page;
+    if let Some(pages) = asked_for.pages {
+        let end = first.saturating_add(u64::from(pages));
+        let interval = PageInterval { first, end };
+        return stretches_of(alloc, space, asked, interval, format);
     }
+    let said = explanation_of(alloc, space, asked, first)?;
+    let text = reasons_in(alloc, space, findings.other_space(), asked, &said, format);
+    drop(said);
+    text
 }
 
 /// Finishes the messages, and returns the explanation.
@@ -88,17 +98,19 @@ fn reasons_after<T: Write>(
     alloc: Global,
     findings: &mut Findings<T>,
     asked: Touch,
-    page: u64,
+    asked_for: AskedPages,
+    format: Format,
 ) -> Result<Vec<u8>, Halt> {
     match findings.end() {
-        Ok(()) => reasons(alloc, findings, asked, page),
+        Ok(()) => reasons(alloc, findings, asked, asked_for, format),
         Err(why) => Err(Halt::Stopped(why)),
     }
 }
 
 /// Plays the scripts, and writes why a page would go where it goes, if it were touched now, and by
-/// which rules, if by the others it would go elsewhere. What is wrong with a line is written to
-/// `told`, and the line is skipped. The answer is complete before its first byte is written.
+/// which rules, if by the others it would go elsewhere; of a span, which policy and which rule
+/// serve each stretch. What is wrong with a line is written to `told`, and the line is skipped. The
+/// answer is complete before its first byte is written.
 ///
 /// # Errors
 /// Why there is no answer. Text already written to `told` stays.
@@ -106,7 +118,8 @@ pub fn explain<R: Read + Drop, W: Write, T: Write + Drop>(
     alloc: Global,
     scripts: Scripts<R>,
     asked: Touch,
-    page: u64,
+    asked_for: AskedPages,
+    format: Format,
     output: &mut W,
     told: T,
 ) -> Result<Ended, Halt> {
@@ -116,7 +129,7 @@ pub fn explain<R: Read + Drop, W: Write, T: Write + Drop>(
         Ok(findings) => findings,
         Err(why) => return Err(Halt::Stopped(why)),
     };
-    let text = reasons_after(alloc, &mut findings, asked, page);
+    let text = reasons_after(alloc, &mut findings, asked, asked_for, format);
     let ended = findings.ended();
     drop(findings);
     write(text, ended, output)

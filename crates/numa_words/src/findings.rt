@@ -2,9 +2,11 @@
 ghost use Rattle.std.specs.Prelude.{◌≡◌};
 ghost use Rattle.numa_words.specs.Faults.{ended_by, has_faults};
 
+use crate::found_objects::{put_finding, put_hint, put_unjudged};
 use numa_diagnose::{Detail, Finding, hint_of, judge, reply_by_other, say_line, say_unjudged};
 use numa_lines::{RunFault, TakeLine, Watched};
 use numa_machine::Rules;
+use numa_reports::Format;
 use numa_rules::{Otherwise, other_rules, say_hint};
 use numa_run::{Script, lacks_memory};
 use numa_script::Reply;
@@ -31,6 +33,7 @@ pub struct Findings<W> {
     other: Option<Script>,
     // Whether hints are written.
     hints: bool,
+    format: Format,
     output: Watched<W>,
     // What is told of a line.
     text: Vec<u8>,
@@ -52,6 +55,7 @@ impl<W: Write> Findings<W> {
             script: Script::by(rules),
             other: None,
             hints: false,
+            format: Format::Text,
             output,
             text: Vec::new(alloc),
             told: 0,
@@ -62,6 +66,12 @@ impl<W: Write> Findings<W> {
     /// The same, with hints.
     pub fn with_hints(mut self) -> Findings<W> {
         self.hints = true;
+        self
+    }
+
+    /// The same, with messages in this format: text or JSON.
+    pub fn with_format(mut self, format: Format) -> Findings<W> {
+        self.format = format;
         self
     }
 
@@ -106,7 +116,12 @@ impl<W: Write> Findings<W> {
     /// Writes what was found in a line.
     fn tell(&mut self, name: &str, place: u64, finding: &Finding) -> Result<(), RunFault> {
         self.text.clear();
-        if let Err(_) = say_line(&mut self.text, name, place, finding) {
+        let text = &mut self.text;
+        let said = match self.format {
+            Format::Json => put_finding(self.alloc, text, name, place, finding),
+            _ => say_line(text, name, place, finding),
+        };
+        if said.is_err() {
             return Err(RunFault::Memory);
         }
         self.output.say(self.text.as_slice());
@@ -136,7 +151,12 @@ impl<W: Write> Findings<W> {
             return Ok(());
         };
         self.text.clear();
-        if let Err(_) = say_hint(&mut self.text, name, place, &otherwise) {
+        let text = &mut self.text;
+        let said = match self.format {
+            Format::Json => put_hint(self.alloc, text, name, place, &otherwise),
+            _ => say_hint(text, name, place, &otherwise),
+        };
+        if said.is_err() {
             return Err(RunFault::Memory);
         }
         self.output.say(self.text.as_slice());
@@ -175,7 +195,12 @@ impl<W: Write> Findings<W> {
     pub fn end(&mut self) -> Result<(), RunFault> {
         if self.unjudged > 0 {
             self.text.clear();
-            if let Err(_) = say_unjudged(&mut self.text, self.unjudged) {
+            let text = &mut self.text;
+            let said = match self.format {
+                Format::Json => put_unjudged(self.alloc, text, self.unjudged),
+                _ => say_unjudged(text, self.unjudged),
+            };
+            if said.is_err() {
                 return Err(RunFault::Memory);
             }
             self.output.say(self.text.as_slice());

@@ -2,6 +2,7 @@
 use crate::findings::{Ended, Findings};
 use numa_lines::{Lines, RunFault, read_all};
 use numa_machine::Rules;
+use numa_reports::Format;
 use std::alloc::Global;
 use std::io::{Read, Write};
 
@@ -46,17 +47,20 @@ fn end<W: Write>(findings: &mut Findings<W>) -> Result<Ended, RunFault> {
 }
 
 /// Reads the scripts, and writes what is wrong with their lines, and what a running kernel would do
-/// differently with a line. `Clean` if nothing is wrong.
+/// differently with a line, as text or as lines of JSON. `Clean` if nothing is wrong.
 ///
 /// # Errors
 /// A read or a write failed, or out of memory.
 pub fn check<R: Read + Drop, W: Write + Drop>(
     alloc: Global,
     scripts: Scripts<R>,
+    format: Format,
     output: W,
 ) -> Result<Ended, RunFault> {
     let Scripts { texts, rules } = scripts;
-    let told = Findings::new(alloc, rules, output).with_hints();
+    let told = Findings::new(alloc, rules, output)
+        .with_hints()
+        .with_format(format);
     let mut findings = match play(alloc, texts, told) {
         Ok(findings) => findings,
         Err(why) => return Err(why),

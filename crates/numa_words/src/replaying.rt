@@ -1,13 +1,15 @@
 //! Replaying traces after scripts.
 use crate::findings::{Ended, Findings};
 use crate::halt::Halt;
+use crate::page::page_of;
 use crate::playing::{Scripts, play};
 use crate::question::{space_after, write};
 use numa_compile::compile;
 use numa_lines::RunFault;
 use numa_plan::Plan;
+use numa_reports::Format;
 use numa_space::Space;
-use numa_traces::{Replaying, Shape, replay_lines, report_text};
+use numa_traces::{Replaying, replay_lines, report_text};
 use std::alloc::Global;
 use std::io::{Read, Write};
 
@@ -16,14 +18,17 @@ fn met(
     alloc: Global,
     space: &Space,
     replaying: &Replaying<'_>,
-    format: Shape,
+    format: Format,
 ) -> Result<Vec<u8>, Halt> {
     if let Some((place, fault)) = replaying.fault() {
         return Err(Halt::BadAccess(place, fault));
     }
-    match report_text(alloc, space.machine(), replaying.replay(), format) {
-        Ok(text) => Ok(text),
-        Err(_) => Err(Halt::Stopped(RunFault::Memory)),
+    let Ok(text) = report_text(alloc, space.machine(), replaying.replay(), format) else {
+        return Err(Halt::Stopped(RunFault::Memory));
+    };
+    match format {
+        Format::Html => page_of(alloc, "replay", "replay", text.as_slice()),
+        _ => Ok(text),
     }
 }
 
@@ -33,7 +38,7 @@ fn replayed_by<S: Read + Drop>(
     space: &Space,
     plan: &Plan,
     trace: Vec<(String, S)>,
-    format: Shape,
+    format: Format,
 ) -> Result<Vec<u8>, Halt> {
     let Ok(replaying) = Replaying::new(alloc, space.machine(), plan) else {
         drop(trace);
@@ -55,7 +60,7 @@ fn replayed<S: Read + Drop, T: Write>(
     alloc: Global,
     findings: &mut Findings<T>,
     trace: Vec<(String, S)>,
-    format: Shape,
+    format: Format,
 ) -> Result<Vec<u8>, Halt> {
     let space = match space_after(findings) {
         Ok(space) => space,
@@ -84,7 +89,7 @@ pub fn replay<R: Read + Drop, S: Read + Drop, W: Write, T: Write + Drop>(
     alloc: Global,
     scripts: Scripts<R>,
     trace: Vec<(String, S)>,
-    format: Shape,
+    format: Format,
     output: &mut W,
     told: T,
 ) -> Result<Ended, Halt> {

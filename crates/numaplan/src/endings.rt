@@ -43,6 +43,12 @@ pub fn fail(rt: &impl Eprint, fault: RunFault) -> ExitCode {
     ExitCode::FAILURE
 }
 
+/// Ends because a file can't be written, with its name and the cause, and status 1.
+pub fn fail_to_write(rt: &impl Eprint, name: &str, error: &io::Error) -> ExitCode {
+    let _ = eprintln!(rt; "numaplan: can't write '{name}': {error}");
+    ExitCode::FAILURE
+}
+
 /// Ends without a job: with status 0 after help was asked for, with 2 if the command line is
 /// invalid.
 pub fn tell_fault<R: Print + Eprint>(rt: &R, fault: JobFault) -> ExitCode {

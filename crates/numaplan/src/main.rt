@@ -1,7 +1,8 @@
 //! The program. `numaplan run` answers scripts, `numaplan expect` compares the answers in scripts
 //! with the actual ones, `numaplan check` reports what is wrong with scripts. `numaplan predict`
 //! and `numaplan diff` report where pages would go after scripts, `numaplan explain` why, and
-//! `numaplan replay` replays a trace of accesses. `numaplan storm` lets workers place pages while
+//! `numaplan replay` replays a trace of accesses. `numaplan shell` answers lines as they are typed.
+//! `numaplan storm` lets workers place pages while
 //! policies change.
 #![tactic(auto)]
 
@@ -11,16 +12,20 @@ ghost use Rattle.numa_command_line.specs.Jobs.{CanBeDone};
 mod answering;
 mod endings;
 mod lacking;
+mod progress;
+mod rewriting;
+mod shell;
 mod terminal;
 mod words;
 
 use endings::tell_fault;
-use numa_command_line::{Job, JobFault, ScriptJob, job, open_all, open_worked};
-use numa_words::Scripts;
+use numa_command_line::{Job, JobFault, ScriptJob, job, open_all, open_with_typed, open_worked};
+use numa_reports::Format;
+use numa_words::{Comparison, Scripts};
 use std::env::Env;
 use std::io::{IsTerminal, Read};
 use std::process::ExitCode;
-use std::rt::Files;
+use std::rt::{Clock, Files};
 use std::sync::Wait;
 use std::thread::Threads;
 use std::{env, io};
@@ -28,6 +33,9 @@ use words::{asked, check, expect, replay, run, storm};
 
 /// The message for an argument that isn't UTF-8.
 const NOT_UTF_8: &str = "error: an argument isn't UTF-8\n\nFor more information, try '--help'.\n";
+
+/// The message for standard input, which can't be written anew.
+const NO_FILE: &str = "error: '--update' writes files, and '-' is none\n";
 
 /// The words of the command line, the program's name first. `Usage` if one of them isn't UTF-8.
 fn command_words<R: Env + AllocGlobal>(rt: &R) -> Result<Vec<String>, JobFault> {
@@ -49,36 +57,60 @@ fn asked_job<R: Env + AllocGlobal>(rt: &R) -> Result<Job, JobFault>
     job(rt.alloc(), words.as_slice())
 }
 
-/// Works with scripts, or answers a typed one with a prompt.
+/// Which of the standard streams are terminals.
+#[derive(Clone, Copy)]
+struct Terminals {
+    output: bool,
+    error: bool,
+}
+
+/// Works with scripts, or answers a typed one with a prompt. With `tells`, standard error shows how
+/// far reading is.
 fn work_done<R, S>(
     rt: &R,
     scripts: Scripts<S>,
     work: &ScriptJob,
     has_prompt: bool,
+    tells: bool,
 ) -> Result<ExitCode, JobFault>
 where
-    R: Files + Input + Print + Eprint + AllocGlobal,
+    R: Clock + Files + Input + Print + Eprint + AllocGlobal,
     R::Reader: IsTerminal,
     S: Read + Drop,
 {
     if has_prompt {
         let Scripts { texts, rules } = scripts;
-        return Ok(terminal::answer(rt, texts, rules));
+        return Ok(terminal::answer(rt, texts, rules, false));
     }
     match work {
-        ScriptJob::Run { echo } => Ok(run::answer(rt, scripts, *echo)),
-        ScriptJob::Check => Ok(check::check(rt, scripts)),
-        ScriptJob::Expect => Ok(expect::check(rt, scripts)),
+        ScriptJob::Run { echo, format } => Ok(run::answer(rt, scripts, *echo, *format)),
+        ScriptJob::Check { format } => Ok(check::check(rt, scripts, *format)),
+        ScriptJob::Expect {
+            format,
+            any_version,
+            update,
+        } => {
+            let how = Comparison {
+                format: *format,
+                any_version: *any_version,
+                update: *update,
+            };
+            Ok(expect::check(rt, scripts, how))
+        }
         ScriptJob::Ask {
             asked,
             question,
             lenient,
-        } => Ok(asked::answer(rt, scripts, *asked, question, *lenient)),
+        } => Ok(asked::answer(rt, scripts, *asked, question, *lenient, tells)),
         ScriptJob::Replay {
             trace,
             format,
             lenient,
-        } => replay::answer(rt, scripts, trace, *format, *lenient),
+        } => replay::answer(rt, scripts, trace, *format, *lenient, tells),
+        ScriptJob::Shell => {
+            let Scripts { texts, rules } = scripts;
+            Ok(terminal::answer(rt, texts, rules, true))
+        }
     }
 }
 
@@ -88,15 +120,26 @@ where
     R::Reader: IsTerminal,
 {
     match (work, names) {
-        (ScriptJob::Run { echo: false }, []) => rt.reader().is_terminal(),
+        (
+            ScriptJob::Run {
+                echo: false,
+                format: Format::Text,
+            },
+            [],
+        ) => rt.reader().is_terminal(),
         _ => false,
     }
 }
 
+/// Whether standard input is named.
+fn has_standard_input(names: &[String]) -> bool {
+    names.iter().any(|name| name.as_str() == "-")
+}
+
 /// Does a job. If standard output is a terminal, a typed script gets a prompt.
-fn done<R>(rt: &R, job: &Job, is_terminal: bool) -> Result<ExitCode, JobFault>
+fn done<R>(rt: &R, job: &Job, terminals: Terminals) -> Result<ExitCode, JobFault>
 where
-    R: Threads + Wait + Sync + Files + Input + Print + Eprint + AllocGlobal,
+    R: Threads + Wait + Sync + Clock + Files + Input + Print + Eprint + AllocGlobal,
     R::Reader: IsTerminal,
     requires { CanBeDone job.now }
 {
@@ -104,13 +147,20 @@ where
         Job::Scripts { files, rules, work } => (files, *rules, work),
         Job::Storm(workers) => return Ok(storm::show(rt, *workers)),
     };
-    let has_prompt = is_terminal && is_typed(rt, files, work);
+    let has_prompt = terminals.output && is_typed(rt, files, work);
     let texts = match work {
-        ScriptJob::Expect => open_worked(rt, files),
+        ScriptJob::Expect { update: true, .. } if has_standard_input(files) => {
+            return Err(JobFault::usage(rt.alloc(), NO_FILE));
+        }
+        ScriptJob::Expect { .. } => open_worked(rt, files),
+        ScriptJob::Shell => open_with_typed(rt, files),
         _ => open_all(rt, files),
     };
     match texts {
-        Ok(texts) => work_done(rt, Scripts { texts, rules }, work, has_prompt),
+        Ok(texts) => {
+            let scripts = Scripts { texts, rules };
+            work_done(rt, scripts, work, has_prompt, terminals.error)
+        }
         Err(fault) => Err(fault),
     }
 }
@@ -120,7 +170,11 @@ fn main(rt: HostRuntime) -> ExitCode {
         Ok(job) => job,
         Err(fault) => return tell_fault(&rt, fault),
     };
-    let ended = done(&rt, &job, rt.stdout().is_terminal());
+    let terminals = Terminals {
+        output: rt.stdout().is_terminal(),
+        error: rt.stderr().is_terminal(),
+    };
+    let ended = done(&rt, &job, terminals);
     drop(job);
     match ended {
         Ok(code) => code,

@@ -1,6 +1,7 @@
 //! Scripts that are typed at a terminal.
 use crate::answering::Answering;
 use crate::endings::{StandardError, fail};
+use crate::shell::{SHELL_LINES, answer_to, question_of};
 use numa_diagnose::{judge, say_line};
 use numa_lines::{Lines, Respond, RunFault, TakeLine, read_all};
 use numa_machine::Rules;
@@ -53,6 +54,9 @@ is the node of a CPU. Words stand between single spaces. A line that begins with
 #[derive(Drop)]
 struct Typed<W, T> {
     alloc: Global,
+    // Whether questions of a shell are answered, and whether the shell was ended.
+    is_shell: bool,
+    has_quit: bool,
     answering: Answering,
     // The same script, for finding what is wrong with a line.
     judged: Script,
@@ -102,10 +106,52 @@ impl<W: Write, T: Write> Typed<W, T> {
         put(&mut self.told, self.text.as_slice())
     }
 
+    /// Plays a line of a file, and writes what is wrong with it.
+    fn play(&mut self, name: &str, place: u64, line: &[u8]) -> Result<(), RunFault> {
+        self.text.clear();
+        if let Err(_) = self.answering.respond(line, &mut self.text) {
+            return Err(RunFault::Memory);
+        }
+        self.text.clear();
+        let script = &mut self.judged;
+        find(self.alloc, script, name, place, line, &mut self.text)?;
+        put(&mut self.told, self.text.as_slice())
+    }
+
+    /// Answers a question of a shell, and returns whether the line is one.
+    fn ask(&mut self, line: &[u8]) -> Result<bool, RunFault> {
+        let Some(question) = question_of(line) else {
+            return Ok(false);
+        };
+        match answer_to(self.alloc, &self.judged, question) {
+            Ok(text) => put(&mut self.output, text.as_slice())?,
+            Err(Some(message)) => {
+                put(&mut self.told, message.as_bytes())?;
+                put(&mut self.told, b"\n")?;
+            }
+            Err(None) => return Err(RunFault::Memory),
+        }
+        Ok(true)
+    }
+
     /// Writes the help.
     fn help(&mut self) -> Result<(), RunFault> {
         put(&mut self.output, LINES.as_bytes())?;
+        if self.is_shell {
+            put(&mut self.output, SHELL_LINES.as_bytes())?;
+        }
         put(&mut self.output, WORDS.as_bytes())
+    }
+
+    /// Answers a line that was typed.
+    fn take_typed(&mut self, name: &str, place: u64, line: &[u8]) -> Result<(), RunFault> {
+        if line == b"help".as_slice() {
+            return self.help();
+        }
+        if self.is_shell && self.ask(line)? {
+            return Ok(());
+        }
+        self.answer(name, place, line)
     }
 }
 
@@ -117,11 +163,14 @@ impl<W: Write, T: Write> TakeLine<()> for Typed<W, T> {
         line: &[u8],
         _output: &mut (),
     ) -> Result<(), RunFault> {
-        if line == b"help".as_slice() {
-            self.help()?;
-        } else {
-            self.answer(name, place, line)?;
+        if self.is_shell && name != "-" {
+            return self.play(name, place, line);
         }
+        if self.is_shell && line == b"quit".as_slice() {
+            self.has_quit = true;
+            return Err(RunFault::Read);
+        }
+        self.take_typed(name, place, line)?;
         put(&mut self.output, PROMPT.as_bytes())
     }
 
@@ -131,7 +180,12 @@ impl<W: Write, T: Write> TakeLine<()> for Typed<W, T> {
 }
 
 /// Answers a typed script, with a prompt before each line.
-fn answer_all<R, S>(rt: &R, texts: Vec<(String, S)>, rules: Rules) -> Result<(), RunFault>
+fn answer_all<R, S>(
+    rt: &R,
+    texts: Vec<(String, S)>,
+    rules: Rules,
+    is_shell: bool,
+) -> Result<(), RunFault>
 where
     R: Print + Eprint + AllocGlobal,
     S: Read + Drop,
@@ -141,6 +195,8 @@ where
     let alloc = rt.alloc();
     let typed = Typed {
         alloc,
+        is_shell,
+        has_quit: false,
         answering: Answering::new(alloc, rules),
         judged: Script::by(rules),
         text: Vec::new(alloc),
@@ -152,18 +208,20 @@ where
         return Err(RunFault::Memory);
     };
     let read = read_all(texts, &mut lines, &mut ());
+    let has_quit = lines.taker.has_quit;
     drop(lines);
-    read
+    if has_quit { Ok(()) } else { read }
 }
 
 /// Answers a script that is typed at a terminal, with a prompt before each line, and reports what
-/// is wrong with a line on standard error, as `check` does. A line `help` shows help.
-pub fn answer<R, S>(rt: &R, texts: Vec<(String, S)>, rules: Rules) -> ExitCode
+/// is wrong with a line on standard error, as `check` does. A line `help` shows help. In a shell
+/// questions about pages are answered too, lines of files aren't, and a line `quit` ends it.
+pub fn answer<R, S>(rt: &R, texts: Vec<(String, S)>, rules: Rules, is_shell: bool) -> ExitCode
 where
     R: Print + Eprint + AllocGlobal,
     S: Read + Drop,
 {
-    match answer_all(rt, texts, rules) {
+    match answer_all(rt, texts, rules, is_shell) {
         Ok(()) => {
             let _ = println!(rt; "");
             ExitCode::SUCCESS

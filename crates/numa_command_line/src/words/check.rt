@@ -1,8 +1,10 @@
 //! `numaplan check [FILE]..`: reports what is wrong with scripts.
 ghost use Rattle.std.specs.Prelude.{codes, true};
-ghost use Rattle.numa_command_line.specs.Grammar.{IsWord, check_arguments};
+ghost use Rattle.numa_command_line.specs.Grammar.{AreNames, IsWord, check_arguments, plain_formats};
+ghost use Rattle.numa_command_line.specs.Usage.{Names};
 
 use crate::usage::{FILES, SubcommandHelp};
+use crate::words::format::PLAIN;
 
 /// The help of the subcommand.
 static WORD: SubcommandHelp = SubcommandHelp {
@@ -15,12 +17,13 @@ while none is ready are counted at the end. The status is 3 where anything was t
     more: "Example, from the top of the repository:\n  ./numaplan check \
 examples/why-refused.numaplan",
     reads_lines: true,
-    arguments: &[FILES],
+    arguments: &[PLAIN, FILES],
 };
 
 /// The subcommand.
 pub fn word() -> &'static SubcommandHelp
-    ensures { IsWord (codes "check") check_arguments true result.now }
+    ensures { (formats : Names) × AreNames plain_formats formats
+        × IsWord (codes "check") (check_arguments formats) true result.now }
 {
     &WORD
 }

@@ -1,6 +1,7 @@
 //! `numaplan diff --task T --node N --then LINE [FILE]..`: reports which pages would go elsewhere.
 ghost use Rattle.std.specs.Prelude.{codes, true};
-ghost use Rattle.numa_command_line.specs.Grammar.{IsWord, diff_arguments};
+ghost use Rattle.numa_command_line.specs.Grammar.{AreNames, IsWord, diff_arguments, diff_formats};
+ghost use Rattle.numa_command_line.specs.Usage.{Names};
 ghost use Rattle.clap.specs.Words.{found_of, rows_of};
 ghost use Rattle.numa_command_line.specs.Asked.{work_asked};
 ghost use Rattle.numa_command_line.specs.Jobs.{IsMade, work_of};
@@ -11,6 +12,7 @@ use crate::jobs::{JobFault, PageQuestion, ScriptJob};
 use crate::usage::{Argument, FILES, SubcommandHelp, Takes};
 use crate::words::asked;
 use crate::words::asked::{NODE, TASK};
+use crate::words::format::format_in;
 use crate::words::lenient::LENIENT;
 use clap::ArgMatches;
 use std::alloc::Global;
@@ -22,6 +24,15 @@ const THEN: Argument = Argument {
     help: "A script line that is added; several in turn",
     is_required: true,
     takes: Takes::Texts,
+};
+
+/// The option `--format FORMAT`.
+const FORMAT: Argument = Argument {
+    name: "format",
+    value: "FORMAT",
+    help: "How the answer is written",
+    is_required: false,
+    takes: Takes::OneOf("text", &["text", "json", "svg", "html"]),
 };
 
 /// The help of the subcommand.
@@ -37,12 +48,13 @@ ready after the scripts.",
     more: "Example, from the top of the repository:\n  ./numaplan diff --task 1 --node 0 --then \
 'mems 0' examples/interleaved-range.numaplan",
     reads_lines: true,
-    arguments: &[TASK, NODE, THEN, LENIENT, FILES],
+    arguments: &[TASK, NODE, THEN, FORMAT, LENIENT, FILES],
 };
 
 /// The subcommand.
 pub fn word() -> &'static SubcommandHelp
-    ensures { IsWord (codes "diff") diff_arguments true result.now }
+    ensures { (formats : Names) × AreNames diff_formats formats
+        × IsWord (codes "diff") (diff_arguments formats) true result.now }
 {
     &WORD
 }
@@ -55,5 +67,6 @@ pub fn work(alloc: Global, matches: &ArgMatches<'_>) -> Result<ScriptJob, JobFau
     ensures { IsMade work_of (work_asked word.Diff (rows_of (found_of matches.now))) result }
 {
     let lines = texts_at(alloc, matches, "then")?;
-    asked::work(alloc, matches, PageQuestion::Diff(lines))
+    let format = format_in(matches);
+    asked::work(alloc, matches, PageQuestion::Diff { lines, format })
 }

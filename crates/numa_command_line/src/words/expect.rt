@@ -1,6 +1,7 @@
 //! `numaplan expect FILE..`: compares worked scripts with the answers to their lines.
 ghost use Rattle.std.specs.Prelude.{codes, true};
-ghost use Rattle.numa_command_line.specs.Grammar.{IsWord, expect_arguments};
+ghost use Rattle.numa_command_line.specs.Grammar.{AreNames, IsWord, expect_arguments, test_formats};
+ghost use Rattle.numa_command_line.specs.Usage.{Names};
 
 use crate::usage::{Argument, SubcommandHelp, Takes};
 
@@ -11,6 +12,33 @@ const WORKED: Argument = Argument {
     help: "Worked scripts, and folders of them; - is standard input",
     is_required: true,
     takes: Takes::Files,
+};
+
+/// The option `--format FORMAT`.
+const FORMAT: Argument = Argument {
+    name: "format",
+    value: "FORMAT",
+    help: "How the answer is written",
+    is_required: false,
+    takes: Takes::OneOf("text", &["text", "json", "tap"]),
+};
+
+/// The option `--ignore-versions`.
+const ANY_VERSION: Argument = Argument {
+    name: "ignore-versions",
+    value: "",
+    help: "Compares answers without the numbers of their versions, as in v2: and ok 2",
+    is_required: false,
+    takes: Takes::Nothing,
+};
+
+/// The option `--update`.
+const UPDATE: Argument = Argument {
+    name: "update",
+    value: "",
+    help: "Writes the answers that the lines get into the files, and shows what that changes",
+    is_required: false,
+    takes: Takes::Nothing,
 };
 
 /// The help of the subcommand.
@@ -24,16 +52,20 @@ line of the answer to the script line above; a script line of which no answer st
 carried out and not compared, but a fault or a refusal isn't wanted there. The last line on \
 standard output counts the lines of answers: as wanted, not so, and not compared. Of a folder the \
 files *.answers are taken, and those *.numaplan that hold an answer.",
-    more: "The status is 0 where each file holds answers and all are as wanted, and else \
-3.\n\nExample, from the top of the \
+    more: "With --format tap each answer is a test of the Test Anything Protocol, and with --format \
+json a line of JSON. With --update each file gets the answers that its lines get, where one stands \
+now: it is written anew beside itself and then takes its own place, and standard output shows the \
+lines that change.\n\nThe status is 0 where each file holds answers and all are as wanted, or are \
+written anew, and else 3.\n\nExample, from the top of the \
 repository:\n  ./numaplan expect examples/*.answers",
     reads_lines: true,
-    arguments: &[WORKED],
+    arguments: &[FORMAT, ANY_VERSION, UPDATE, WORKED],
 };
 
 /// The subcommand.
 pub fn word() -> &'static SubcommandHelp
-    ensures { IsWord (codes "expect") expect_arguments true result.now }
+    ensures { (formats : Names) × AreNames test_formats formats
+        × IsWord (codes "expect") (expect_arguments formats) true result.now }
 {
     &WORD
 }

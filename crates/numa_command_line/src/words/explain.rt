@@ -1,16 +1,19 @@
 //! `numaplan explain --task T --node N ADDRESS [FILE]..`: says why a page goes where it goes.
 ghost use Rattle.std.specs.Prelude.{codes, true};
-ghost use Rattle.numa_command_line.specs.Grammar.{IsWord, explain_arguments};
+ghost use Rattle.numa_command_line.specs.Grammar.{AreNames, IsWord, explain_arguments};
+ghost use Rattle.numa_command_line.specs.Grammar.{plain_formats};
+ghost use Rattle.numa_command_line.specs.Usage.{Names};
 ghost use Rattle.clap.specs.Words.{found_of, rows_of};
 ghost use Rattle.numa_command_line.specs.Asked.{work_asked};
 ghost use Rattle.numa_command_line.specs.Jobs.{IsMade, work_of};
 ghost use Rattle.numa_command_line.specs.declared.command.Subcommand.TheVariants as word;
 
-use crate::found::text_at;
+use crate::found::{small_at, text_at};
 use crate::jobs::{JobFault, PageQuestion, ScriptJob};
 use crate::usage::{Argument, FILES, SubcommandHelp, Takes};
 use crate::words::asked;
 use crate::words::asked::{NODE, TASK};
+use crate::words::format::{PLAIN, format_in};
 use crate::words::lenient::LENIENT;
 use clap::ArgMatches;
 use numa_script::number::number;
@@ -30,6 +33,15 @@ const ADDRESS: Argument = Argument {
     takes: Takes::Bare,
 };
 
+/// The option `--pages N`.
+const PAGES: Argument = Argument {
+    name: "pages",
+    value: "N",
+    help: "Tells by which rules N pages go, from that of ADDRESS on",
+    is_required: false,
+    takes: Takes::Number,
+};
+
 /// The help of the subcommand.
 static WORD: SubcommandHelp = SubcommandHelp {
     name: "explain",
@@ -39,16 +51,18 @@ now on a CPU of one node: in six lines the nodes in order, the range with the pa
 policy counts and why the other doesn't, the sets of nodes, the rule that chose the first node \
 with its arithmetic, and the order of the others with their distances. Lines that are faulty or \
 refused are told on standard error as by `check`, and passed over. The status is 3 where some \
-are, unless --lenient is given, and where no machine is ready after the scripts.",
+are, unless --lenient is given, and where no machine is ready after the scripts. With --pages it \
+tells for each stretch of so many pages from there on which policy counts, and its rule.",
     more: "Example, from the top of the repository:\n  ./numaplan explain --task 1 --node 3 \
 0x32000 examples/interleaved-range.numaplan",
     reads_lines: true,
-    arguments: &[TASK, NODE, LENIENT, ADDRESS, FILES],
+    arguments: &[TASK, NODE, PAGES, PLAIN, LENIENT, ADDRESS, FILES],
 };
 
 /// The subcommand.
 pub fn word() -> &'static SubcommandHelp
-    ensures { IsWord (codes "explain") explain_arguments true result.now }
+    ensures { (formats : Names) × AreNames plain_formats formats
+        × IsWord (codes "explain") (explain_arguments formats) true result.now }
 {
     &WORD
 }
@@ -61,8 +75,13 @@ pub fn work(alloc: Global, matches: &ArgMatches<'_>) -> Result<ScriptJob, JobFau
     ensures { IsMade work_of (work_asked word.Explain (rows_of (found_of matches.now))) result }
 {
     let word = text_at(matches, "ADDRESS").unwrap_or("");
-    match number(word.as_bytes()) {
-        Some(address) => asked::work(alloc, matches, PageQuestion::Explain(address / 4096)),
-        None => Err(JobFault::usage(alloc, BAD_ADDRESS)),
-    }
+    let Some(address) = number(word.as_bytes()) else {
+        return Err(JobFault::usage(alloc, BAD_ADDRESS));
+    };
+    let question = PageQuestion::Explain {
+        page: address / 4096,
+        pages: small_at(matches, "pages"),
+        format: format_in(matches),
+    };
+    asked::work(alloc, matches, question)
 }

@@ -1,24 +1,22 @@
 //! `numaplan predict --task T --node N [--free NODE=PAGES,..] [FILE]..`: reports where pages would
 //! go after scripts.
-ghost use Rattle.std.specs.Prelude.{◌≡◌, codes, true};
-ghost use Rattle.numa_command_line.specs.Grammar.{AreNames, IsWord, format_names};
-ghost use Rattle.numa_command_line.specs.Grammar.{predict_arguments};
+ghost use Rattle.std.specs.Prelude.{codes, true};
+ghost use Rattle.numa_command_line.specs.Grammar.{AreNames, IsWord, predict_arguments};
+ghost use Rattle.numa_command_line.specs.Grammar.{predict_formats};
 ghost use Rattle.numa_command_line.specs.Usage.{Names};
 ghost use Rattle.clap.specs.Words.{found_of, rows_of};
 ghost use Rattle.numa_command_line.specs.Asked.{work_asked};
 ghost use Rattle.numa_command_line.specs.Jobs.{IsMade, work_of};
 ghost use Rattle.numa_command_line.specs.declared.command.Subcommand.TheVariants as word;
-ghost use Rattle.numa_command_line.specs.Values.{format_in, format_named};
 
-use crate::found::text_at;
 use crate::jobs::{JobFault, PageQuestion, ScriptJob};
 use crate::usage::{Argument, FILES, SubcommandHelp, Takes};
 use crate::words::asked::{NODE, TASK};
+use crate::words::format::format_in;
 use crate::words::free::FREE;
 use crate::words::lenient::LENIENT;
 use crate::words::{asked, free};
 use clap::ArgMatches;
-use numa_reports::Format;
 use std::alloc::Global;
 
 /// The option `--format FORMAT`.
@@ -27,7 +25,7 @@ const FORMAT: Argument = Argument {
     value: "FORMAT",
     help: "How the answer is written",
     is_required: false,
-    takes: Takes::OneOf("text", &["text", "json", "csv", "svg"]),
+    takes: Takes::OneOf("text", &["text", "json", "csv", "svg", "html"]),
 };
 
 /// The help of the subcommand.
@@ -49,32 +47,10 @@ examples/interleaved-range.numaplan",
 
 /// The subcommand.
 pub fn word() -> &'static SubcommandHelp
-    ensures { (formats : Names) × AreNames format_names formats
+    ensures { (formats : Names) × AreNames predict_formats formats
         × IsWord (codes "predict") (predict_arguments formats) true result.now }
 {
     &WORD
-}
-
-/// The format with this name.
-fn format_of(name: &str) -> Format
-    ensures { result ≡ format_named name.now }
-{
-    match name {
-        "json" => Format::Json,
-        "csv" => Format::Csv,
-        "svg" => Format::Svg,
-        _ => Format::Text,
-    }
-}
-
-/// The requested format.
-fn format_in(matches: &ArgMatches<'_>) -> Format
-    ensures { result ≡ format_in (rows_of (found_of matches.now)) }
-{
-    match text_at(matches, "format") {
-        Some(name) => format_of(name),
-        None => Format::Text,
-    }
 }
 
 /// The job of a command line with this subcommand.

@@ -1,19 +1,19 @@
 //! `numaplan replay --trace TRACE [FILE]..`: replays a trace of accesses.
-ghost use Rattle.std.specs.Prelude.{◌≡◌, codes, true};
-ghost use Rattle.numa_command_line.specs.Grammar.{AreNames, IsWord, shape_names, replay_arguments};
+ghost use Rattle.std.specs.Prelude.{codes, true};
+ghost use Rattle.numa_command_line.specs.Grammar.{AreNames, IsWord, replay_arguments};
+ghost use Rattle.numa_command_line.specs.Grammar.{replay_formats};
 ghost use Rattle.numa_command_line.specs.Usage.{Names};
 ghost use Rattle.clap.specs.Words.{found_of, rows_of};
 ghost use Rattle.numa_command_line.specs.Asked.{work_asked};
 ghost use Rattle.numa_command_line.specs.Jobs.{IsMade, work_of};
 ghost use Rattle.numa_command_line.specs.declared.command.Subcommand.TheVariants as word;
-ghost use Rattle.numa_command_line.specs.Values.{shape_in, shape_named};
 
-use crate::found::{is_on, text_at, texts_at};
+use crate::found::{is_on, texts_at};
 use crate::jobs::{JobFault, ScriptJob};
 use crate::usage::{Argument, FILES, SubcommandHelp, Takes};
+use crate::words::format::format_in;
 use crate::words::lenient::LENIENT;
 use clap::ArgMatches;
-use numa_traces::Shape;
 use std::alloc::Global;
 
 /// The option `--trace TRACE`.
@@ -31,7 +31,7 @@ const FORMAT: Argument = Argument {
     value: "FORMAT",
     help: "How the answer is written",
     is_required: false,
-    takes: Takes::OneOf("text", &["text", "json"]),
+    takes: Takes::OneOf("text", &["text", "json", "html"]),
 };
 
 /// The help of the subcommand.
@@ -55,30 +55,10 @@ examples/replayed.trace examples/interleaved-range.numaplan",
 
 /// The subcommand.
 pub fn word() -> &'static SubcommandHelp
-    ensures { (shapes : Names) × AreNames shape_names shapes
-        × IsWord (codes "replay") (replay_arguments shapes) true result.now }
+    ensures { (formats : Names) × AreNames replay_formats formats
+        × IsWord (codes "replay") (replay_arguments formats) true result.now }
 {
     &WORD
-}
-
-/// The format with this name.
-fn shape_of(name: &str) -> Shape
-    ensures { result ≡ shape_named name.now }
-{
-    match name {
-        "json" => Shape::Json,
-        _ => Shape::Text,
-    }
-}
-
-/// The requested format.
-fn shape_in(matches: &ArgMatches<'_>) -> Shape
-    ensures { result ≡ shape_in (rows_of (found_of matches.now)) }
-{
-    match text_at(matches, "format") {
-        Some(name) => shape_of(name),
-        None => Shape::Text,
-    }
 }
 
 /// The job of a command line with this subcommand.
@@ -91,7 +71,7 @@ pub fn work(alloc: Global, matches: &ArgMatches<'_>) -> Result<ScriptJob, JobFau
     let trace = texts_at(alloc, matches, "trace")?;
     Ok(ScriptJob::Replay {
         trace,
-        format: shape_in(matches),
+        format: format_in(matches),
         lenient: is_on(matches, "lenient"),
     })
 }

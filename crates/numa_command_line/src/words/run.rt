@@ -1,8 +1,10 @@
 //! `numaplan run [FILE]..`: answers scripts.
 ghost use Rattle.std.specs.Prelude.{codes, true};
-ghost use Rattle.numa_command_line.specs.Grammar.{IsWord, run_arguments};
+ghost use Rattle.numa_command_line.specs.Grammar.{AreNames, IsWord, plain_formats, run_arguments};
+ghost use Rattle.numa_command_line.specs.Usage.{Names};
 
 use crate::usage::{Argument, FILES, SubcommandHelp, Takes};
+use crate::words::format::PLAIN;
 
 /// The option `--echo`.
 const ECHO: Argument = Argument {
@@ -20,17 +22,19 @@ static WORD: SubcommandHelp = SubcommandHelp {
     about: "Answers a script. The script is read from the files in turn, or from standard input, \
 and its answers are written to standard output: one line for each line of the script, but none \
 for an empty line or a comment, and for `maps` one for each range. At a terminal, where no file is \
-named, there is a prompt, what is wrong with a line is told too, and a line `help` tells the lines.",
+named, there is a prompt, what is wrong with a line is told too, and a line `help` tells the lines. \
+With --format json there is a line of JSON for each answer.",
     more: "Example, from the top of the repository:\n  ./numaplan run \
 examples/first-run.numaplan\n\nThe language of scripts is told in docs/SCRIPT.md of the \
 repository.",
     reads_lines: true,
-    arguments: &[ECHO, FILES],
+    arguments: &[ECHO, PLAIN, FILES],
 };
 
 /// The subcommand.
 pub fn word() -> &'static SubcommandHelp
-    ensures { IsWord (codes "run") run_arguments true result.now }
+    ensures { (formats : Names) × AreNames plain_formats formats
+        × IsWord (codes "run") (run_arguments formats) true result.now }
 {
     &WORD
 }

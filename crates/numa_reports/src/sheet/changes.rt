@@ -1,4 +1,4 @@
-//! Differences as text.
+//! Differences as text, JSON and SVG.
 ghost use Rattle.std.specs.Prelude.{◌≡◌, ◌≤◌, List, Err, IfErr, IfOk, OnOk};
 ghost use Rattle.numa_compile.specs.Standing.{PlanStandsFor};
 ghost use Rattle.numa_machine.specs.Machine.{Hardware};
@@ -13,14 +13,16 @@ use crate::fault::ReportError;
 use crate::moves::{BLOCK, ENTRIES, add_moves, empty_table, has_node};
 use crate::outlook::{Outlook, PageSpan, common_spans};
 use crate::sheet::fields::bytes;
+use crate::sheet::scale::Scale;
 use crate::sheet::written::Written;
+use crate::sheet::{Format, moved_objects, moved_pictures};
 use crate::touch::Touch;
 use numa_plan::Plan;
 use numa_space::PlaceRefusal;
 use std::alloc::{AllocError, Global};
 
 /// The number of pages that go from a node to another, without those already reported.
-fn entry(table: &[u64], told: &[u64], from: u32, to: u32) -> u64 {
+pub(crate) fn entry(table: &[u64], told: &[u64], from: u32, to: u32) -> u64 {
     let place = from as usize * 256 + to as usize;
     let Some(pages) = table.get(place) else {
         return 0;
@@ -53,7 +55,7 @@ fn moved_from(table: &[u64], told: &[u64], nodes: u32, from: u32) -> u64 {
 }
 
 /// The number of pages that go to another node.
-fn moved(table: &[u64], told: &[u64], nodes: u32) -> u64 {
+pub(crate) fn moved(table: &[u64], told: &[u64], nodes: u32) -> u64 {
     let mut sum = 0u64;
     for from in 0..nodes {
         sum = sum.saturating_add(moved_from(table, told, nodes, from));
@@ -71,11 +73,8 @@ fn put_moves(text: &mut Written, table: &[u64], told: &[u64], nodes: u32) {
     text.put(b"\n");
 }
 
-/// Writes the line of a span; nothing if none of its pages goes to another node.
+/// Writes the line of a span.
 fn put_line(text: &mut Written, span: PageSpan, table: &[u64], told: &[u64], nodes: u32) {
-    if moved(table, told, nodes) == 0 {
-        return;
-    }
     let end = span.first.saturating_add(span.pages);
     text.put_addresses(bytes(span.first), bytes(end));
     put_moves(text, table, told, nodes);
@@ -98,48 +97,92 @@ fn note_all(told: &mut Vec<u64>, table: &[u64], nodes: u32) {
     }
 }
 
-/// The lines so far, the number of pages of all spans that go from each node to each, and the
-/// number of those already reported.
+/// The text so far, the number of its spans, the number of pages of all spans that go from each
+/// node to each, and the number of those already reported.
 #[derive(Drop)]
 struct Difference {
+    format: Format,
+    touch: Touch,
+    scale: Scale,
     text: Written,
+    spans: u64,
     total: Vec<u64>,
     told: Vec<u64>,
     left: u64,
 }
 
 impl Difference {
-    /// No lines.
-    fn new(alloc: Global) -> Result<Difference, AllocError>
+    /// Before the first span.
+    fn new(
+        alloc: Global,
+        format: Format,
+        touch: Touch,
+        scale: Scale,
+    ) -> Result<Difference, AllocError>
         ensures room { IfOk result (λ difference.
             HasRoomFor difference.total.items difference.left) }
     {
         let total = empty_table(alloc, ENTRIES)?;
         let told = empty_table(alloc, ENTRIES)?;
-        let text = Written::new(alloc);
+        let mut text = Written::new(alloc);
+        if let Format::Json = format {
+            moved_objects::put_head(&mut text, touch);
+        }
         Ok(Difference {
+            format,
+            touch,
+            scale,
             text,
+            spans: 0,
             total,
             told,
             left: u64::MAX,
         })
     }
 
-    /// Adds the line of a span whose pages are counted.
+    /// Adds a span whose pages are counted, if one of them goes to another node.
     fn add(&mut self, span: PageSpan, nodes: u32) -> Result<(), AllocError>
         ensures total { self.new.total ≡ self.old.total }
         ensures left { self.new.left ≡ self.old.left }
     {
         let table = self.total.as_slice();
-        put_line(&mut self.text, span, table, self.told.as_slice(), nodes);
+        let told = self.told.as_slice();
+        if moved(table, told, nodes) > 0 {
+            let text = &mut self.text;
+            match self.format {
+                Format::Json => {
+                    moved_objects::put_span(text, span, table, told, nodes, self.spans == 0);
+                }
+                Format::Svg if self.spans >= moved_pictures::SPANS => {}
+                Format::Svg => {
+                    let scale = &self.scale;
+                    moved_pictures::put_span(text, self.spans, span, table, told, nodes, scale);
+                }
+                _ => put_line(text, span, table, told, nodes),
+            }
+            self.spans = self.spans.saturating_add(1);
+        }
         note_all(&mut self.told, table, nodes);
         self.text.checked()
     }
 
-    /// Writes the last line, and returns the text.
+    /// Writes the total, and returns the text.
     fn end(&mut self, nodes: u32) -> Result<Vec<u8>, AllocError> {
-        self.text.put(b"total");
-        put_moves(&mut self.text, self.total.as_slice(), &[], nodes);
+        let table = self.total.as_slice();
+        match self.format {
+            Format::Json => moved_objects::put_total(&mut self.text, table, nodes),
+            Format::Svg => {
+                let spans = self.text.take()?;
+                let text = &mut self.text;
+                moved_pictures::put_head(text, self.touch, self.spans, &self.scale);
+                text.put(spans.as_slice());
+                moved_pictures::put_total(text, self.spans, table, nodes);
+            }
+            _ => {
+                self.text.put(b"total");
+                put_moves(&mut self.text, table, &[], nodes);
+            }
+        }
         self.text.take()
     }
 }
@@ -211,7 +254,7 @@ fn count_span(
     Ok(())
 }
 
-/// Adds the line of a span, and its pages to the total; nothing if all of them stay.
+/// Adds a span, and its pages to the total; nothing if all of them stay.
 fn push_span(
     before: &Plan,
     after: &Plan,
@@ -235,8 +278,8 @@ fn push_span(
 }
 
 /// The pages that go to another node, if the task touched each of them on a CPU of node `cpu` after
-/// the change instead of before it: a line for each span with such pages, with the number that go
-/// from which node to which, and a last line with the total.
+/// the change instead of before it: a line, or an object, for each span with such pages, with the
+/// number that go from which node to which, and a last one with the total.
 ///
 /// # Errors
 /// `Refused(BadCpu)`: the machine has no node `cpu`. `Refused(Unmapped)`: an outlook has a page
@@ -248,6 +291,7 @@ pub fn difference_text(
     nodes: u32,
     task: u32,
     cpu: u32,
+    format: Format,
 ) -> Result<Vec<u8>, ReportError>
     ensures err { (machine : Hardware) (old new : List Command) → nodes ≡ machine.nodes
         → IsOutlook machine old before.now → IsOutlook machine new after.now
@@ -258,8 +302,9 @@ pub fn difference_text(
         return Err(ReportError::Refused(PlaceRefusal::BadCpu));
     }
     let spans = common_spans(alloc, before.spans.as_slice(), after.spans.as_slice())?;
-    let mut difference = Difference::new(alloc)?;
     let touch = Touch { task, cpu };
+    let scale = Scale::of_spans(&spans);
+    let mut difference = Difference::new(alloc, format, touch, scale)?;
     for span in &spans {
         push_span(
             &before.plan,

@@ -1,6 +1,8 @@
 //! JSON objects, with their members in the order of their names.
 
-use serde_json::{Map, Value, put};
+use crate::sheet::bytes_text::text_of;
+use crate::sheet::items::Items;
+use serde_json::{Map, ToValue, Value, put};
 use std::alloc::{AllocError, Global};
 
 /// An object that is built member by member. After it ran out of memory nothing more is added.
@@ -44,6 +46,42 @@ impl Object {
         self.put(name, Ok(Value::from(number)));
     }
 
+    /// Adds a text.
+    pub fn put_text(&mut self, name: &str, text: &str) {
+        self.put(name, text.to_value(self.alloc));
+    }
+
+    /// Adds a text, or `null` if there is none.
+    pub fn put_if_text(&mut self, name: &str, text: Option<&str>) {
+        match text {
+            Some(text) => self.put_text(name, text),
+            None => self.put(name, Ok(Value::Null)),
+        }
+    }
+
+    /// Adds a text of bytes, as [`text_of`] makes it.
+    pub fn put_bytes(&mut self, name: &str, bytes: &[u8]) {
+        match text_of(self.alloc, bytes) {
+            Ok(text) => self.put_text(name, text.as_str()),
+            Err(_) => self.lacks_memory = true,
+        }
+    }
+
+    /// Adds `true` or `false`.
+    pub fn put_flag(&mut self, name: &str, flag: bool) {
+        self.put(name, Ok(Value::from(flag)));
+    }
+
+    /// Adds a list.
+    pub fn put_items(&mut self, name: &str, items: Items) {
+        self.put(name, items.made());
+    }
+
+    /// Adds an object.
+    pub fn put_object(&mut self, name: &str, object: Object) {
+        self.put(name, object.made());
+    }
+
     /// Returns the object, if there was memory for all its members.
     ///
     /// # Errors
@@ -53,5 +91,17 @@ impl Object {
             return Err(AllocError);
         }
         Ok(Value::Object(self.members))
+    }
+
+    /// Appends the object as a line, if there was memory for all its members.
+    ///
+    /// # Errors
+    /// `AllocError`: out of memory, now or when a member was added. A part may have been appended.
+    pub fn say_line(self, text: &mut Vec<u8>) -> Result<(), AllocError> {
+        let alloc = self.alloc;
+        let value = self.made()?;
+        let line = value.to_vec(alloc)?;
+        text.extend_from_slice(line.as_slice())?;
+        text.extend_from_slice(b"\n")
     }
 }

@@ -8,9 +8,11 @@ use crate::fault::ReportError;
 use crate::filling::{FreePages, fill_ranges, free_of, taken};
 use crate::prediction::{RangePrediction, TakeRange, predict_ranges};
 use crate::sheet::cells::{CELLS, first_cells};
+use crate::sheet::drawing::Drawing;
 use crate::sheet::fields::{RangeRow, bytes, placed_of};
 use crate::sheet::nodes::{NodePages, list_nodes};
 use crate::sheet::policies::PolicyTexts;
+use crate::sheet::scale::Scale;
 use crate::sheet::written::Written;
 use crate::sheet::{Format, lines, objects, pictures, records};
 use crate::touch::{Touch, has_node};
@@ -33,6 +35,7 @@ struct PredictionWriter {
     ranges: usize,
     pages: u64,
     cells: Vec<u8>,
+    drawing: Drawing,
     // The nodes that get pages of the range being written.
     listed: Vec<NodePages>,
     text: Written,
@@ -51,9 +54,26 @@ fn cells_of(cells: &[u8], ranges: usize, pages: u64) -> &[u8] {
 }
 
 impl PredictionWriter {
+    /// Draws the ranges of a picture that aren't drawn by themselves, and returns how many rows it
+    /// has.
+    fn end_ranges(&mut self) -> u64 {
+        let Format::Svg = self.format else {
+            return 0;
+        };
+        let fills = self.fills;
+        match self.drawing.end(&mut self.text, &mut self.listed, fills) {
+            Ok(rows) => rows,
+            Err(_) => {
+                self.text.lack();
+                0
+            }
+        }
+    }
+
     /// Writes the part after the last range: the total pages of each node, and the free pages left
     /// on named nodes.
     fn put_total(&mut self, counts: &[u64; 256], left: &[NodePages]) {
+        let rows = self.end_ranges();
         let counts = shown(counts, self.nodes);
         if let Err(_) = list_nodes(&mut self.listed, counts) {
             self.text.lack();
@@ -62,10 +82,10 @@ impl PredictionWriter {
         let placed = placed_of(&self.listed, self.pages, self.fills);
         let text = &mut self.text;
         match self.format {
-            Format::Text => lines::put_total(text, placed, left),
-            Format::Json => objects::put_total(text, placed, left),
+            Format::Json | Format::Html => objects::put_total(text, placed, left),
             Format::Csv => records::put_total(text, placed, left),
-            Format::Svg => pictures::put_total(text, placed, counts, left, self.ranges),
+            Format::Svg => pictures::put_total(text, placed, counts, left, rows),
+            Format::Text | Format::Tap => lines::put_total(text, placed, left),
         }
     }
 }
@@ -81,12 +101,12 @@ impl TakeRange for PredictionWriter {
         };
         let text = &mut self.text;
         match self.format {
-            Format::Text => lines::put_range(text, row),
-            Format::Json => objects::put_range(text, row, self.ranges == 0),
+            Format::Text | Format::Tap => lines::put_range(text, row),
+            Format::Json | Format::Html => objects::put_range(text, row, self.ranges == 0),
             Format::Csv => records::put_range(text, row),
             Format::Svg => {
                 let cells = cells_of(&self.cells, self.ranges, row.placed.pages);
-                pictures::put_range(text, self.ranges, row, cells);
+                self.drawing.put_range(text, row, cells);
             }
         }
         self.ranges = self.ranges.saturating_add(1);
@@ -106,16 +126,15 @@ struct PredictionRequest<'a> {
 }
 
 /// The part before the first range.
-fn head(alloc: Global, asked: PredictionRequest<'_>, format: Format) -> Written {
+fn head(alloc: Global, asked: PredictionRequest<'_>, format: Format, drawing: &Drawing) -> Written {
     let mut text = Written::new(alloc);
     let (space, touch) = (asked.space, asked.touch);
     let version = asked.plan.version();
-    let nodes = space.machine().nodes() as usize;
     match format {
-        Format::Text => (),
-        Format::Json => objects::put_head(&mut text, version, touch),
+        Format::Text | Format::Tap => (),
+        Format::Json | Format::Html => objects::put_head(&mut text, version, touch),
         Format::Csv => records::put_head(&mut text),
-        Format::Svg => pictures::put_head(&mut text, version, touch, space.ranges(), nodes),
+        Format::Svg => drawing.put_head(&mut text, version, touch, space),
     }
     text
 }
@@ -133,6 +152,10 @@ fn begin(
         Format::Svg => first_cells(alloc, asked.space, asked.plan, asked.touch, asked.free)?,
         _ => Vec::new(alloc),
     };
+    let drawing = Drawing::by(match format {
+        Format::Svg => Scale::of(asked.space),
+        _ => Scale::none(),
+    });
     Ok(PredictionWriter {
         format,
         nodes: asked.space.machine().nodes() as usize,
@@ -142,7 +165,8 @@ fn begin(
         pages: 0,
         cells,
         listed: Vec::new(alloc),
-        text: head(alloc, asked, format),
+        text: head(alloc, asked, format, &drawing),
+        drawing,
     })
 }
 

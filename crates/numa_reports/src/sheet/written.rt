@@ -1,5 +1,6 @@
 //! A text that is written part by part.
 
+use crate::sheet::object::Object;
 use itoa::Buffer;
 use std::alloc::{AllocError, Global};
 use std::mem::replace;
@@ -90,6 +91,18 @@ impl Written {
                 self.put_number(*number);
                 rest = behind;
             }
+        }
+    }
+
+    /// Writes a JSON object.
+    pub fn put_object(&mut self, object: Object) {
+        let Ok(value) = object.made() else {
+            self.lack();
+            return;
+        };
+        match value.to_vec(self.alloc) {
+            Ok(text) => self.put(text.as_slice()),
+            Err(_) => self.lack(),
         }
     }
 

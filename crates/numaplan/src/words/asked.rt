@@ -1,14 +1,38 @@
 //! Subcommands that ask about pages that a task would touch.
-use crate::endings::{StandardError, answered};
+use crate::endings::{StandardError, answered, fail};
+use crate::progress::with_progress;
 use numa_command_line::{Outlet, PageQuestion};
+use numa_lines::RunFault;
 use numa_reports::Touch;
-use numa_words::{Scripts, diff, explain, predict};
+use numa_words::{AskedPages, Scripts, diff, explain, predict};
 use std::io;
 use std::io::Read;
 use std::process::ExitCode;
+use std::rt::{Clock, Files};
+
+/// Answers a question about the state that scripts lead to. With `tells`, standard error shows how
+/// far reading is.
+pub fn answer<R, S>(
+    rt: &R,
+    scripts: Scripts<S>,
+    asked: Touch,
+    question: &PageQuestion,
+    lenient: bool,
+    tells: bool,
+) -> ExitCode
+where
+    R: Clock + Files + Print + Eprint + AllocGlobal,
+    S: Read + Drop,
+{
+    let Scripts { texts, rules } = scripts;
+    match with_progress(rt, texts, tells) {
+        Ok(texts) => answer_all(rt, Scripts { texts, rules }, asked, question, lenient),
+        Err(_) => fail(rt, RunFault::Memory),
+    }
+}
 
 /// Answers a question about the state that scripts lead to.
-pub fn answer<R, S>(
+fn answer_all<R, S>(
     rt: &R,
     scripts: Scripts<S>,
     asked: Touch,
@@ -27,8 +51,20 @@ where
         PageQuestion::Predict { format, free } => {
             predict(alloc, scripts, asked, *format, free, &mut output, told)
         }
-        PageQuestion::Diff(lines) => diff(alloc, scripts, lines, asked, &mut output, told),
-        PageQuestion::Explain(page) => explain(alloc, scripts, asked, *page, &mut output, told),
+        PageQuestion::Diff { lines, format } => {
+            diff(alloc, scripts, lines, asked, *format, &mut output, told)
+        }
+        PageQuestion::Explain {
+            page,
+            pages,
+            format,
+        } => {
+            let asked_for = AskedPages {
+                page: *page,
+                pages: *pages,
+            };
+            explain(alloc, scripts, asked, asked_for, *format, &mut output, told)
+        }
     };
     drop(output);
     answered(rt, asked, answer, lenient, &outlet)

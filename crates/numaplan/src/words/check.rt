@@ -1,19 +1,21 @@
 //! Reports what is wrong with scripts.
 use crate::endings::{status_of, stop_quietly};
 use numa_command_line::Outlet;
+use numa_reports::Format;
 use numa_words::Scripts;
 use std::io;
 use std::io::Read;
 use std::process::ExitCode;
 
 /// Checks the scripts.
-pub fn check<R, S>(rt: &R, scripts: Scripts<S>) -> ExitCode
+pub fn check<R, S>(rt: &R, scripts: Scripts<S>, format: Format) -> ExitCode
 where
     R: Print + Eprint + AllocGlobal,
     S: Read + Drop,
 {
     let outlet = Outlet::new();
-    match numa_words::check(rt.alloc(), scripts, outlet.writer(io::writer(rt))) {
+    let output = outlet.writer(io::writer(rt));
+    match numa_words::check(rt.alloc(), scripts, format, output) {
         Ok(ended) => status_of(ended, false),
         Err(why) => stop_quietly(rt, why, &outlet),
     }

@@ -1,13 +1,16 @@
-//! Compares worked scripts with the answers to their lines.
+//! Compares worked scripts with the answers to their lines, and writes them anew.
 use crate::answering::Answering;
-use crate::endings::stop_quietly;
+use crate::endings::{fail, fail_to_write, stop_quietly};
 use crate::lacking::{Lack, Noting};
+use crate::rewriting::rewrite_all;
 use numa_command_line::Outlet;
 use numa_lines::{Expect, RunFault, read_all};
-use numa_words::Scripts;
+use numa_reports::Format;
+use numa_words::{Comparing, Comparison, Scripts, Updated};
 use std::io;
 use std::io::{Read, Write};
 use std::process::ExitCode;
+use std::rt::Files;
 
 /// The status if an answer isn't as expected, or a worked script expects none.
 const DIFFERENT: u8 = 3;
@@ -38,16 +41,85 @@ where
     is_same
 }
 
-/// Compares worked scripts, each as a separate script.
-pub fn check<R, S>(rt: &R, scripts: Scripts<S>) -> ExitCode
+/// Whether all answers are as expected, and the scripts that hold others.
+type Compared = (bool, Vec<Updated>);
+
+/// Reads worked scripts, and writes the counts.
+fn compare_all_by<S: Read + Drop, W: Write>(
+    texts: Vec<(String, S)>,
+    comparing: &mut Comparing<Answering, W>,
+) -> Result<Compared, RunFault> {
+    read_all(texts, comparing, &mut ())?;
+    comparing.tell_counts()?;
+    Ok((comparing.is_as_wanted(), comparing.take_changed()))
+}
+
+/// Compares worked scripts in other ways than by text and exactly.
+fn compare_otherwise<R, S>(
+    rt: &R,
+    scripts: Scripts<S>,
+    how: Comparison,
+    outlet: &Outlet,
+) -> Result<Compared, RunFault>
 where
-    R: Print + Eprint + AllocGlobal,
+    R: Print + AllocGlobal,
+    S: Read + Drop,
+{
+    let Scripts { texts, rules } = scripts;
+    let answering = Answering::new(rt.alloc(), rules);
+    let output = outlet.writer(io::writer(rt));
+    let mut comparing = Comparing::new(rt.alloc(), how, answering, output);
+    let compared = compare_all_by(texts, &mut comparing);
+    drop(comparing);
+    compared
+}
+
+/// The status of a comparison.
+fn status_of(is_same: bool) -> ExitCode {
+    if is_same {
+        ExitCode::SUCCESS
+    } else {
+        ExitCode::from(DIFFERENT)
+    }
+}
+
+/// Writes scripts anew, and ends with this status.
+fn end_update<R>(rt: &R, changed: &[Updated], is_same: bool) -> ExitCode
+where
+    R: Files + Eprint + AllocGlobal,
+{
+    match rewrite_all(rt, changed) {
+        Ok(None) => status_of(is_same),
+        Ok(Some(fault)) => fail_to_write(rt, fault.name.as_str(), &fault.error),
+        Err(_) => fail(rt, RunFault::Memory),
+    }
+}
+
+/// Compares worked scripts, each as a separate script, and writes those anew that hold other
+/// answers than they get, if that is asked for.
+pub fn check<R, S>(rt: &R, scripts: Scripts<S>, how: Comparison) -> ExitCode
+where
+    R: Files + Print + Eprint + AllocGlobal,
     S: Read + Drop,
 {
     let outlet = Outlet::new();
-    match compare(rt, scripts, &outlet) {
-        Ok(true) => ExitCode::SUCCESS,
-        Ok(false) => ExitCode::from(DIFFERENT),
+    if let Comparison {
+        format: Format::Text,
+        any_version: false,
+        update: false,
+    } = how
+    {
+        return match compare(rt, scripts, &outlet) {
+            Ok(is_same) => status_of(is_same),
+            Err(why) => stop_quietly(rt, why, &outlet),
+        };
+    }
+    match compare_otherwise(rt, scripts, how, &outlet) {
+        Ok((is_same, changed)) => {
+            let code = end_update(rt, changed.as_slice(), is_same);
+            drop(changed);
+            code
+        }
         Err(why) => stop_quietly(rt, why, &outlet),
     }
 }

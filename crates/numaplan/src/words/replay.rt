@@ -1,12 +1,13 @@
 //! Replays a trace of accesses.
 use crate::endings::{StandardError, ended};
+use crate::progress::with_progress;
 use numa_command_line::{JobFault, Outlet, open_all};
-use numa_traces::Shape;
+use numa_reports::Format;
 use numa_words::Scripts;
 use std::io;
 use std::io::{IsTerminal, Read};
 use std::process::ExitCode;
-use std::rt::Files;
+use std::rt::{Clock, Files};
 
 /// Replays a trace after scripts.
 fn replay<R, S, T>(
@@ -14,7 +15,7 @@ fn replay<R, S, T>(
     scripts: Scripts<S>,
     name: &str,
     traces: Vec<(String, T)>,
-    format: Shape,
+    format: Format,
     lenient: bool,
 ) -> ExitCode
 where
@@ -35,7 +36,7 @@ where
     ended(rt, name, answer, lenient, &outlet)
 }
 
-/// Replays the trace of a file after scripts.
+/// Replays the trace of a file after scripts. With `tells`, standard error shows how far reading is.
 ///
 /// # Errors
 /// `Usage`: the trace can't be opened. `NoMemory`: out of memory.
@@ -43,11 +44,12 @@ pub fn answer<R, S>(
     rt: &R,
     scripts: Scripts<S>,
     trace: &[String],
-    format: Shape,
+    format: Format,
     lenient: bool,
+    tells: bool,
 ) -> Result<ExitCode, JobFault>
 where
-    R: Files + Input + Print + Eprint + AllocGlobal,
+    R: Clock + Files + Input + Print + Eprint + AllocGlobal,
     R::Reader: IsTerminal,
     S: Read + Drop,
 {
@@ -56,7 +58,13 @@ where
         None => "",
     };
     match open_all(rt, trace) {
-        Ok(traces) => Ok(replay(rt, scripts, name, traces, format, lenient)),
+        Ok(traces) => match with_progress(rt, traces, tells) {
+            Ok(traces) => Ok(replay(rt, scripts, name, traces, format, lenient)),
+            Err(_) => {
+                drop(scripts);
+                Err(JobFault::NoMemory)
+            }
+        },
         Err(fault) => {
             drop(scripts);
             Err(fault)

@@ -3,8 +3,9 @@ use crate::answering::Answering;
 use crate::endings::fail;
 use numa_command_line::without_names;
 use numa_lines::{Echo, Joined, Lines, RunFault, Watched, read_all};
+use numa_reports::Format;
 use numa_run::run_by;
-use numa_words::Scripts;
+use numa_words::{Answers, Scripts};
 use std::io;
 use std::io::Read;
 use std::process::ExitCode;
@@ -45,16 +46,34 @@ where
     read
 }
 
-/// Answers scripts; with `echo`, writes each line too.
-pub fn answer<R, S>(rt: &R, scripts: Scripts<S>, echo: bool) -> ExitCode
+/// Answers scripts by lines of JSON.
+fn answer_by_objects<R, S>(rt: &R, scripts: Scripts<S>) -> Result<(), RunFault>
+where
+    R: Print + AllocGlobal,
+    S: Read + Drop,
+{
+    let Scripts { texts, rules } = scripts;
+    let answering = Answering::new(rt.alloc(), rules);
+    let answers = Answers::new(rt.alloc(), answering, io::writer(rt));
+    let Ok(mut lines) = Lines::new(rt.alloc(), answers) else {
+        drop(texts);
+        return Err(RunFault::Memory);
+    };
+    let read = read_all(texts, &mut lines, &mut ());
+    drop(lines);
+    read
+}
+
+/// Answers scripts; with `echo`, writes each line too, as lines of JSON do anyway.
+pub fn answer<R, S>(rt: &R, scripts: Scripts<S>, echo: bool, format: Format) -> ExitCode
 where
     R: Print + Eprint + AllocGlobal,
     S: Read + Drop,
 {
-    let run = if echo {
-        echo_all(rt, scripts)
-    } else {
-        answer_all(rt, scripts)
+    let run = match format {
+        Format::Json => answer_by_objects(rt, scripts),
+        _ if echo => echo_all(rt, scripts),
+        _ => answer_all(rt, scripts),
     };
     match run {
         Ok(()) => ExitCode::SUCCESS,

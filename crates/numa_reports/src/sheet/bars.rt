@@ -1,0 +1,128 @@
+//! The bars of pictures: pages one by one, or by node.
+
+use crate::sheet::colours::{fill_of, ink_of};
+use crate::sheet::fields::{Placed, bytes};
+use crate::sheet::nodes::NodePages;
+use crate::sheet::scale::share;
+use crate::sheet::written::Written;
+
+/// The least pixels of a cell with a number.
+pub(crate) const CELL: u64 = 12;
+
+/// Where a part of a bar is drawn: its first column and its row of pixels, and its size.
+#[derive(Clone, Copy)]
+pub(crate) struct Place {
+    pub(crate) left: u64,
+    pub(crate) top: u64,
+    pub(crate) width: u64,
+    pub(crate) height: u64,
+}
+
+/// Draws a rectangle.
+fn put_rectangle(text: &mut Written, place: Place, fill: &str) {
+    let numbers = [place.left, place.top, place.width, place.height];
+    text.put_form(
+        b"<rect x=\"$\" y=\"$\" width=\"$\" height=\"$\" stroke=\"#333333\" \
+        stroke-width=\"0.5\" fill=\"",
+        &numbers,
+    );
+    text.put(fill.as_bytes());
+    text.put(b"\"/>");
+}
+
+/// Writes the number of a node in the middle of a place, if there is room for it.
+fn put_number(text: &mut Written, place: Place, node: u64) {
+    if place.width < CELL {
+        return;
+    }
+    let size = if node < 100 || place.width >= 20 {
+        9
+    } else {
+        6
+    };
+    let middle = place.left.saturating_add(place.width / 2);
+    let line = place.top.saturating_add(place.height / 2).saturating_add(3);
+    text.put_form(
+        b"<text x=\"$\" y=\"$\" font-size=\"$\" text-anchor=\"middle\" fill=\"",
+        &[middle, line, size],
+    );
+    text.put(ink_of(node).as_bytes());
+    text.put(b"\">");
+    text.put_number(node);
+    text.put(b"</text>");
+}
+
+/// Draws a part of a bar in the colour of a node, with its number. Its title, which tells more where
+/// the mouse points, was written before it.
+pub(crate) fn put_part(text: &mut Written, place: Place, node: u64) {
+    put_rectangle(text, place, fill_of(node));
+    put_number(text, place, node);
+    text.put(b"</g>");
+}
+
+/// Draws the page of an address.
+fn put_page(text: &mut Written, place: Place, address: u64, node: u64) {
+    text.put(b"<g><title>");
+    text.put_address(address);
+    text.put_form(b": node $</title>", &[node]);
+    put_part(text, place, node);
+}
+
+/// Draws a cell for each page, from the address of the first on.
+pub(crate) fn put_pages(text: &mut Written, whole: Place, start: u64, nodes: &[u8]) {
+    let count = nodes.len() as u64;
+    let mut page = 0u64;
+    for node in nodes {
+        let left = share(whole.width, page, count);
+        let behind = share(whole.width, page.saturating_add(1), count);
+        let place = Place {
+            left: whole.left.saturating_add(left),
+            width: behind.saturating_sub(left),
+            ..whole
+        };
+        put_page(text, place, start.saturating_add(bytes(page)), *node as u64);
+        page = page.saturating_add(1);
+    }
+}
+
+/// Draws the pages of a node, of a bar with `all` pages of which `before` are drawn.
+fn put_node(text: &mut Written, whole: Place, before: u64, all: u64, one: NodePages) {
+    let left = share(whole.width, before, all);
+    let behind = share(whole.width, before.saturating_add(one.pages), all);
+    let place = Place {
+        left: whole.left.saturating_add(left),
+        width: behind.saturating_sub(left),
+        ..whole
+    };
+    text.put_form(
+        b"<g><title>node $: $ pages, $ bytes</title>",
+        &[one.node, one.pages, bytes(one.pages)],
+    );
+    put_part(text, place, one.node);
+}
+
+/// Draws the pages by node, and behind them those that find no free page.
+pub(crate) fn put_nodes(text: &mut Written, whole: Place, placed: Placed<'_>) {
+    let lacking = placed.lacking().unwrap_or(0);
+    let all = placed.pages.saturating_add(lacking);
+    let mut before = 0u64;
+    for one in placed.nodes {
+        put_node(text, whole, before, all, *one);
+        before = before.saturating_add(one.pages);
+    }
+    if lacking == 0 {
+        return;
+    }
+    let left = share(whole.width, before, all);
+    let place = Place {
+        left: whole.left.saturating_add(left),
+        width: whole.width.saturating_sub(left),
+        ..whole
+    };
+    text.put_form(
+        b"<g class=\"exhausted\"><title>no free page: $ pages</title>",
+        &[lacking],
+    );
+    put_rectangle(text, place, "none");
+    text.put(b"</g>");
+}

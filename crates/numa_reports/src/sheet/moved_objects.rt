@@ -1,0 +1,74 @@
+//! Differences as JSON.
+
+use crate::outlook::PageSpan;
+use crate::sheet::changes::{entry, moved};
+use crate::sheet::fields::bytes;
+use crate::sheet::items::Items;
+use crate::sheet::object::Object;
+use crate::sheet::written::Written;
+use crate::touch::Touch;
+
+/// Begins the object, and its list of spans.
+pub(crate) fn put_head(text: &mut Written, touch: Touch) {
+    let asked = [touch.task as u64, touch.cpu as u64];
+    text.put_form(
+        b"{\"task\":$,\"cpu\":$,\"kernelpagesize_kB\":4,\"spans\":[",
+        &asked,
+    );
+}
+
+/// Pages that go from a node to another.
+fn put_move(items: &mut Items, from: u32, to: u32, pages: u64) {
+    let mut object = Object::new(items.alloc());
+    object.put_number("from", from as u64);
+    object.put_number("to", to as u64);
+    object.put_number("pages", pages);
+    items.push_object(object);
+}
+
+/// Adds the pages that go from a node to each other node, where there are some.
+fn put_from(items: &mut Items, table: &[u64], told: &[u64], nodes: u32, from: u32) {
+    for to in 0..nodes {
+        let pages = entry(table, told, from, to);
+        if from != to && pages > 0 {
+            put_move(items, from, to, pages);
+        }
+    }
+}
+
+/// Adds the number of pages that go to another node, and the list from which to which.
+fn put_moves(object: &mut Object, table: &[u64], told: &[u64], nodes: u32) {
+    let mut items = Items::new(object.alloc());
+    for from in 0..nodes {
+        put_from(&mut items, table, told, nodes, from);
+    }
+    object.put_number("moved", moved(table, told, nodes));
+    object.put_items("moves", items);
+}
+
+/// The object of a span.
+pub(crate) fn put_span(
+    text: &mut Written,
+    span: PageSpan,
+    table: &[u64],
+    told: &[u64],
+    nodes: u32,
+    is_first: bool,
+) {
+    let before = if is_first { "\n" } else { ",\n" };
+    text.put(before.as_bytes());
+    let mut object = Object::new(text.alloc());
+    object.put_number("start", bytes(span.first));
+    object.put_number("end", bytes(span.first.saturating_add(span.pages)));
+    put_moves(&mut object, table, told, nodes);
+    text.put_object(object);
+}
+
+/// Ends the list of spans, and the object, with all pages.
+pub(crate) fn put_total(text: &mut Written, table: &[u64], nodes: u32) {
+    text.put(b"\n],\"total\":");
+    let mut object = Object::new(text.alloc());
+    put_moves(&mut object, table, &[], nodes);
+    text.put_object(object);
+    text.put(b"}\n");
+}

@@ -1,0 +1,138 @@
+//! Differences as a picture: SVG 1.1, which browsers show.
+//!
+//! A span is a line of text and two bars, the pages before the change above those after it. A part
+//! of a bar is the pages that go from one node to one other, in the same place of both; those that
+//! move have a thick frame.
+
+use crate::outlook::PageSpan;
+use crate::sheet::bars::{Place, put_part};
+use crate::sheet::changes::{entry, moved};
+use crate::sheet::fields::bytes;
+use crate::sheet::scale::{Scale, share};
+use crate::sheet::written::Written;
+use crate::touch::Touch;
+
+/// The most spans that are drawn.
+pub(crate) const SPANS: u64 = 40;
+
+/// The first row of pixels of the spans, and the rows of a span.
+const TOP: u64 = 60;
+
+const SPAN_ROWS: u64 = 60;
+
+/// Begins the picture of this many spans.
+pub(crate) fn put_head(text: &mut Written, touch: Touch, spans: u64, scale: &Scale) {
+    let rows = spans.min(SPANS).saturating_mul(SPAN_ROWS);
+    let height = rows.saturating_add(TOP).saturating_add(40);
+    text.put_form(
+        b"<?xml version=\"1.0\" encoding=\"UTF-8\"?>\n\
+        <svg xmlns=\"http://www.w3.org/2000/svg\" version=\"1.1\" \
+        width=\"920\" height=\"$\" viewBox=\"0 0 920 $\" \
+        font-family=\"monospace\" font-size=\"12\">\n\
+        <rect width=\"920\" height=\"100%\" fill=\"#ffffff\"/>\n",
+        &[height, height],
+    );
+    text.put_form(
+        b"<text x=\"16\" y=\"24\" font-size=\"14\">Pages that would go elsewhere, if task $ \
+        touched them on node $: before, and below it after</text>\n",
+        &[touch.task as u64, touch.cpu as u64],
+    );
+    scale.put_line(text);
+}
+
+/// Draws the pages that go from a node to another, in a bar.
+fn put_pages(text: &mut Written, place: Place, from: u64, to: u64, node: u64, pages: u64) {
+    text.put_form(
+        b"<g><title>node $ to node $: $ pages</title>",
+        &[from, to, pages],
+    );
+    put_part(text, place, node);
+    if from == to {
+        return;
+    }
+    let numbers = [place.left, place.top, place.width, place.height];
+    text.put_form(
+        b"<rect class=\"moved\" x=\"$\" y=\"$\" width=\"$\" height=\"$\" fill=\"none\" \
+        stroke=\"#000000\" stroke-width=\"3\"/>",
+        &numbers,
+    );
+}
+
+/// Draws the pages that go from a node to each node in both bars of a width, of which `before` of
+/// `all` pages are drawn; returns how many are then.
+fn put_from(
+    text: &mut Written,
+    table: &[u64],
+    told: &[u64],
+    nodes: u32,
+    from: u32,
+    width: u64,
+    before: u64,
+    all: u64,
+) -> u64 {
+    let mut done = before;
+    for to in 0..nodes {
+        let pages = entry(table, told, from, to);
+        if pages > 0 {
+            let left = share(width, done, all);
+            done = done.saturating_add(pages);
+            let upper = Place {
+                left,
+                top: 16,
+                width: share(width, done, all).saturating_sub(left),
+                height: 16,
+            };
+            let (one, other) = (u64::from(from), u64::from(to));
+            put_pages(text, upper, one, other, one, pages);
+            put_pages(text, Place { top: 35, ..upper }, one, other, other, pages);
+        }
+    }
+    done
+}
+
+/// Draws a span, with `before` spans before it.
+pub(crate) fn put_span(
+    text: &mut Written,
+    before: u64,
+    span: PageSpan,
+    table: &[u64],
+    told: &[u64],
+    nodes: u32,
+    scale: &Scale,
+) {
+    let top = before.saturating_mul(SPAN_ROWS).saturating_add(TOP);
+    text.put_form(
+        b"<g class=\"span\" transform=\"translate(16,$)\"><text y=\"11\">",
+        &[top],
+    );
+    let end = span.first.saturating_add(span.pages);
+    text.put_addresses(bytes(span.first), bytes(end));
+    text.put_form(
+        b" moved=$ of $</text>",
+        &[moved(table, told, nodes), span.pages],
+    );
+    let width = scale.width(span.pages);
+    let mut done = 0u64;
+    for from in 0..nodes {
+        done = put_from(text, table, told, nodes, from, width, done, span.pages);
+    }
+    text.put(b"</g>\n");
+}
+
+/// Ends the picture, behind this many spans, with all pages.
+pub(crate) fn put_total(text: &mut Written, spans: u64, table: &[u64], nodes: u32) {
+    let shown = spans.min(SPANS);
+    let line = shown
+        .saturating_mul(SPAN_ROWS)
+        .saturating_add(TOP)
+        .saturating_add(20);
+    text.put_form(
+        b"<text class=\"total\" x=\"16\" y=\"$\">total moved=$",
+        &[line, moved(table, &[], nodes)],
+    );
+    let others = spans.saturating_sub(shown);
+    if others > 0 {
+        text.put_form(b"; $ more spans aren't drawn", &[others]);
+    }
+    text.put(b"</text>\n</svg>\n");
+}

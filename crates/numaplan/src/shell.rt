@@ -1,0 +1,94 @@
+//! Questions of a shell, beside those of scripts.
+use numa_reports::Touch;
+use numa_run::Script;
+use numa_script::number::number;
+use numa_script::parts::words;
+use numa_words::{Halt, explained, predicted};
+use std::alloc::Global;
+
+/// The help on the lines of a shell.
+pub const SHELL_LINES: &str = "\
+predict TASK NODE              where all mapped pages would go
+explain TASK ADDR NODE         why a page goes where it goes
+help, quit                     this help; the end
+";
+
+/// The message for other words behind `predict`.
+const PREDICT: &str = "predict wants TASK NODE, in decimal or 0x and hexadecimal";
+
+/// The message for other words behind `explain`.
+const EXPLAIN: &str = "explain wants TASK ADDR NODE, in decimal or 0x and hexadecimal";
+
+/// A question of a shell.
+#[derive(Clone, Copy)]
+pub enum ShellQuestion {
+    /// Where all mapped pages would go.
+    Predict(Touch),
+    /// Why this page goes where it goes.
+    Explain(Touch, u64),
+    /// None: the words behind the first aren't as this message says.
+    Malformed(&'static str),
+}
+
+/// A task that touches pages on a CPU of a node.
+fn touch_of(task: Option<u64>, node: Option<u64>) -> Option<Touch> {
+    let task = u32::try_from(task?).ok()?;
+    let cpu = u32::try_from(node?).ok()?;
+    Some(Touch { task, cpu })
+}
+
+/// A number of a line, if there is a word left.
+fn number_of(word: Option<&[u8]>) -> Option<u64> {
+    match word {
+        Some(word) => number(word),
+        None => None,
+    }
+}
+
+/// The question of a line; `None` if it begins with another word.
+pub fn question_of(line: &[u8]) -> Option<ShellQuestion> {
+    let mut words = words(line);
+    let Some(first) = words.next() else {
+        return None;
+    };
+    let is_explain = first == b"explain".as_slice();
+    if !is_explain && first != b"predict".as_slice() {
+        return None;
+    }
+    let task = number_of(words.next());
+    let address = if is_explain {
+        number_of(words.next())
+    } else {
+        None
+    };
+    let touch = touch_of(task, number_of(words.next()));
+    let is_over = words.next().is_none();
+    Some(match (touch, address) {
+        (Some(touch), None) if is_over && !is_explain => ShellQuestion::Predict(touch),
+        (Some(touch), Some(address)) if is_over => ShellQuestion::Explain(touch, address / 4096),
+        _ => ShellQuestion::Malformed(if is_explain { EXPLAIN } else { PREDICT }),
+    })
+}
+
+/// The answer to a question about a script.
+///
+/// # Errors
+/// The message why there is none; `None` if memory ran out.
+pub fn answer_to(
+    alloc: Global,
+    script: &Script,
+    question: ShellQuestion,
+) -> Result<Vec<u8>, Option<&'static str>> {
+    let answer = match question {
+        ShellQuestion::Predict(touch) => predicted(alloc, script, touch),
+        ShellQuestion::Explain(touch, page) => explained(alloc, script, touch, page),
+        ShellQuestion::Malformed(message) => return Err(Some(message)),
+    };
+    match answer {
+        Ok(text) => Ok(text),
+        Err(Halt::NoMachine) => Err(Some("no machine is ready; limits and machine come first")),
+        Err(Halt::NoNode(_)) => Err(Some("the machine lacks the node")),
+        Err(Halt::Unmapped) => Err(Some("the page of ADDR isn't mapped")),
+        Err(_) => Err(None),
+    }
+}
