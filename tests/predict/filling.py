@@ -6,11 +6,10 @@ import json
 from collections import Counter
 
 import model
+import pictures
 from space import index_at, is_live, policy_list, ranges, resolved
 
 PAGES = 5_000  # more pages in all are not filled one by one
-CELLS = 64
-NAMED = 8
 
 
 def first_free(nodes, free):
@@ -83,28 +82,13 @@ def records(rows, left):
                    for node, pages in sorted(left.items())]
 
 
-def pictures(rows, left, nodes):
-    """The texts and cells of the picture."""
-    told = []
-    for start, end, policy, pages in rows:
-        counts, lacking = tallied(pages)
-        anon = sum(counts.values())
-        named = nodes_text(counts) if len(counts) <= NAMED else f" on {len(counts)} nodes"
-        lacks = f" exhausted={lacking}" if lacking else ""
-        more = [f"+ {anon - CELLS} pages"] if anon > CELLS else []
-        told.append(([f"{start:08x}-{end:08x} anon={anon}{named}{lacks} {policy}", *more],
-                     [node for node in pages[:CELLS] if node is not None]))
-    counts, lacking = tallied([node for row in rows for node in row[3]])
-    anon = sum(counts.values())
-    lacks = f" exhausted={lacking}" if lacking else ""
-    total = [f"total anon={anon} pages, {anon * 4096} bytes{lacks}"]
-    for node in range(nodes):
-        behind = f", {left[node]} pages left" if node in left else ""
-        total.append(f"N{node}={counts.get(node, 0)} pages, {counts.get(node, 0) * 4096} bytes{behind}")
-    return told + [(total, list(range(nodes)))]
+def drawn(rows):
+    """The ranges of the picture."""
+    return [pictures.Row(start, end, policy, nodes[:pictures.CELLS], *tallied(nodes))
+            for start, end, policy, nodes in rows]
 
 
-def difference(call, svg_rows, name, space, cpu, told):
+def difference(call, name, space, cpu, told):
     """What is wrong with predictions on few free pages, in each format, or None."""
     pages = sum(each.end - each.first for each in ranges(space))
     if pages > PAGES:
@@ -126,8 +110,10 @@ def difference(call, svg_rows, name, space, cpu, told):
         got = {key: got[key] for key in ("ranges", "total", "left")}
         for what, one, other in (
                 ("text", texts[0], lines(rows, left)), ("json", got, value(rows, left)),
-                ("csv", list(csv.reader(io.StringIO(texts[2])))[1:], records(rows, left)),
-                ("svg", svg_rows(texts[3]), pictures(rows, left, last + 1))):
+                ("csv", list(csv.reader(io.StringIO(texts[2])))[1:], records(rows, left))):
             if one != other:
                 return f"{words}: {what}: got {one}, not {other}"
+        wrong = pictures.difference(texts[3], drawn(rows), last + 1, left)
+        if wrong:
+            return f"{words}: svg: {wrong}"
     return None

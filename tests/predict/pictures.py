@@ -1,0 +1,147 @@
+"""Pictures of `numaplan predict`, read back and compared with rows of ranges. Not proved."""
+
+import re
+from collections import Counter
+from xml.etree import ElementTree
+
+SVG = "{http://www.w3.org/2000/svg}"
+DRAWN = 40
+CELLS = 64
+CELL = 12
+NAMED = 8
+PAGE = re.compile(r"([0-9a-f]{8,}): node (\d+)")
+NODE = re.compile(r"node (\d+): (\d+) pages, (\d+) bytes")
+LACKING = re.compile(r"no free page: (\d+) pages")
+
+
+class Row:
+    """A range for a picture: its addresses, policy, the nodes of its first pages, its pages by node,
+    and how many find no free page."""
+
+    def __init__(self, start, end, policy, cells, counts, lacking):
+        self.start, self.end, self.policy = start, end, policy
+        self.cells, self.counts, self.lacking = cells, dict(counts), lacking
+        self.pages = (end - start) // 4096
+
+
+def counts_text(counts, lacking):
+    named = "".join(f" N{node}={pages}" for node, pages in sorted(counts.items()))
+    named = named if len(counts) <= NAMED else f" on {len(counts)} nodes"
+    return named + (f" exhausted={lacking}" if lacking else "")
+
+
+def parts_of(group):
+    """The parts of a bar: title, left, width and number of each, as they are drawn."""
+    parts = []
+    for each in group.findall(SVG + "g"):
+        box, number = each.find(SVG + "rect"), each.find(SVG + "text")
+        parts.append((each.find(SVG + "title").text, int(box.get("x")), int(box.get("width")),
+                      None if number is None else number.text))
+    return parts
+
+
+def width_of(parts):
+    """The pixels of a bar whose parts lie side by side, or None."""
+    right = 0
+    for _, left, width, _ in parts:
+        if left != right:
+            return None
+        right += width
+    return right
+
+
+def bar_difference(row, parts):
+    """What is wrong with a bar, or None."""
+    width = width_of(parts)
+    if width is None or not parts:
+        return f"parts {parts}"
+    pages = [PAGE.fullmatch(it[0]) for it in parts]
+    by_page = row.pages <= CELLS and not row.lacking and width >= CELL * row.pages
+    if by_page != (None not in pages):
+        return f"{width} pixels for {row.pages} pages, one by one: {not by_page}"
+    if by_page:
+        told = [(int(it[1], 16), int(it[2])) for it in pages]
+        want = [(row.start + 4096 * k, node) for k, node in enumerate(row.cells)]
+        numbers = [it[3] for it in parts]
+        return None if told == want and numbers == [str(it[1]) for it in told] else f"{told}"
+    nodes = [NODE.fullmatch(it[0]) for it in parts]
+    told = {int(it[1]): int(it[2]) for it in nodes if it}
+    lacks = [int(it[1]) for it in (LACKING.fullmatch(part[0]) for part in parts) if it]
+    if told != row.counts or lacks != ([row.lacking] if row.lacking else []):
+        return f"{told} and {lacks}, not {row.counts} and {row.lacking}"
+    for (_, _, wide, number), it in zip(parts, nodes):
+        if it and (abs(wide - width * int(it[2]) / row.pages) > 1 or int(it[3]) != 4096 * int(it[2])
+                   or number != (it[1] if wide >= CELL else None)):
+            return f"{wide} of {width} pixels for {it[0]}"
+    return None
+
+
+def length_difference(text, sizes, widths):
+    """What is wrong with the lengths of bars with so many pages, or None."""
+    most, longest = max(sizes), max(widths)
+    is_log = most > 1000 * min(sizes)
+    if is_log != ("The length of a bar is the logarithm of its pages" in text):
+        return f"bars of {sizes} pages, by logarithms: {not is_log}"
+    for pages, width in zip(sizes, widths):
+        if is_log and pages * 2 <= most and not width < longest:
+            return f"{width} pixels for {pages} pages, {longest} for {most}"
+        if not is_log and abs(width - max(1, longest * pages / most)) > 1:
+            return f"{width} pixels for {pages} pages, {longest} for {most}"
+    return None
+
+
+def difference(text, rows, nodes, left=None):
+    """What is wrong with a picture of these rows on a machine of so many nodes, or None."""
+    root = ElementTree.fromstring(text)
+    groups = {kind: [it for it in root.findall(SVG + "g") if it.get("class") == kind]
+              for kind in ("range", "rest", "total")}
+    order = sorted(range(len(rows)), key=lambda k: (-rows[k].pages, k))[:DRAWN]
+    drawn = [rows[k] for k in sorted(order)]
+    others = [row for k, row in enumerate(rows) if k not in order]
+    if len(groups["range"]) != len(drawn) or len(groups["rest"]) != bool(others):
+        return f"{len(groups['range'])} ranges are drawn, not {len(drawn)}"
+    sizes, widths = [], []
+    for row, group in zip(drawn, groups["range"]):
+        line = (f"{row.start:08x}-{row.end:08x} anon={sum(row.counts.values())}"
+                f"{counts_text(row.counts, row.lacking)} {row.policy}")
+        if group.find(SVG + "text").text != line:
+            return f"{group.find(SVG + 'text').text!r}, not {line!r}"
+        parts = parts_of(group)
+        wrong = bar_difference(row, parts)
+        if wrong:
+            return wrong
+        sizes.append(row.pages)
+        widths.append(width_of(parts))
+    if others:
+        counts = sum((Counter(row.counts) for row in others), Counter())
+        lacking = sum(row.lacking for row in others)
+        line = (f"{len(others)} other ranges anon={sum(counts.values())}"
+                f"{counts_text(counts, lacking)}")
+        if groups["rest"][0].find(SVG + "text").text != line:
+            return f"{groups['rest'][0].find(SVG + 'text').text!r}, not {line!r}"
+        sizes.append(sum(row.pages for row in others))
+        widths.append(width_of(parts_of(groups["rest"][0])))
+    wrong = length_difference(text, sizes, widths) if sizes else None
+    return wrong or total_difference(root, groups["total"][0], rows, nodes, left or {})
+
+
+def total_difference(root, group, rows, nodes, left):
+    """What is wrong with what each node gets, or None."""
+    counts = sum((Counter(row.counts) for row in rows), Counter())
+    lacking, anon = sum(row.lacking for row in rows), sum(counts.values())
+    lacks = f" exhausted={lacking}" if lacking else ""
+    want = [f"total anon={anon} pages, {anon * 4096} bytes{lacks}"]
+    for node in range(nodes):
+        behind = f", {left[node]} pages left" if node in left else ""
+        want.append(f"N{node}={counts.get(node, 0)} pages, {counts.get(node, 0) * 4096} bytes{behind}")
+    told = [it.text for it in group.findall(SVG + "text")]
+    if told != want:
+        return f"{told}, not {want}"
+    top = int(re.fullmatch(r"translate\(16,(\d+)\)", group.get("transform"))[1])
+    if top + 24 + 20 * nodes > int(root.get("height")):
+        return f"nodes end below {root.get('height')} pixels"
+    most = max([1, *counts.values()])
+    for node, (_, _, width, number) in enumerate(parts_of(group)):
+        if number != str(node) or abs(width - 24 - 400 * counts.get(node, 0) / most) > 1:
+            return f"{width} pixels for {counts.get(node, 0)} pages of node {node}"
+    return None
