@@ -68,7 +68,7 @@ fn push_range(
     }
     let mut nodes = [0u8; PAGES];
     let own = &mut nodes[..pages as usize];
-    plan.fill(touch.task, touch.cpu, range.first, own)?;
+    plan.fill(touch.task, range.first, touch.cpu, own)?;
     items.push_object(object_of(items.alloc(), range.first, own));
     Ok(())
 }
