@@ -141,22 +141,23 @@ module _ {T : Type 0} (same : T → T → Bool) (exact : (a b : T) → same a b 
             (suc page)) [
               | inl is ↦ or_left (eqb (first + pages) (suc page)) _
                   (eq-eqb (first + pages) (suc page) is)
-              | inr not_end ↦ or_right (eqb (first + pages) (suc page)) _ (elim (cases_lt page first) [
-                | inl low ↦
-                    let here = in_pages-below first pages (suc page) (omega arith) in
-                    let before = in_pages-below first pages page low in
-                    rw (here, before) at h
-                | inr from ↦ elim (cases_lt (suc page) (first + pages)) [
-                  | inl to ↦
-                      let here = in_pages-true first pages (suc page) (omega arith) to in
-                      let before = in_pages-true first pages page from (omega arith) in
-                      begins-changed (at page) (at (suc page)) (rw (here, before) at h)
-                  | inr past ↦
-                      let here = in_pages-above first pages (suc page) past in
-                      let before = in_pages-above first pages page (omega arith) in
-                      rw (here, before) at h
-                ]
-              ])
+              | inr not_end ↦ or_right (eqb (first + pages) (suc page)) _ (elim
+                  (cases_lt page first) [
+                    | inl low ↦
+                        let here = in_pages-below first pages (suc page) (omega arith) in
+                        let before = in_pages-below first pages page low in
+                        rw (here, before) at h
+                    | inr from ↦ elim (cases_lt (suc page) (first + pages)) [
+                      | inl to ↦
+                          let here = in_pages-true first pages (suc page) (omega arith) to in
+                          let before = in_pages-true first pages page from (omega arith) in
+                          begins-changed (at page) (at (suc page)) (rw (here, before) at h)
+                      | inr past ↦
+                          let here = in_pages-above first pages (suc page) past in
+                          let before = in_pages-above first pages page (omega arith) in
+                          rw (here, before) at h
+                    ]
+                  ])
             ])
       ]
 

@@ -1,5 +1,6 @@
 -- What a change of pages leaves of the runs.
-use Rattle.std.proofs.Common.{◌≡◌, ℕ, zero, suc, ◌+◌, ◌-◌, ◌<◌, ◌≤◌, ◌^◌, Bool, true, false, Option, Some, None}
+use Rattle.std.proofs.Common.{◌≡◌, ℕ, zero, suc, ◌+◌, ◌-◌, ◌<◌, ◌≤◌, ◌^◌, Bool, true, false}
+use Rattle.std.proofs.Common.{Option, Some, None}
 use Rattle.std.proofs.Common.{List, length, refl, sym, ap, ◌∙◌, subst, arith, inl, inr}
 use Rattle.std.specs.Prelude.{Result, Ok, Err, IfErr, IsErrAnd, MatchResult}
 use Rattle.std.proofs.lemmas.Bool.{cases_Bool, cases_lt, le-ltb}
@@ -112,13 +113,15 @@ module _ (old new : ℕ → Spot) (go : ℕ → ℕ) (gone : (page : ℕ) → ne
     pub runs-kept : run_count new ≤ run_count old
     runs-kept =
         let says : placed_page new ≡ (λ page. changed_page (moved_spot go) (placed_page old page)) =
-        λ i page. (ap (λ s. placed_page (λ p. s) page) (gone page) ∙ placed-moved page (old page)) i in
+        λ i page. (ap (λ s. placed_page (λ p. s) page) (gone page)
+        ∙ placed-moved page (old page)) i in
         let less = count-changed same_spot same_spot-exact same_spot-refl (moved_spot go)
         (placed_page old) in
         omega (arith, less, ap (range_count same_spot) says)
 
 module _ (go : ℕ → ℕ) (old new : Ranges Spot) (kept : IsKept old)
-    (pages : (page : ℕ) → page_at new.runs page ≡ changed_page (moved_spot go) (page_at old.runs page))
+    (pages : (page : ℕ) → page_at new.runs page
+    ≡ changed_page (moved_spot go) (page_at old.runs page))
     (limit : new.max_ranges ≡ old.max_ranges) where
   moved-in : (o : Option (ℕ × Spot)) → spot_in (changed_page (moved_spot go) o)
       ≡ moved_spot go (spot_in o)
@@ -148,7 +151,8 @@ module _ (go : ℕ → ℕ) (old new : Ranges Spot) (kept : IsKept old)
 -- ---- no page anywhere
 
 module _ (new : Ranges Spot) (at : ℕ → Option (ℕ × Spot)) (none : (page : ℕ) → at page ≡ None)
-    (shows : Shows new.runs (with_span 0 (2 ^ 35) 0 Nowhere at)) (limit : new.max_ranges ≡ 2 ^ 32 - 1)
+    (shows : Shows new.runs (with_span 0 (2 ^ 35) 0 Nowhere at))
+    (limit : new.max_ranges ≡ 2 ^ 32 - 1)
   where
     says-nowhere : (page : ℕ) → page < 2 ^ 35 → page_at new.runs page ≡ Some (page, Nowhere)
     says-nowhere page near =
@@ -191,14 +195,14 @@ edit-alike one other old new result same edit =
     subst (λ after. IsEdit after old result new) alike edit
 
 -- a lack, where there is no cause
-pub lack-refusal : (cause : Option PlacedRefusal) (one other : ℕ → Spot)
-    (result : Result (Unit {0}) PlacedRefusal) → cause ≡ None → one ≡ other
+pub lack-refusal : {A : Type 0} (cause : Option PlacedRefusal) (one other : ℕ → Spot)
+    (result : Result A PlacedRefusal) → cause ≡ None → one ≡ other
     → IfErr result (IsLack one) → IfErr result (IsRefusal cause other)
-lack-refusal cause one other result none same lack =
+lack-refusal {A} cause one other result none same lack =
     let P : Option PlacedRefusal → Type 0 = λ c. IfErr result (IsRefusal c other) in
     subst P (sym none) (by_result result (subst (λ after. IfErr result (IsLack after)) same lack))
   where
-    by_result : (r : Result (Unit {0}) PlacedRefusal) → IfErr r (IsLack other)
+    by_result : (r : Result A PlacedRefusal) → IfErr r (IsLack other)
         → IfErr r (IsRefusal None other)
     by_result (Ok u) h = h
     by_result (Err e) h = h

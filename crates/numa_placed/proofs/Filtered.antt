@@ -44,7 +44,8 @@ apart-placed from (run ∷ runs) apart =
     let rest = apart-placed (end_of run) runs apart.3 in
     elim (cases_Bool (is_placed run.value)) [
       | inl t ↦ rw t (apart.0, apart.1, apart.2, rest)
-      | inr e ↦ rw e (apart-lower from (end_of run) (placed_runs runs) (omega (arith, apart.0)) rest)
+      | inr e ↦ rw e (apart-lower from (end_of run) (placed_runs runs) (omega (arith, apart.0))
+          rest)
     ]
 
 -- what begins past a run's end doesn't continue it

@@ -1,3 +1,4 @@
+pub mod Binding
 pub mod Counting
 pub mod Edits
 pub mod Filtered

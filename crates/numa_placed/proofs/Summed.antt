@@ -60,7 +60,8 @@ module _ (test : Spot → Bool) (nowhere : test Nowhere ≡ false) where
       + count_pages here (from + hole) (run.pages + tail) =
       count-split here from hole (run.pages + tail) n (omega (arith, apart.0)) in
       let seam : from + hole ≡ run.first = omega (arith, apart.0) in
-      let cut2 : count_pages here run.first (run.pages + tail) ≡ count_pages here run.first run.pages
+      let cut2 : count_pages here run.first (run.pages + tail)
+      ≡ count_pages here run.first run.pages
       + count_pages here (run.first + run.pages) tail =
       count-split here run.first run.pages tail (run.pages + tail) refl in
       let moved : count_pages here (from + hole) (run.pages + tail)

@@ -1,4 +1,5 @@
 pub mod Astray
+pub mod Binds
 pub mod Exact
 pub mod Moves
 pub mod Refusals

@@ -9,7 +9,7 @@ use numa_mask::NodeMask;
 use numa_ranges::{RangeMap, Run};
 
 /// Whether a page lies on a node that isn't in the list.
-fn is_astray(spot: Spot, list: &NodeMask) -> bool
+pub(crate) fn is_astray(spot: Spot, list: &NodeMask) -> bool
     ensures { result ≡ is_astray list.now spot }
 {
     match spot {

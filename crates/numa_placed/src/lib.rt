@@ -21,6 +21,8 @@
 #![tactic(auto)]
 
 mod astray;
+mod bind;
+pub mod bound;
 mod change;
 mod edit;
 mod judge;
@@ -34,6 +36,7 @@ pub mod spot;
 mod tally;
 mod targets;
 
+pub use bound::Bound;
 pub use moved::Moved;
 pub use placed::Placed;
 pub use refusal::{MoveRefusal, PlacedRefusal};

@@ -5,6 +5,7 @@ ghost use Rattle.numa_mask.specs.NodeSet.{both};
 ghost use Rattle.numa_ranges.specs.Runs.{AreApart, AreMaximal, page_at};
 ghost use Rattle.numa_space.specs.History.{page_of, page_count};
 ghost use Rattle.numa_placed.specs.Astray.{strict_cause};
+ghost use Rattle.numa_placed.specs.Binds.{IsBound, bound_spots, first_in};
 ghost use Rattle.numa_placed.specs.Moves.{IsMove, moved_node};
 ghost use Rattle.numa_placed.specs.Refusals.{IsRefusal, IsMoveRefusal, state_cause, span_cause};
 ghost use Rattle.numa_placed.specs.Refusals.{hold_cause, migrate_cause, move_cause, release_cause};
@@ -15,6 +16,8 @@ ghost use Rattle.numa_placed.specs.Wholes.{AreWhole};
 ghost use Rattle.numa_placed.specs.declared.spot.Spot.TheVariants.{Nowhere, Held};
 
 use crate::astray::has_astray;
+use crate::bind::{Touch, bind_span};
+use crate::bound::Bound;
 use crate::change::Change;
 use crate::edit::{edit, placed_runs};
 use crate::judge::{judge_hold, judge_move, judge_page, lacks_node, move_outcome};
@@ -238,6 +241,47 @@ impl Placed {
             return Err(PlacedRefusal::Astray);
         }
         Ok(())
+    }
+
+    /// Moves the pages of a span that lie on other nodes than those of a list, each to the first
+    /// node of its own list in the space, as a fault of the task on node `cpu` would put it: as
+    /// mbind(2) does with MPOL_MF_MOVE, once the policy of the span is set. A page that isn't
+    /// mapped stays, and so does each if the machine has no node `cpu`. Start and length are in
+    /// bytes.
+    ///
+    /// # Errors
+    /// The first of these that applies; nothing has changed: `Unaligned`, `OutOfSpace`,
+    /// `TooManyRuns`, `NoMemory`, as [`PlacedRefusal`] says. `NoMemory` can come before
+    /// `TooManyRuns`.
+    pub fn bind_astray(
+        &mut self,
+        space: &Space,
+        start: u64,
+        length: u64,
+        list: &NodeMask,
+        task: u32,
+        cpu: u32,
+    ) -> Result<Bound, PlacedRefusal>
+        ensures accepted { OnOk result (span_cause start length ≡ None) }
+        ensures ok { OnOk result ((page : ℕ) → spot_at self.new page
+            ≡ bound_spots (page_of start) (page_count length) list.now
+            (first_in space.now task cpu) (spot_at self.old) page) }
+        ensures told { IfOk result (IsBound (page_of start) (page_count length) list.now
+            (first_in space.now task cpu) (spot_at self.old)) }
+        ensures err { IfErr result (IsRefusal (span_cause start length) (bound_spots
+            (page_of start) (page_count length) list.now (first_in space.now task cpu)
+            (spot_at self.old))) }
+        ensures unchanged { OnErr result (self.new ≡ self.old) }
+    {
+        let (first, pages) = span_of(start, length)?;
+        bind_span(
+            &mut self.map,
+            space,
+            first,
+            pages,
+            list,
+            Touch { task, cpu },
+        )
     }
 
     /// Moves a page to a node, as move_pages(2) does. A page that lies there stays.

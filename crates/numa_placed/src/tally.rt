@@ -1,6 +1,7 @@
 //! Counting pages.
 ghost use Rattle.std.specs.Prelude.{◌≡◌, ◌+◌, ◌<◌, ◌≤◌, ◌^◌, ℕ, slice_index};
-ghost use Rattle.numa_placed.specs.Moves.{moved_node, goes, is_left, goes_from, AreTargets, IsTally};
+ghost use Rattle.numa_placed.specs.Moves.{moved_node, goes, is_left, goes_from, AreTargets};
+ghost use Rattle.numa_placed.specs.Moves.{IsTally};
 ghost use Rattle.numa_placed.specs.Spots.{spot_at, is_on, pages_where, pages_if};
 
 use crate::moved::Moved;

@@ -1,0 +1,10 @@
+//! What binding pages did.
+
+/// What moving the pages that lay astray did.
+#[derive(Clone, Copy, Debug, PartialEq, Eq, Drop)]
+pub struct Bound {
+    /// The number of pages that went to another node.
+    pub moved: u64,
+    /// The number of pages that had another node to go to, and stayed.
+    pub left: u64,
+}
