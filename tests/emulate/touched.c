@@ -158,12 +158,35 @@ static void many_forks(void) {
         MUST(pthread_join(threads[k], NULL) == 0);
 }
 
+/* A thread ends with a lock that tells so to the next (pthread_mutexattr_setrobust(3)). The lock's page is one that a
+ * fork left in common, when the kernel writes to it. */
+static void *locks(void *lock) {
+    int status = -1;
+    pid_t child;
+    MUST(pthread_mutex_lock(lock) == 0 && (child = fork()) >= 0);
+    if (child == 0)
+        _exit(6);
+    MUST(waitpid(child, &status, 0) == child && status == 6 << 8);
+    return NULL;
+}
+
+static void robust_locks(void) {
+    pthread_mutex_t *lock = (void *)some_pages(1);
+    pthread_mutexattr_t kind;
+    pthread_t thread;
+    MUST(pthread_mutexattr_init(&kind) == 0 && pthread_mutexattr_setrobust(&kind, PTHREAD_MUTEX_ROBUST) == 0);
+    MUST(pthread_mutex_init(lock, &kind) == 0 && pthread_create(&thread, NULL, locks, lock) == 0);
+    MUST(pthread_join(thread, NULL) == 0 && pthread_mutex_trylock(lock) == EOWNERDEAD);
+    MUST(pthread_mutex_consistent(lock) == 0 && pthread_mutex_unlock(lock) == 0);
+}
+
 int main(int count, char **words) {
     begin();
     areas();
     kinds();
     after_fork();
     many_forks();
+    robust_locks();
     if (count == 1) {
         pid_t child = vfork();
         int status = -1;
