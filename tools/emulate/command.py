@@ -84,7 +84,8 @@ def machine_of(words, is_real):
 def kind_of(words, is_real):
     if is_real or not words.exact:
         return Recorder if is_real else Emulator
-    from .exact import Exact, why_not  # (each start would take its time)
+    from .exact import Exact  # (each start would take its time)
+    from .faults import why_not
 
     fault = why_not()
     if fault:

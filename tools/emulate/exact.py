@@ -14,7 +14,7 @@ from .areas import Area, Areas
 from .common import leave
 from .emulator import GONE, Emulator
 from .ending import locks_of, number_of_child
-from .faults import IS_PROTECTED, IS_WRITE, Fault, Faults, why_not
+from .faults import IS_PROTECTED, IS_WRITE, Fault, Faults
 from .injected import Ended, make_device, opened_in
 from .mappings import FAILED, FOLLOWED
 from .spans import Spans
