@@ -19,7 +19,9 @@ from .waiting import block_signals, pass_early_signals
 from .words import OWN_FAULT, Unfit, read_lines, tell
 
 ELSEWHERE = 3  # the status where pages lie elsewhere than is wanted
-ROOM = "numaplan-emulate-"  # and the number of the process: a folder of files that are made up
+# What the folder of files that are made up is called, before the number of the process. (./numaplan removes old
+# folders numaplan-*-*.)
+ROOM = "numaplan.emulate-"
 A_MINUTE = 60  # seconds
 TWO_NODES = [(1, "machine 2 0-1 0 flat")]
 
