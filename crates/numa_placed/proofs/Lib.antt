@@ -5,6 +5,7 @@ pub mod Filtered
 pub mod MoveRows
 pub mod MovedNodes
 pub mod Reaching
+pub mod Shared
 pub mod Stating
 pub mod Summed
 pub mod Tests

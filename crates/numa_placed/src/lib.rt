@@ -11,6 +11,10 @@
 //! pages go to the node with ordinal k modulo the new weight. Each page moves at most once in a
 //! call. ([`moved_node`])
 //!
+//! **Policies.** A page lies astray if its node isn't in the list of its range's policy. mbind(2)
+//! refuses a policy for a range with such pages, or moves each to the first node of its node list,
+//! if it is asked to. (`judge_strict`, `bind_astray`)
+//!
 //! **Frames.** A page in a frame stays there in every move, and is counted as left; stating or
 //! forgetting the pages of a span skips it. Only `release` takes it away.
 //!

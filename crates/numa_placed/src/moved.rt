@@ -1,6 +1,6 @@
 //! What a move did.
 
-/// What a move of pages did. Without room lines on nodes, only pages in frames are left.
+/// What a move of pages did. A node never fills, so only pages in frames are left.
 #[derive(Clone, Copy, PartialEq, Eq, Drop)]
 pub struct Moved {
     /// The number of pages that went to another node.

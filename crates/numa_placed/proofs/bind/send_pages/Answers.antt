@@ -1,7 +1,8 @@
 use Rattle.std.proofs.Common.{◌≡◌, ℕ, ◌-◌, Option, ◌∙◌, refl, arith}
 use Rattle.numa_placed.specs.Binds.{first_in, is_kept, is_sent}
 use Rattle.numa_placed.specs.Spots.{spot_at}
-use Rattle.numa_placed.proofs.Binding.{counts-none, sent-begins, sent-counted, sent-fits, sent-next}
+use Rattle.numa_placed.proofs.Binding.{sent-begins, sent-next}
+use Rattle.numa_placed.proofs.Shared.{counts-none, sent-counted, sent-fits}
 use Rattle.numa_placed.proofs.bind.send_pages.Goals as goal
 
 pub loop-page-init : goal.loop-page-init
