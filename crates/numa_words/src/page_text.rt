@@ -361,13 +361,6 @@ function replay() {
         it.unserved],
     })),
   );
-  if (data.before) {
-    const view = viewOf(data.before.prediction, data.before.stretches, data.before.cycles);
-    table('Ranges', ['start', 'end', 'pages', 'policy', 'nodes'], rangeRows(view), (range) => {
-      strips([['now', view]], range.start, range.end, []);
-    });
-    pagesPart([['now', view]]);
-  }
 }
 
 if (data.kind === 'prediction') prediction();
