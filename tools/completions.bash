@@ -8,23 +8,27 @@ _numaplan() {
     # (the words of the repository's script)
     [[ ${COMP_WORDS[0]} != */* || ! -f ${COMP_WORDS[0]%/*}/crates.txt ]] || own=' prove try install library package'
     case ${COMP_WORDS[1]}:${COMP_WORDS[at - 1]} in
-        run:--rules | check:--rules | expect:--rules | predict:--rules | diff:--rules | explain:--rules | replay:--rules) words='document linux' ;;
-        predict:--task | predict:--node | predict:--free | diff:--task | diff:--node | diff:--then | explain:--task | explain:--node | storm:--workers) : ;;
-        predict:--format) words='text json csv svg' ;;
+        run:--format | check:--format | explain:--format) words='text json' ;;
+        run:--rules | check:--rules | expect:--rules | predict:--rules | diff:--rules | explain:--rules | replay:--rules | shell:--rules) words='document linux' ;;
+        expect:--format) words='text json tap' ;;
+        predict:--task | predict:--node | predict:--free | diff:--task | diff:--node | diff:--then | explain:--task | explain:--node | explain:--pages | storm:--workers) : ;;
+        predict:--format) words='text json csv svg html' ;;
+        diff:--format) words='text json svg html' ;;
         replay:--trace) files=yes ;;
-        replay:--format) words='text json' ;;
+        replay:--format) words='text json html' ;;
         *)
-            [ "$COMP_CWORD" != 1 ] || words='run check expect predict diff explain replay storm help --help --version'$own
+            [ "$COMP_CWORD" != 1 ] || words='run check expect predict diff explain replay shell storm help --help --version'$own
             [ "$COMP_CWORD" = 1 ] || case ${COMP_WORDS[1]} in
-                run) words='--echo --rules --help' files=yes ;;
-                check) words='--rules --help' files=yes ;;
-                expect) words='--rules --help' files=yes ;;
+                run) words='--echo --format --rules --help' files=yes ;;
+                check) words='--format --rules --help' files=yes ;;
+                expect) words='--format --ignore-versions --update --rules --help' files=yes ;;
                 predict) words='--task --node --format --free --lenient --rules --help' files=yes ;;
-                diff) words='--task --node --then --lenient --rules --help' files=yes ;;
-                explain) words='--task --node --lenient --rules --help' files=yes ;;
+                diff) words='--task --node --then --format --lenient --rules --help' files=yes ;;
+                explain) words='--task --node --pages --format --lenient --rules --help' files=yes ;;
                 replay) words='--trace --format --lenient --rules --help' files=yes ;;
+                shell) words='--rules --help' files=yes ;;
                 storm) words='--workers --help' ;;
-                help) words='run check expect predict diff explain replay storm help' ;;
+                help) words='run check expect predict diff explain replay shell storm help' ;;
             esac
             # (files, unless an option is begun)
             [[ -z $files || $word = -* ]] || words=''

@@ -11,6 +11,7 @@ _numaplan() {
         'diff:Tells which pages would go elsewhere if lines were added to scripts'
         'explain:Tells why a page goes where it goes'
         'replay:Tells what a trace of accesses meets after scripts'
+        'shell:Answers lines as they are typed, after scripts'
         'storm:Lets workers place pages while policies change, and compares each placement'
         'help:Print this message or the help of the given subcommand(s)'
     )
@@ -25,18 +26,23 @@ _numaplan() {
         run)
             _arguments \
                 '(--echo)--echo[Writes each line of the script, and its answer behind `=> `]' \
+                '(--format)--format[How the answer is written]:FORMAT:(text json)' \
                 '(--rules)--rules[Whose rules count, where no line `rules` of the scripts says so]:RULES:(document linux)' \
                 '(-h --help)-h[Print help]' '(-h --help)--help[Print help]' \
                 '*:file:_files'
             ;;
         check)
             _arguments \
+                '(--format)--format[How the answer is written]:FORMAT:(text json)' \
                 '(--rules)--rules[Whose rules count, where no line `rules` of the scripts says so]:RULES:(document linux)' \
                 '(-h --help)-h[Print help]' '(-h --help)--help[Print help]' \
                 '*:file:_files'
             ;;
         expect)
             _arguments \
+                '(--format)--format[How the answer is written]:FORMAT:(text json tap)' \
+                '(--ignore-versions)--ignore-versions[Compares answers without the numbers of their versions, as in v2\: and ok 2]' \
+                '(--update)--update[Writes the answers that the lines get into the files, and shows what that changes]' \
                 '(--rules)--rules[Whose rules count, where no line `rules` of the scripts says so]:RULES:(document linux)' \
                 '(-h --help)-h[Print help]' '(-h --help)--help[Print help]' \
                 '*:file:_files'
@@ -45,7 +51,7 @@ _numaplan() {
             _arguments \
                 '(--task)--task[The task that touches the pages]:T: ' \
                 '(--node)--node[The node of the CPU on which it does]:N: ' \
-                '(--format)--format[How the answer is written]:FORMAT:(text json csv svg)' \
+                '(--format)--format[How the answer is written]:FORMAT:(text json csv svg html)' \
                 '(--free)--free[So many free pages on these nodes; with K, M, G or T behind it a number is one of bytes]:NODE=PAGES,..: ' \
                 '(--lenient)--lenient[Ends with status 0 where lines were faulty or refused]' \
                 '(--rules)--rules[Whose rules count, where no line `rules` of the scripts says so]:RULES:(document linux)' \
@@ -57,6 +63,7 @@ _numaplan() {
                 '(--task)--task[The task that touches the pages]:T: ' \
                 '(--node)--node[The node of the CPU on which it does]:N: ' \
                 '*--then[A script line that is added; several in turn]:LINE: ' \
+                '(--format)--format[How the answer is written]:FORMAT:(text json svg html)' \
                 '(--lenient)--lenient[Ends with status 0 where lines were faulty or refused]' \
                 '(--rules)--rules[Whose rules count, where no line `rules` of the scripts says so]:RULES:(document linux)' \
                 '(-h --help)-h[Print help]' '(-h --help)--help[Print help]' \
@@ -66,6 +73,8 @@ _numaplan() {
             _arguments \
                 '(--task)--task[The task that touches the pages]:T: ' \
                 '(--node)--node[The node of the CPU on which it does]:N: ' \
+                '(--pages)--pages[Tells by which rules N pages go, from that of ADDRESS on]:N: ' \
+                '(--format)--format[How the answer is written]:FORMAT:(text json)' \
                 '(--lenient)--lenient[Ends with status 0 where lines were faulty or refused]' \
                 '(--rules)--rules[Whose rules count, where no line `rules` of the scripts says so]:RULES:(document linux)' \
                 '(-h --help)-h[Print help]' '(-h --help)--help[Print help]' \
@@ -74,8 +83,14 @@ _numaplan() {
         replay)
             _arguments \
                 '(--trace)--trace[The file of the trace; - is standard input]:TRACE:_files' \
-                '(--format)--format[How the answer is written]:FORMAT:(text json)' \
+                '(--format)--format[How the answer is written]:FORMAT:(text json html)' \
                 '(--lenient)--lenient[Ends with status 0 where lines were faulty or refused]' \
+                '(--rules)--rules[Whose rules count, where no line `rules` of the scripts says so]:RULES:(document linux)' \
+                '(-h --help)-h[Print help]' '(-h --help)--help[Print help]' \
+                '*:file:_files'
+            ;;
+        shell)
+            _arguments \
                 '(--rules)--rules[Whose rules count, where no line `rules` of the scripts says so]:RULES:(document linux)' \
                 '(-h --help)-h[Print help]' '(-h --help)--help[Print help]' \
                 '*:file:_files'
@@ -87,7 +102,7 @@ _numaplan() {
             ;;
         help)
             _arguments \
-                '1:command:(run check expect predict diff explain replay storm help)'
+                '1:command:(run check expect predict diff explain replay shell storm help)'
             ;;
     esac
 }
