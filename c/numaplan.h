@@ -101,7 +101,7 @@ enum np_answer {
     NP_BAD_LIMITS = 54,         /* over 65,536 ranges or 1,024 tasks */
     NP_BAD_WORKERS = 55,        /* no worker, or more than 16 */
     NP_BAD_RULES = 56, NP_BAD_ORDERS = 57, /* no number of enum np_rules, of enum np_orders */
-    NP_BAD_FORMAT = 58, /* no number of enum np_format, or none in which the question is answered */
+    NP_BAD_FORMAT = 58, /* no number of enum np_format */
 
     /* a list of nodes, as "0,2-3", is faulty */
     NP_LIST_EMPTY = 60,     /* an item without a byte */

@@ -25,9 +25,16 @@ extern "C" {
 
 /* ---- types */
 
-/* The formats of an answer: lines, one JSON object (RFC 8259), records with a header (RFC 4180), a
- * picture (SVG 1.1). */
-enum np_format { NP_FORMAT_TEXT = 0, NP_FORMAT_JSON = 1, NP_FORMAT_CSV = 2, NP_FORMAT_SVG = 3 };
+/* The formats of an answer: lines, JSON (RFC 8259: one object, or one on each line), records with a
+ * header (RFC 4180), a picture (SVG 1.1), a page for a browser (HTML 5). Each answer has some of
+ * them, as the word of the program has, and is text where it lacks the wanted one. */
+enum np_format {
+    NP_FORMAT_TEXT = 0,
+    NP_FORMAT_JSON = 1,
+    NP_FORMAT_CSV = 2,
+    NP_FORMAT_SVG = 3,
+    NP_FORMAT_HTML = 4
+};
 
 /* A question about a script: the task that touches pages, the node of the CPU on which it runs,
  * whose rules count if no line `rules` gives others (of enum np_rules), and the format of the
@@ -86,9 +93,10 @@ _Static_assert(sizeof(np_report) == 24 && sizeof(np_explanation) == 112, "a stru
 /* ---- reports on scripts */
 
 /* What is wrong with the lines of a script, and what a running kernel would do otherwise with one
- * (numaplan check): all of it is the answer. NP_BAD_RULES; NP_NO_MEMORY; NP_NO_ROOM. */
-uint32_t np_check(const uint8_t *script, size_t length, uint32_t rules, uint8_t *text, size_t room,
-                  np_report *report);
+ * (numaplan check): all of it is the answer. The question's task and node don't count.
+ * NP_BAD_RULES; NP_BAD_FORMAT; NP_NO_MEMORY; NP_NO_ROOM. */
+uint32_t np_check(const uint8_t *script, size_t length, const np_question *asked, uint8_t *text,
+                  size_t room, np_report *report);
 
 /* Where all mapped pages would go, if the task touched each of them now (numaplan predict), where
  * nodes have so many free pages; others never run out. NP_BAD_RULES; NP_BAD_FORMAT; NP_NO_MEMORY;
@@ -98,19 +106,19 @@ uint32_t np_predict(const uint8_t *script, size_t length, const uint8_t *lines,
                     size_t free_count, uint8_t *text, size_t room, np_report *report);
 
 /* Which pages would go to another node after the lines than before them (numaplan diff --then).
- * In text alone. NP_BAD_RULES; NP_BAD_FORMAT; NP_NO_MEMORY; NP_NO_MACHINE; NP_BAD_CPU. */
+ * NP_BAD_RULES; NP_BAD_FORMAT; NP_NO_MEMORY; NP_NO_MACHINE; NP_BAD_CPU. */
 uint32_t np_diff(const uint8_t *script, size_t length, const uint8_t *lines, size_t lines_length,
                  const np_question *asked, uint8_t *text, size_t room, np_report *report);
 
 /* Why the page of a number (its address divided by 4,096) would go where it goes (numaplan
- * explain). In text alone. NP_BAD_RULES; NP_BAD_FORMAT; NP_NO_MEMORY; NP_NO_MACHINE; NP_BAD_CPU;
+ * explain). NP_BAD_RULES; NP_BAD_FORMAT; NP_NO_MEMORY; NP_NO_MACHINE; NP_BAD_CPU;
  * NP_UNMAPPED. */
 uint32_t np_explain(const uint8_t *script, size_t length, const uint8_t *lines,
                     size_t lines_length, const np_question *asked, uint64_t page, uint8_t *text,
                     size_t room, np_report *report);
 
 /* What a trace of accesses meets on a machine where no page is placed (numaplan replay): a line
- * `TASK ADDRESS CPU [COUNT]` for each. The question's task and node don't count. In text or JSON.
+ * `TASK ADDRESS CPU [COUNT]` for each. The question's task and node don't count.
  * NP_BAD_RULES; NP_BAD_FORMAT; NP_NO_MEMORY; NP_NO_MACHINE; NP_BAD_ACCESS where a line of the trace
  * can't be replayed, which the last message tells. */
 uint32_t np_replay(const uint8_t *script, size_t length, const uint8_t *lines, size_t lines_length,

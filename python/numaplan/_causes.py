@@ -229,7 +229,7 @@ class BadOrders(Refused):
 
 class BadFormat(Refused):
     number = 58
-    words = "no format has this number, or the question isn't answered in it; take text"
+    words = "no format has this number; numaplan_reports.h has those that there are"
 
 
 # ---- lists of nodes, policy words

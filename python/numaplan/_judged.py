@@ -12,7 +12,7 @@ if TYPE_CHECKING:
 
 RULES = ["document", "linux"]
 ORDERS = ["nearest", "kernel"]
-FORMATS = ["text", "json", "csv", "svg"]
+FORMATS = ["text", "json", "csv", "svg", "html"]
 
 
 def _within(name: str, value: SupportsIndex, most: int) -> int:
@@ -72,7 +72,7 @@ def orders_number(orders: str) -> int:
 def format_number(name: str) -> int:
     """The format of a report, as a number of numaplan_reports.h."""
     if name not in FORMATS:
-        raise ValueError(f"format is {name!r}; it has to be 'text', 'json', 'csv' or 'svg'")
+        raise ValueError(f"format is {name!r}; it has to be one of {FORMATS}")
     return FORMATS.index(name)
 
 

@@ -134,7 +134,7 @@ _SIGNATURES = {
     "script_run": [_TEXT, c_size_t, *_ROOM],
     "script_open_by": [_HANDLE, _U32],
     "answer_errno": [_U32, POINTER(_U32)],
-    "check": [_TEXT, c_size_t, _U32, *_TOLD],
+    "check": [_TEXT, c_size_t, _ASKED, *_TOLD],
     "predict": [_TEXT, c_size_t, _TEXT, c_size_t, _ASKED, c_void_p, c_size_t, *_TOLD],
     "diff": [_TEXT, c_size_t, _TEXT, c_size_t, _ASKED, *_TOLD],
     "explain": [_TEXT, c_size_t, _TEXT, c_size_t, _ASKED, _U64, *_TOLD],

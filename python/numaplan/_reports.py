@@ -35,11 +35,13 @@ class Report(NamedTuple):
         return _json.loads(self.text)
 
 
-def check(script: Text, *, rules: str = "document") -> Report:
+def check(script: Text, *, format: str = "text", rules: str = "document") -> Report:
     """What is wrong with the lines of a script, and what a running kernel would do otherwise with
-    them, as `numaplan check` prints it. A script is the name of a file, or its text as bytes."""
+    them, as `numaplan check` prints it. A script is the name of a file, or its text as bytes, which
+    is called `-` in JSON."""
     name, text = read(script)
-    said = _asked("check", [text], rules_number(rules), names={"-": name})
+    asked = AskedReport(0, 0, rules_number(rules), format_number(format))
+    said = _asked("check", [text], byref(asked), names={"-": name})
     return Report(said.text, said.text.splitlines(), said.faulty)
 
 
@@ -48,7 +50,7 @@ def predict(script: Text, lines: Sequence[str] = (), *, task: int = 1, node: int
             rules: str = "document") -> Report:
     """Where all mapped pages would go after a script, and lines behind it, if `task` touched each of
     them on a CPU of `node`; by `free` nodes have so many free pages, and others never run out. As
-    `numaplan predict` prints it, in the format "text", "json", "csv" or "svg". Raises NoMachine,
+    `numaplan predict` prints it, in the format "text", "json", "csv", "svg" or "html". Raises NoMachine,
     BadCpu or NoSuchNode, whose `messages` tell of the script's lines."""
     named = [FreePages(u64("free pages", pages), u8("a node of free", each))
              for each, pages in (free or {}).items()]
@@ -60,21 +62,23 @@ def predict(script: Text, lines: Sequence[str] = (), *, task: int = 1, node: int
                   names={"-": name})
 
 
-def diff(script: Text, lines: Sequence[str], *, task: int = 1, node: int = 0,
+def diff(script: Text, lines: Sequence[str], *, task: int = 1, node: int = 0, format: str = "text",
          rules: str = "document") -> Report:
     """Which pages would go to another node after the lines than after the script alone, as
     `numaplan diff --then` prints it. Raises NoMachine or BadCpu."""
     name, text = read(script)
-    asked = AskedReport(u32("task", task), u32("node", node), rules_number(rules), 0)
+    asked = AskedReport(u32("task", task), u32("node", node), rules_number(rules),
+                        format_number(format))
     return _asked("diff", [text, joined(lines)], byref(asked), names={"-": name})
 
 
 def explain(script: Text, page: int, lines: Sequence[str] = (), *, task: int = 1, node: int = 0,
-            rules: str = "document") -> Report:
+            format: str = "text", rules: str = "document") -> Report:
     """Why the page of a number (address / 4096) would go where it goes, as `numaplan explain` prints
     it. Raises NoMachine, BadCpu or Unmapped."""
     name, text = read(script)
-    asked = AskedReport(u32("task", task), u32("node", node), rules_number(rules), 0)
+    asked = AskedReport(u32("task", task), u32("node", node), rules_number(rules),
+                        format_number(format))
     return _asked("explain", [text, joined(lines)], byref(asked), u64("page", page),
                   names={"-": name})
 
@@ -82,7 +86,7 @@ def explain(script: Text, page: int, lines: Sequence[str] = (), *, task: int = 1
 def replay(script: Text, trace: Text, lines: Sequence[str] = (), *, format: str = "json",
            rules: str = "document") -> Report:
     """What a trace of accesses meets after a script on a machine where no page is placed, as
-    `numaplan replay` prints it, in the format "text" or "json". A trace is the name of a file, or
+    `numaplan replay` prints it, in the format "text", "json" or "html". A trace is the name of a file, or
     its text as bytes: `TASK ADDRESS CPU [COUNT]` a line. Raises NoMachine, or BadAccess, whose last
     message tells which line can't be replayed."""
     name, text = read(script)

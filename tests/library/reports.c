@@ -50,13 +50,13 @@ static bool is_untouched(void) {
 
 static void words(void) {
     forget();
-    WANT(np_check(TEXT("machine 1 0 0 flat\nmap 1 2 3\n"), 0, room, sizeof room, &told), NP_OK);
+    WANT(np_check(TEXT("machine 1 0 0 flat\nmap 1 2 3\n"), &asked, room, sizeof room, &told), NP_OK);
     WANT(is_told("-:2: refused Unaligned EINVAL: START is no multiple of 0x1000; the page begins at 0x0\n",
                  ""),
          1);
     WANT(told.faulty, 1);
     forget();
-    WANT(np_check(TEXT(HOST), 0, room, sizeof room, &told), NP_OK);
+    WANT(np_check(TEXT(HOST), &asked, room, sizeof room, &told), NP_OK);
     WANT(is_told("", ""), 1);
     WANT(told.faulty, 0);
     forget();
@@ -103,7 +103,7 @@ static void causes(void) {
     other.rules = 2;
     other.format = 9;
     forget();
-    WANT(np_check(TEXT(HOST), 2, room, sizeof room, &told), NP_BAD_RULES);
+    WANT(np_check(TEXT(HOST), &other, room, sizeof room, &told), NP_BAD_RULES);
     WANT(np_predict(TEXT(HOST), TEXT(""), &other, none, 0, room, sizeof room, &told), NP_BAD_RULES);
     other.rules = 1;
     WANT(np_predict(TEXT(HOST), TEXT(""), &other, none, 0, room, sizeof room, &told), NP_BAD_FORMAT);

@@ -64,7 +64,7 @@ def each_word(script):
         said = program("check", by, script)
         mine = library(numaplan.check, script, rules=rules)
         same(f"check {script} {rules}", (said[0], said[1] + said[0], said[2]), mine)
-        for form in ("text", "json", "csv", "svg"):
+        for form in ("text", "json", "csv", "svg", "html"):
             same(f"predict {script} {form}",
                  program("predict", by, "--task=1", "--node=1", f"--format={form}", script),
                  library(numaplan.predict, script, node=1, format=form, rules=rules))
@@ -72,13 +72,16 @@ def each_word(script):
              program("predict", by, *TOUCH, "--format=json", "--free=0=2,1=0", script),
              library(numaplan.predict, script, free={0: 2, 1: 0}, rules=rules))
         then = [f"--then={line}" for line in THEN]
-        same(f"diff {script}", program("diff", by, *TOUCH, *then, script),
-             library(numaplan.diff, script, THEN, rules=rules))
-        for page in PAGES:
-            same(f"explain {script} {page}", program("explain", by, *TOUCH, hex(page * 4096), script),
-                 library(numaplan.explain, script, page, rules=rules))
+        for form in ("text", "json", "svg", "html"):
+            same(f"diff {script} {form}",
+                 program("diff", by, *TOUCH, f"--format={form}", *then, script),
+                 library(numaplan.diff, script, THEN, format=form, rules=rules))
+        for form, page in ((form, page) for form in ("text", "json") for page in PAGES):
+            same(f"explain {script} {page} {form}",
+                 program("explain", by, *TOUCH, f"--format={form}", hex(page * 4096), script),
+                 library(numaplan.explain, script, page, format=form, rules=rules))
         for trace in TRACES:
-            for form in ("text", "json"):
+            for form in ("text", "json", "html"):
                 same(f"replay {script} {trace}",
                      program("replay", by, f"--format={form}", f"--trace={trace}", script),
                      library(numaplan.replay, script, trace, format=form, rules=rules))

@@ -3,8 +3,6 @@ use Rattle.std.specs.Prelude.{◌≡◌, ◌==◌, ◌||◌, ◌+◌, ℕ, Bool,
 use Rattle.std.specs.Prelude.{Option, Some, None, Result, Ok, Err, if◌then◌else◌}
 use Rattle.numa_reports.specs.declared.sheet.Format.{Format}
 use Rattle.numa_reports.specs.declared.sheet.Format.TheVariants as format
-use Rattle.numa_traces.specs.declared.report.Shape.{Shape}
-use Rattle.numa_traces.specs.declared.report.Shape.TheVariants as shape
 use Rattle.numa_words.specs.declared.findings.Ended.{Ended}
 use Rattle.numa_words.specs.declared.findings.Ended.TheVariants as ended
 use Rattle.numa_words.specs.declared.halt.Halt.{Halt}
@@ -20,13 +18,7 @@ format_of number =
     else if number == 1 then Some format.Json
     else if number == 2 then Some format.Csv
     else if number == 3 then Some format.Svg
-    else None
-
--- the same of a replay's report
-abbrev pub shape_of : ℕ → Option Shape
-shape_of number =
-    if number == 0 then Some shape.Text
-    else if number == 1 then Some shape.Json
+    else if number == 4 then Some format.Html
     else None
 
 -- why a question about a script has no answer

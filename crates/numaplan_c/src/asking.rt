@@ -4,9 +4,7 @@ ghost use Rattle.numaplan_c.specs.Reports.{Reported, is_untold};
 
 use crate::codes::Code;
 use crate::options::rules_of;
-use crate::reports::{
-    NpFree, NpQuestion, NpReport, format_of, made, shape_of, tell_made, touch_of,
-};
+use crate::reports::{NpFree, NpQuestion, NpReport, format_of, made, tell_made, touch_of};
 use numa_reports::FreePages;
 use numaplan_reports::{Report, ScriptText, check, diff, explain, predict, replay};
 use std::alloc::{AllocError, Global};
@@ -22,12 +20,16 @@ fn script_by<'a>(text: &'a [u8], then: &'a [u8], rules: u32) -> Result<ScriptTex
 }
 
 /// What is wrong with the lines of a script.
-fn check_asked(alloc: Global, script: &[u8], rules: u32) -> Result<Report, u32>
+fn check_asked(alloc: Global, script: &[u8], asked: &NpQuestion) -> Result<Report, u32>
     ensures { IfErr result (λ code. is_untold code ≡ true) }
 {
-    match script_by(script, b"", rules) {
-        Ok(script) => made(check(alloc, script)),
-        Err(code) => Err(code),
+    let script = match script_by(script, b"", asked.rules) {
+        Ok(script) => script,
+        Err(code) => return Err(code),
+    };
+    match format_of(asked.format) {
+        Some(format) => made(check(alloc, script, format)),
+        None => Err(Code::BadFormat as u32),
     }
 }
 
@@ -36,13 +38,13 @@ fn check_asked(alloc: Global, script: &[u8], rules: u32) -> Result<Report, u32>
 pub extern "C" fn np_check(
     alloc: Global,
     script: &[u8],
-    rules: u32,
+    asked: &NpQuestion,
     text: &mut [u8],
     report: &mut NpReport,
 ) -> u32
     ensures { Reported result text.old text.new report.old report.new }
 {
-    tell_made(check_asked(alloc, script, rules), text, report)
+    tell_made(check_asked(alloc, script, asked), text, report)
 }
 
 /// The free pages of nodes, in the types of the crates below.
@@ -110,9 +112,9 @@ fn diff_asked(alloc: Global, script: &[u8], lines: &[u8], asked: &NpQuestion) ->
         Ok(script) => script,
         Err(code) => return Err(code),
     };
-    match asked.format {
-        0 => made(diff(alloc, script, touch_of(asked))),
-        _ => Err(Code::BadFormat as u32),
+    match format_of(asked.format) {
+        Some(format) => made(diff(alloc, script, touch_of(asked), format)),
+        None => Err(Code::BadFormat as u32),
     }
 }
 
@@ -145,9 +147,9 @@ fn explain_asked(
         Ok(script) => script,
         Err(code) => return Err(code),
     };
-    match asked.format {
-        0 => made(explain(alloc, script, touch_of(asked), page)),
-        _ => Err(Code::BadFormat as u32),
+    match format_of(asked.format) {
+        Some(format) => made(explain(alloc, script, touch_of(asked), page, format)),
+        None => Err(Code::BadFormat as u32),
     }
 }
 
@@ -185,8 +187,8 @@ fn replay_asked(
         Ok(script) => script,
         Err(code) => return Err(code),
     };
-    match shape_of(asked.format) {
-        Some(shape) => made(replay(alloc, script, trace, shape)),
+    match format_of(asked.format) {
+        Some(format) => made(replay(alloc, script, trace, format)),
         None => Err(Code::BadFormat as u32),
     }
 }

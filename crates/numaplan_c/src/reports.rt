@@ -1,11 +1,10 @@
 //! What the words of the program answer, over scripts in memory.
 ghost use Rattle.std.specs.Prelude.{◌≡◌, ◌≢◌, true, IfOk, IfErr};
 ghost use Rattle.numaplan_c.specs.Reports.{Reported, TellsReport, end_code, faulty_number};
-ghost use Rattle.numaplan_c.specs.Reports.{format_of, halt_code, is_untold, shape_of};
+ghost use Rattle.numaplan_c.specs.Reports.{format_of, halt_code, is_untold};
 
 use crate::codes::Code;
 use numa_reports::{Format, Touch};
-use numa_traces::Shape;
 use numa_words::{Ended, Halt};
 use numaplan_handles::copy_bytes;
 use numaplan_reports::Report;
@@ -54,17 +53,7 @@ pub(crate) fn format_of(number: u32) -> Option<Format>
         1 => Some(Format::Json),
         2 => Some(Format::Csv),
         3 => Some(Format::Svg),
-        _ => None,
-    }
-}
-
-/// The format with this number of a replay's report.
-pub(crate) fn shape_of(number: u32) -> Option<Shape>
-    ensures { result ≡ shape_of number }
-{
-    match number {
-        0 => Some(Shape::Text),
-        1 => Some(Shape::Json),
+        4 => Some(Format::Html),
         _ => None,
     }
 }

@@ -4,8 +4,8 @@ use crate::lines::lines_of;
 use crate::report::{Report, report_of};
 use crate::sources::{ScriptText, first_of, named, scripts_of};
 use numa_reports::{Format, FreePages, Touch, Written};
-use numa_traces::{ReplayError, Shape};
-use numa_words::{Ended, Halt};
+use numa_traces::ReplayError;
+use numa_words::{AskedPages, Ended, Halt};
 use std::alloc::{AllocError, Global};
 
 /// What is wrong with the lines of a script, and what a running kernel would do differently with
@@ -13,10 +13,10 @@ use std::alloc::{AllocError, Global};
 ///
 /// # Errors
 /// `AllocError`: out of memory.
-pub fn check(alloc: Global, script: ScriptText<'_>) -> Result<Report, AllocError> {
+pub fn check(alloc: Global, script: ScriptText<'_>, format: Format) -> Result<Report, AllocError> {
     let scripts = scripts_of(alloc, script)?;
     let mut answer = Vec::new(alloc);
-    let ended = match numa_words::check(alloc, scripts, &mut answer) {
+    let ended = match numa_words::check(alloc, scripts, format, &mut answer) {
         Ok(ended) => Ok(ended),
         Err(why) => Err(Halt::Stopped(why)),
     };
@@ -47,11 +47,12 @@ fn diff_by(
     script: ScriptText<'_>,
     lines: &[String],
     asked: Touch,
+    format: Format,
 ) -> Result<Report, AllocError> {
     let scripts = first_of(alloc, script)?;
     let mut answer = Vec::new(alloc);
     let mut told = Vec::new(alloc);
-    let ended = numa_words::diff(alloc, scripts, lines, asked, &mut answer, &mut told);
+    let ended = numa_words::diff(alloc, scripts, lines, asked, format, &mut answer, &mut told);
     report_of(answer, told, ended)
 }
 
@@ -60,9 +61,14 @@ fn diff_by(
 ///
 /// # Errors
 /// `AllocError`: out of memory.
-pub fn diff(alloc: Global, script: ScriptText<'_>, asked: Touch) -> Result<Report, AllocError> {
+pub fn diff(
+    alloc: Global,
+    script: ScriptText<'_>,
+    asked: Touch,
+    format: Format,
+) -> Result<Report, AllocError> {
     let lines = lines_of(alloc, script.then)?;
-    let report = diff_by(alloc, script, lines.as_slice(), asked);
+    let report = diff_by(alloc, script, lines.as_slice(), asked, format);
     drop(lines);
     report
 }
@@ -76,11 +82,20 @@ pub fn explain(
     script: ScriptText<'_>,
     asked: Touch,
     page: u64,
+    format: Format,
 ) -> Result<Report, AllocError> {
     let scripts = scripts_of(alloc, script)?;
     let mut answer = Vec::new(alloc);
     let mut told = Vec::new(alloc);
-    let ended = numa_words::explain(alloc, scripts, asked, page, &mut answer, &mut told);
+    let ended = numa_words::explain(
+        alloc,
+        scripts,
+        asked,
+        AskedPages { page, pages: None },
+        format,
+        &mut answer,
+        &mut told,
+    );
     report_of(answer, told, ended)
 }
 
@@ -133,7 +148,7 @@ pub fn replay(
     alloc: Global,
     script: ScriptText<'_>,
     trace: &[u8],
-    format: Shape,
+    format: Format,
 ) -> Result<Report, AllocError> {
     let traces = named(alloc, "trace", trace)?;
     let Ok(scripts) = scripts_of(alloc, script) else {

@@ -99,7 +99,7 @@ causes! {
     57 BAD_ORDERS "BadOrders"
         "no orders have this number; numaplan.h has those that there are";
     58 BAD_FORMAT "BadFormat"
-        "no format has this number, or the question isn't answered in it; take text";
+        "no format has this number; numaplan_reports.h has those that there are";
     60 LIST_EMPTY "ListEmpty"
         "nothing stands where a node should; name one, or leave out the comma";
     61 LIST_BAD_DIGIT "ListBadDigit"

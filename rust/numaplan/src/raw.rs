@@ -172,7 +172,7 @@ extern "C" {
     pub(crate) fn np_script_close(script: &mut Handle);
     pub(crate) fn np_script_line(script: &mut Handle, line: *const u8, length: usize, needed: &mut usize) -> u32;
     pub(crate) fn np_script_answer(script: &mut Handle, answer: *mut u8, room: usize, length: &mut usize) -> u32;
-    pub(crate) fn np_check(script: *const u8, length: usize, rules: u32, text: *mut u8, room: usize, report: &mut ToldReport) -> u32;
+    pub(crate) fn np_check(script: *const u8, length: usize, asked: &AskedReport, text: *mut u8, room: usize, report: &mut ToldReport) -> u32;
     pub(crate) fn np_predict(script: *const u8, length: usize, lines: *const u8, lines_length: usize, asked: &AskedReport, free_pages: *const FreePages, free_count: usize, text: *mut u8, room: usize, report: &mut ToldReport) -> u32;
     pub(crate) fn np_diff(script: *const u8, length: usize, lines: *const u8, lines_length: usize, asked: &AskedReport, text: *mut u8, room: usize, report: &mut ToldReport) -> u32;
     pub(crate) fn np_explain(script: *const u8, length: usize, lines: *const u8, lines_length: usize, asked: &AskedReport, page: u64, text: *mut u8, room: usize, report: &mut ToldReport) -> u32;

@@ -15,7 +15,7 @@ use crate::{Refused, Rules};
 /// use numaplan::{Format, Question};
 ///
 /// let host = "machine 2 0-1 0 flat\nmap 0x10000 0x4000 0x10\ntask 1 interleave:0-1\n";
-/// let report = Question { lines: "mems 0", ..Question::of(host) }.diff()?;
+/// let report = Question { lines: "mems 0", ..Question::of(host) }.diff(Format::Text)?;
 /// assert_eq!(report.text.lines().last(), Some("total moved=2 N1->N0=2"));
 /// let report = Question::of(host).predict(Format::Json, &[(0, 1)])?;
 /// assert!(report.messages.is_empty());
@@ -32,13 +32,15 @@ pub struct Question<'a> {
     pub rules: Rules,
 }
 
-/// The format of an answer: lines, a JSON object, records with a header, or a picture.
+/// The format of an answer: lines, JSON, records with a header, a picture, or a page for a browser. Each
+/// answer has some of them, as the word of the program has, and is text where it lacks the wanted one.
 #[derive(Clone, Copy, Debug, PartialEq, Eq)]
 pub enum Format {
     Text,
     Json,
     Csv,
     Svg,
+    Html,
 }
 
 /// What was answered: the text that the word of the program prints, what is wrong with lines, which are
@@ -93,18 +95,20 @@ impl<'a> Question<'a> {
                 Format::Json => 1,
                 Format::Csv => 2,
                 Format::Svg => 3,
+                Format::Html => 4,
             },
         }
     }
 
     /// What is wrong with the lines of the script alone, and what a running kernel would do otherwise
     /// with them: `numaplan check`.
-    pub fn check(&self) -> Result<Report, Unanswered> {
+    pub fn check(&self, format: Format) -> Result<Report, Unanswered> {
+        let asked = self.asked(format);
         told(|text, report| unsafe {
             raw::np_check(
                 self.script.as_ptr(),
                 self.script.len(),
-                self.rules.number(),
+                &asked,
                 text.as_mut_ptr(),
                 text.len(),
                 report,
@@ -135,8 +139,8 @@ impl<'a> Question<'a> {
 
     /// Which pages would go to another node after the lines than after the script alone:
     /// `numaplan diff`.
-    pub fn diff(&self) -> Result<Report, Unanswered> {
-        let asked = self.asked(Format::Text);
+    pub fn diff(&self, format: Format) -> Result<Report, Unanswered> {
+        let asked = self.asked(format);
         told(|text, report| unsafe {
             raw::np_diff(
                 self.script.as_ptr(),
@@ -152,8 +156,8 @@ impl<'a> Question<'a> {
     }
 
     /// Why the page of a number (address / 4096) would go where it goes: `numaplan explain`.
-    pub fn explain(&self, page: u64) -> Result<Report, Unanswered> {
-        let asked = self.asked(Format::Text);
+    pub fn explain(&self, page: u64, format: Format) -> Result<Report, Unanswered> {
+        let asked = self.asked(format);
         told(|text, report| unsafe {
             raw::np_explain(
                 self.script.as_ptr(),
@@ -169,8 +173,8 @@ impl<'a> Question<'a> {
         })
     }
 
-    /// What a trace of accesses, `TASK ADDRESS CPU [COUNT]` a line, meets where no page is placed, as
-    /// text or JSON: `numaplan replay`.
+    /// What a trace of accesses, `TASK ADDRESS CPU [COUNT]` a line, meets where no page is placed:
+    /// `numaplan replay`.
     pub fn replay(&self, trace: &str, format: Format) -> Result<Report, Unanswered> {
         let asked = self.asked(format);
         told(|text, report| unsafe {
