@@ -85,7 +85,7 @@ fn size_of(rt: &impl Files, name: &str) -> u64 {
 }
 
 /// A text that tells how far it has been read, if `tells`.
-fn paced<'a, R: Clock + Files, S>(
+fn begun<'a, R: Clock + Files, S>(
     rt: &'a R,
     name: &str,
     source: S,
@@ -118,7 +118,7 @@ where
 {
     let mut all = Vec::new(rt.alloc());
     for (name, source) in texts {
-        let text = paced(rt, name.as_str(), source, tells);
+        let text = begun(rt, name.as_str(), source, tells);
         all.push((name, text))?;
     }
     Ok(all)
