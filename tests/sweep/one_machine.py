@@ -97,19 +97,17 @@ check("a faulty line is told, and passed over", (answer.failed, answer.nodes, an
                         " with its flag"]))
 check("in bytes, too", one(b"machine 1 0 0 flat\nmap 1 2 3 4\n").faults[0][:18], "-:2:11: bad words:")
 WHY = [
-    (("/none.numaplan",), "error: can't open '/none.numaplan': No such file or directory (os error 2)"),
-    ((RANGE, None, (), 1, 4), "error: '--node 4': the machine's nodes are 0 to 3"),
-    ((b"limits 1 1 1",), "error: no machine is ready after the scripts"),
+    (("/none.numaplan",), "can't read '/none.numaplan': No such file or directory"),
+    ((RANGE, None, (), 1, 4),
+     "BadCpu: the machine lacks the node of the CPU; its nodes are numbered from 0"),
+    ((b"limits 1 1 1",),
+     "NoMachine: no line of the script makes a machine; begin with one, as machine 2 0-1 8 flat"),
     ((RANGE, b"1 0x30000 0\n1 2 3 4 5"),
-     "trace:2: bad words: a line of a trace is TASK ADDRESS CPU [COUNT]"),
+     "BadAccess: trace:2: bad words: a line of a trace is TASK ADDRESS CPU [COUNT]"),
 ]
 for fields, why in WHY:
     answer = one(*fields)
     check(f"failed: {why[:40]}..", (answer.failed, answer.nodes, answer.json), (why, {}, ""))
-os.environ["NUMAPLAN_PROGRAM"], program = "/none", os.environ["NUMAPLAN_PROGRAM"]
-check("failed: no program", one(RANGE).failed,
-      "the program can't be run: [Errno 2] No such file or directory: '/none'")
-os.environ["NUMAPLAN_PROGRAM"] = program
 FAULTY = [
     (Question(RANGE, task=-1), "ValueError: task is -1; it has to be from 0 to 4294967295"),
     (Question(RANGE, node="0"), "TypeError: 'str' object cannot be interpreted as an integer"),
@@ -225,7 +223,7 @@ TABLE = """number,script,trace,lines,task,node,failed,faults,total,nodes,moved,m
 exhausted,unserved
 0,RANGE,,mbind 0x30000 0x4000 bind:3; mems 0-3,1,3,,,6,N0=1 N2=1 N3=4,4,N0->N3=2 N1->N3=1 N2->N3=1,,0,0,0
 1,,TRACE,,1,0,,,1259,N0=1050 N1=200 N2=9,0,,D10=50 D20=1209,3,0,0
-2,RANGE,,,1,4,error: '--node 4': the machine's nodes are 0 to 3,,0,,0,,,0,0,0
+2,RANGE,,,1,4,BadCpu: the machine lacks the node of the CPU; its nodes are numbered from 0,,0,,0,,,0,0,0
 """
 answers = sweep([(RANGE, None, ["mbind 0x30000 0x4000 bind:3", "mems 0-3"], 1, 3),
                  (open(RANGE, "rb").read(), TRACE), (RANGE, None, (), 1, 4)], workers=1)
