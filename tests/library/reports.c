@@ -51,9 +51,8 @@ static bool is_untouched(void) {
 static void words(void) {
     forget();
     WANT(np_check(TEXT("machine 1 0 0 flat\nmap 1 2 3\n"), &asked, room, sizeof room, &told), NP_OK);
-    WANT(is_told("-:2: refused Unaligned EINVAL: START is no multiple of 0x1000; the page begins at 0x0\n",
-                 ""),
-         1);
+    WANT(memcmp(room, "-:2: refused Unaligned EINVAL: ", 31), 0);
+    WANT(told.messages, 0);
     WANT(told.faulty, 1);
     forget();
     WANT(np_check(TEXT(HOST), &asked, room, sizeof room, &told), NP_OK);
@@ -61,7 +60,11 @@ static void words(void) {
     WANT(told.faulty, 0);
     forget();
     WANT(np_predict(TEXT(HOST), TEXT(""), &asked, none, 0, room, sizeof room, &told), NP_OK);
-    WANT(is_told("00010000-00014000 interleave:0-1 pages=4 N0=2 N1=2\ntotal pages=4 N0=2 N1=2\n", ""), 1);
+    /* as numa_maps has it (numa(7)) */
+    WANT(is_told("00010000-00014000 interleave:0-1 anon=4 N0=2 N1=2 kernelpagesize_kB=4\n"
+                 "total anon=4 N0=2 N1=2 kernelpagesize_kB=4\n",
+                 ""),
+         1);
     forget();
     WANT(np_diff(TEXT(HOST), TEXT("mems 0\nmems 7"), &asked, room, sizeof room, &told), NP_OK);
     WANT(told.faulty, 1);

@@ -200,7 +200,7 @@ check("and leaves no process", in_session(long.pid), [])
 
 here, there = pty.openpty()
 with open(here, "rb", buffering=0) as terminal:
-    shown = start(300, stdout=subprocess.DEVNULL, stderr=there)
+    shown = start(6000, stdout=subprocess.DEVNULL, stderr=there)
     os.close(there)
     text = b""
     try:
@@ -211,8 +211,8 @@ with open(here, "rb", buffering=0) as terminal:
     shown.wait()
 lines = text.decode().split("\r\x1b[K")
 check("a terminal shows how far it is",
-      (lines[1][:10], " of 300 answers in 0:0" in lines[1], lines[-1]), ("numaplan: ", True, ""))
-quiet = start(300, stdout=subprocess.DEVNULL, stderr=subprocess.PIPE)
+      (lines[1][:10], " of 6,000 answers in 0:0" in lines[1], lines[-1]), ("numaplan: ", True, ""))
+quiet = start(6000, stdout=subprocess.DEVNULL, stderr=subprocess.PIPE)
 check("and nothing else is shown it", quiet.communicate()[1], "")
 with tempfile.TemporaryFile("w+") as file:
     check("what is looked at, with its progress", list(numaplan.progress("abc", "letters")), list("abc"))
