@@ -16,7 +16,7 @@ use Rattle.numa_space.specs.declared.command.Command.{Command}
 -- node; else the machine lacks the node, or there was no memory
 abbrev pub IsPredicted : SpaceState → ℕ → ℕ → Result (List ℕ) ReportError → Type 0
 IsPredicted space task cpu answer = (history : List Command) → StandsFor space history
-    → MatchResult answer (AreFirsts space.machine history task cpu 0 (2 ^ 35))
+    → MatchResult answer (AreFirsts space.machine history task 0 (2 ^ 35) cpu)
     (MayFail space.machine.nodes cpu)
 
 -- what remains free on each node, if the task touched all mapped pages so, in ascending order
