@@ -11,14 +11,17 @@ import time
 
 
 def inner():
+    seen, told = os.pipe()
     child = os.fork()
     if child == 0:
         os.kill(os.getpid(), signal.SIGSTOP)
+        os.read(seen, 1)  # (a child that has ended isn't told to be woken)
         os._exit(3)
     status = os.waitpid(child, os.WUNTRACED)[1]
     print("stopped by", os.WSTOPSIG(status) if os.WIFSTOPPED(status) else status, flush=True)
     os.kill(child, signal.SIGCONT)
     print("woken:", os.WIFCONTINUED(os.waitpid(child, os.WCONTINUED)[1]), flush=True)
+    os.write(told, b"x")
     print("ended with", os.waitstatus_to_exitcode(os.waitpid(child, 0)[1]), flush=True)
     if os.fork() == 0:
         os.kill(os.getppid(), signal.SIGSTOP)
@@ -73,8 +76,8 @@ class Terminal:
             try:
                 self.text += os.read(self.file, 4096).decode().replace("\r", "")
             except OSError:
-                self.text += "(the terminal is closed)"
-                seconds, end = 0, 0
+                print(f"the terminal is closed, and no '{text}' came, but:\n{self.text}")
+                sys.exit(1)
         self.text = self.text.partition(text)[2]
 
     def type(self, text):
