@@ -83,7 +83,7 @@ prove_in_room() {
     total=$(grep -c . "$room/repository/crates.txt")
     cd "$room/repository" || return
     SECONDS=0
-    RT_JOBS=$(count_places) TMPDIR=$room/temporary start rt ci
+    TMPDIR=$room/temporary start rt ci
     cd "$here" || return
     while kill -0 "$child" 2>/dev/null; do
         show
