@@ -13,7 +13,8 @@ put_in-requires-clause-within g c = omega (arith, c.requires.within, ap length c
 
 pub returns : goal.returns
 returns g c =
-    subst (λ (l : List g.row.T.Denot). IfOk c.cut.result (λ pieces. AreCut pieces.items l))
+    subst (λ (l : List g.row.T.Denot). IfOk c.cut.result (λ pieces.
+    AreCut c.args.behind pieces.items l))
     (c.deref.ensures.value ∙ (c.in_ok-put_in.ensures.ok
     ∙ ap (λ l. splice l c.args.from c.args.to c.args.rows.now) c.in_ok-all.ensures))
     c.cut.ensures

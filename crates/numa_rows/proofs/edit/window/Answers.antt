@@ -1,0 +1,33 @@
+-- The chunks around both ends are a window.
+use Rattle.std.proofs.Common.{arith}
+use Rattle.numa_rows.proofs.Editing.{window-around}
+use Rattle.numa_rows.proofs.Windows.{few-parts}
+use Rattle.numa_rows.proofs.edit.window.Goals as goal
+
+pub outgrows-requires-clause-count : goal.outgrows-requires-clause-count
+outgrows-requires-clause-count g c = c.requires.table.count
+
+pub outgrows-requires-clause-small : goal.outgrows-requires-clause-small
+outgrows-requires-clause-small g c = c.requires.table.small
+
+pub place_of-last-requires-clause-rank : goal.place_of-last-requires-clause-rank
+place_of-last-requires-clause-rank g c = omega (arith, c.requires.rank)
+
+pub overflow_add-last : goal.overflow_add-last
+overflow_add-last g c =
+    omega (
+      arith,
+      c.place_of-last.ensures.within,
+      few-parts 6144 c.args.chunks.now c.requires.table.filled,
+      c.requires.table.count,
+      c.requires.table.small,
+    )
+
+pub returns : goal.returns
+returns g c =
+    window-around 6144 c.args.chunks.now c.args.place.chunk c.place_of-last.result.chunk c.args.from
+    c.args.to c.args.added c.saturating_sub-low.result c.min-high.result c.args.place.start
+    c.place_of-last.result.start c.args.rank c.min-end.result c.requires.has c.place_of-last.ensures
+    c.requires.from c.requires.rises (omega (arith, c.requires.within))
+    (omega arith) (omega arith)
+    (omega (arith, c.requires.rank, c.requires.from, c.requires.rises)) c.requires.table.filled
