@@ -14,6 +14,8 @@ system keeps libraries. Not proved; what it calls is.
 
 from __future__ import annotations
 
+from typing import TYPE_CHECKING
+
 from ._causes import CAUSES as CAUSES
 from ._causes import AllTaken, AnswerLost, BadAccess, BadCpu, BadDistance, BadFormat, BadLimits
 from ._causes import BadNodeCount, BadOffset
@@ -29,13 +31,8 @@ from ._causes import Unaligned, Unknown, UnknownMode, Unmapped
 from ._cores import Core, Explanation, Placement, Policy, Prediction, Range
 from ._library import LIBRARY
 from ._plans import Plan
-from ._progress import progress
-from ._questions import Answer, Question
-from ._reports import Report, check, diff, explain, predict, replay
 from ._scripts import Script
 from ._seats import Frame, Seat
-from ._sweeps import sweep
-from ._tables import write_table
 from ._values import effective, nodes, nodes_text, policy_text, rebind
 
 __version__ = "0.10.0"
@@ -56,9 +53,36 @@ __all__ = [
     "Unknown", "UnknownMode", "Unmapped",
 ]
 # (as users name them, also where they are pickled)
-for _one in (Answer, Core, Explanation, Frame, Placement, Plan, Policy, Prediction, Question, Range,
-             Report, Script, Seat):
+for _one in (Core, Explanation, Frame, Placement, Plan, Policy, Prediction, Range, Script, Seat):
     _one.__module__ = __name__
+
+if TYPE_CHECKING:
+    from ._progress import progress
+    from ._questions import Answer, Question
+    from ._reports import Report, check, diff, explain, predict, replay
+    from ._sweeps import sweep
+    from ._tables import write_table
+else:
+    # what a program that asks a core doesn't need, by module: imported where it is first named
+    _LATER = {name: module for module, names in {
+        "_progress": ["progress"],
+        "_questions": ["Answer", "Question"],
+        "_reports": ["Report", "check", "diff", "explain", "predict", "replay"],
+        "_sweeps": ["sweep"],
+        "_tables": ["write_table"],
+    }.items() for name in names}
+
+    def __getattr__(name):
+        """What isn't imported yet."""
+        if name not in _LATER:
+            raise AttributeError(f"module {__name__!r} has no attribute {name!r}")
+        from importlib import import_module
+        found = getattr(import_module(f".{_LATER[name]}", __name__), name)
+        globals()[name] = found
+        return found
+
+    def __dir__():
+        return sorted({*globals(), *_LATER})
 
 
 def _ensure_version() -> None:

@@ -3,7 +3,6 @@
 from __future__ import annotations
 
 import os
-import subprocess
 import sys
 from ctypes import byref, c_uint32
 from typing import Any, NamedTuple, Sequence
@@ -52,6 +51,7 @@ class Hardware(NamedTuple):
 
 def read_hardware(text: str, kernel_orders: bool, memory_added: bool) -> Hardware:
     """The machine of a text, as tools/machine-line writes it; ValueError with its words."""
+    import subprocess  # (which imports much, for this alone)
     options = ["--kernel-orders"] * kernel_orders + ["--memory-added"] * memory_added
     ran = subprocess.run([sys.executable, _machine_line(), *options], input=text, text=True,
                          encoding="utf-8", stdout=subprocess.PIPE, stderr=subprocess.PIPE)

@@ -61,6 +61,7 @@ class Answer(NamedTuple):
     seconds: float
 
 
+Question.__module__ = Answer.__module__ = "numaplan"  # (as users name them, also in pickles)
 NONE = Question(b"")  # (stands in an answer on its way from a worker)
 
 

@@ -35,6 +35,9 @@ class Report(NamedTuple):
         return _json.loads(self.text)
 
 
+Report.__module__ = "numaplan"  # (as users name it, also in pickles)
+
+
 def check(script: Text, *, format: str = "text", rules: str = "document") -> Report:
     """What is wrong with the lines of a script, and what a running kernel would do otherwise with
     them, as `numaplan check` prints it. A script is the name of a file, or its text as bytes, which

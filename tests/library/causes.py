@@ -5,6 +5,7 @@ prints, where there is a Rust compiler. Prints what is wrong; not proved."""
 import ctypes
 import os
 import pickle
+import subprocess
 import sys
 from types import FunctionType
 
@@ -84,6 +85,18 @@ for one in (core, plan, seat, script):
     one.close()
     want(repr(one), f"<numaplan.{type(one).__name__}, closed>", "a closed one")
 want(repr(Plan()), "<numaplan.Plan, closed>", "a plan of nothing")
+
+# what is asked for later is imported later
+ran = subprocess.run(
+    [sys.executable, "-c", "import sys, numaplan\n"
+     "print(*sorted(name for name in sys.modules if name.startswith(('numaplan._', 'concurrent'))"
+     " or name in ('subprocess', 'csv')))\n"
+     "print('sweep' in dir(numaplan), numaplan.sweep.__module__, numaplan.Answer.__module__)\n"
+     "print(hasattr(numaplan, 'sweeps'))"], capture_output=True, text=True, check=True)
+want(ran.stdout.splitlines(), [
+    "numaplan._calls numaplan._causes numaplan._cores numaplan._judged numaplan._library"
+    " numaplan._machines numaplan._plans numaplan._scripts numaplan._seats numaplan._values",
+    "True numaplan._sweeps numaplan", "False"], "modules")
 
 # what a checker and `import *` see
 names = {}
