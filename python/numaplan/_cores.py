@@ -3,7 +3,7 @@
 from __future__ import annotations
 
 from ctypes import byref, c_size_t, c_uint8, c_uint64
-from typing import Iterator, Mapping, NamedTuple, Sequence
+from typing import Iterable, Iterator, Mapping, NamedTuple, Sequence
 
 from ._calls import STILL, Owner, call, encoded, members, written
 from ._judged import list_of, u8, u16, u32, u64
@@ -64,14 +64,14 @@ class Explanation(NamedTuple):
         "interleave" or "weighted interleave"
     node: the node in whose order they are: the faulting one, the home, the lowest of the policy's,
         or the one whose turn it is
-    index: the page's index, in pages, by which nodes take turns
+    page_index: the page's index, in pages, by which nodes take turns
     turn: the place of its turn among how many; None where nodes take no turns"""
 
     scope: str
     policy: "Policy | None"
     rule: str
     node: int
-    index: int
+    page_index: int
     turn: "tuple[int, int] | None"
 
 
@@ -320,7 +320,7 @@ def _policy(told: StandingPolicy) -> "Policy | None":
     return Policy(told.mode, home, members(told.asked), members(told.nodes))
 
 
-def _some(counts: Sequence[int]) -> dict[int, int]:
+def _some(counts: Iterable[int]) -> dict[int, int]:
     """The numbers of the nodes that have some."""
     return {node: count for node, count in enumerate(counts) if count}
 
