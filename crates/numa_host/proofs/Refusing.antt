@@ -153,14 +153,3 @@ module _ (host : HostState) (room : host.version < host.blank.bounds.max_command
       le-leb 4096 (length (members_of history))
       (omega (arith, members-count host history stands, many)) in
       rw (spent history stands, here, known, full) refl)
-
--- as many commands as the limits allow
-pub all-spent : (host : HostState) (command : HostCommand)
-    → host.blank.bounds.max_commands ≤ host.version
-    → IsHostApplied host command (Err cause.CommandsSpent) host
-all-spent host command full = refused host command cause.CommandsSpent (λ same. cc)
-    (λ history stands.
-    let done : leb host.blank.bounds.max_commands (length history) ≡ true =
-    le-leb host.blank.bounds.max_commands (length history)
-    (omega (arith, full, stands.version)) in
-    rw done refl)

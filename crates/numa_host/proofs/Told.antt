@@ -1,12 +1,10 @@
 -- A command of one process, over the whole host.
 use Rattle.std.proofs.Common.{◌≡◌, ◌≢◌, ◌≤◌, ◌<◌, ℕ, ◌+◌, true, false, List, [], ◌∷◌, map}
-use Rattle.std.proofs.Common.{length, get_or, set, Option, Some, None, is_some, Result, Ok, Err}
+use Rattle.std.proofs.Common.{length, get_or, Option, Some, None, is_some, Result, Ok, Err}
 use Rattle.std.proofs.Common.{IfErr, MatchOption, eqb, leb, refl, sym, ap, ◌∙◌, subst, arith}
 use Rattle.std.proofs.Common.{inl, inr, suc}
 use Rattle.std.proofs.lemmas.Bool.{cases_Bool, eqb-true, eq-eqb, ne_eqb, lt-leb, both_ways}
 use Rattle.std.proofs.lemmas.Bool.{cases_lt}
-use Rattle.std.proofs.lemmas.List.{length-set, get_or-set_other, get_or_default}
-use Rattle.std.proofs.lemmas.Grind.{get_or-set_at}
 use Rattle.std.proofs.lemmas.Iterator.Adapters.{position_from-zero}
 use Rattle.std.specs.List.{position, position_from}
 use Rattle.numa_machine.specs.Machine.{Hardware}
@@ -78,21 +76,6 @@ position-some ps id place some =
     let at = from-at ps id 0 place (sym (position_from-zero (has_id id) ps) ∙ some) in
     let here : at.0 ≡ place = omega (arith, at.1) in
     subst (λ k. IsPlaceOf ps id k) here (record { inside = at.2; is = at.3 })
-
--- one process of the list was told
-pub told-set : (olds : List Process) (place : ℕ) (e q : Process) (command : Command)
-    (result : Result (Unit {0}) Refusal) → place < length olds → e ≡ get_or olds place e
-    → HasAnswered command result e q → IsTold place command result olds (set olds place q)
-told-set olds place e q command result inside is answered = record {
-  count = length-set olds place q;
-  others = λ k d far. get_or-set_other olds place k q d far;
-  told = λ d.
-      let old : get_or olds place d ≡ e = get_or_default olds place d e inside ∙ sym is in
-      let new : get_or (set olds place q) place d ≡ q =
-      get_or-set_at olds place place q d refl inside in
-      subst (λ x. HasAnswered command result x (get_or (set olds place q) place d)) (sym old)
-      (subst (λ y. HasAnswered command result e y) (sym new) answered);
-}
 
 -- ---- what the host answers
 

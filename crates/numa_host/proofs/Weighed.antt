@@ -1,7 +1,7 @@
 -- A weight, over the whole host.
 use Rattle.std.proofs.Common.{◌≡◌, ◌<◌, ℕ, ◌+◌, List, ◌∷◌, length, get_or, refl, sym, ap, ◌∙◌}
-use Rattle.std.proofs.Common.{subst, arith, All, None, Option, Result, Ok, Err, OnOk, OnErr}
-use Rattle.std.proofs.Common.{IfErr, MatchOption, leb, false}
+use Rattle.std.proofs.Common.{subst, arith, All, None, Result, Ok, Err, OnOk, OnErr}
+use Rattle.std.proofs.Common.{leb, false}
 use Rattle.std.proofs.lemmas.Bool.{lt-leb}
 use Rattle.std.specs.Prelude.{nat_le}
 use Rattle.numa_machine.specs.Machine.{Hardware}
@@ -11,10 +11,8 @@ use Rattle.numa_space.specs.Steps.{scene_in, IsApplied}
 use Rattle.numa_space.specs.declared.refusal.Refusal.{Refusal}
 use Rattle.numa_space.specs.declared.refusal.Refusal.TheVariants as cause
 use Rattle.numa_space.proofs.Refused.{first_of-none}
-use Rattle.numa_host.specs.Answers.{of_space}
 use Rattle.numa_host.specs.Causes.{host_refusal_of}
 use Rattle.numa_host.proofs.Lengths.{commands-few}
-use Rattle.numa_host.proofs.Answered.{answer-caused, of_space-memory, refusal-no_memory}
 use Rattle.numa_space.specs.Standing.{SpaceState, StandsFor}
 use Rattle.numa_space.specs.declared.command.Command.{Command}
 use Rattle.numa_space.specs.declared.command.Command.TheVariants as own
@@ -24,7 +22,7 @@ use Rattle.numa_host.specs.declared.process.Process.{Process}
 use Rattle.numa_host.specs.Groups.{effective_mems, is_group}
 use Rattle.numa_host.specs.Processes.{commands_of, weights_of}
 use Rattle.numa_host.specs.Following.{AreFollowed, HasMore}
-use Rattle.numa_host.specs.Standing.{HostState, HostStandsFor, IsHostApplied, IsHostSound}
+use Rattle.numa_host.specs.Standing.{HostState, HostStandsFor, IsHostSound}
 use Rattle.numa_host.specs.Standing.{IsSpaceOf}
 use Rattle.numa_host.proofs.Grouped.{members-followed}
 
@@ -147,34 +145,6 @@ blank-took old new history command result applied is stands =
     subst (λ (r : Result (Unit {0}) Refusal). OnOk r
     ((refusal_of old.machine old.bounds history command ≡ None)
     × StandsFor new (command ∷ history))) is (applied.ok history stands)
-
--- a refusal changes nothing, and is the first cause
-pub weight-refused : (old : HostState) (blank : SpaceState) (node weight : ℕ)
-    (result : Result (Unit {0}) Refusal) (refusal : Refusal)
-    → old.version < old.blank.bounds.max_commands
-    → IsApplied old.blank (own.SetWeight node weight) result blank → result ≡ Err refusal
-    → IsHostApplied old (SetWeight node weight) (Err (of_space refusal)) old
-weight-refused old blank node weight result refusal room applied is = record {
-  ok = λ history stands. tt;
-  err = λ history stands.
-      let few : leb old.blank.bounds.max_commands (length history) ≡ false =
-      lt-leb old.blank.bounds.max_commands (length history)
-      (omega (arith, room, stands.version)) in
-      let o : Option Refusal = refusal_of old.blank.machine old.blank.bounds (weights_of history)
-      (own.SetWeight node weight) in
-      let told : MatchOption o (refusal ≡ cause.NoMemory) (λ first. refusal ≡ first) =
-      subst (λ (r : Result (Unit {0}) Refusal). IfErr r
-      (λ refusal. MatchOption o (refusal ≡ cause.NoMemory) (λ first. refusal ≡ first))) is
-      (applied.err (weights_of history) stands.blank) in
-      rw few (answer-caused o refusal
-      (refusal-no_memory old.blank.machine old.blank.bounds (weights_of history)
-      (own.SetWeight node weight)) told);
-  unchanged = refl;
-  room = λ same. subst (λ (r : Result (Unit {0}) Refusal). IfErr r
-      (λ refusal. refusal ≡ cause.NoMemory → ⊥)) is applied.room (of_space-memory refusal same);
-  machine = refl;
-  bounds = refl;
-}
 
 pub blank-kept : (old new : SpaceState) (command : Command) (result : Result (Unit {0}) Refusal)
     (refusal : Refusal) → IsApplied old command result new → result ≡ Err refusal → new ≡ old
