@@ -6,3 +6,4 @@ pub mod InTurn
 pub mod Lawful
 pub mod Apart
 pub mod Falling
+pub mod Migrating

@@ -1,23 +1,27 @@
 //! Laws of the definitions that contracts cite. The functions do nothing: what each one ensures is
 //! a law.
-ghost use Rattle.std.specs.Prelude.{◌≡◌, ◌≢◌, ℕ, ◌+◌, ◌*◌, ◌<◌, ◌≤◌, List, length, Option, Some};
+ghost use Rattle.std.specs.Prelude.{◌≡◌, ◌≢◌, ℕ, ◌+◌, ◌*◌, ◌<◌, ◌≤◌, List, [], ◌∷◌, length};
+ghost use Rattle.std.specs.Prelude.{Option, Some};
 ghost use Rattle.std.specs.Prelude.{Result, Ok, Err, slice_get, slice_index_or, ◌↔◌};
 ghost use Rattle.std.specs.Option.{ForSome};
 ghost use Rattle.numa_space.specs.declared.placement.Placement.{Placement};
 ghost use Rattle.numa_space.specs.declared.request.Request.{Request};
 ghost use Rattle.numa_machine.specs.Machine.{Hardware};
+ghost use Rattle.numa_pool.specs.Frames.{Holds};
 ghost use Rattle.numa_pool.specs.Seats.{SeatView};
 ghost use Rattle.numa_publish.specs.Batches.{Extends};
 ghost use Rattle.numa_space.specs.declared.command.Command.{Command};
 ghost use Rattle.numa_space.specs.declared.refusal.PlaceRefusal.{PlaceRefusal};
 ghost use Rattle.numa_fault.specs.Crew.{column, HaveSeats, IsCrew, Serves, ServesEach};
 ghost use Rattle.numa_fault.specs.Fault.{Faults, FindsNone, Places, list_of, refusal_of};
+ghost use Rattle.numa_fault.specs.Migration.{Migrates};
 ghost use Rattle.numa_fault.specs.Span.{FaultsOnSpan, IsRefused};
 ghost use Rattle.numa_fault.specs.Told.{FoundTaken, refusal_told, span_refusal_told, version_told};
 ghost use Rattle.numa_fault.specs.Told.{version_at};
 ghost use Rattle.numa_fault.specs.Worker.{Parts, WorkerState};
 ghost use Rattle.numa_fault.specs.declared.answer.Answer.{Answer};
 ghost use Rattle.numa_fault.specs.declared.refusal.FaultRefusal.{FaultRefusal};
+ghost use Rattle.numa_fault.specs.declared.refusal.MigrateRefusal.{MigrateRefusal};
 ghost use Rattle.numa_fault.specs.declared.refusal.SpanRefusal.{SpanRefusal};
 ghost use Rattle.numa_fault.specs.declared.span.Span.{Span};
 
@@ -76,6 +80,20 @@ pub fn a_win_means()
         → FindsNone frames machine history request version before after
         → FoundTaken frames (list_of machine history request)
         (length (list_of machine history request)) before after }
+{}
+
+/// If a page wasn't moved for want of a frame, each frame of the node was found taken in the walk
+/// for it. If it was, the seat holds the new frame, and no longer the one that the page had.
+pub fn a_migration_means()
+    ensures exhausted { (frames : List ℕ) (node : ℕ) (placement back : Placement)
+        (before after : SeatView) → Migrates frames node placement before after
+        (Err (MigrateRefusal.Exhausted back)) → FoundTaken frames (node ∷ []) 1 before after }
+    ensures gained { (frames : List ℕ) (node : ℕ) (placement moved : Placement)
+        (before after : SeatView) → Migrates frames node placement before after (Ok moved)
+        → Holds after.held moved.frame }
+    ensures given_up { (frames : List ℕ) (node : ℕ) (placement moved : Placement)
+        (before after : SeatView) → Migrates frames node placement before after (Ok moved)
+        → Holds before.held placement.frame → ¬ (Holds after.held placement.frame) }
 {}
 
 /// What a worker sees only grows, and the versions in its answers never decrease. The history of

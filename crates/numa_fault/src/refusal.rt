@@ -1,4 +1,5 @@
-//! Why a fault wasn't served.
+//! Why a fault wasn't served, or a page wasn't moved.
+use numa_space::Placement;
 
 /// Why a page wasn't placed: the first of these that applies.
 #[derive(Clone, Copy, PartialEq, Eq, Debug, Drop)]
@@ -27,4 +28,29 @@ pub enum SpanRefusal {
     Exhausted(u64, usize),
     /// Out of memory for the placements. No frame was taken.
     NoMemory,
+}
+
+/// Why a page wasn't moved to another node: the first of these that applies. Each hands back the
+/// page's placement, whose frame the worker still has.
+#[derive(PartialEq, Eq, Debug, Drop)]
+pub enum MigrateRefusal {
+    /// The machine lacks the node, or the node has no frames, as one without memory.
+    NoSuchNode(Placement),
+    /// Each frame of the node was found taken.
+    Exhausted(Placement),
+}
+
+impl MigrateRefusal {
+    ghost use Rattle.std.specs.Prelude.{◌≡◌};
+    ghost use Rattle.numa_fault.specs.Migration.{handed_back};
+
+    /// The page's placement, as it was.
+    pub fn into_placement(self) -> Placement
+        ensures { result ≡ handed_back self }
+    {
+        match self {
+            MigrateRefusal::NoSuchNode(placement) => placement,
+            MigrateRefusal::Exhausted(placement) => placement,
+        }
+    }
 }

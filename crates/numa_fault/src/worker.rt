@@ -2,14 +2,16 @@
 ghost use Rattle.std.specs.Prelude.{◌≡◌, [], ◌∷◌, ◌++◌, ◌<◌, ◌≤◌, length, reverse, IsTrue};
 ghost use Rattle.std.specs.Prelude.{MatchOption, vec_capacity, ◌↔◌};
 ghost use Rattle.numa_fault.specs.Fault.{Faults};
+ghost use Rattle.numa_fault.specs.Migration.{Migrates};
 ghost use Rattle.numa_fault.specs.Span.{FaultsOnSpan};
 ghost use Rattle.numa_fault.specs.Worker.{parts_of, KeepsNothing};
 ghost use Rattle.numa_pool.specs.Frames.{Holds, without};
 ghost use Rattle.numa_pool.specs.declared.view.Entry.TheVariants.{Gave};
 
 use crate::answer::Answer;
+use crate::migration::migrate_by;
 use crate::placing::fault_by;
-use crate::refusal::{FaultRefusal, SpanRefusal};
+use crate::refusal::{FaultRefusal, MigrateRefusal, SpanRefusal};
 use crate::span::{Span, fault_span_by};
 use numa_pool::{PoolSeat, Pools};
 use numa_publish::PlanReader;
@@ -169,6 +171,32 @@ impl FaultWorker {
         ensures kept { (self.new.kept ≡ self.old.kept) × (self.new.room ≡ self.old.room) }
     {
         pools.give(&mut self.seat, placement.frame);
+    }
+
+    /// Moves a page to a node: takes a frame of the node, and then gives up the frame that the page
+    /// had. The placement that it returns has the version, the rank, the task and the page of the
+    /// one before. A page that lies on the node gets another frame of it. It doesn't block or
+    /// allocate. The pools must be those of the seat, which must hold the frame (`owns`).
+    ///
+    /// # Errors
+    /// The first that applies, with the placement, whose page stays where it is: `NoSuchNode`, the
+    /// machine lacks the node or the node has no frames; `Exhausted`, each of its frames was found
+    /// taken.
+    pub fn migrate(
+        &mut self,
+        pools: &Pools,
+        placement: Placement,
+        node: u8,
+    ) -> Result<Placement, MigrateRefusal>
+        requires table { self.old.seat.table ≡ pools.now.table }
+        requires owned { Holds self.old.seat.held placement.frame }
+        ensures migration { Migrates pools.now.frames node placement self.old.seat self.new.seat
+            result }
+        ensures reader { self.new.reader ≡ self.old.reader }
+        ensures table { self.new.seat.table ≡ self.old.seat.table }
+        ensures kept { (self.new.kept ≡ self.old.kept) × (self.new.room ≡ self.old.room) }
+    {
+        migrate_by(pools, &mut self.seat, placement, node)
     }
 
     /// Keeps answers from now on, as many as there is room for.
