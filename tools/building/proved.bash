@@ -3,23 +3,21 @@
 # It is proved by `rt ci`, in a room: a repository of copies of those crates alone, among the
 # temporary files. rt keeps beside the kit what passes, each crate as soon as it is proved, there
 # and where ./test runs `rt ci`: so neither proves again what the other proved, and a proof that was
-# interrupted goes on from there. RT_JOBS is how many proofs run side by side, each with one job:
-# several jobs in one cost the processors more than they gain. Not proved.
+# interrupted goes on from there. rt runs as many proofs side by side as there are processors and
+# memory, and gives one the processors that no other waits for, since a chain of crates bounds the
+# whole; NUMAPLAN_JOBS is how many run side by side instead, each with one job. Not proved.
 
 declare -A proof_takes=(
-    [proved]='some 35 minutes on four processors, and 3 GB of disk'
+    [proved]='30 to 50 minutes on four processors, and 3 GB of disk'
     [library]='some 30 minutes on four processors, or 7 if the program is proved'
 )
 
-# How many proofs run side by side: NUMAPLAN_JOBS, or one a processor, if memory has 3 GB for each.
-count_places() {
-    local processors memory
-    [[ ! ${NUMAPLAN_JOBS:-} =~ ^[1-9][0-9]*$ ]] || { echo "$NUMAPLAN_JOBS" && return; }
-    processors=$(nproc)
-    memory=$(awk '/^MemAvailable:/ { print int($2 / 3000000) }' /proc/meminfo)
-    ((memory >= 1)) || memory=1
-    echo $((processors < memory ? processors : memory))
-}
+# How many proofs run side by side, if NUMAPLAN_JOBS says so.
+if [[ ${NUMAPLAN_JOBS:-} =~ ^[1-9][0-9]*$ ]]; then
+    export RT_JOBS=$NUMAPLAN_JOBS
+else
+    unset RT_JOBS
+fi
 
 # Copies the needed crates into the room, with their lines of crates.txt. (rt looks for a .git.)
 fill_room() {
