@@ -1,15 +1,17 @@
 -- A list that is walked from its front: what one step says of the whole.
-use Rattle.std.proofs.Common.{◌≡◌, ℕ, zero, suc, ◌+◌, ◌-◌, ◌<◌, ◌≤◌, ◌^◌, max, true, false, not}
-use Rattle.std.proofs.Common.{is_some, Some, None, List, [], ◌∷◌, ◌++◌, length, take, drop, get_or}
+use Rattle.std.proofs.Common.{◌≡◌, ℕ, zero, suc, ◌+◌, ◌-◌, ◌<◌, ◌≤◌, ◌^◌, min, max, true, false}
+use Rattle.std.proofs.Common.{not}
+use Rattle.std.proofs.Common.{is_some, Option, Some, None, List, [], ◌∷◌, ◌++◌, length, take, drop}
+use Rattle.std.proofs.Common.{get_or}
 use Rattle.std.proofs.Common.{refl, sym, ap, subst, ◌∙◌, arith, inl, inr}
-use Rattle.std.specs.Prelude.{All, nat_lt}
+use Rattle.std.specs.Prelude.{All, nat_lt, IfSome, IfNone, OnSome}
 use Rattle.std.specs.List.{AllWithin, slice_range}
 use Rattle.std.proofs.lemmas.Bool.{cases_lt, lt-ltb, le-ltb}
 use Rattle.std.proofs.lemmas.List.{drop-drop, drop_more, take_more, get_or-drop, get_or-take}
 use Rattle.std.proofs.lemmas.List.{length-drop, length-take}
 use Rattle.numa_ranges.specs.Runs.{page_at, end_of, AreApart}
 use Rattle.numa_ranges.specs.Maps.{any_page}
-use Rattle.numa_ranges.specs.Edits.{Each, StartsAround}
+use Rattle.numa_ranges.specs.Edits.{Each, StartsAround, MayBegin, IsAround}
 use Rattle.numa_ranges.specs.declared.run.Run.{Run}
 use Rattle.numa_ranges.proofs.Apart.{in_pages-true, in_pages-below, in_pages-above, page_at-before}
 use Rattle.numa_ranges.proofs.Apart.{apart-top, apart-rising}
@@ -66,6 +68,36 @@ module _ {X : Type 0} where
   both-seen P xs rest left x from place to is so h =
       subst (λ l. P (([] ++ slice_range xs from place ++ x ∷ []) ++ take (to - place) l)) so
       (subst (λ l. P (([] ++ take (place - from) l ++ x ∷ []) ++ take (to - place) left)) is h)
+
+-- what is found where the walk ends: a window, unless a page is not mapped
+pub record IsFound (from len count last_end page end : ℕ) (found : Option (ℕ × ℕ)) : Type 0 where
+  pub none : page < end → found ≡ None
+  pub behind : end ≤ page → end < last_end → found ≡ Some (from, count)
+  pub before : end ≤ page → last_end ≤ end → found ≡ Some (from, min len (count + 1))
+
+pub found-none : {P : Type 0} (from len count last_end page end : ℕ) (found : Option (ℕ × ℕ))
+    → IsFound from len count last_end page end found → (page < end → P) → IfNone found P
+found-none {P} from len count last_end page end found is lacks =
+    elim (cases_lt page end) [
+      | inl low ↦ subst (λ o. IfNone o P) (sym (is.none low)) (lacks low)
+      | inr past ↦
+          elim (cases_lt end last_end) [
+            | inl over ↦ subst (λ o. IfNone o P) (sym (is.behind past over)) tt
+            | inr short ↦ subst (λ o. IfNone o P) (sym (is.before past short)) tt
+          ]
+    ]
+
+pub found-whole : {P : Type 0} (from len count last_end page end : ℕ) (found : Option (ℕ × ℕ))
+    → IsFound from len count last_end page end found → (end ≤ page → P) → OnSome found P
+found-whole {P} from len count last_end page end found is whole =
+    elim (cases_lt page end) [
+      | inl low ↦ subst (λ o. OnSome o P) (sym (is.none low)) tt
+      | inr past ↦
+          elim (cases_lt end last_end) [
+            | inl over ↦ subst (λ o. OnSome o P) (sym (is.behind past over)) (whole past)
+            | inr short ↦ subst (λ o. OnSome o P) (sym (is.before past short)) (whole past)
+          ]
+    ]
 
 module _ {T : Type 0} where
   -- so far every page of a span is mapped, and the runs ahead say what the pages ahead are
@@ -148,7 +180,7 @@ module _ {T : Type 0} where
       past : (p : ℕ) → end_of run ≤ p → page_at (run ∷ rest) p ≡ page_at rest p
       past p low = rw (in_pages-above run.first run.pages p low) refl
 
-  lacking : (runs rest : List (Run T)) (first pages page : ℕ) → IsWalked runs rest first page
+  pub lacking : (runs rest : List (Run T)) (first pages page : ℕ) → IsWalked runs rest first page
       → page < first + pages → page_at rest page ≡ None
       → any_page (λ p. not (is_some (page_at runs p))) first pages ≡ true
   lacking runs rest first pages page walked low none =
@@ -197,6 +229,66 @@ module _ {T : Type 0} where
     low = λ k d from to. let starts : (get_or runs k d).first ≤ first = parts.0 k d from to in
         omega arith;
   }
+
+  -- the count begins at the run before
+  pub count-before : (runs rest : List (Run T)) (place n first page : ℕ) → first ≤ page
+      → place ≤ length runs → StartsAround runs place first → n ≡ place - 1 → rest ≡ drop n runs
+      → IsCounted runs rest n page
+  count-before runs rest place n first page rises within parts is left = record {
+    ahead = left;
+    within = omega (arith, within);
+    low = λ k d from to. let starts : (get_or runs k d).first ≤ first =
+        parts.0 k d from (omega (arith, to)) in omega arith;
+  }
+
+  -- the end of the last run that was counted
+  abbrev pub EndsLast : List (Run T) → ℕ → ℕ → Type 0
+  EndsLast runs count last_end = 0 < last_end → (0 < count)
+      × ((d : Run T) → last_end ≡ end_of (get_or runs (count - 1) d))
+
+  pub ends-next : (runs before rest : List (Run T)) (run : Run T) (count page last_end : ℕ)
+      → IsCounted runs before count page → before ≡ run ∷ rest → last_end ≡ end_of run
+      → EndsLast runs (count + 1) last_end
+  ends-next runs before rest run count page last_end counted steps is = λ some. (
+    omega arith,
+    λ d.
+        let place : count + 1 - 1 ≡ count = omega arith in
+        is ∙ (ap end_of (step-read runs before rest count run d counted.ahead steps)
+        ∙ ap (λ n. end_of (get_or runs n d)) (sym place)),
+  )
+
+  pub found-window : (runs : List (Run T)) (place first end from len count last_end page : ℕ)
+      (found : Option (ℕ × ℕ)) → IsFound from len count last_end page end found
+      → len ≡ length runs → MayBegin runs place first from → count ≤ length runs
+      → StartsAround runs count end → EndsLast runs count last_end
+      → IfSome found (λ window. IsAround runs place first end window.0 window.1)
+  found-window runs place first end from len count last_end page found is size begins within parts
+      last =
+      let Around = λ (o : Option (ℕ × ℕ)). IfSome o (λ window.
+      IsAround runs place first end window.0 window.1) in
+      elim (cases_lt page end) [
+        | inl low ↦ subst Around (sym (is.none low)) tt
+        | inr past ↦
+            elim (cases_lt end last_end) [
+              | inl over ↦
+                  let some = last (omega (arith, over)) in
+                  subst Around (sym (is.behind past over)) (record {
+                    count = count;
+                    within = within;
+                    parts = parts;
+                    begins = begins;
+                    ends = inr (refl, some.0, λ d. omega (arith, over, some.1 d));
+                  })
+              | inr short ↦
+                  subst Around (sym (is.before past short)) (record {
+                    count = count;
+                    within = within;
+                    parts = parts;
+                    begins = begins;
+                    ends = inl (omega (arith, size));
+                  })
+            ]
+      ]
 
   pub count-on : (runs before rest : List (Run T)) (run : Run T) (count page : ℕ)
       → IsCounted runs before count page → before ≡ run ∷ rest → run.first ≤ page

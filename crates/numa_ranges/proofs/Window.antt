@@ -11,7 +11,7 @@ use Rattle.std.proofs.lemmas.List.{get_or-drop, length-take}
 use Rattle.std.proofs.lemmas.List.Concat.{flat_map-append}
 use Rattle.numa_ranges.specs.Runs.{AreApart, AreMaximal, NotContinued, end_of}
 use Rattle.numa_ranges.specs.Edits.{Each, StartsAround, edit_of, parts, part_within, maximal_runs}
-use Rattle.numa_ranges.specs.Edits.{part_before, part_from, MayBegin, MayEnd}
+use Rattle.numa_ranges.specs.Edits.{part_before, part_from, MayBegin, MayEnd, IsAround}
 use Rattle.numa_ranges.specs.declared.run.Run.{Run}
 use Rattle.numa_ranges.proofs.Apart.{apart-from}
 use Rattle.numa_ranges.proofs.Cut.{parts-below, parts-above}
@@ -425,6 +425,30 @@ module _ {T : Type 0} (same : T → T → Bool) (exact : (a b : T) → same a b 
       sym (ap (maximal_runs same) whole
       ∙ joined-before same exact itself (take from all) (W ++ drop to all) seam
       ∙ ap (λ l. take from all ++ l) (joined-after same exact itself W (drop to all) right.1))
+
+  -- what an edit makes of all runs, where it changes a window
+  pub edited-around : (runs : List (Run T)) (place first end from to : ℕ) (edit : T → Option T)
+      → AreApart 0 runs → AreMaximal runs → first ≤ end → place ≤ length runs
+      → StartsAround runs place first → IsAround runs place first end from to
+      → splice runs from to (maximal_runs same (edit_of first end edit (slice_range runs from to)))
+      ≡ maximal_runs same (edit_of first end edit runs)
+  edited-around runs place first end from to edit apart maximal le within parts around =
+      edited-window runs place around.count first end from to edit apart maximal le within parts
+      around.within around.parts around.begins around.ends
+
+module _ {T : Type 0} where
+  pub around-rises : (runs : List (Run T)) (place first end from to : ℕ) → first ≤ end
+      → place ≤ length runs → StartsAround runs place first
+      → IsAround runs place first end from to → (from ≤ to) × (to ≤ length runs)
+  around-rises runs place first end from to le within parts around =
+      let rises = places-rise runs place around.count first end le within parts around.parts in
+      let below : from ≤ place = elim around.begins
+      [ inl wide ↦ omega (arith, wide) | inr near ↦ omega (arith, near.0) ] in
+      elim around.ends [
+        | inl wide ↦
+            (omega (arith, wide, rises, below, within), omega (arith, wide))
+        | inr near ↦ (omega (arith, near.0, rises, below), omega (arith, near.0, around.within))
+      ]
 
 module _ {T : Type 0} where
   -- the part of a run inside a span, where the edit gives a value and where it gives none

@@ -163,6 +163,15 @@ abbrev pub MayEnd : {T : Type 0} → List (Run T) → ℕ → ℕ → ℕ → Ty
 MayEnd {T} runs count end to = (to ≡ min (length runs) (count + 1)) ⊎ ((to ≡ count) × (0 < count)
     × ((d : Run T) → end < end_of (slice_index_or runs (count - 1) d)))
 
+-- the runs from one place to another are those that an edit of a span can change or join, where so
+-- many runs start at its first page or before it
+pub record IsAround {T : Type 0} (runs : List (Run T)) (place first end from to : ℕ) : Type 0 where
+  pub count : ℕ
+  pub within : count ≤ length runs
+  pub parts : StartsAround runs count end
+  pub begins : MayBegin runs place first from
+  pub ends : MayEnd runs count end to
+
 -- a range map came to show this map, which it may have
 pub record Becomes {T : Type 0} (same : T → T → Bool) (old new : Ranges T)
     (at : ℕ → Option (ℕ × T)) : Type 0 where

@@ -2,7 +2,6 @@
 ghost use Rattle.std.specs.Prelude.{true, ◌↔◌, Contains, IfOk, OnOk, OnErr, IfErr, MatchOption};
 ghost use Rattle.std.specs.Prelude.{◌≡◌, ◌+◌, ◌-◌, ◌<◌, ◌≤◌, ◌^◌, ℕ, Option, List, length, [], not};
 ghost use Rattle.std.specs.Prelude.{is_some, IsSomeAnd, IfNone, IfSome, OnSome, false, slice_get};
-ghost use Rattle.std.specs.List.{splice, slice_range};
 ghost use Rattle.std.specs.Fn.{FnReturnsAt};
 ghost use Rattle.numa_ranges.specs.Runs.{page_at, AreApart, AreMaximal};
 ghost use Rattle.numa_ranges.specs.Counts.{range_count, IsRange};
@@ -10,7 +9,7 @@ ghost use Rattle.numa_rows.specs.Changes.{Makes};
 ghost use Rattle.numa_ranges.specs.Maps.{Shows, IsRefusal, any_page, with_span, without_span};
 ghost use Rattle.numa_ranges.specs.Maps.{changed_page, changed_span, count_refusal, map_refusal};
 ghost use Rattle.numa_ranges.specs.Maps.{set_refusal, IsSpan};
-ghost use Rattle.numa_ranges.specs.Edits.{StartsAround, maximal_runs, edit_of, HoldsPage, HasRoom};
+ghost use Rattle.numa_ranges.specs.Edits.{StartsAround, IsAround, HoldsPage, HasRoom};
 ghost use Rattle.numa_ranges.specs.Edits.{Becomes, edited_span};
 ghost use Rattle.numa_ranges.specs.Numbered.{AreRowsOf};
 
@@ -22,7 +21,7 @@ use crate::range_iter::RangeIter;
 use crate::row::Row;
 use crate::run::Run;
 use crate::runs::Runs;
-use crate::walk::{first_place, lacks_page, last_place, starts_on};
+use crate::walk::{first_place, lacks_page, last_place, starts_on, whole_window};
 use numa_rows::{Iter, Owned};
 use std::alloc::{AllocError, Global};
 use std::marker::Model;
@@ -278,10 +277,10 @@ impl<T: Exact> RangeMap<T> {
     {
         let mut near = self.near;
         let place = self.starts_near(first, &mut near);
-        if lacks_page(&self.runs, place, first, pages, near) {
+        let Some(window) = whole_window(&self.runs, place, first, pages, near) else {
             return Err(RangeError::Hole);
-        }
-        self.edit_span(place, first, pages, &|_: &T| Some(value), near)
+        };
+        self.edit_span(place, window, first, pages, &|_: &T| Some(value), near)
     }
 
     /// Unmaps the `pages` pages from page `first` on, as munmap(2) does: pages of the span that
@@ -304,7 +303,8 @@ impl<T: Exact> RangeMap<T> {
     {
         let mut near = self.near;
         let place = self.starts_near(first, &mut near);
-        self.edit_span(place, first, pages, &|_: &T| None, near)
+        let window = self.window(place, first, first + pages, near);
+        self.edit_span(place, window, first, pages, &|_: &T| None, near)
     }
 
     /// Replaces the value of each mapped page among the `pages` pages from page `first` on by what
@@ -342,7 +342,8 @@ impl<T: Exact> RangeMap<T> {
         { Some(f(value)) };
         let mut near = self.near;
         let place = self.starts_near(first, &mut near);
-        self.edit_span(place, first, pages, &edit, near)
+        let window = self.window(place, first, first + pages, near);
+        self.edit_span(place, window, first, pages, &edit, near)
     }
 
     /// Replaces the value of each mapped page by what `f` returns for it. Each keeps its index, and
@@ -360,10 +361,12 @@ impl<T: Exact> RangeMap<T> {
     }
 
     /// Replaces the value of each mapped page of a span by what `edit` returns for it, or unmaps
-    /// the page. `near` is a guess at the chunk, kept for the next edit.
+    /// the page. `window` has the places of the runs that this can change or join; `near` is a guess
+    /// at their chunk, kept for the next edit.
     fn edit_span<F: Fn(&T) -> Option<T>>(
         &mut self,
         place: usize,
+        window: (usize, usize),
         first: u64,
         pages: u64,
         edit: &F,
@@ -371,6 +374,7 @@ impl<T: Exact> RangeMap<T> {
     ) -> Result<(), RangeError>
         requires within { place ≤ length self.old.runs }
         requires parts { StartsAround self.old.runs place first }
+        requires window { IsAround self.old.runs place first (first + pages) window.0 window.1 }
         requires span { first + pages ≤ 2 ^ 35 }
         requires callable { F.IsAlwaysCallable edit.now }
         requires function { (change : T → Option T) × Makes F.Fn edit.now change }
@@ -384,7 +388,7 @@ impl<T: Exact> RangeMap<T> {
         ensures max_ranges { self.new.max_ranges ≡ self.old.max_ranges }
     {
         let end = first + pages;
-        let (from, to) = self.window(place, first, end, near);
+        let (from, to) = window;
         let limit = self.max_ranges;
         self.runs.tidy();
         self.runs
@@ -399,13 +403,7 @@ impl<T: Exact> RangeMap<T> {
         requires rises { first ≤ end }
         requires within { place ≤ length self.now.runs }
         requires parts { StartsAround self.now.runs place first }
-        ensures rises { result.0 ≤ result.1 }
-        ensures within { result.1 ≤ length self.now.runs }
-        ensures whole { (change : T → Option T)
-            → splice self.now.runs result.0 result.1
-            (maximal_runs T.eq
-            (edit_of first end change (slice_range self.now.runs result.0 result.1)))
-            ≡ maximal_runs T.eq (edit_of first end change self.now.runs) }
+        ensures { IsAround self.now.runs place first end result.0 result.1 }
     {
         let count = starts_on(&self.runs, place, first, end, near);
         let from = first_place(&self.runs, place, first, near);

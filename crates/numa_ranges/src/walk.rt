@@ -1,8 +1,9 @@
 //! Walks along runs, from a place that a search found.
-ghost use Rattle.std.specs.Prelude.{◌≡◌, ◌+◌, ◌≤◌, ◌^◌, length, not, is_some};
+ghost use Rattle.std.specs.Prelude.{◌≡◌, ◌+◌, ◌<◌, ◌≤◌, ◌^◌, length, min, not, is_some};
+ghost use Rattle.std.specs.Prelude.{true, false, IfNone, IfSome, OnSome, Some, None};
 ghost use Rattle.numa_ranges.specs.Runs.{page_at, AreApart};
 ghost use Rattle.numa_ranges.specs.Maps.{any_page};
-ghost use Rattle.numa_ranges.specs.Edits.{StartsAround, MayBegin, MayEnd};
+ghost use Rattle.numa_ranges.specs.Edits.{StartsAround, MayBegin, MayEnd, IsAround};
 
 use crate::exact::Exact;
 use crate::runs::Runs;
@@ -34,6 +35,74 @@ pub(crate) fn lacks_page<T: Exact>(
         page = page.max(run.first + run.pages);
     }
     page < end
+}
+
+/// The places of the runs that an edit of a span can change or join, by one walk, if each page of
+/// the span is mapped; `place` runs start at its first page or before it. `near` is a guess at their
+/// chunk.
+pub(crate) fn whole_window<T: Exact>(
+    runs: &Runs<T>,
+    place: usize,
+    first: u64,
+    pages: u64,
+    near: usize,
+) -> Option<(usize, usize)>
+    requires apart { AreApart 0 runs.now }
+    requires within { place ≤ length runs.now }
+    requires parts { StartsAround runs.now place first }
+    requires span { first + pages ≤ 2 ^ 35 }
+    ensures none { IfNone result
+        (any_page (λ page. not (is_some (page_at runs.now page))) first pages ≡ true) }
+    ensures whole { OnSome result
+        (any_page (λ page. not (is_some (page_at runs.now page))) first pages ≡ false) }
+    ensures window { IfSome result (λ window. IsAround runs.now place first (first + pages)
+        window.0 window.1) }
+{
+    let len = runs.len();
+    let end = first + pages;
+    let from = first_place(runs, place, first, near);
+    let mut page = first;
+    let mut last_end = 0;
+    let mut count = place.saturating_sub(1);
+    for run in runs.iter_near(count, near) {
+        if end < run.first {
+            return window_if_whole(from, len, count, last_end, page, end);
+        }
+        if page < run.first {
+            return None;
+        }
+        last_end = run.first + run.pages;
+        page = page.max(last_end);
+        count += 1;
+    }
+    window_if_whole(from, len, count, last_end, page, end)
+}
+
+/// The window of an edit up to page `end`, if every page before that is known to be mapped: those
+/// before `page` are. `count` runs start at `end` or before it, and the last of them ends at
+/// `last_end`.
+#[inline]
+fn window_if_whole(
+    from: usize,
+    len: usize,
+    count: usize,
+    last_end: u64,
+    page: u64,
+    end: u64,
+) -> Option<(usize, usize)>
+    requires small { len < 2 ^ 32 }
+    requires within { count ≤ len }
+    ensures none { page < end → result ≡ None }
+    ensures ends_behind { end ≤ page → end < last_end → result ≡ Some (from, count) }
+    ensures ends_before { end ≤ page → last_end ≤ end → result ≡ Some (from, min len (count + 1)) }
+{
+    if page < end {
+        return None;
+    }
+    if end < last_end {
+        return Some((from, count));
+    }
+    Some((from, len.min(count + 1)))
 }
 
 /// The number of runs that start at a page or before it, given that number for an earlier page.

@@ -6,15 +6,33 @@ use Rattle.numa_ranges.specs.Edits.{edit_of, edited_span}
 use Rattle.numa_ranges.proofs.Cut.{page_at-edited, apart-edited}
 use Rattle.numa_ranges.proofs.Spans.{in-range-window, stands-joined, refused-joined, window-edited}
 use Rattle.numa_ranges.proofs.Spans.{window-refused}
+use Rattle.numa_ranges.proofs.Window.{edited-around, around-rises}
 use Rattle.numa_ranges.proofs.range_map.RangeMap.edit_span.Goals as goal
+
+pub edit_near-requires-clause-window : goal.edit_near-requires-clause-window
+edit_near-requires-clause-window g c =
+    let places = around-rises c.args.self.now.runs c.args.place c.args.first
+    (c.args.first + c.args.pages) c.args.window.0 c.args.window.1 (omega arith) c.requires.within
+    c.requires.parts c.requires.window in (
+      places.0,
+      omega (
+        arith,
+        places.1,
+        ap length c.tidy.ensures,
+        ap (λ v. length v.runs) c.self.view_is,
+      ),
+    )
 
 pub edit_near-requires-clause-in_range : goal.edit_near-requires-clause-in_range
 edit_near-requires-clause-in_range g c =
-    let within : c.window-from.result.1 ≤ length c.self.inside.runs =
-    omega (arith, c.window-from.ensures.within, ap (λ v. length v.runs) c.self.view_is) in
+    let places = around-rises c.args.self.now.runs c.args.place c.args.first
+    (c.args.first + c.args.pages) c.args.window.0 c.args.window.1 (omega arith) c.requires.within
+    c.requires.parts c.requires.window in
+    let within : c.args.window.1 ≤ length c.self.inside.runs =
+    omega (arith, places.1, ap (λ v. length v.runs) c.self.view_is) in
     rw (c.tidy.ensures)
-    (in-range-window c.self.inside.runs c.window-from.result.0 c.window-from.result.1
-    c.self.invariant.0 c.window-from.ensures.rises within)
+    (in-range-window c.self.inside.runs c.args.window.0 c.args.window.1 c.self.invariant.0 places.0
+    within)
 
 pub edit_near-requires-clause-function : goal.edit_near-requires-clause-function
 edit_near-requires-clause-function g c = c.requires.function
@@ -24,9 +42,13 @@ invariant_of-self-2 g c =
     let change = c.requires.function.0 in
     let runs = ap (λ v. v.runs) c.self.view_is in
     let put = window-edited g.T.PartialEq.eq g.met.T.Exact.exact g.met.T.Eq.laws.refl
-    c.args.self.now.runs c.tidy.new.self c.edit_near.new.self c.window-from.result.0
-    c.window-from.result.1 c.args.first (c.args.first + c.args.pages) c.self.inside.max_ranges
-    change (c.tidy.ensures ∙ runs) (c.window-from.ensures.whole change)
+    c.args.self.now.runs c.tidy.new.self c.edit_near.new.self c.args.window.0
+    c.args.window.1 c.args.first (c.args.first + c.args.pages) c.self.inside.max_ranges
+    change (c.tidy.ensures ∙ runs) (edited-around g.T.PartialEq.eq
+    g.met.T.Exact.exact g.met.T.Eq.laws.refl c.args.self.now.runs c.args.place c.args.first
+    (c.args.first + c.args.pages) c.args.window.0 c.args.window.1 change
+    (rw (← runs) c.self.invariant.0) (rw (← runs) c.self.invariant.1) (omega arith)
+    c.requires.within c.requires.parts c.requires.window)
     (c.in_ok-edit_near.ensures.ok change c.requires.function.1) in
     let all = stands-joined g.T.PartialEq.eq g.met.T.Exact.exact g.met.T.Eq.laws.refl
     c.self.inside.runs (edit_of c.args.first (c.args.first + c.args.pages) change
@@ -43,9 +65,13 @@ pub returns-clause-ok : goal.returns-clause-ok
 returns-clause-ok g c change gives =
     let runs = ap (λ v. v.runs) c.self.view_is in
     let put = window-edited g.T.PartialEq.eq g.met.T.Exact.exact g.met.T.Eq.laws.refl
-    c.args.self.now.runs c.tidy.new.self c.edit_near.new.self c.window-from.result.0
-    c.window-from.result.1 c.args.first (c.args.first + c.args.pages) c.self.inside.max_ranges
-    change (c.tidy.ensures ∙ runs) (c.window-from.ensures.whole change)
+    c.args.self.now.runs c.tidy.new.self c.edit_near.new.self c.args.window.0
+    c.args.window.1 c.args.first (c.args.first + c.args.pages) c.self.inside.max_ranges
+    change (c.tidy.ensures ∙ runs) (edited-around g.T.PartialEq.eq
+    g.met.T.Exact.exact g.met.T.Eq.laws.refl c.args.self.now.runs c.args.place c.args.first
+    (c.args.first + c.args.pages) c.args.window.0 c.args.window.1 change
+    (rw (← runs) c.self.invariant.0) (rw (← runs) c.self.invariant.1) (omega arith)
+    c.requires.within c.requires.parts c.requires.window)
     (c.in_ok-edit_near.ensures.ok change gives) in
     let all = stands-joined g.T.PartialEq.eq g.met.T.Exact.exact g.met.T.Eq.laws.refl
     c.self.inside.runs (edit_of c.args.first (c.args.first + c.args.pages) change
@@ -65,9 +91,13 @@ pub returns-in_err-edit_near-clause-err : goal.returns-in_err-edit_near-clause-e
 returns-in_err-edit_near-clause-err g c change gives =
     let runs = ap (λ v. v.runs) c.self.view_is in
     let cause = window-refused g.T.PartialEq.eq g.met.T.Exact.exact g.met.T.Eq.laws.refl
-    c.args.self.now.runs c.tidy.new.self c.window-from.result.0 c.window-from.result.1
+    c.args.self.now.runs c.tidy.new.self c.args.window.0 c.args.window.1
     c.args.first (c.args.first + c.args.pages) c.self.inside.max_ranges
-    c.in_err-edit_near.field-0.0 change (c.tidy.ensures ∙ runs) (c.window-from.ensures.whole change)
+    c.in_err-edit_near.field-0.0 change (c.tidy.ensures ∙ runs) (edited-around g.T.PartialEq.eq
+    g.met.T.Exact.exact g.met.T.Eq.laws.refl c.args.self.now.runs c.args.place c.args.first
+    (c.args.first + c.args.pages) c.args.window.0 c.args.window.1 change
+    (rw (← runs) c.self.invariant.0) (rw (← runs) c.self.invariant.1) (omega arith)
+    c.requires.within c.requires.parts c.requires.window)
     (c.in_err-edit_near.ensures.err change gives) in
     let exit = err_from_is_err_and c.from_residual.result c.from_residual.ensures.1 in
     rw (exit.1, exit.2, ← (ap (λ v. v.max_ranges) c.self.view_is))

@@ -34,6 +34,9 @@ edit_span-requires-clause-within g c = c.starts_near-place.ensures.within
 pub edit_span-requires-clause-parts : goal.edit_span-requires-clause-parts
 edit_span-requires-clause-parts g c = c.starts_near-place.ensures.parts
 
+pub edit_span-requires-clause-window : goal.edit_span-requires-clause-window
+edit_span-requires-clause-window g c = c.window-window.ensures
+
 pub edit_span-requires-clause-span : goal.edit_span-requires-clause-span
 edit_span-requires-clause-span g c = c.requires.span.within
 
