@@ -282,6 +282,21 @@ module _ {T : Type 0} where
       )
 
   -- two rows beside each other tell where those end that start at a page or before it
+  pub starts-all : (values : List T) (rows : List Row) (count page : ℕ) → AreNumbered values rows
+      → AreApart 0 (runs_of values rows) → 0 < count → count ≡ length rows
+      → ((d : Row) → (get_or rows (count - 1) d).first ≤ page)
+      → StartsAround (runs_of values rows) count page
+  starts-all values rows count page numbered apart some all before =
+      starts-around values rows count page numbered (omega arith)
+      (λ k d low high.
+      omega (
+        arith,
+        rows-rising values rows numbered apart k (count - 1) d (omega arith)
+            (omega arith),
+        before d,
+      ))
+      (λ k d low high. absurd (omega (arith, low, high, all)))
+
   pub starts-beside : (values : List T) (rows : List Row) (count page : ℕ) → AreNumbered values rows
       → AreApart 0 (runs_of values rows) → 0 < count → count < length rows
       → ((d : Row) → (get_or rows (count - 1) d).first ≤ page)

@@ -1,5 +1,5 @@
 //! Guessing a row's place from its page, as if rows were spread evenly.
-ghost use Rattle.std.specs.Prelude.{◌-◌, ◌<◌, ◌≤◌, length, slice_index_or, IfSome};
+ghost use Rattle.std.specs.Prelude.{◌≡◌, ◌-◌, ◌<◌, ◌≤◌, length, slice_index_or, IfSome};
 
 use crate::row::Row;
 use numa_rows::{Owned, Rows};
@@ -40,16 +40,43 @@ pub(crate) fn starts_beside(
         → page < (slice_index_or rows.now count d).first) }
 {
     let start = even_rank(rows, page)?.saturating_sub(1);
-    let mut near = start.saturating_mul(rows.chunk_count()) / rows.len().max(1);
+    let near = start.saturating_mul(rows.chunk_count()) / rows.len().max(1);
+    let mut part = rows.no_part();
     for place in start..rows.len().min(start.saturating_add(LOOKED_AT)) {
-        let row = rows.get_near(place, &mut near);
+        part = rows.part_with(part, place, near);
+        let row = rows.row_in(&part, place);
         if page < row.first {
             if place == start {
                 return None;
             }
-            *chunk = near;
+            *chunk = part.chunk();
             return Some(place);
         }
     }
     None
+}
+
+/// The number of rows, if all of them start at a page or before it, as where ranges are made in
+/// ascending order; `chunk` is then their last chunk.
+pub(crate) fn all_starts(
+    rows: &Rows<Row, Owned<Row>>,
+    page: u64,
+    chunk: &mut usize,
+) -> Option<usize>
+    ensures some { IfSome result (λ count. 0 < count) }
+    ensures all { IfSome result (λ count. count ≡ length rows.now) }
+    ensures before { IfSome result (λ count. (d : _)
+        → (slice_index_or rows.now (count - 1) d).first ≤ page) }
+{
+    let count = rows.len();
+    if count == 0 {
+        return None;
+    }
+    let mut last = rows.chunk_count();
+    let row = rows.get_near(count - 1, &mut last);
+    if page < row.first {
+        return None;
+    }
+    *chunk = last;
+    Some(count)
 }

@@ -11,7 +11,7 @@ ghost use Rattle.numa_ranges.specs.declared.fault.RangeError.TheVariants.{TooMan
 ghost use Rattle.numa_ranges.specs.Numbered.{AreRowsOf, IsLonger};
 
 use crate::edit::gather_edited;
-use crate::even::starts_beside;
+use crate::even::{all_starts, starts_beside};
 use crate::exact::Exact;
 use crate::fault::RangeError;
 use crate::join::join_in_place;
@@ -102,11 +102,9 @@ impl<T: Exact> Runs<T> {
         requires { rank < length self.now }
         ensures { (d : Run T) → result ≡ slice_index_or self.now rank d }
     {
-        let mut rest = self.iter_near(rank, near);
-        let Some(run) = rest.next() else {
-            unreachable!()
-        };
-        run
+        let mut chunk = near;
+        let row = *self.rows.get_near(rank, &mut chunk);
+        with_value(self.values.items(), row)
     }
 
     /// The number of runs that start at the page or before it.
@@ -119,14 +117,17 @@ impl<T: Exact> Runs<T> {
             .partition_point(&mut |row: &Row| row.first <= page)
     }
 
-    /// The number of runs that start at the page or before it. It looks where they would be if they
-    /// were spread evenly, and then searches from `chunk` on, which is afterwards where the search
-    /// ended. Any number will do.
+    /// The number of runs that start at the page or before it. It looks at the last, then where they
+    /// would be if they were spread evenly, and then searches from `chunk` on, which is afterwards
+    /// where the search ended. Any number will do.
     pub(crate) fn starts_near(&self, page: u64, chunk: &mut usize) -> usize
         requires { AreApart 0 self.now }
         ensures within { result ≤ length self.now }
         ensures parts { StartsAround self.now result page }
     {
+        if let Some(count) = all_starts(&self.rows, page, chunk) {
+            return count;
+        }
         if let Some(count) = starts_beside(&self.rows, page, chunk) {
             return count;
         }

@@ -3,19 +3,37 @@ use Rattle.std.proofs.Common.{◌+◌, ◌-◌, ◌<◌, ◌≤◌, get_or, subs
 use Rattle.numa_ranges.specs.declared.row.Row.{Row}
 use Rattle.numa_ranges.proofs.even.starts_beside.Goals as goal
 
+pub loop-place-init : goal.loop-place-init
+loop-place-init c = record {
+  part = c.no_part-part.ensures;
+  before = λ d low. absurd (omega (arith, low));
+}
+
 pub loop-place-preserved : goal.loop-place-preserved
-loop-place-preserved c d low =
-    subst (λ n. (get_or c.args.rows.now n d).first ≤ c.args.page) {x = c.loop-place.place}
-    {y = c.loop-place.place + 1 - 1} (omega arith)
-    (subst (λ (r : Row). r.first ≤ c.args.page) (c.get_near-row.ensures d) c.if-page-row.false)
+loop-place-preserved c = record {
+  part = c.part_with-part.ensures.part;
+  before = λ d low.
+      subst (λ n. (get_or c.args.rows.now n d).first ≤ c.args.page) {x = c.loop-place.place}
+      {y = c.loop-place.place + 1 - 1} (omega arith)
+      (subst (λ (r : Row). r.first ≤ c.args.page) (c.row_in-row.ensures d) c.if-page-row.false);
+}
+
+pub part_with-part-requires-clause-part : goal.part_with-part-requires-clause-part
+part_with-part-requires-clause-part c = c.loop-place.invariant.part
+
+pub row_in-row-requires-clause-part : goal.row_in-row-requires-clause-part
+row_in-row-requires-clause-part c = c.part_with-part.ensures.part
+
+pub row_in-row-requires-clause-has : goal.row_in-row-requires-clause-has
+row_in-row-requires-clause-has c = c.part_with-part.ensures.has
 
 pub returns-then-page-row-clause-before : goal.returns-then-page-row-clause-before
 returns-then-page-row-clause-before c d =
-    c.loop-place.invariant d (omega (arith, c.if-place-start.false, c.loop-place.auto.place))
+    c.loop-place.invariant.before d (omega (arith, c.if-place-start.false, c.loop-place.auto.place))
 
 pub returns-then-page-row-clause-behind : goal.returns-then-page-row-clause-behind
 returns-then-page-row-clause-behind c d = subst (λ (r : Row). c.args.page < r.first)
-    (c.get_near-row.ensures d) c.if-page-row.true
+    (c.row_in-row.ensures d) c.if-page-row.true
 
 pub returns-then-place-start-clause-some : goal.returns-then-place-start-clause-some
 returns-then-place-start-clause-some c = tt
