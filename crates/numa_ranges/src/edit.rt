@@ -22,9 +22,9 @@ use crate::runs::Runs;
 use numa_rows::{Iter, Owned};
 use std::alloc::Global;
 
-/// Gathers the next `count` rows, with the pages inside the span edited.
+/// Gathers the next `count` rows, with the pages inside the span edited, in the vector `closed`.
 pub(crate) fn gather_edited<T: Exact, F: Fn(&T) -> Option<T>>(
-    alloc: Global,
+    closed: Vec<EditedRow>,
     rest: &mut Iter<'_, Row, Owned<Row>>,
     values: &[T],
     count: usize,
@@ -42,7 +42,7 @@ pub(crate) fn gather_edited<T: Exact, F: Fn(&T) -> Option<T>>(
         (edit_of first end change (take count (runs_of values.now rest.old))) }
     ensures count { result.count ≤ 3 * count }
 {
-    let mut rows = EditedRows::new(alloc, count + 2);
+    let mut rows = EditedRows::new(closed, count + 2);
     for k in 0..count {
         let Some(seen) = rest.next() else {
             unreachable!()

@@ -1,5 +1,5 @@
 //! Gathering the rows of an edit, and joining them on the way.
-ghost use Rattle.std.specs.Prelude.{◌≡◌, ◌+◌, ◌<◌, ◌≤◌, ◌^◌, [], length, IfOk, Option, Some, List};
+ghost use Rattle.std.specs.Prelude.{◌≡◌, ◌+◌, ◌<◌, ◌≤◌, ◌^◌, [], length, IfOk, OnOk, Option, Some, List};
 ghost use Rattle.std.specs.Prelude.{None};
 ghost use Rattle.std.specs.Option.{ForSome};
 ghost use Rattle.numa_rows.specs.Changes.{Makes};
@@ -11,11 +11,10 @@ ghost use Rattle.numa_ranges.specs.declared.run.Run.{Run};
 use crate::edited_row::{EditedRow, row_continues, value_of};
 use crate::exact::Exact;
 use crate::fault::RangeError;
-use crate::pieces::with_room;
 use crate::row::Row;
 use crate::values::Values;
 use numa_rows::{Owned, Rows};
-use std::alloc::{AllocError, Global};
+use std::alloc::AllocError;
 
 /// Rows that are added one by one, each joined to the one before if it continues that.
 ///
@@ -40,13 +39,15 @@ impl EditedRows {
     ghost use Rattle.numa_ranges.specs.declared.fault.RangeError.TheVariants.{TooManyRanges};
     ghost use Rattle.numa_ranges.specs.declared.fault.RangeError.TheVariants.{NoMemory};
 
-    /// No rows, with room for `room`, if there is memory for it.
-    pub(crate) fn new(alloc: Global, room: usize) -> EditedRows
+    /// No rows, with room for `room`, if there is memory for it; `closed` is a vector for them.
+    pub(crate) fn new(mut closed: Vec<EditedRow>, room: usize) -> EditedRows
         ensures closed { result.closed.items ≡ [] }
         ensures open_row { result.open_row ≡ None }
         ensures count { result.count ≡ 0 }
     {
-        let closed = with_room(alloc, room);
+        closed.clear();
+        // Without memory for the room each row asks for its own.
+        let _ = closed.reserve(room);
         EditedRows {
             closed,
             open_row: None,
@@ -109,12 +110,12 @@ impl EditedRows {
     }
 
     /// Replaces a window of rows by the gathered ones, unless that makes too many; their new values
-    /// get numbers. `near` is a guess at the chunk of the window.
+    /// get numbers. `near` is a guess at the chunk of the window, `numbered` a vector for the rows.
     pub(crate) fn put<T: Exact, F: Fn(&T) -> Option<T>>(
-        mut self,
-        alloc: Global,
+        &mut self,
         rows: &mut Rows<Row, Owned<Row>>,
         values: &mut Values<T>,
+        numbered: &mut Vec<Row>,
         from: usize,
         to: usize,
         near: usize,
@@ -123,19 +124,19 @@ impl EditedRows {
     ) -> Result<(), RangeError>
         requires numbered { AreNumbered values.old rows.old }
         requires window { (from ≤ to) × (to ≤ length rows.old) }
-        requires room { self.count < 2 ^ 62 }
+        requires room { self.old.count < 2 ^ 62 }
         requires callable { F.IsAlwaysCallable edit.now }
         requires gathered { (change : T → Option T) × ((added : List (Run T))
-            × (Makes F.Fn edit.now change × AreGathered T.eq change values.old self added)) }
+            × (Makes F.Fn edit.now change × AreGathered T.eq change values.old self.old added)) }
         ensures numbered { AreNumbered values.new rows.new }
         ensures ok { (change : T → Option T) → Makes F.Fn edit.now change → (added : List (Run T))
-            → AreGathered T.eq change values.old self added
+            → AreGathered T.eq change values.old self.old added
             → OnOk result ((runs_of values.new rows.new
             ≡ splice (runs_of values.old rows.old) from to (maximal_runs T.eq added))
             × (length (splice (runs_of values.old rows.old) from to (maximal_runs T.eq added))
             ≤ limit)) }
         ensures err { (change : T → Option T) → Makes F.Fn edit.now change → (added : List (Run T))
-            → AreGathered T.eq change values.old self added
+            → AreGathered T.eq change values.old self.old added
             → IfErr result (λ refusal. refusal ≡ (if nat_lt limit
             (length (splice (runs_of values.old rows.old) from to (maximal_runs T.eq added)))
             then TooManyRanges else NoMemory)) }
@@ -143,23 +144,18 @@ impl EditedRows {
             ≡ runs_of values.old rows.old) }
     {
         self.seal();
-        let EditedRows {
-            closed,
-            open_row: _,
-            count,
-            is_refused,
-        } = self;
+        let count = self.count;
         let others = rows.len() - (to - from);
         if others as u64 + count > u64::from(limit) {
             return Err(RangeError::TooManyRanges);
         }
-        if is_refused {
+        if self.is_refused {
             return Err(RangeError::NoMemory);
         }
-        let Ok(numbered) = numbered_rows(alloc, values, &closed, edit) else {
+        let Ok(()) = number_rows(numbered, values, &self.closed, edit) else {
             return Err(RangeError::NoMemory);
         };
-        let Ok(()) = rows.splice_near(from, to, &numbered, near) else {
+        let Ok(()) = rows.splice_near(from, to, numbered.as_slice(), near) else {
             return Err(RangeError::NoMemory);
         };
         Ok(())
@@ -180,20 +176,21 @@ impl EditedRows {
     }
 }
 
-/// The rows with numbers for all values: those that the edit makes are added to `values`.
-fn numbered_rows<T: Exact, F: Fn(&T) -> Option<T>>(
-    alloc: Global,
+/// Writes the rows with numbers for all values: those that the edit makes are added to `values`.
+fn number_rows<T: Exact, F: Fn(&T) -> Option<T>>(
+    rows: &mut Vec<Row>,
     values: &mut Values<T>,
     edited: &[EditedRow],
     edit: &F,
-) -> Result<Vec<Row>, AllocError>
+) -> Result<(), AllocError>
     requires { F.IsAlwaysCallable edit.now }
     ensures longer { IsLonger values.old values.new }
     ensures rows { (change : T → Option T) → Makes F.Fn edit.now change → (runs : List (Run T))
         → AreEditedRows change values.old edited.now runs
-        → IfOk result (λ rows. AreRowsOf values.new rows.items runs) }
+        → OnOk result (AreRowsOf values.new rows.new.items runs) }
 {
-    let mut rows = Vec::with_capacity(alloc, edited.len())?;
+    rows.clear();
+    rows.reserve(edited.len())?;
     for i in 0..edited.len() {
         let row = row_at(edited, i);
         let number = number_of(values, &row, edit)?;
@@ -204,7 +201,7 @@ fn numbered_rows<T: Exact, F: Fn(&T) -> Option<T>>(
             number,
         });
     }
-    Ok(rows)
+    Ok(())
 }
 
 /// The row at a place.

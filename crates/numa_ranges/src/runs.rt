@@ -11,6 +11,8 @@ ghost use Rattle.numa_ranges.specs.declared.fault.RangeError.TheVariants.{TooMan
 ghost use Rattle.numa_ranges.specs.Numbered.{AreRowsOf, IsLonger};
 
 use crate::edit::gather_edited;
+use crate::edited_row::EditedRow;
+use crate::edited_rows::EditedRows;
 use crate::even::{all_starts, starts_beside};
 use crate::exact::Exact;
 use crate::fault::RangeError;
@@ -22,9 +24,13 @@ use crate::values::Values;
 use numa_rows::{Iter, Owned, Rows};
 use std::alloc::{AllocError, Global};
 use std::marker::Model;
+use std::mem::replace;
 
 /// The number of values beyond two for each run at which they are renumbered.
 const SPARE: usize = 512;
+
+/// The most rows for which a vector is kept from one edit to the next.
+const KEPT: usize = 64;
 
 /// A list of runs that is cheap to edit in the middle.
 ///
@@ -34,6 +40,9 @@ const SPARE: usize = 512;
 pub(crate) struct Runs<T> {
     rows: Rows<Row, Owned<Row>>,
     values: Values<T>,
+    /// A vector for the rows of an edit, and one for those with numbers.
+    edited: Vec<EditedRow>,
+    numbered: Vec<Row>,
     alloc: Global,
 }
 
@@ -57,6 +66,8 @@ impl<T: Exact> Runs<T> {
         Runs {
             rows: Rows::new(alloc),
             values: Values::new(alloc),
+            edited: Vec::new(alloc),
+            numbered: Vec::new(alloc),
             alloc,
         }
     }
@@ -73,6 +84,8 @@ impl<T: Exact> Runs<T> {
         Ok(Runs {
             rows,
             values,
+            edited: Vec::new(self.alloc),
+            numbered: Vec::new(self.alloc),
             alloc: self.alloc,
         })
     }
@@ -212,19 +225,25 @@ impl<T: Exact> Runs<T> {
     {
         // Tells the proof that there are fewer than 2^32 rows.
         let _ = self.rows.len();
+        let closed = replace(&mut self.edited, Vec::new(self.alloc));
+        let mut numbered = replace(&mut self.numbered, Vec::new(self.alloc));
         let mut rest = self.rows.iter_near(from, near);
         let values = self.values.items();
-        let edited = gather_edited(self.alloc, &mut rest, values, to - from, first, end, edit);
-        edited.put(
-            self.alloc,
+        let mut edited = gather_edited(closed, &mut rest, values, to - from, first, end, edit);
+        let outcome = edited.put(
             &mut self.rows,
             &mut self.values,
+            &mut numbered,
             from,
             to,
             near,
             edit,
             limit,
-        )
+        );
+        let EditedRows { closed, .. } = edited;
+        self.edited = kept(self.alloc, closed);
+        self.numbered = kept(self.alloc, numbered);
+        outcome
     }
 
     /// Renumbers the values if there are far more of them than runs. Without memory for that
@@ -281,6 +300,15 @@ impl<T: Exact> Runs<T> {
         }
         join_in_place(&mut self.rows, self.values.items());
     }
+}
+
+/// A vector that the next edit can use: this one, if it is small, so that edits of a few runs don't
+/// allocate.
+fn kept<X: Drop>(alloc: Global, items: Vec<X>) -> Vec<X> {
+    if items.capacity() > KEPT {
+        return Vec::new(alloc);
+    }
+    items
 }
 
 /// The rows of some runs, whose values are added to `values`.

@@ -18,7 +18,8 @@ returns-then-others-count-clause-err g c change gives added h =
     let M = maximal_runs g.T.PartialEq.eq added in
     let whole = runs_of c.args.values.now c.args.rows.now in
     let shut = sealed g.T.PartialEq.eq g.met.T.Exact.exact g.met.T.Eq.laws.refl change
-    c.args.values.now c.args.self c.seal.new.self added h c.seal.ensures.none c.seal.ensures.some in
+    c.args.values.now c.args.self.now c.seal.new.self added h c.seal.ensures.none
+    c.seal.ensures.some in
     let rows = length-runs c.args.values.now c.args.rows.now c.requires.numbered in
     let size = length-splice whole M c.args.from c.args.to c.requires.window.0
     (omega (arith, c.requires.window.1, rows)) in
@@ -33,12 +34,13 @@ returns-then-others-count-clause-err g c change gives added h =
       c.requires.window.1,
     ))
 
-pub returns-then-is_refused-clause-err : goal.returns-then-is_refused-clause-err
-returns-then-is_refused-clause-err g c change gives added h =
+pub returns-then-self-clause-err : goal.returns-then-self-clause-err
+returns-then-self-clause-err g c change gives added h =
     let M = maximal_runs g.T.PartialEq.eq added in
     let whole = runs_of c.args.values.now c.args.rows.now in
     let shut = sealed g.T.PartialEq.eq g.met.T.Exact.exact g.met.T.Eq.laws.refl change
-    c.args.values.now c.args.self c.seal.new.self added h c.seal.ensures.none c.seal.ensures.some in
+    c.args.values.now c.args.self.now c.seal.new.self added h c.seal.ensures.none
+    c.seal.ensures.some in
     let rows = length-runs c.args.values.now c.args.rows.now c.requires.numbered in
     let size = length-splice whole M c.args.from c.args.to c.requires.window.0
     (omega (arith, c.requires.window.1, rows)) in
@@ -58,7 +60,8 @@ returns-in_default-clause-err g c change gives added h =
     let M = maximal_runs g.T.PartialEq.eq added in
     let whole = runs_of c.args.values.now c.args.rows.now in
     let shut = sealed g.T.PartialEq.eq g.met.T.Exact.exact g.met.T.Eq.laws.refl change
-    c.args.values.now c.args.self c.seal.new.self added h c.seal.ensures.none c.seal.ensures.some in
+    c.args.values.now c.args.self.now c.seal.new.self added h c.seal.ensures.none
+    c.seal.ensures.some in
     let rows = length-runs c.args.values.now c.args.rows.now c.requires.numbered in
     let size = length-splice whole M c.args.from c.args.to c.requires.window.0
     (omega (arith, c.requires.window.1, rows)) in
@@ -78,7 +81,8 @@ returns-in_default-splice_near-clause-err g c change gives added h =
     let M = maximal_runs g.T.PartialEq.eq added in
     let whole = runs_of c.args.values.now c.args.rows.now in
     let shut = sealed g.T.PartialEq.eq g.met.T.Exact.exact g.met.T.Eq.laws.refl change
-    c.args.values.now c.args.self c.seal.new.self added h c.seal.ensures.none c.seal.ensures.some in
+    c.args.values.now c.args.self.now c.seal.new.self added h c.seal.ensures.none
+    c.seal.ensures.some in
     let rows = length-runs c.args.values.now c.args.rows.now c.requires.numbered in
     let size = length-splice whole M c.args.from c.args.to c.requires.window.0
     (omega (arith, c.requires.window.1, rows)) in
@@ -95,25 +99,25 @@ returns-in_default-splice_near-clause-err g c change gives added h =
 
 pub returns-in_default-clause-numbered : goal.returns-in_default-clause-numbered
 returns-in_default-clause-numbered g c = numbered-longer c.args.values.now
-    c.numbered_rows.new.values c.args.rows.now c.numbered_rows.ensures.longer c.requires.numbered
+    c.number_rows.new.values c.args.rows.now c.number_rows.ensures.longer c.requires.numbered
 
 pub returns-in_default-clause-unchanged : goal.returns-in_default-clause-unchanged
-returns-in_default-clause-unchanged g c = runs-longer c.args.values.now c.numbered_rows.new.values
-    c.args.rows.now c.numbered_rows.ensures.longer c.requires.numbered
+returns-in_default-clause-unchanged g c = runs-longer c.args.values.now c.number_rows.new.values
+    c.args.rows.now c.number_rows.ensures.longer c.requires.numbered
 
 pub returns-in_default-splice_near-clause-numbered :
     goal.returns-in_default-splice_near-clause-numbered
 returns-in_default-splice_near-clause-numbered g c =
     rw c.in_default-splice_near.ensures.unchanged
-    (numbered-longer c.args.values.now c.numbered_rows.new.values c.args.rows.now
-    c.numbered_rows.ensures.longer c.requires.numbered)
+    (numbered-longer c.args.values.now c.number_rows.new.values c.args.rows.now
+    c.number_rows.ensures.longer c.requires.numbered)
 
 pub returns-in_default-splice_near-clause-unchanged :
     goal.returns-in_default-splice_near-clause-unchanged
 returns-in_default-splice_near-clause-unchanged g c =
-    ap (runs_of c.numbered_rows.new.values) c.in_default-splice_near.ensures.unchanged
-    ∙ runs-longer c.args.values.now c.numbered_rows.new.values c.args.rows.now
-    c.numbered_rows.ensures.longer c.requires.numbered
+    ap (runs_of c.number_rows.new.values) c.in_default-splice_near.ensures.unchanged
+    ∙ runs-longer c.args.values.now c.number_rows.new.values c.args.rows.now
+    c.number_rows.ensures.longer c.requires.numbered
 
 pub returns-clause-numbered : goal.returns-clause-numbered
 returns-clause-numbered g c =
@@ -123,42 +127,46 @@ returns-clause-numbered g c =
     let h = c.requires.gathered.1.1.1 in
     let M = maximal_runs g.T.PartialEq.eq added in
     let rows = c.args.rows.now in
-    let new = c.numbered_rows.new.values in
+    let new = c.number_rows.new.values in
     let shut = sealed g.T.PartialEq.eq g.met.T.Exact.exact g.met.T.Eq.laws.refl change
-    c.args.values.now c.args.self c.seal.new.self added h c.seal.ensures.none c.seal.ensures.some in
+    c.args.values.now c.args.self.now c.seal.new.self added h c.seal.ensures.none
+    c.seal.ensures.some in
     let made = c.in-Ok.ensures.rows change gives M
     (subst (λ (l : List EditedRow). AreEditedRows change c.args.values.now l M)
-    (sym c.deref.ensures.value) (shut.kept c.if-is_refused.false)) in
-    let put : c.splice_near.new.self ≡ splice rows c.args.from c.args.to c.in-Ok.numbered.items =
+    (sym c.deref.ensures.value) (shut.kept c.if-self.false)) in
+    let put : c.splice_near.new.self ≡ splice rows c.args.from c.args.to
+    c.number_rows.new.rows.items =
     c.in-Ok-splice_near.ensures.ok ∙ ap (splice rows c.args.from c.args.to)
-    c.deref-2.ensures.value in
-    let kept = numbered-longer c.args.values.now new rows c.numbered_rows.ensures.longer
+    c.as_slice.ensures.value in
+    let kept = numbered-longer c.args.values.now new rows c.number_rows.ensures.longer
     c.requires.numbered in
     rw put
-    (numbered-splice new rows c.in-Ok.numbered.items c.args.from c.args.to kept made.numbered)
+    (numbered-splice new rows c.number_rows.new.rows.items c.args.from c.args.to kept made.numbered)
 
 pub returns-clause-ok : goal.returns-clause-ok
 returns-clause-ok g c change gives added h =
     let M = maximal_runs g.T.PartialEq.eq added in
     let rows = c.args.rows.now in
-    let new = c.numbered_rows.new.values in
+    let new = c.number_rows.new.values in
     let shut = sealed g.T.PartialEq.eq g.met.T.Exact.exact g.met.T.Eq.laws.refl change
-    c.args.values.now c.args.self c.seal.new.self added h c.seal.ensures.none c.seal.ensures.some in
+    c.args.values.now c.args.self.now c.seal.new.self added h c.seal.ensures.none
+    c.seal.ensures.some in
     let made = c.in-Ok.ensures.rows change gives M
     (subst (λ (l : List EditedRow). AreEditedRows change c.args.values.now l M)
-    (sym c.deref.ensures.value) (shut.kept c.if-is_refused.false)) in
-    let put : c.splice_near.new.self ≡ splice rows c.args.from c.args.to c.in-Ok.numbered.items =
+    (sym c.deref.ensures.value) (shut.kept c.if-self.false)) in
+    let put : c.splice_near.new.self ≡ splice rows c.args.from c.args.to
+    c.number_rows.new.rows.items =
     c.in-Ok-splice_near.ensures.ok ∙ ap (splice rows c.args.from c.args.to)
-    c.deref-2.ensures.value in
-    let kept = numbered-longer c.args.values.now new rows c.numbered_rows.ensures.longer
+    c.as_slice.ensures.value in
+    let kept = numbered-longer c.args.values.now new rows c.number_rows.ensures.longer
     c.requires.numbered in
-    let same = runs-longer c.args.values.now new rows c.numbered_rows.ensures.longer
+    let same = runs-longer c.args.values.now new rows c.number_rows.ensures.longer
     c.requires.numbered in
     let all = length-runs c.args.values.now rows c.requires.numbered in
     let size = length-splice (runs_of c.args.values.now rows) M c.args.from c.args.to
     c.requires.window.0 (omega (arith, c.requires.window.1, all)) in (
       ap (runs_of new) put
-          ∙ (runs-splice new rows c.in-Ok.numbered.items c.args.from c.args.to kept
+          ∙ (runs-splice new rows c.number_rows.new.rows.items c.args.from c.args.to kept
           ∙ (λ i. splice (same i) c.args.from c.args.to (made.runs i))),
       omega (
         arith,

@@ -64,8 +64,8 @@ gather_edited-edited-requires-clause-in_range g c =
     subst (λ (l : List (Run g.row.T.Denot)). All IsInRange (take (c.args.to - c.args.from) l))
     (sym same) c.requires.in_range
 
-pub put-requires-clause-window : goal.put-requires-clause-window
-put-requires-clause-window g c = (
+pub put-outcome-requires-clause-window : goal.put-outcome-requires-clause-window
+put-outcome-requires-clause-window g c = (
   c.requires.window.0,
   omega (
     arith,
@@ -75,8 +75,8 @@ put-requires-clause-window g c = (
   ),
 )
 
-pub put-requires-clause-room : goal.put-requires-clause-room
-put-requires-clause-room g c =
+pub put-outcome-requires-clause-room : goal.put-outcome-requires-clause-room
+put-outcome-requires-clause-room g c =
     omega (
       arith,
       c.gather_edited-edited.ensures.count,
@@ -88,8 +88,8 @@ put-requires-clause-room g c =
       ap length c.self.view_is,
     )
 
-pub put-requires-clause-gathered : goal.put-requires-clause-gathered
-put-requires-clause-gathered g c =
+pub put-outcome-requires-clause-gathered : goal.put-outcome-requires-clause-gathered
+put-outcome-requires-clause-gathered g c =
     let change = c.requires.function.0 in
     let gives = c.requires.function.1 in (
       change,
@@ -110,7 +110,7 @@ put-requires-clause-gathered g c =
 pub returns-clause-ok : goal.returns-clause-ok
 returns-clause-ok g c change gives =
     let whole = runs_of c.self.inside.values c.self.inside.rows in
-    let put = c.put.ensures.ok change gives
+    let put = c.put-outcome.ensures.ok change gives
     (edit_of c.args.first c.args.end change (slice_range whole c.args.from c.args.to))
     (gathered-window g.T.PartialEq.eq g.met.T.Exact.exact g.met.T.Eq.laws.refl change
     c.items-values.result.now c.self.inside.values c.iter_near-rest.result c.self.inside.rows
@@ -118,16 +118,16 @@ returns-clause-ok g c change gives =
     c.items-values.ensures c.iter_near-rest.ensures
     (c.gather_edited-edited.ensures.gathered change gives)) in
     subst (λ (l : List (Run g.row.T.Denot)).
-    OnOk c.put.result ((runs_of c.put.new.values c.put.new.rows ≡ splice l c.args.from c.args.to
+    OnOk c.put-outcome.result ((runs_of c.put-outcome.new.values c.put-outcome.new.rows ≡ splice l c.args.from c.args.to
     (maximal_runs g.T.PartialEq.eq
     (edit_of c.args.first c.args.end change (slice_range l c.args.from c.args.to))))
-    × (length (runs_of c.put.new.values c.put.new.rows) ≤ c.args.limit))) c.self.view_is
-    (on_ok c.put.result (λ h. (h.0, omega (arith, h.1, ap length h.0))) put)
+    × (length (runs_of c.put-outcome.new.values c.put-outcome.new.rows) ≤ c.args.limit))) c.self.view_is
+    (on_ok c.put-outcome.result (λ h. (h.0, omega (arith, h.1, ap length h.0))) put)
 
 pub returns-clause-err : goal.returns-clause-err
 returns-clause-err g c change gives =
     let whole = runs_of c.self.inside.values c.self.inside.rows in
-    let put = c.put.ensures.err change gives
+    let put = c.put-outcome.ensures.err change gives
     (edit_of c.args.first c.args.end change (slice_range whole c.args.from c.args.to))
     (gathered-window g.T.PartialEq.eq g.met.T.Exact.exact g.met.T.Eq.laws.refl change
     c.items-values.result.now c.self.inside.values c.iter_near-rest.result c.self.inside.rows
@@ -135,7 +135,7 @@ returns-clause-err g c change gives =
     c.items-values.ensures c.iter_near-rest.ensures
     (c.gather_edited-edited.ensures.gathered change gives)) in
     subst (λ (l : List (Run g.row.T.Denot)).
-    IfErr c.put.result (λ refusal. refusal ≡ (if nat_lt c.args.limit
+    IfErr c.put-outcome.result (λ refusal. refusal ≡ (if nat_lt c.args.limit
     (length (splice l c.args.from c.args.to (maximal_runs g.T.PartialEq.eq
     (edit_of c.args.first c.args.end change (slice_range l c.args.from c.args.to)))))
     then TooManyRanges else NoMemory))) c.self.view_is put

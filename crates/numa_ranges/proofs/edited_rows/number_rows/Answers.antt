@@ -1,12 +1,23 @@
 -- One more row has its number.
-use Rattle.std.proofs.Common.{List, ◌+◌, take, ap, sym, subst, ◌∙◌, arith}
+use Rattle.std.proofs.Common.{List, ◌+◌, take, ap, refl, sym, subst, ◌∙◌, arith}
 use Rattle.std.proofs.lemmas.List.{take_all}
 use Rattle.numa_ranges.specs.Numbered.{AreRowsOf}
 use Rattle.numa_ranges.specs.declared.row.Row.{Row}
 use Rattle.numa_ranges.specs.declared.run.Run.{Run}
 use Rattle.numa_ranges.proofs.Numbered.{longer-both}
 use Rattle.numa_ranges.proofs.Rewritten.{edited-length, rows-step}
-use Rattle.numa_ranges.proofs.edited_rows.numbered_rows.Goals as goal
+use Rattle.numa_ranges.proofs.edited_rows.number_rows.Goals as goal
+
+pub loop-i-init : goal.loop-i-init
+loop-i-init g c =
+    let none = c.reserve.ensures.items ∙ c.clear.ensures.items in
+    record {
+      longer = record { size = omega arith; same = λ number below. refl };
+      so_far = λ change gives runs all.
+          rw none (record { numbered = tt; runs = refl });
+      size = c.reserve.ensures.len ∙ c.clear.ensures.len;
+      room = omega (arith, c.in_ok-reserve.ensures.ok, c.reserve.ensures.len, c.clear.ensures.len);
+    }
 
 pub loop-i-preserved : goal.loop-i-preserved
 loop-i-preserved g c =

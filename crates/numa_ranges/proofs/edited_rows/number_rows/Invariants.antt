@@ -5,7 +5,7 @@ use Rattle.numa_rows.specs.Changes.{Makes}
 use Rattle.numa_ranges.specs.Edited.{AreEditedRows}
 use Rattle.numa_ranges.specs.Numbered.{AreRowsOf, IsLonger}
 use Rattle.numa_ranges.specs.declared.run.Run.{Run}
-use Rattle.numa_ranges.proofs.edited_rows.numbered_rows.Given as goal
+use Rattle.numa_ranges.proofs.edited_rows.number_rows.Given as goal
 
 abbrev pub invariant-loop-i : goal.invariant-loop-i
 invariant-loop-i g l = record {
