@@ -14,3 +14,4 @@ pub mod Falling
 pub mod Beside
 pub mod Among
 pub mod Calling
+pub mod Migrating

@@ -6,4 +6,5 @@ pub mod Plays
 pub mod LegalSteps
 pub mod Desks
 pub mod Faults
+pub mod Migrations
 pub mod Interleaved

@@ -9,7 +9,9 @@ ghost use Rattle.numa_space.specs.declared.event.CoreRefusal.{CoreRefusal};
 ghost use Rattle.numa_space.specs.declared.event.Event.{Event};
 ghost use Rattle.numa_space.specs.declared.event.CoreReply.{CoreReply};
 ghost use Rattle.numa_fault.specs.Fault.{IsServed, list_of, refusal_of};
+ghost use Rattle.numa_fault.specs.Migration.{Migrates};
 ghost use Rattle.numa_fault.specs.declared.refusal.FaultRefusal.{FaultRefusal};
+ghost use Rattle.numa_fault.specs.declared.refusal.MigrateRefusal.{MigrateRefusal};
 ghost use Rattle.numa_pool.specs.Seats.{SeatView};
 ghost use Rattle.numa_publish.specs.Batches.{Extends};
 ghost use Rattle.numa_publish.specs.Shown.{DeskState, ReaderState, ReceiptState, Refuses};
@@ -27,6 +29,7 @@ ghost use Rattle.numa_refinement.specs.Tie.{IsTied};
 ghost use Rattle.numa_refinement.specs.Desks.{Accepts, IsDeskOf, IsNew, LeadsTo, Publishes};
 ghost use Rattle.numa_refinement.specs.Faults.{Falls, IsReady, LeavesLast, begun_world, last_world};
 ghost use Rattle.numa_refinement.specs.Interleaved.{Calls, HaveNoBegin, begins, turns_in};
+ghost use Rattle.numa_refinement.specs.Migrations.{FallsOn, SearchesAndGives};
 ghost use Rattle.numa_refinement.specs.LegalSteps.{HasPublished, IsPublishedIn};
 ghost use Rattle.numa_refinement.specs.LegalSteps.{after_core_step, core_step_of};
 
@@ -175,6 +178,27 @@ pub fn a_fault_leaves_its_worker_ready()
         → LeavesLast s w (begun_world s w history request first) turns
         → next.worker w ≡ (last_world s w history request first turns).worker w
         → IsPublishedIn next longer → length history ≤ length longer → IsReady s w longer next }
+{}
+
+/// A migration to a node is a frame search and a Give of the core, if its worker begins with a
+/// request whose fallback list is this node alone. If it answers `Exhausted`, the steps that its
+/// seat gained are a frame search that is answered Exhausted. If it moves the page, all of them but
+/// the newest are a frame search that is answered Won with a placement in the new frame, which is
+/// the worker's then; and the newest is a Give of the old frame, which is answered Given. What falls
+/// so in every interleaving is told by the next law, since the Give is a step like the others.
+pub fn a_migration_is_a_frame_search_and_a_give()
+    ensures exhausted { (s : Setup) (w : ℕ) (history : List Command) (request : Request) (node : ℕ)
+        (first : World) (before after : SeatView) (turns : List Turn) (placement back : Placement)
+        → FallsOn s w history request node first before after turns
+        → Migrates s.machine.frames node placement before after
+        (Err (MigrateRefusal.Exhausted back))
+        → IsFrameSearch s w first (length history) request (CoreReply.Exhausted (length history))
+        turns }
+    ensures moved { (s : Setup) (w : ℕ) (history : List Command) (request : Request) (node : ℕ)
+        (first : World) (before after : SeatView) (turns : List Turn)
+        (placement moved : Placement) → FallsOn s w history request node first before after turns
+        → Migrates s.machine.frames node placement before after (Ok moved)
+        → SearchesAndGives s w history request node first placement.frame moved.frame turns }
 {}
 
 /// This holds in every interleaving: if worker w was ready and began with the history that a fault
