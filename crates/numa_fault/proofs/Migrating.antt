@@ -1,5 +1,5 @@
 -- What a migration leaves the seat.
-use Rattle.std.proofs.Common.{◌≡◌, ℕ, ◌+◌, ◌<◌, Bool, true, false, cond, refl, sym, ap, ◌∙◌, subst}
+use Rattle.std.proofs.Common.{◌≡◌, ℕ, Bool, true, false, refl, ap, subst}
 use Rattle.std.proofs.Common.{arith, List, ◌∷◌, eq-eqb}
 use Rattle.numa_machine.specs.declared.frame.Frame.{Frame}
 use Rattle.numa_pool.specs.Frames.{Holds, is_frame, one_if, times, without}
@@ -20,10 +20,6 @@ module _ (held : List Frame) (old new : Frame) (fresh : times new.node new.numbe
           absurd (omega arith)
 
   -- the old one given up, once the new one was won
-  pub won-beside : without old.node old.number (new ∷ held) ≡ new ∷ without old.node old.number held
-  won-beside = ap (λ b. cond b (without old.node old.number held)
-      (new ∷ without old.node old.number held)) other
-
   pub old-gone : times old.node old.number (new ∷ without old.node old.number held) ≡ 0
   old-gone =
       let none : one_if (is_frame new old.node old.number) ≡ 0 = ap one_if other in

@@ -1,6 +1,6 @@
 -- The steps of a migration, as they fall, are a frame search and a Give.
-use Rattle.std.proofs.Common.{◌≡◌, ℕ, Option, Some, None, List, [], ◌∷◌, ◌++◌, length, refl, sym}
-use Rattle.std.proofs.Common.{ap, subst, ◌∙◌}
+use Rattle.std.proofs.Common.{◌≡◌, ℕ, Some, None, List, [], ◌∷◌, length, refl, sym}
+use Rattle.std.proofs.Common.{subst, ◌∙◌}
 use Rattle.std.proofs.lemmas.Bool.{eq-eqb}
 use Rattle.std.proofs.lemmas.List.{append_cancel_right}
 use Rattle.numa_machine.specs.declared.frame.Frame.{Frame}
@@ -8,7 +8,7 @@ use Rattle.numa_space.specs.declared.command.Command.{Command}
 use Rattle.numa_space.specs.declared.placement.Placement.{Placement}
 use Rattle.numa_space.specs.declared.request.Request.{Request}
 use Rattle.numa_space.specs.declared.event.Event.TheVariants.{Give}
-use Rattle.numa_space.specs.declared.event.CoreReply.TheVariants.{Exhausted, Given}
+use Rattle.numa_space.specs.declared.event.CoreReply.TheVariants.{Exhausted}
 use Rattle.numa_core.specs.World.{Setup, World, frame_search_of, owner_of}
 use Rattle.numa_core.specs.Steps.{effect_of}
 use Rattle.numa_fault.specs.Fault.{Walks}
@@ -17,13 +17,11 @@ use Rattle.numa_pool.specs.Seats.{SeatView}
 use Rattle.numa_pool.specs.Walk.{IsWalk}
 use Rattle.numa_pool.specs.declared.view.Entry.{Entry}
 use Rattle.numa_pool.specs.declared.view.Entry.TheVariants.{Gave}
-use Rattle.numa_refinement.specs.Faults.{Falls, begun_world, last_world}
+use Rattle.numa_refinement.specs.Faults.{begun_world}
 use Rattle.numa_refinement.specs.FrameSearches.{IsFrameSearch, TakesTurns, Turn, steps_of}
-use Rattle.numa_refinement.specs.FrameSearches.{world_left}
 use Rattle.numa_refinement.specs.Migrations.{FallsOn, SearchesAndGives}
-use Rattle.numa_refinement.specs.Moves.{Makes, PoolState}
-use Rattle.numa_refinement.specs.Tie.{IsTied}
-use Rattle.numa_refinement.specs.WalkSteps.{IsCoreStep, MayBegin, event_of}
+use Rattle.numa_refinement.specs.Moves.{Makes}
+use Rattle.numa_refinement.specs.WalkSteps.{MayBegin, event_of}
 use Rattle.numa_refinement.proofs.Begins.{has-list}
 use Rattle.numa_refinement.proofs.Falling.{walk-owner}
 use Rattle.numa_refinement.proofs.FrameSearching.{ends}
