@@ -3,7 +3,7 @@
 
 mod build;
 mod judging;
-mod questions;
+pub mod questions;
 mod running;
 mod script;
 mod settings;

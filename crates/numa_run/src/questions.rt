@@ -15,7 +15,7 @@ use std::alloc::Global;
 use std::io::Write;
 
 /// The fault of a task on the page of an address.
-pub(crate) fn fault_at(task: u32, address: u64, cpu: u32) -> Request
+pub fn fault_at(task: u32, address: u64, cpu: u32) -> Request
     ensures { result ≡ record { task = task; page = page_of address; cpu = cpu } }
 {
     let page = address / PAGE_BYTES;
@@ -23,7 +23,7 @@ pub(crate) fn fault_at(task: u32, address: u64, cpu: u32) -> Request
 }
 
 /// `place TASK ADDR CPU`: writes the fallback list for a fault.
-pub(crate) fn say_place<W: Write>(plan: &Plan, fault: Request, output: &mut Watched<W>)
+pub fn say_place<W: Write>(plan: &Plan, fault: Request, output: &mut Watched<W>)
     ensures { (machine : Hardware) (history : List Command) → PlanStandsFor machine plan.now history
         → Said W.contents output.old output.new
         (place_text machine history fault.task fault.page fault.cpu) }
@@ -49,7 +49,7 @@ fn say_firsts<W: Write>(plan: &Plan, first: Request, nodes: &mut [u8], output: &
 
 /// `span TASK ADDR PAGES CPU`: writes the first node of each page's list, for PAGES pages from that
 /// of the first fault on. Returns whether memory ran out; then the answer says so.
-pub(crate) fn say_span<W: Write>(
+pub fn say_span<W: Write>(
     alloc: Global,
     plan: &Plan,
     first: Request,
@@ -70,7 +70,7 @@ pub(crate) fn say_span<W: Write>(
 
 /// `counts TASK ADDR PAGES CPU`: writes the number of pages that each node would get, of PAGES
 /// pages from that of the first fault on.
-pub(crate) fn say_pages<W: Write>(plan: &Plan, first: Request, pages: u64, output: &mut Watched<W>)
+pub fn say_pages<W: Write>(plan: &Plan, first: Request, pages: u64, output: &mut Watched<W>)
     ensures { (machine : Hardware) (history : List Command) → PlanStandsFor machine plan.now history
         → Said W.contents output.old output.new
         (count_text machine history first.task first.page pages first.cpu) }
