@@ -2,6 +2,7 @@
 ghost use Rattle.std.specs.Prelude.{◌≡◌, Bool, [], None, Some, false, MatchResult};
 ghost use Rattle.numa_lines.specs.Written.{Said};
 ghost use Rattle.numa_core.specs.Standing.{setup_of};
+ghost use Rattle.numa_core.specs.Steps.{accept_answer};
 ghost use Rattle.numa_run.specs.Answers.{State};
 ghost use Rattle.numa_run.specs.Judged.{question_cause};
 ghost use Rattle.numa_run.specs.Questions.{question_text};
@@ -20,7 +21,7 @@ use numa_maps::{RecordRefusal, Resident, write_maps};
 use numa_script::line::empty_bind;
 use numa_script::tell::{say_ranges, say_starved};
 use numa_script::{Line, Question, Reply, Win, WordError, Work};
-use numa_space::{CoreRefusal, CoreReply, Event, PlaceRefusal, Placement, Request};
+use numa_space::{CoreRefusal, CoreReply, Event, PlaceRefusal, Placement, Refusal, Request};
 use std::alloc::Global;
 use std::io::Write;
 
@@ -39,8 +40,8 @@ fn won_by(answer: Result<CoreReply, CoreRefusal>) -> Result<Placement, Reply>
     }
 }
 
-/// Makes the plan of all accepted commands, if there is memory for it. It is a separate function, so
-/// that a question about a machine with a plan uses no stack for it.
+/// Makes the plan of all accepted commands, if there is memory for it. It is a separate function,
+/// so that a question about a machine with a plan uses no stack for it.
 #[cold]
 #[inline(never)]
 fn make_plan(core: &mut Core)
@@ -56,6 +57,16 @@ fn prepare(core: &mut Core)
 {
     if core.accepted_plan().is_none() {
         make_plan(core);
+    }
+}
+
+/// The reply to a command, from the core's answer.
+fn command_reply(answer: Result<u64, Refusal>) -> Reply
+    ensures { result ≡ reply_to (accept_answer answer) }
+{
+    match answer {
+        Ok(version) => Reply::Accepted(version),
+        Err(refusal) => Reply::Refused(CoreRefusal::Command(refusal)),
     }
 }
 
@@ -220,8 +231,7 @@ impl Running {
         ensures { Takes self.old (Line.EmptyBind start fault) (Taken.Reply result) self.new }
     {
         if self.core.space().machine().rules().is_linux() {
-            let answer = self.core.step(Event::Accept(empty_bind(start)));
-            return Reply::to_event(&answer);
+            return command_reply(self.core.accept(&empty_bind(start)));
         }
         Reply::BadWord(fault)
     }
@@ -238,10 +248,7 @@ impl Running {
             Line::Cpus(_) => Taken::Reply(Reply::BadState),
             Line::Machine(_) => Taken::Reply(Reply::BadState),
             Line::Command(said) => match said {
-                Ok(command) => {
-                    let answer = self.core.step(Event::Accept(*command));
-                    Taken::Reply(Reply::to_event(&answer))
-                }
+                Ok(command) => Taken::Reply(command_reply(self.core.accept(command))),
                 Err(fault) => Taken::Reply(Reply::BadWord(*fault)),
             },
             Line::EmptyBind { start, fault } => Taken::Reply(self.bind_nothing(*start, *fault)),

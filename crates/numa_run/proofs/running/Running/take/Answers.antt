@@ -1,6 +1,7 @@
 use Rattle.std.proofs.Common.{refl}
 use Rattle.std.specs.Prelude.{Ok, Err}
 use Rattle.numa_space.specs.declared.event.Event.TheVariants.{Accept}
+use Rattle.numa_core.specs.Steps.{accept_answer}
 use Rattle.numa_run.specs.Work.{event_outcome, work_outcome}
 use Rattle.numa_script.specs.Replies.{reply_to}
 use Rattle.numa_script.specs.declared.reply.Reply.TheVariants as reply
@@ -38,13 +39,13 @@ returns-in-Machine c =
 pub returns-in-Ok : goal.returns-in-Ok
 returns-in-Ok c =
     let stepped : Running =
-    record { core = c.step-answer.new.self; resident = c.args.self.now.resident } in
-    rw (c.in-Command.is, c.in-Ok.is, c.to_event.ensures)
+    record { core = c.accept.new.self; resident = c.args.self.now.resident } in
+    rw (c.in-Command.is, c.in-Ok.is, c.command_reply.ensures)
     (later_done c.args.self.now stepped (line.Command (Ok c.in-Ok.command))
-    (reply_to c.step-answer.result)
+    (reply_to (accept_answer c.accept.result))
     (λ refused s state. event_outcome refused s state.world state.resident (Accept c.in-Ok.command))
-    (does-event c.args.self.now stepped (Accept c.in-Ok.command) c.step-answer.result
-    c.step-answer.ensures.answer c.step-answer.ensures.setup refl)
+    (does-event c.args.self.now stepped (Accept c.in-Ok.command) (accept_answer c.accept.result)
+    c.accept.ensures.answer c.accept.ensures.setup refl)
     (λ refused machine state. refl))
 
 pub returns-in-Err : goal.returns-in-Err
