@@ -67,16 +67,19 @@ module _ {State W : Type 0} (contents : W → Option (List ℕ))
     reached = so_far.reached;
   }
 
-  -- no byte was taken yet
-  pub progress_starts : (stands : State → Type 0) (from now : Watched W) (line : List ℕ)
-      → SaidNothing contents from now → stands start → line ≡ []
-      → Progress contents answer_of after start stands from now (map given_part (ended_lines []))
-      × (line ≡ given_part (open_line []))
-  progress_starts stands from now line still ready empty = (
-    subst (Progress contents answer_of after start stands from now) (sym given_none)
-        (progress_new stands from now still ready),
-    empty ∙ open_none,
-  )
+-- no byte was taken yet
+pub progress_starts : {State W : Type 0} (contents : W → Option (List ℕ))
+    (answer_of : Bool → State → List ℕ → List ℕ) (after : Bool → State → List ℕ → State)
+    (stands : State → Type 0) (from now : Watched W) (line : List ℕ)
+    → SaidNothing contents from now → line ≡ []
+    → ((start : State) → stands start → Progress contents answer_of after start stands from now
+    (map given_part (ended_lines []))) × (line ≡ given_part (open_line []))
+progress_starts contents answer_of after stands from now line still empty = (
+  λ start ready.
+      subst (Progress contents answer_of after start stands from now) (sym given_none)
+      (progress_new contents answer_of after start stands from now still ready),
+  empty ∙ open_none,
+)
 
 pub is_handed : {W : Type 0} (result : Result (Unit {0}) RunFault) (output : Watched W)
     → OnOk result (has_failed output ≡ false) → held_in output ≡ []

@@ -16,8 +16,7 @@ use std::io::{Read, Write};
 
 /// Reads a script, has the server answer its lines, and writes the answers; those to the lines that
 /// have ended are written before the next read. Makes at most 4,294,967,295 reads. Clears any
-/// earlier error of reader or writer. The server must be in its first state, and must answer a line
-/// as its first 4,097 bytes.
+/// earlier error of reader or writer. The server must answer a line as its first 4,097 bytes.
 ///
 /// # Errors
 /// `Read`: a read failed, or one more was needed. `Write`: a write failed or took no byte, after
@@ -29,14 +28,16 @@ pub fn serve_script<S: Serve + Drop, R: Read, W: Write>(
     input: &mut Watched<R>,
     output: &mut Watched<W>,
 ) -> Result<(), RunFault>
-    requires server { S.stands_for server S.start }
     requires enough { SeesEnough S.answer_of S.after }
-    ensures ok { OnOk result (AnswersAll R.remaining W.contents S.answer_of S.after S.start
+    ensures ok { (start : S.State) → S.stands_for server start
+        → OnOk result (AnswersAll R.remaining W.contents S.answer_of S.after start
         input.old input.new output.old output.new) }
-    ensures read { IsErrOf result RunFault.Read → StopsAtRead R.remaining W.contents S.answer_of
-        S.after S.start input.old input.new output.old output.new }
-    ensures write { IsErrOf result RunFault.Write → StopsAtWrite R.remaining W.contents S.answer_of
-        S.after S.start input.old input.new output.old output.new }
+    ensures read { (start : S.State) → S.stands_for server start
+        → IsErrOf result RunFault.Read → StopsAtRead R.remaining W.contents S.answer_of S.after
+        start input.old input.new output.old output.new }
+    ensures write { (start : S.State) → S.stands_for server start
+        → IsErrOf result RunFault.Write → StopsAtWrite R.remaining W.contents S.answer_of S.after
+        start input.old input.new output.old output.new }
     ensures memory { IsErrOf result RunFault.Memory →
         NeverBegins R.remaining W.contents input.old input.new output.old output.new }
     ensures reads { read_count input.new ≤ read_count input.old + most_reads }

@@ -11,9 +11,6 @@ pub trait Serve {
     /// The state that the lines so far lead to.
     ghost State: { Type 0 };
 
-    /// The state before the first line.
-    ghost start: { State };
-
     /// That a server is in a state.
     ghost stands_for: { Self → State → Type 0 };
 

@@ -16,8 +16,10 @@ pub(crate) struct Served<S> {
 impl<S: Serve + Drop, W: Write> TakeLine<Watched<W>> for Served<S> {
     ghost use Rattle.numa_lines.specs.Progress.{Progress, IsHanded};
 
-    ghost has_taken = { λ _ begun now output lines. Progress W.contents S.answer_of S.after S.start
-        (S.stands_for now.server) begun output lines };
+    ghost has_taken = { λ first begun now output lines.
+        (start : S.State) → S.stands_for first.server start
+        → Progress W.contents S.answer_of S.after start (S.stands_for now.server)
+        begun output lines };
 
     ghost fails = { λ _. ⊥ };
 

@@ -233,12 +233,10 @@ impl Script {
 }
 
 impl Serve for Script {
-    ghost use Rattle.numa_run.specs.Answers.{State, start, answer_to, after_bytes};
+    ghost use Rattle.numa_run.specs.Answers.{State, answer_to, after_bytes};
     ghost use Rattle.numa_run.specs.Scripts.{ScriptStandsFor};
 
     ghost State = { State };
-
-    ghost start = { start };
 
     ghost stands_for = { ScriptStandsFor };
 

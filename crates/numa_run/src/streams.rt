@@ -4,10 +4,9 @@ ghost use Rattle.numa_lines.specs.Runs.{AnswersAll, NeverBegins, StopsAtRead, St
 ghost use Rattle.numa_lines.specs.Runs.{most_reads};
 ghost use Rattle.numa_lines.specs.Watching.{read_count};
 ghost use Rattle.numa_run.specs.Answers.{start, start_by, answer_to, after_bytes};
-ghost use Rattle.numa_run.specs.Scripts.{ScriptStandsFor};
 
 use crate::script::Script;
-use numa_lines::{RunFault, Serve, Watched, serve_script};
+use numa_lines::{RunFault, Watched, serve_script};
 use numa_machine::Rules;
 use std::alloc::Global;
 use std::io::{Read, Write};
@@ -45,32 +44,6 @@ pub fn run<R: Read, W: Write>(
     run_by(alloc, Rules::Document, input, output)
 }
 
-/// A script that follows the kernel's rules unless a line says otherwise.
-#[derive(Drop)]
-struct KernelScript {
-    script: Script,
-}
-
-impl Serve for KernelScript {
-    ghost use Rattle.numa_machine.specs.declared.rules.Rules.TheVariants.{Linux};
-    ghost use Rattle.numa_run.specs.Answers.{State, start_by, answer_to, after_bytes};
-    ghost use Rattle.numa_run.specs.Scripts.{ScriptStandsFor};
-
-    ghost State = { State };
-
-    ghost start = { start_by Linux };
-
-    ghost stands_for = { λ server state. ScriptStandsFor server.script state };
-
-    ghost answer_of = { answer_to };
-
-    ghost after = { after_bytes };
-
-    fn serve<W: Write>(&mut self, alloc: Global, line: &[u8], output: &mut Watched<W>) {
-        self.script.serve(alloc, line, output);
-    }
-}
-
 /// As [`run`], with these rules unless a line says otherwise.
 ///
 /// # Errors
@@ -91,11 +64,5 @@ pub fn run_by<R: Read, W: Write>(
         NeverBegins R.remaining W.contents input.old input.new output.old output.new }
     ensures reads { read_count input.new ≤ read_count input.old + most_reads }
 {
-    match rules {
-        Rules::Document => serve_script(alloc, Script::new(), input, output),
-        Rules::Linux => {
-            let script = Script::by(Rules::Linux);
-            serve_script(alloc, KernelScript { script }, input, output)
-        }
-    }
+    serve_script(alloc, Script::by(rules), input, output)
 }

@@ -10,22 +10,23 @@ use Rattle.numa_lines.proofs.Stopping.{at_input, at_output}
 use Rattle.numa_lines.proofs.run.serve_script.Goals as goal
 
 pub returns-in_default-hand_over-clause-write : goal.returns-in_default-hand_over-clause-write
-returns-in_default-hand_over-clause-write g c e =
+returns-in_default-hand_over-clause-write g c start stands e =
     let from = c.begin-2.new.self in
     let starts =
-    progress_starts g.W.Write.contents g.S.Serve.answer_of g.S.Serve.after g.S.Serve.start
+    progress_starts g.W.Write.contents g.S.Serve.answer_of g.S.Serve.after
     (g.S.Serve.stands_for c.in-Ok.lines.taker.server) from c.hand_over.new.self c.in-Ok.lines.line
-    c.hand_over.ensures.says
-    (subst (λ taker. g.S.Serve.stands_for taker.server g.S.Serve.start) (sym c.in-Ok.ensures.taker)
-    c.requires.server) c.in-Ok.ensures.line in
+    c.hand_over.ensures.says c.in-Ok.ensures.line in
+    let standing = subst (λ taker. g.S.Serve.stands_for taker.server start)
+    (sym c.in-Ok.ensures.taker) stands in
     let has_begun =
     begun g.W.Write.contents c.args.output.now c.gather.new.self from c.gather.ensures.inner
     c.gather.ensures.failed c.gather.ensures.held c.begin-2.ensures.inner c.begin-2.ensures.well
     c.begin-2.ensures.held in
     let far =
-    answered_so_far g.W.Write.contents g.S.Serve.answer_of g.S.Serve.after g.S.Serve.start
+    answered_so_far g.W.Write.contents g.S.Serve.answer_of g.S.Serve.after start
     c.requires.enough
-    (g.S.Serve.stands_for c.in-Ok.lines.taker.server) from c.hand_over.new.self [] starts.0 in
+    (g.S.Serve.stands_for c.in-Ok.lines.taker.server) from c.hand_over.new.self []
+    (starts.0 start standing) in
     record {
       front = [];
       refused = far.0;
@@ -40,14 +41,14 @@ returns-in_default-hand_over-clause-write g c e =
     }
 
 pub returns-in-Err-clause-read : goal.returns-in-Err-clause-read
-returns-in-Err-clause-read g c e =
+returns-in-Err-clause-read g c start stands e =
     let from = c.begin-2.new.self in
     let starts =
-    progress_starts g.W.Write.contents g.S.Serve.answer_of g.S.Serve.after g.S.Serve.start
+    progress_starts g.W.Write.contents g.S.Serve.answer_of g.S.Serve.after
     (g.S.Serve.stands_for c.in-Ok.lines.taker.server) from c.hand_over.new.self c.in-Ok.lines.line
-    c.hand_over.ensures.says
-    (subst (λ taker. g.S.Serve.stands_for taker.server g.S.Serve.start) (sym c.in-Ok.ensures.taker)
-    c.requires.server) c.in-Ok.ensures.line in
+    c.hand_over.ensures.says c.in-Ok.ensures.line in
+    let standing = subst (λ taker. g.S.Serve.stands_for taker.server start)
+    (sym c.in-Ok.ensures.taker) stands in
     let has_begun =
     begun g.W.Write.contents c.args.output.now c.gather.new.self from c.gather.ensures.inner
     c.gather.ensures.failed c.gather.ensures.held c.begin-2.ensures.inner c.begin-2.ensures.well
@@ -55,10 +56,10 @@ returns-in-Err-clause-read g c e =
     let stops = at_input c.in-Err.why _ _ (λ lost. lost.lost.0) e c.in-Err.ensures.err in
     let taken = stops.has_read.takes c.in-Ok.lines from [] starts in
     let far =
-    answered_so_far g.W.Write.contents g.S.Serve.answer_of g.S.Serve.after g.S.Serve.start
+    answered_so_far g.W.Write.contents g.S.Serve.answer_of g.S.Serve.after start
     c.requires.enough
     (g.S.Serve.stands_for c.read_text.new.taker.taker.server) from c.read_text.new.output
-    stops.bytes taken.0 in
+    stops.bytes (taken.0 start standing) in
     let handed = stops.settled (c.in-Ok-hand_over.ensures.ok, c.hand_over.ensures.empty) in
     record {
       front = stops.bytes;
@@ -76,14 +77,14 @@ returns-in-Err-clause-read g c e =
     }
 
 pub returns-in-Err-clause-write : goal.returns-in-Err-clause-write
-returns-in-Err-clause-write g c e =
+returns-in-Err-clause-write g c start stands e =
     let from = c.begin-2.new.self in
     let starts =
-    progress_starts g.W.Write.contents g.S.Serve.answer_of g.S.Serve.after g.S.Serve.start
+    progress_starts g.W.Write.contents g.S.Serve.answer_of g.S.Serve.after
     (g.S.Serve.stands_for c.in-Ok.lines.taker.server) from c.hand_over.new.self c.in-Ok.lines.line
-    c.hand_over.ensures.says
-    (subst (λ taker. g.S.Serve.stands_for taker.server g.S.Serve.start) (sym c.in-Ok.ensures.taker)
-    c.requires.server) c.in-Ok.ensures.line in
+    c.hand_over.ensures.says c.in-Ok.ensures.line in
+    let standing = subst (λ taker. g.S.Serve.stands_for taker.server start)
+    (sym c.in-Ok.ensures.taker) stands in
     let has_begun =
     begun g.W.Write.contents c.args.output.now c.gather.new.self from c.gather.ensures.inner
     c.gather.ensures.failed c.gather.ensures.held c.begin-2.ensures.inner c.begin-2.ensures.well
@@ -91,10 +92,10 @@ returns-in-Err-clause-write g c e =
     let stops = at_output c.in-Err.why _ _ (λ lost. lost.lost.0) e c.in-Err.ensures.err in
     let taken = stops.has_read.takes c.in-Ok.lines from [] starts in
     let far =
-    answered_so_far g.W.Write.contents g.S.Serve.answer_of g.S.Serve.after g.S.Serve.start
+    answered_so_far g.W.Write.contents g.S.Serve.answer_of g.S.Serve.after start
     c.requires.enough
     (g.S.Serve.stands_for c.read_text.new.taker.taker.server) from c.read_text.new.output
-    stops.bytes taken.0 in
+    stops.bytes (taken.0 start standing) in
     record {
       front = stops.bytes;
       refused = far.0;
@@ -109,14 +110,14 @@ returns-in-Err-clause-write g c e =
     }
 
 pub returns-in-Ok-finish-clause-ok : goal.returns-in-Ok-finish-clause-ok
-returns-in-Ok-finish-clause-ok g c =
+returns-in-Ok-finish-clause-ok g c start stands =
     let from = c.begin-2.new.self in
     let starts =
-    progress_starts g.W.Write.contents g.S.Serve.answer_of g.S.Serve.after g.S.Serve.start
+    progress_starts g.W.Write.contents g.S.Serve.answer_of g.S.Serve.after
     (g.S.Serve.stands_for c.in-Ok.lines.taker.server) from c.hand_over.new.self c.in-Ok.lines.line
-    c.hand_over.ensures.says
-    (subst (λ taker. g.S.Serve.stands_for taker.server g.S.Serve.start) (sym c.in-Ok.ensures.taker)
-    c.requires.server) c.in-Ok.ensures.line in
+    c.hand_over.ensures.says c.in-Ok.ensures.line in
+    let standing = subst (λ taker. g.S.Serve.stands_for taker.server start)
+    (sym c.in-Ok.ensures.taker) stands in
     let has_begun =
     begun g.W.Write.contents c.args.output.now c.gather.new.self from c.gather.ensures.inner
     c.gather.ensures.failed c.gather.ensures.held c.begin-2.ensures.inner c.begin-2.ensures.well
@@ -126,10 +127,10 @@ returns-in-Ok-finish-clause-ok g c =
     let taken = ends.1 c.in-Ok.lines from stops.bytes
     (stops.has_read.takes c.in-Ok.lines from [] starts) in
     let far =
-    answered_to_end g.W.Write.contents g.S.Serve.answer_of g.S.Serve.after g.S.Serve.start
+    answered_to_end g.W.Write.contents g.S.Serve.answer_of g.S.Serve.after start
     c.requires.enough
     (g.S.Serve.stands_for c.finish.new.self.taker.server) from c.finish.new.output stops.bytes
-    taken.0 in
+    (taken.0 start standing) in
     record {
       script = stops.bytes;
       refused = far.0;
@@ -145,14 +146,14 @@ returns-in-Ok-finish-clause-ok g c =
     }
 
 pub returns-clause-write : goal.returns-clause-write
-returns-clause-write g c e =
+returns-clause-write g c start stands e =
     let from = c.begin-2.new.self in
     let starts =
-    progress_starts g.W.Write.contents g.S.Serve.answer_of g.S.Serve.after g.S.Serve.start
+    progress_starts g.W.Write.contents g.S.Serve.answer_of g.S.Serve.after
     (g.S.Serve.stands_for c.in-Ok.lines.taker.server) from c.hand_over.new.self c.in-Ok.lines.line
-    c.hand_over.ensures.says
-    (subst (λ taker. g.S.Serve.stands_for taker.server g.S.Serve.start) (sym c.in-Ok.ensures.taker)
-    c.requires.server) c.in-Ok.ensures.line in
+    c.hand_over.ensures.says c.in-Ok.ensures.line in
+    let standing = subst (λ taker. g.S.Serve.stands_for taker.server start)
+    (sym c.in-Ok.ensures.taker) stands in
     let has_begun =
     begun g.W.Write.contents c.args.output.now c.gather.new.self from c.gather.ensures.inner
     c.gather.ensures.failed c.gather.ensures.held c.begin-2.ensures.inner c.begin-2.ensures.well
@@ -162,10 +163,10 @@ returns-clause-write g c e =
     let taken = ends.1 c.in-Ok.lines from stops.bytes
     (stops.has_read.takes c.in-Ok.lines from [] starts) in
     let far =
-    answered_to_end g.W.Write.contents g.S.Serve.answer_of g.S.Serve.after g.S.Serve.start
+    answered_to_end g.W.Write.contents g.S.Serve.answer_of g.S.Serve.after start
     c.requires.enough
     (g.S.Serve.stands_for c.finish.new.self.taker.server) from c.finish.new.output stops.bytes
-    taken.0 in
+    (taken.0 start standing) in
     record {
       front = stops.bytes;
       refused = far.0;

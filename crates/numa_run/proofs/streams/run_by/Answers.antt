@@ -1,12 +1,21 @@
 use Rattle.std.proofs.Common.{ap}
 use Rattle.numa_script.proofs.Seeing.{line_of_seen}
-use Rattle.numa_run.specs.Answers.{after, answer_of}
+use Rattle.numa_run.specs.Answers.{after, answer_of, start_by}
 use Rattle.numa_run.proofs.streams.run_by.Goals as goal
 
-pub serve_script-requires-clause-enough : goal.serve_script-requires-clause-enough
-serve_script-requires-clause-enough g c = λ refused state line.
-    (ap (answer_of refused state) (line_of_seen line), ap (after refused state) (line_of_seen line))
+pub serve_script-requires : goal.serve_script-requires
+serve_script-requires g c = record {
+  enough = λ refused state line. (
+    ap (answer_of refused state) (line_of_seen line),
+    ap (after refused state) (line_of_seen line),
+  );
+}
 
-pub serve_script-requires-in-Linux-clause-enough : goal.serve_script-requires-in-Linux-clause-enough
-serve_script-requires-in-Linux-clause-enough g c = λ refused state line.
-    (ap (answer_of refused state) (line_of_seen line), ap (after refused state) (line_of_seen line))
+pub returns-clause-ok : goal.returns-clause-ok
+returns-clause-ok g c = c.serve_script.ensures.ok (start_by c.args.rules) c.by.ensures
+
+pub returns-clause-read : goal.returns-clause-read
+returns-clause-read g c = c.serve_script.ensures.read (start_by c.args.rules) c.by.ensures
+
+pub returns-clause-write : goal.returns-clause-write
+returns-clause-write g c = c.serve_script.ensures.write (start_by c.args.rules) c.by.ensures

@@ -6,13 +6,14 @@ use Rattle.numa_lines.proofs.served.ServedTakeLineWatched.hand_over.Goals as goa
 
 pub returns-clause-takes : goal.returns-clause-takes
 returns-clause-takes g c =
-    λ first begun lines h.
+    λ first begun lines h start stands_first.
     let stands = g.S.Serve.stands_for c.args.self.now.server in
     subst
-    (Progress g.W.Write.contents g.S.Serve.answer_of g.S.Serve.after g.S.Serve.start stands begun
+    (Progress g.W.Write.contents g.S.Serve.answer_of g.S.Serve.after start stands begun
     c.hand_over.new.self) (sym (append-nil lines))
-    (progress_handed g.W.Write.contents g.S.Serve.answer_of g.S.Serve.after g.S.Serve.start stands
-    begun c.args.output.now c.hand_over.new.self lines c.hand_over.ensures.says h)
+    (progress_handed g.W.Write.contents g.S.Serve.answer_of g.S.Serve.after start stands
+    begun c.args.output.now c.hand_over.new.self lines c.hand_over.ensures.says
+    (h start stands_first))
 
 pub returns-clause-handed : goal.returns-clause-handed
 returns-clause-handed g c =
