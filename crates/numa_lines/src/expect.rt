@@ -49,7 +49,7 @@ enum Reading {
 
 /// A line of a worked script, and the answer with which it is compared.
 #[derive(Drop)]
-struct Comparison<W> {
+struct LineComparison<W> {
     told: Watched<W>,
     // Whether memory ran out for an answer, or for a line.
     lacks_memory: bool,
@@ -69,7 +69,7 @@ struct Comparison<W> {
 #[derive(Drop)]
 pub struct Expect<A, W> {
     answerer: A,
-    comparison: Comparison<W>,
+    comparison: LineComparison<W>,
     // The first bytes of the current line.
     head: Vec<u8>,
 }
@@ -93,7 +93,7 @@ fn tell_given<W: Write>(told: &mut Watched<W>, is_none: bool, line: &[u8]) {
     told.say(b"\n");
 }
 
-impl<W: Write> Comparison<W> {
+impl<W: Write> LineComparison<W> {
     /// Begins to report a difference in the current line: where it is, and what was expected as far
     /// as it is the same.
     fn tell_wanted(&mut self) {
@@ -255,7 +255,7 @@ impl<A: Respond, W: Write> Expect<A, W> {
         let mut told = Watched::new(output);
         // If that fails, each text is written at once.
         let _ = told.gather(alloc);
-        let comparison = Comparison {
+        let comparison = LineComparison {
             told,
             lacks_memory: false,
             counts: Counts::new(),

@@ -75,8 +75,8 @@ impl<T: Drop> Lines<T> {
 }
 
 impl<T> Lines<T> {
-    /// Ends the open line with these bytes, hands it on, and opens the next. A line that is whole is
-    /// handed on where it stands.
+    /// Ends the open line with these bytes, hands it on, and opens the next. A line that is whole
+    /// is handed on where it stands.
     #[inline(always)]
     fn end_line<O>(&mut self, bytes: &[u8], output: &mut O) -> Result<(), RunFault>
     where
