@@ -1,5 +1,5 @@
 -- The listing, line by line.
-use Rattle.std.proofs.Common.{◌≡◌, ◌↔◌, ℕ, ◌≤◌, ◌^◌, Option, List, ◌∷◌, ◌++◌, Contains, true, sym}
+use Rattle.std.proofs.Common.{◌≡◌, ◌↔◌, ℕ, ◌≤◌, ◌^◌, Option, List, ◌∷◌, ◌++◌, Contains, sym}
 use Rattle.std.proofs.Common.{ap, subst, ◌∙◌, append_assoc}
 use Rattle.numa_mode.specs.Policy.{PolicyRecord}
 use Rattle.numa_ranges.proofs.Apart.{apart-top}
@@ -13,10 +13,6 @@ use Rattle.numa_space.specs.Standing.{SpaceState, StandsFor, policy_in}
 use Rattle.numa_space.specs.declared.command.Command.{Command}
 use Rattle.numa_maps.specs.Listing.{IsListing, listing, listing_in, range_line}
 use Rattle.numa_maps.specs.Residents.{Kept}
-use Rattle.numa_lines.specs.Watching.{has_failed}
-use Rattle.numa_lines.specs.Written.{Said}
-use Rattle.numa_lines.specs.declared.watched.Watched.{Watched}
-use Rattle.numa_lines.proofs.Adding.{said_both, said_lost}
 
 pub apart-next : (from : ℕ) (range : Run (Option PolicyRecord))
     (left rest : List (Run (Option PolicyRecord))) → left ≡ range ∷ rest → AreApart from left
@@ -37,16 +33,6 @@ line-next policy_of kept all sent line range left rest so_far e text =
     ++ listing policy_of kept ranges) e ∙ ap (λ x. sent ++ (x ++ listing policy_of kept rest))
     (sym text)
     ∙ sym (append_assoc sent line (listing policy_of kept rest))
-
--- a line was said, after which no other is, since a write has failed
-pub line-lost : {W : Type 0} (contents : W → Option (List ℕ)) (old mid new : Watched W)
-    (all sent line more : List ℕ) → has_failed new ≡ true
-    → Said contents old mid sent → Said contents mid new line → all ≡ (sent ++ line) ++ more
-    → Said contents old new all
-line-lost contents old mid new all sent line more failed before last e =
-    subst (Said contents old new) (sym e)
-    (said_lost contents old new (sent ++ line) more failed
-    (said_both contents old mid new sent line before last))
 
 -- the listing of a space is that of the commands for which it stands
 pub listing-meaning : (space : SpaceState) (history : List Command) (task : ℕ) (kept : Kept)

@@ -7,5 +7,5 @@ mod line;
 pub mod listing;
 pub mod resident;
 
-pub use listing::{WriteFault, write_maps};
+pub use listing::{WriteFault, say_maps, write_maps};
 pub use resident::{RecordRefusal, Resident};

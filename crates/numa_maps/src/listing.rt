@@ -16,6 +16,23 @@ use std::io::Write;
 #[derive(Clone, Copy, Debug, PartialEq, Eq)]
 pub struct WriteFault;
 
+/// Writes the listing as [`write_maps`] does, but may leave the last part of it held back.
+pub fn say_maps<W: Write>(space: &Space, task: u32, resident: &Resident, output: &mut Watched<W>)
+    ensures { Said W.contents output.old output.new (listing_in space.now task resident.now) }
+{
+    let ranges = space.range_iter();
+    let mut line = LineText::new();
+    for range in ranges {
+        write_line(
+            &mut line,
+            space.policy_at(task, range.first),
+            resident,
+            &range,
+        );
+        output.say(line.as_str().as_bytes());
+    }
+}
+
 /// Writes one line for each range of the space, in ascending order, in the form of numa_maps
 /// (numa(7), /proc/PID/numa_maps):
 ///
@@ -28,9 +45,9 @@ pub struct WriteFault;
 ///   all tasks are shown, but no placement on an unmapped page;
 /// - a line feed.
 ///
-/// Other fields of numa_maps are left out. It doesn't allocate. Each line is handed to the writer
-/// whole, after what was written before. The time depends on the number of ranges and placements,
-/// not of pages.
+/// Other fields of numa_maps are left out. It doesn't allocate. Lines are handed to the writer whole,
+/// after what was written before. The time depends on the number of ranges and placements, not of
+/// pages.
 ///
 /// # Errors
 /// `WriteFault`: this or an earlier write failed. The first part of the listing was written, or
@@ -50,21 +67,11 @@ pub fn write_maps<W: Write>(
         → IsListing space.now.machine history task resident.now
         (listing_in space.now task resident.now) }
 {
-    let ranges = space.range_iter();
+    // Tells the proof that the ranges are in ascending order and maximal.
+    let _ = space.range_iter();
+    say_maps(space, task, resident, output);
     let Ok(()) = output.hand_over() else {
         return Err(WriteFault);
     };
-    let mut line = LineText::new();
-    for range in ranges {
-        write_line(
-            &mut line,
-            space.policy_at(task, range.first),
-            resident,
-            &range,
-        );
-        let Ok(()) = output.put(line.as_str().as_bytes()) else {
-            return Err(WriteFault);
-        };
-    }
     Ok(())
 }

@@ -17,7 +17,7 @@ use crate::questions::{fault_at, say_pages, say_place, say_span};
 use numa_core::Core;
 use numa_lines::Watched;
 use numa_machine::Frame;
-use numa_maps::{RecordRefusal, Resident, write_maps};
+use numa_maps::{RecordRefusal, Resident, say_maps};
 use numa_script::line::empty_bind;
 use numa_script::tell::{say_ranges, say_starved};
 use numa_script::{Line, Question, Reply, Win, WordError, Work};
@@ -223,7 +223,7 @@ impl Running {
         let space = self.core.space();
         // Tells the proof that the ranges are in ascending order and maximal.
         let _ = space.range_iter();
-        let _ = write_maps(space, task, &self.resident, output);
+        say_maps(space, task, &self.resident, output);
     }
 
     /// Carries out an `mbind` of length 0 whose mode, flag and nodes are refused together.

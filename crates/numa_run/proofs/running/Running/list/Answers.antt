@@ -17,5 +17,5 @@ returns g c =
     c.args.self.now.resident) c.space-space.ensures.space
     ∙ ap (λ kept. listing_of c.args.self.now.core.space.machine state.world.history c.args.task
     kept) stands.resident in
-    said_same g.W.Write.contents c.args.output.now c.write_maps.new.output _ _ text
-    c.write_maps.ensures.says
+    said_same g.W.Write.contents c.args.output.now c.say_maps.new.output _ _ text
+    c.say_maps.ensures

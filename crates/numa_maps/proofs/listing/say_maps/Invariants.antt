@@ -1,10 +1,9 @@
-use Rattle.std.proofs.Common.{◌≡◌, ℕ, List, [], ◌++◌, false}
-use Rattle.numa_lines.specs.Watching.{has_failed, held_in}
+use Rattle.std.proofs.Common.{◌≡◌, ℕ, List, ◌++◌}
 use Rattle.numa_lines.specs.Written.{Said}
 use Rattle.numa_ranges.specs.Runs.{AreApart}
 use Rattle.numa_space.specs.Standing.{policy_in}
 use Rattle.numa_maps.specs.Listing.{listing, listing_in}
-use Rattle.numa_maps.proofs.listing.write_maps.Given as goal
+use Rattle.numa_maps.proofs.listing.say_maps.Given as goal
 
 abbrev pub invariant-loop-range : goal.invariant-loop-range
 invariant-loop-range g l = record {
@@ -12,6 +11,4 @@ invariant-loop-range g l = record {
       × (listing_in l.space l.task l.resident ≡ sent ++ listing (policy_in l.space l.task)
       l.resident l.range-iterator);
   apart : (from : ℕ) × AreApart from l.range-iterator;
-  empty : held_in l.output ≡ [];
-  well : has_failed l.output ≡ false;
 }
