@@ -1,9 +1,8 @@
 -- An empty word is no number, so a line of numbers that has one is malformed anyway: it need be
 -- looked for only where a list, a policy or a part of a machine may stand.
-use Rattle.std.specs.Prelude.{◌≡◌, ℕ, ◌+◌, ◌==◌, ◌<◌, ◌&&◌, ◌||◌, Bool, true, false, List, []}
+use Rattle.std.specs.Prelude.{◌≡◌, ℕ, ◌&&◌, ◌||◌, Bool, true, false, List, []}
 use Rattle.std.specs.Prelude.{◌∷◌, length, nat_lt, is_some, unwrap_or, if◌then◌else◌, Option, Some}
 use Rattle.std.specs.Prelude.{None, option_and_then, refl}
-use Rattle.std.specs.List.{list_any}
 use Rattle.std.specs.Option.{option_map}
 use Rattle.std.proofs.Common.{sym, ◌∙◌, ap, arith}
 use Rattle.std.proofs.lemmas.Bool.Decides.{nat_tests}

@@ -1,11 +1,12 @@
 -- Where the spaces of a line stand: from vectors to bits, and from bits to words.
-use Rattle.std.specs.Prelude.{◌≡◌, ◌==◌, ℕ, ◌+◌, ◌-◌, ◌*◌, ◌/◌, ◌^◌, ◌%◌, ◌<◌, ◌≤◌, Bool, true, false}
-use Rattle.std.specs.Prelude.{cond, List, [], ◌∷◌, length, take, drop, Option, Some, None, position}
-use Rattle.std.specs.Prelude.{refl, max, suc}
+use Rattle.std.specs.Prelude.{◌≡◌, ◌==◌, ℕ, ◌+◌, ◌-◌, ◌*◌, ◌/◌, ◌^◌, ◌%◌, ◌<◌, ◌≤◌, Bool, true}
+use Rattle.std.specs.Prelude.{false}
+use Rattle.std.specs.Prelude.{cond, List, length, drop, Some, None, position}
+use Rattle.std.specs.Prelude.{refl, max}
 use Rattle.std.proofs.Common.{sym, ◌∙◌, ap, subst, arith, get_or, replicate, map, w8, w64, eqb, not}
 use Rattle.std.proofs.Common.{bit_or, inl, inr}
 use Rattle.std.specs.Int.{bit_at, trailing_zeros}
-use Rattle.std.specs.List.{position_or_len, prefix_len}
+use Rattle.std.specs.List.{position_or_len}
 use Rattle.std.specs.Simd.Lanes.{chunk, zip2, mask_l, top}
 use Rattle.std.proofs.Math.ListN.{get_or-map}
 use Rattle.std.proofs.lemmas.Bool.{cases_lt}

@@ -2,7 +2,8 @@
 ghost use Rattle.std.specs.Prelude.{◌≡◌, ◌==◌, ℕ, true, Ok};
 ghost use Rattle.numa_mode.specs.Flags.{has_static, has_relative};
 ghost use Rattle.numa_script.specs.Policies.{mode_of, form_with, form_of, form_of_two};
-ghost use Rattle.numa_script.specs.Policies.{form_of_three, policy_from, policy_of, waits_for_pages};
+ghost use Rattle.numa_script.specs.Policies.{form_of_three, policy_from, policy_of};
+ghost use Rattle.numa_script.specs.Policies.{waits_for_pages};
 
 use crate::table::meaning;
 use bitflags::Flags;

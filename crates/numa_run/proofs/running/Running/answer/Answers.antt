@@ -1,4 +1,4 @@
-use Rattle.std.proofs.Common.{◌∙◌, ap, sym, refl, false, ℕ, subst, ◌++◌, codes, decimal}
+use Rattle.std.proofs.Common.{◌∙◌, ap, sym, refl, ℕ, subst, ◌++◌, codes, decimal}
 use Rattle.numa_lines.proofs.Adding.{said_same}
 use Rattle.numa_space.specs.History.{page_of}
 use Rattle.numa_space.specs.Refusals.{range_count_of}

@@ -1,4 +1,5 @@
-use Rattle.std.proofs.Common.{◌≡◌, ◌+◌, ◌≤◌, ◌++◌, length, drop, decimal, ap, arith, ◌∙◌, length-append}
+use Rattle.std.proofs.Common.{◌≡◌, ◌+◌, ◌≤◌, length, drop, decimal, ap, arith, ◌∙◌}
+use Rattle.std.proofs.Common.{length-append}
 use Rattle.std.proofs.Common.{length-drop}
 use Rattle.std.proofs.lemmas.Fmt.{length-decimal-le}
 use Rattle.numa_script.proofs.short.ShortText.put_node.Goals as goal
@@ -6,7 +7,9 @@ use Rattle.numa_script.proofs.short.ShortText.put_node.Goals as goal
 pub write_number-self-inside-requires : goal.write_number-self-inside-requires
 write_number-self-inside-requires c =
     let long : length (decimal c.from.result) ≤ 3 =
-    length-decimal-le 3 c.from.result (omega arith) (omega (arith, c.from.ensures, c.ranges.node.fits)) (omega (arith, c.from.ensures, c.ranges.node.fits)) in
+    length-decimal-le 3 c.from.result (omega arith)
+    (omega (arith, c.from.ensures, c.ranges.node.fits))
+    (omega (arith, c.from.ensures, c.ranges.node.fits)) in
     let same : length (drop c.self.inside.start c.self.inside.bytes) ≡ length c.args.self.now =
     ap length c.self.view_is in
     record {
@@ -17,7 +20,9 @@ write_number-self-inside-requires c =
 pub returns-clause-short : goal.returns-clause-short
 returns-clause-short c =
     let long : length (decimal c.from.result) ≤ 3 =
-    length-decimal-le 3 c.from.result (omega arith) (omega (arith, c.from.ensures, c.ranges.node.fits)) (omega (arith, c.from.ensures, c.ranges.node.fits)) in
+    length-decimal-le 3 c.from.result (omega arith)
+    (omega (arith, c.from.ensures, c.ranges.node.fits))
+    (omega (arith, c.from.ensures, c.ranges.node.fits)) in
     let same : length (drop c.self.inside.start c.self.inside.bytes) ≡ length c.args.self.now =
     ap length c.self.view_is in
     let all : length (drop c.write_number-self-inside.result c.write_number-self-inside.new.bytes)
