@@ -11,8 +11,9 @@ from collections import namedtuple
 
 from .tracing import PAGE, TOP
 
-LINE = re.compile(r"([0-9a-f]+)-([0-9a-f]+) (....) ([0-9a-f]+) (\S+) (\d+) *(.*)")
-IN_MEMORY = re.compile(r"/dev/zero \(deleted\)|\[anon_shmem:|/SYSV[0-9a-f]{8}|/memfd:|/dev/shm/")
+# (compiled at their first use)
+LINE = r"([0-9a-f]+)-([0-9a-f]+) (....) ([0-9a-f]+) (\S+) (\d+) *(.*)"
+IN_MEMORY = r"/dev/zero \(deleted\)|\[anon_shmem:|/SYSV[0-9a-f]{8}|/memfd:|/dev/shm/"
 KERNELS_OWN = ("[vvar]", "[vvar_vclock]", "[vdso]", "[vsyscall]")
 MOST_INDEX = 1 << 35
 MOST_CLOSED = 1 << 30  # bytes: larger areas without access are mostly addresses that a program keeps for later
@@ -27,7 +28,7 @@ def area_of(start, end, is_shared, is_closed, offset, device, inode, name):
     """An area as a kernel tells it; None where it is the kernel's own."""
     if end > TOP or name in KERNELS_OWN:
         return None
-    is_in_memory = name[:1] in "/[" and bool(IN_MEMORY.match(name))
+    is_in_memory = name[:1] in "/[" and bool(re.match(IN_MEMORY, name))
     is_file = inode != 0 or is_in_memory  # (the inode of System V's first object is 0)
     index = (offset if is_file else start) // PAGE
     if is_shared and is_in_memory and index + inode < MOST_INDEX:
@@ -55,7 +56,7 @@ class ByReading:
 
     @staticmethod
     def area_of_line(line):
-        found = LINE.match(line)
+        found = re.match(LINE, line)
         return found and area_of(int(found[1], 16), int(found[2], 16), found[3][3] == "s",
                                  found[3].startswith("---"), int(found[4], 16), found[5], int(found[6]), found[7])
 

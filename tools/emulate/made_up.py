@@ -3,8 +3,8 @@
 
 import os
 import re
-import tempfile
 from collections import Counter
+from itertools import count
 
 from .machine import KILOBYTES
 from .policies import MOST_BITS, shown_form
@@ -13,10 +13,13 @@ from .words import list_text, mask_text
 
 NODES, CPUS = "/sys/devices/system/node", "/sys/devices/system/cpu"
 WEIGHTS = "/sys/kernel/mm/mempolicy/weighted_interleave"
-PROCESS = re.compile(r"/proc/(self|thread-self|\d+)(?:/task/(\d+))?/(status|stat|numa_maps)$")
-MEMS_SET, CPU_SET = (re.compile(rf"/sys/fs/cgroup/.*cpuset\.(?:{name}|{name}\.effective|effective_{name})$"
-                                rf"|/dev/cpuset/.*{name}$") for name in ("mems", "cpus"))
-OF_NODE = re.compile(re.escape(NODES) + r"/node(\d+)/(meminfo|numastat)$")
+# (compiled at their first use)
+MADE_UP = ("/proc/", "/sys/", "/dev/cpuset/")  # where what is made up when it is opened lies
+PROCESS = r"/proc/(self|thread-self|\d+)(?:/task/(\d+))?/(status|stat|numa_maps)$"
+MEMS_SET, CPU_SET = (rf"/sys/fs/cgroup/.*cpuset\.(?:{name}|{name}\.effective|effective_{name})$|/dev/cpuset/.*{name}$"
+                     for name in ("mems", "cpus"))
+OF_NODE = re.escape(NODES) + r"/node(\d+)/(meminfo|numastat)$"
+turns = count()
 
 
 def write(path, text):
@@ -161,7 +164,9 @@ OF_ALL_CPUS = {"/proc/cpuinfo": cpuinfo_text, "/proc/stat": times_text}
 
 def text_of(all_, task, path):
     """What a file holds that is made up when it is opened; None: it is as it is."""
-    found = PROCESS.match(path)
+    if not path.startswith(MADE_UP):
+        return None
+    found = re.match(PROCESS, path)
     if found:
         number = int(found[2] or (task.number if found[1].endswith("self") else found[1]))
         other = all_.tasks.get(number)
@@ -170,15 +175,15 @@ def text_of(all_, task, path):
         if found[3] == "stat":
             return stat_text(all_, number) if all_.machine.cpus.are_made_up else None
         return status_text(all_, number) if found[3] == "status" else numa_maps_text(all_, other)
-    if MEMS_SET.match(path):
+    if re.match(MEMS_SET, path):
         return list_text(all_.machine.allowed) + "\n"
     if all_.machine.cpus.are_made_up:
         cpus = all_.machine.cpus
         if path in OF_ALL_CPUS:
             return OF_ALL_CPUS[path](cpus)
-        if CPU_SET.match(path):
+        if re.match(CPU_SET, path):
             return list_text(cpus.node_of) + "\n"
-    found = OF_NODE.match(path)
+    found = re.match(OF_NODE, path)
     if found and int(found[1]) < all_.machine.count:
         if all_.follows(task):
             all_.sweep(task)
@@ -193,8 +198,8 @@ def file_for(all_, task, path):
     text = text_of(all_, task, path)
     if text is None:
         return None
-    handle, name = tempfile.mkstemp(dir=all_.room)
-    os.write(handle, text.encode("utf-8", "surrogateescape"))
-    os.close(handle)
+    name = f"{all_.room}/opened-{next(turns)}"
+    with open(name, "xb", 0) as file:
+        file.write(text.encode("utf-8", "surrogateescape"))
     os.chmod(name, 0o644)
     return name

@@ -7,10 +7,9 @@ from collections import Counter
 
 from .areas import shown_name
 from .made_up import range_rows
-from .shown import write_report
 from .words import Unfit, read_lines
 
-WANTED = re.compile(r"(.+) (\d+=\d+(?:,\d+=\d+)*)$")
+WANTED = r"(.+) (\d+=\d+(?:,\d+=\d+)*)$"
 
 
 def names_between(space, start, end):
@@ -40,6 +39,8 @@ class Outcome:
 
     def write_report(self, standing=()):
         if self.path:
+            from .shown import write_report  # (each start would take its time)
+
             write_report(self.path, self.report.told(standing))
 
     def failures(self):
@@ -102,7 +103,7 @@ class Wanted:
     def __init__(self, path):
         self.rows, self.problems, self.compared = [], [], 0
         for number, line in read_lines(path):
-            found = WANTED.match(line.strip())
+            found = re.match(WANTED, line.strip())
             if found:
                 pairs = (item.split("=") for item in found[2].split(","))
                 self.rows.append((number, found[1], {int(node): int(pages) for node, pages in pairs}))
