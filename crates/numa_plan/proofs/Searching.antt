@@ -7,11 +7,13 @@ use Rattle.std.specs.List.{AllWithin}
 use Rattle.std.proofs.lemmas.Bool.{cases_lt}
 use Rattle.std.proofs.lemmas.List.{get_or_default}
 use Rattle.std.proofs.Math.Nat.{mul-le-mul_left, mul-le-mul}
+use native.Mathlib.Nat.{pow-le-pow_right}
 use Rattle.numa_ranges.specs.Runs.{AreApart, end_of, page_at}
 use Rattle.numa_ranges.specs.declared.run.Run.{Run}
 use Rattle.numa_ranges.proofs.Apart.{apart-rising, apart-from, apart-bounds, page_at-last}
 use Rattle.numa_ranges.proofs.Apart.{page_at-none, in_pages-true, in_pages-above}
-use Rattle.numa_plan.specs.Counted.{Counted, FindsQuickly, FindsTwice}
+use Rattle.numa_plan.specs.Counted.{Counted, FindsByInterpolation, FindsQuickly, FindsTwice}
+use Rattle.numa_plan.specs.Counted.{LooksAtMost}
 use Rattle.numa_plan.specs.Found.{IsPartOf, IsAt, IsSplit}
 use Rattle.numa_plan.specs.declared.runs.Found.{Found}
 
@@ -286,3 +288,56 @@ window_rises runs first end from to le within before behind =
           ))
       | inr ge ↦ ge
     ]
+
+-- ---- by interpolation
+
+-- so many comparisons and so many more
+looks-few : (old middle new : Counted) (runs count : ℕ) → count ≤ 3 → LooksAtMost count old middle
+    → middle.comparisons ≤ new.comparisons
+    → 2 ^ (new.comparisons - middle.comparisons) ≤ 2 * runs + 1
+    → 2 ^ (new.comparisons - old.comparisons) ≤ 2 ^ 3 * (2 * runs + 1)
+looks-few old middle new runs count bound looks more few =
+    let both : new.comparisons - old.comparisons ≡ middle.comparisons - old.comparisons
+    + (new.comparisons - middle.comparisons) = omega (arith, looks.compares, more) in
+    let short : middle.comparisons - old.comparisons ≤ 3 = omega (arith, looks.few, bound) in
+    let most : 2 ^ (middle.comparisons - old.comparisons) ≤ 2 ^ 3 =
+    pow-le-pow_right (omega arith) short in
+    rw (
+      both,
+      pow-add 2 (middle.comparisons - old.comparisons) (new.comparisons - middle.comparisons),
+    ) (mul-le-mul most few)
+
+-- two looks and one more
+pub looks-more : (old middle new : Counted) → LooksAtMost 2 old middle → LooksAtMost 1 middle new
+    → LooksAtMost 3 old new
+looks-more old middle new first second = record {
+  compares = omega (arith, first.compares, second.compares);
+  few = omega (arith, first.few, second.few);
+  writes_no_run = second.writes_no_run ∙ first.writes_no_run;
+  writes_no_rule = second.writes_no_rule ∙ first.writes_no_rule;
+}
+
+one_few : (runs : ℕ) → 2 ^ 0 ≤ 2 * runs + 1
+one_few runs = omega arith
+
+-- three looks are enough
+pub looked : (old new : Counted) (runs : ℕ) → LooksAtMost 3 old new
+    → FindsByInterpolation old new runs
+looked old new runs looks = record {
+  compares = looks.compares;
+  few = looks-few old new new runs 3 (omega arith) looks (omega arith)
+      (let none : new.comparisons - new.comparisons ≡ 0 = omega arith in
+      subst (λ (d : ℕ). 2 ^ d ≤ 2 * runs + 1) (sym none) (one_few runs));
+  writes_no_run = looks.writes_no_run;
+  writes_no_rule = looks.writes_no_rule;
+}
+
+-- three looks, and then a search
+pub sought : (old middle new : Counted) (runs : ℕ) → LooksAtMost 3 old middle
+    → FindsQuickly middle new runs → FindsByInterpolation old new runs
+sought old middle new runs looks search = record {
+  compares = omega (arith, looks.compares, search.compares);
+  few = looks-few old middle new runs 3 (omega arith) looks search.compares search.few;
+  writes_no_run = search.writes_no_run ∙ looks.writes_no_run;
+  writes_no_rule = search.writes_no_rule ∙ looks.writes_no_rule;
+}

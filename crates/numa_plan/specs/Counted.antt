@@ -30,10 +30,17 @@ pub record FindsQuickly (old new : Counted) (runs : ℕ) : Type 0 where
   pub writes_no_run : new.runs ≡ old.runs
   pub writes_no_rule : new.rules ≡ old.rules
 
--- at most one comparison more, and nothing else
-pub record LooksOnce (old new : Counted) : Type 0 where
+-- at most so many comparisons more, and nothing else
+pub record LooksAtMost (most : ℕ) (old new : Counted) : Type 0 where
   pub compares : old.comparisons ≤ new.comparisons
-  pub few : new.comparisons ≤ old.comparisons + 1
+  pub few : new.comparisons ≤ old.comparisons + most
+  pub writes_no_run : new.runs ≡ old.runs
+  pub writes_no_rule : new.rules ≡ old.rules
+
+-- at most three comparisons more than such a search makes, and nothing else
+pub record FindsByInterpolation (old new : Counted) (runs : ℕ) : Type 0 where
+  pub compares : old.comparisons ≤ new.comparisons
+  pub few : 2 ^ (new.comparisons - old.comparisons) ≤ 2 ^ 3 * (2 * runs + 1)
   pub writes_no_run : new.runs ≡ old.runs
   pub writes_no_rule : new.rules ≡ old.rules
 

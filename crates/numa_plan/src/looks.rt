@@ -5,6 +5,7 @@ ghost use Rattle.numa_ranges.specs.Runs.{end_of};
 ghost use Rattle.numa_plan.specs.Counted.{one_comparison};
 ghost use Rattle.numa_plan.specs.Found.{IsPartOf};
 
+use crate::guess::interpolated_place;
 use crate::runs::Found;
 use crate::steps::Steps;
 use numa_ranges::Run;
@@ -59,6 +60,23 @@ impl<'a> RunInPlace<'a> {
         } else {
             Some(page - first)
         }
+    }
+
+    /// A guess at the place of the run that has a page: this run is at place 0, and `end` at place
+    /// `last`. Only speed depends on it.
+    #[inline(always)]
+    pub(crate) fn place_before(
+        &self,
+        end: &RunInPlace<'_>,
+        last: usize,
+        page: u64,
+        steps: &mut Steps,
+    ) -> usize
+        ensures { steps.new ≡ one_comparison (one_comparison steps.old) }
+    {
+        let low = self.first(steps);
+        let top = end.first(steps);
+        interpolated_place(page, low, top, last)
     }
 
     /// A copy of the run, which counts as a comparison.

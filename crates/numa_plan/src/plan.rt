@@ -1,9 +1,9 @@
 //! Plans, and the questions of readers.
 ghost use Rattle.std.specs.Prelude.{◌≡◌, ℕ, ◌+◌, ◌<◌, ◌≤◌, length, Some, None, IfOk, IfErr, OnOk};
 ghost use Rattle.std.specs.Prelude.{OnErr, IfSome, MatchOption, EachIndex, slice_index};
-ghost use Rattle.numa_plan.specs.Counted.{FindsQuickly};
+ghost use Rattle.numa_plan.specs.Counted.{FindsByInterpolation, FindsQuickly};
 ghost use Rattle.numa_ranges.specs.Runs.{AreApart};
-ghost use Rattle.numa_plan.specs.Found.{IsMapped};
+ghost use Rattle.numa_plan.specs.Found.{IsFound, IsMapped};
 ghost use Rattle.numa_plan.specs.Rows.{HasRows};
 ghost use Rattle.numa_plan.specs.Slots.{rule_in};
 ghost use Rattle.numa_plan.specs.Meaning.{PlanData, planned_list, place_refusal, rule_for};
@@ -17,7 +17,7 @@ mod uncounted;
 use crate::numbers::Numbers;
 use crate::plan::uncounted::{covers, found_next, walk_from};
 use crate::rule::Rule;
-use crate::runs::PlanRuns;
+use crate::runs::{Found, PlanRuns};
 use crate::slots::{Slot, copies};
 use crate::steps::Steps;
 use crate::tally::Tally;
@@ -167,7 +167,55 @@ impl Plan {
         if cpu >= self.nodes {
             return Err(PlaceRefusal::BadCpu);
         }
-        let Some(found) = self.runs.find(page, steps) else {
+        let found = self.runs.find(page, steps);
+        self.list_of(task, page, cpu, found)
+    }
+
+    /// The list of [`Plan::choice`], found faster where the runs are evenly spread: it first looks at
+    /// the run that would have the page then, and searches if that hasn't. The page is compared with
+    /// the first pages of at most three runs more than by `choice`: the first, the last and the one
+    /// that is looked at. `steps` counts these comparisons, for contracts only.
+    ///
+    /// # Errors
+    /// As for `choice`.
+    #[inline(always)]
+    pub fn choice_by_interpolation(
+        &self,
+        task: u32,
+        page: u64,
+        cpu: u32,
+        steps: &mut Steps,
+    ) -> Result<&[u8], PlaceRefusal>
+        ensures ok { IfOk result (λ row. (cpu < self.now.nodes)
+            × (planned_list self.now task page cpu ≡ Some row.now)) }
+        ensures sized { IfOk result (λ row. (0 < length row.now) × (length row.now ≤ 256)) }
+        ensures err { IfErr result (λ refusal. place_refusal self.now page cpu ≡ Some refusal) }
+        ensures quick { FindsByInterpolation steps.old steps.new (length self.now.runs) }
+    {
+        if cpu >= self.nodes {
+            return Err(PlaceRefusal::BadCpu);
+        }
+        let found = self.runs.find_by_interpolation(page, steps);
+        self.list_of(task, page, cpu, found)
+    }
+
+    /// The fallback list of a page, of which the runs say this.
+    #[inline(always)]
+    fn list_of(
+        &self,
+        task: u32,
+        _page: u64,
+        cpu: u32,
+        found: Option<Found>,
+    ) -> Result<&[u8], PlaceRefusal>
+        requires cpu { cpu < self.now.nodes }
+        requires found { IsFound self.now.runs _page found }
+        ensures ok { IfOk result (λ row. (cpu < self.now.nodes)
+            × (planned_list self.now task _page cpu ≡ Some row.now)) }
+        ensures sized { IfOk result (λ row. (0 < length row.now) × (length row.now ≤ 256)) }
+        ensures err { IfErr result (λ refusal. place_refusal self.now _page cpu ≡ Some refusal) }
+    {
+        let Some(found) = found else {
             return Err(PlaceRefusal::Unmapped);
         };
         Ok(self.rule_for(task, found.rule).row(cpu, found.index))

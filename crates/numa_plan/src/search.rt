@@ -8,7 +8,8 @@ ghost use Rattle.numa_ranges.specs.Runs.{AreApart, end_of};
 ghost use Rattle.numa_ranges.specs.Windows.{IsWindow};
 ghost use Rattle.numa_ranges.specs.declared.run.Run.{Run};
 ghost use Rattle.numa_rows.specs.Searches.{IsChunkOf};
-ghost use Rattle.numa_plan.specs.Counted.{FindsQuickly, FindsTwice, LooksOnce};
+ghost use Rattle.numa_plan.specs.Counted.{FindsByInterpolation, FindsQuickly, FindsTwice};
+ghost use Rattle.numa_plan.specs.Counted.{LooksAtMost};
 ghost use Rattle.numa_plan.specs.Found.{IsAt, IsFound, IsPartOf, IsMapped, IsSplit, HasHole};
 
 use crate::guess::{LOOKED_AT, chunk_of, start_before};
@@ -114,6 +115,39 @@ impl PlanRuns {
         self.find_first(page, &mut PlanRuns::seen(), steps)
     }
 
+    /// What the runs say of a page, with a look at the run that has it if all runs are spread
+    /// evenly, before a search.
+    #[inline(always)]
+    pub(crate) fn find_by_interpolation(&self, page: u64, steps: &mut Steps) -> Option<Found>
+        ensures found { IsFound self.now page result }
+        ensures quick { FindsByInterpolation steps.old steps.new (length self.now) }
+    {
+        let mut seen = self.interpolated(page, steps);
+        if let Some(found) = self.found_beside(page, &mut seen, steps) {
+            return Some(found);
+        }
+        self.find(page, steps)
+    }
+
+    /// The beginning of a walk at the run that has a page if all runs are spread evenly.
+    #[inline(always)]
+    fn interpolated(&self, page: u64, steps: &mut Steps) -> Seen
+        ensures few { LooksAtMost 2 steps.old steps.new }
+    {
+        let (runs, chunks) = self.sizes();
+        if runs == 0 {
+            return PlanRuns::seen();
+        }
+        let mut chunk = chunks;
+        let end = self.run_near(runs - 1, &mut chunk);
+        let start = self.run_near(0, &mut 0);
+        let place = start.place_before(&end, runs - 1, page, steps);
+        Seen {
+            place,
+            chunk: chunk_of(place, chunks, runs),
+        }
+    }
+
     /// The beginning of a walk along the pages.
     pub(crate) fn seen() -> Seen {
         Seen {
@@ -151,7 +185,7 @@ impl PlanRuns {
     #[inline(always)]
     fn found_beside(&self, page: u64, seen: &mut Seen, steps: &mut Steps) -> Option<Found>
         ensures found { IfSome result (λ found. IsAt self.now page found) }
-        ensures few { LooksOnce steps.old steps.new }
+        ensures few { LooksAtMost 1 steps.old steps.new }
     {
         let place = seen.place;
         if place >= self.len() {

@@ -1,6 +1,6 @@
 //! Looks at runs whose comparisons nobody asks for. Each is counted here, on a counter that is let
-//! go. Of a plan's calls none that promises a bound makes one of them: `choice`, `number_at` and
-//! `window` search with the counter of their caller.
+//! go. Of a plan's calls none that promises a bound makes one of them: `choice`,
+//! `choice_by_interpolation`, `number_at` and `window` search with the counter of their caller.
 ghost use Rattle.std.specs.Prelude.{◌≡◌, ◌≤◌, ◌<◌, ◌∷◌, ◌++◌, length, slice_get, Some, IfOk, IfErr};
 ghost use Rattle.std.specs.Prelude.{OnErr};
 ghost use Rattle.std.specs.Bool.{OnTrue, OnFalse};
@@ -46,7 +46,7 @@ impl Plan {
         ensures sized { IfOk result (λ row. (0 < length row.now) × (length row.now ≤ 256)) }
         ensures err { IfErr result (λ refusal. place_refusal self.now page cpu ≡ Some refusal) }
     {
-        self.choice(task, page, cpu, &mut Steps::new())
+        self.choice_by_interpolation(task, page, cpu, &mut Steps::new())
     }
 }
 

@@ -1,0 +1,15 @@
+use Rattle.std.proofs.Common.{length}
+use Rattle.numa_plan.proofs.Searching.{looks-more, looked, sought}
+use Rattle.numa_plan.proofs.runs.PlanRuns.find_by_interpolation.Goals as goal
+
+pub returns-in-Some-clause-quick : goal.returns-in-Some-clause-quick
+returns-in-Some-clause-quick c = looked c.args.steps.now c.found_beside.new.steps
+    (length c.args.self.now)
+    (looks-more c.args.steps.now c.interpolated-seen.new.steps c.found_beside.new.steps
+    c.interpolated-seen.ensures.few c.found_beside.ensures.few)
+
+pub returns-clause-quick : goal.returns-clause-quick
+returns-clause-quick c = sought c.args.steps.now c.found_beside.new.steps c.find.new.steps
+    (length c.args.self.now)
+    (looks-more c.args.steps.now c.interpolated-seen.new.steps c.found_beside.new.steps
+    c.interpolated-seen.ensures.few c.found_beside.ensures.few) c.find.ensures.quick
