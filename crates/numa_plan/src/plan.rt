@@ -15,7 +15,7 @@ mod read;
 mod uncounted;
 
 use crate::numbers::Numbers;
-use crate::plan::uncounted::{covers, found_next, walk_from};
+use crate::plan::uncounted::{covers, found_next, walk_from, walk_on};
 use crate::rule::Rule;
 use crate::runs::{Found, PlanRuns};
 use crate::slots::{Slot, copies};
@@ -237,14 +237,15 @@ impl Plan {
         if cpu >= self.nodes {
             return Err(PlaceRefusal::BadCpu);
         }
-        let mut seen = walk_from(&self.runs, first);
-        if !covers(&self.runs, first, out.len() as u64, seen) {
+        let start = walk_from(&self.runs, first);
+        if !covers(&self.runs, first, out.len() as u64, start) {
             return Err(PlaceRefusal::Unmapped);
         }
+        let mut walk = walk_on(&self.runs, start);
         let mut page = first;
         let mut done = 0usize;
         while done < out.len() {
-            let Some(found) = found_next(&self.runs, page, &mut seen) else {
+            let Some(found) = found_next(&self.runs, page, &mut walk) else {
                 unreachable!()
             };
             let count = found.left.min((out.len() - done) as u64);
@@ -274,11 +275,11 @@ impl Plan {
             return Err(PlaceRefusal::BadCpu);
         }
         let mut counts = [0u64; 256];
-        let mut seen = PlanRuns::seen();
+        let mut walk = walk_on(&self.runs, PlanRuns::seen());
         let mut page = first;
         let mut todo = pages;
         while todo > 0 {
-            let Some(found) = found_next(&self.runs, page, &mut seen) else {
+            let Some(found) = found_next(&self.runs, page, &mut walk) else {
                 return Err(PlaceRefusal::Unmapped);
             };
             let part = found.left.min(todo);

@@ -183,9 +183,12 @@ impl PlanRuns {
     {
         let Beside { from, to, near } = window;
         let mut runs = Vec::with_capacity(alloc, to - from)?;
+        let mut part = self.no_part();
         let mut chunk = near;
         for place in from..to {
-            runs.push(self.run_near(place, &mut chunk).whole(steps))?;
+            part = self.part_with(part, place, chunk);
+            chunk = part.chunk();
+            runs.push(self.run_in(&part, place).whole(steps))?;
         }
         Ok(runs)
     }

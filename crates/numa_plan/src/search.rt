@@ -7,7 +7,7 @@ ghost use Rattle.std.specs.List.{AllWithin};
 ghost use Rattle.numa_ranges.specs.Runs.{AreApart, end_of};
 ghost use Rattle.numa_ranges.specs.Windows.{IsWindow};
 ghost use Rattle.numa_ranges.specs.declared.run.Run.{Run};
-ghost use Rattle.numa_rows.specs.Searches.{IsChunkOf};
+ghost use Rattle.numa_rows.specs.Searches.{HasRow, IsChunkOf};
 ghost use Rattle.numa_plan.specs.Counted.{FindsByInterpolation, FindsQuickly, FindsTwice};
 ghost use Rattle.numa_plan.specs.Counted.{LooksAtMost};
 ghost use Rattle.numa_plan.specs.Found.{IsAt, IsFound, IsPartOf, IsMapped, IsSplit, HasHole};
@@ -17,13 +17,22 @@ use crate::runs::{Beside, Found, PlanRuns};
 use crate::steps::Steps;
 use numa_ranges::Run;
 use numa_rows::Part;
+use std::mem::replace;
 
-/// The state of a walk along the pages: the place of the next run, and the chunk of the last. Only
-/// speed depends on it.
+/// Where a walk along the pages begins: the place of its first run, and a guess at the run's chunk.
+/// Only speed depends on it.
 #[derive(Clone, Copy, Debug)]
 pub(crate) struct Seen {
     place: usize,
     chunk: usize,
+}
+
+/// A walk along the pages: the place of the next run, and the runs that were read last, so that the
+/// next is mostly among them. Only speed depends on it.
+#[derive(Drop)]
+pub(crate) struct Walk<'a> {
+    pub(crate) place: usize,
+    pub(crate) part: Part<'a, Run<Option<u32>>>,
 }
 
 /// The middle of the places where a search goes on: at most half of them are on each side.
@@ -112,7 +121,7 @@ impl PlanRuns {
         ensures found { IsFound self.now page result }
         ensures quick { FindsQuickly steps.old steps.new (length self.now) }
     {
-        self.find_first(page, &mut PlanRuns::seen(), steps)
+        self.find_first(page, steps).0
     }
 
     /// What the runs say of a page, with a look at the run that has it if all runs are spread
@@ -122,8 +131,9 @@ impl PlanRuns {
         ensures found { IsFound self.now page result }
         ensures quick { FindsByInterpolation steps.old steps.new (length self.now) }
     {
-        let mut seen = self.interpolated(page, steps);
-        if let Some(found) = self.found_beside(page, &mut seen, steps) {
+        let start = self.interpolated(page, steps);
+        let mut walk = self.walk(start);
+        if let Some(found) = self.found_beside(page, &mut walk, steps) {
             return Some(found);
         }
         self.find(page, steps)
@@ -165,51 +175,111 @@ impl PlanRuns {
         }
     }
 
-    /// What the runs say of a page on a walk with state `seen`. It looks at the next run first, and
-    /// searches if that doesn't have the page.
+    /// A walk that begins there.
     #[inline(always)]
-    pub(crate) fn find_next(&self, page: u64, seen: &mut Seen, steps: &mut Steps) -> Option<Found>
+    pub(crate) fn walk(&self, start: Seen) -> Walk<'_>
+        ensures part { IsChunkOf self.now result.part }
+    {
+        let Seen { place, chunk } = start;
+        let none = self.no_part();
+        if place >= self.len() {
+            return Walk { place, part: none };
+        }
+        let part = self.part_with(none, place, chunk);
+        Walk { place, part }
+    }
+
+    /// Has a walk hold the run at a place.
+    #[inline(always)]
+    fn hold<'a>(&'a self, place: usize, walk: &mut Walk<'a>)
+        requires place { place < length self.now }
+        requires part { IsChunkOf self.now walk.old.part }
+        ensures part { IsChunkOf self.now walk.new.part }
+        ensures has { HasRow walk.new.part place }
+    {
+        let part = replace(&mut walk.part, self.no_part());
+        let near = part.chunk();
+        walk.part = self.part_with(part, place, near);
+    }
+
+    /// What the runs say of a page on a walk. It looks at the next run first, and searches if that
+    /// doesn't have the page.
+    #[inline(always)]
+    pub(crate) fn find_next<'a>(
+        &'a self,
+        page: u64,
+        walk: &mut Walk<'a>,
+        steps: &mut Steps,
+    ) -> Option<Found>
+        requires part { IsChunkOf self.now walk.old.part }
+        ensures part { IsChunkOf self.now walk.new.part }
         ensures found { IsFound self.now page result }
     {
-        if let Some(found) = self.found_beside(page, seen, steps) {
+        if let Some(found) = self.found_beside(page, walk, steps) {
             return Some(found);
         }
-        // The search works on a copy, so that a walk that needs none keeps its own in registers.
-        let mut sought = *seen;
-        let found = self.find_first(page, &mut sought, steps);
-        *seen = sought;
-        found
+        let at = self.find_first(page, steps);
+        *walk = at.1;
+        at.0
     }
 
     /// What the next run says of a page; `None` if it doesn't have the page.
     #[inline(always)]
-    fn found_beside(&self, page: u64, seen: &mut Seen, steps: &mut Steps) -> Option<Found>
+    fn found_beside<'a>(
+        &'a self,
+        page: u64,
+        walk: &mut Walk<'a>,
+        steps: &mut Steps,
+    ) -> Option<Found>
+        requires part { IsChunkOf self.now walk.old.part }
+        ensures part { IsChunkOf self.now walk.new.part }
         ensures found { IfSome result (λ found. IsAt self.now page found) }
         ensures few { LooksAtMost 1 steps.old steps.new }
     {
-        let place = seen.place;
+        let place = walk.place;
         if place >= self.len() {
             return None;
         }
-        let run = self.run_near(place, &mut seen.chunk);
+        self.hold(place, walk);
+        let run = self.run_in(&walk.part, place);
         let far = run.far_behind(page, steps)?;
         let found = run.found(far)?;
-        seen.place = place + 1;
+        walk.place = place + 1;
         Some(found)
     }
 
-    /// What the runs say of a page, by a search; `seen` is where it ended.
-    fn find_first(&self, page: u64, seen: &mut Seen, steps: &mut Steps) -> Option<Found>
-        ensures found { IsFound self.now page result }
+    /// What the runs say of a page, by a search, and a walk on from there.
+    fn find_first(&self, page: u64, steps: &mut Steps) -> (Option<Found>, Walk<'_>)
+        ensures found { IsFound self.now page result.0 }
+        ensures part { IsChunkOf self.now result.1.part }
         ensures quick { FindsQuickly steps.old steps.new (length self.now) }
     {
         let at = self.split(page, steps);
-        seen.place = at.0;
-        seen.chunk = at.2.chunk();
+        let mut walk = Walk {
+            place: at.0,
+            part: at.2,
+        };
         if at.0 == 0 {
-            return None;
+            return (None, walk);
         }
-        self.found_at(at.0 - 1, at.1, at.2)
+        let found = self.found_on(at.0 - 1, at.1, &mut walk);
+        (found, walk)
+    }
+
+    /// What the run at a place says of the page at a distance from its first page. The walk then
+    /// holds that run.
+    #[inline]
+    fn found_on<'a>(&'a self, place: usize, far: u64, walk: &mut Walk<'a>) -> Option<Found>
+        requires apart { AreApart 0 self.now }
+        requires place { place < length self.now }
+        requires part { IsChunkOf self.now walk.old.part }
+        ensures part { IsChunkOf self.now walk.new.part }
+        ensures found { (d : Run (Option ℕ)) →
+            MatchOption result ((slice_index_or self.now place d).pages ≤ far)
+            (λ found. IsPartOf (slice_index_or self.now place d) far found) }
+    {
+        self.hold(place, walk);
+        self.run_in(&walk.part, place).found(far)
     }
 
     /// The number of runs that begin at a page or before it.
@@ -291,11 +361,14 @@ impl PlanRuns {
         ensures { first ≤ end → IfSome result (λ found. IsWindow self.now first end found.from
             found.to) }
     {
+        let mut part = self.no_part();
         let mut chunk = guess;
         let mut from = start;
         let mut to = start;
         while to < self.len() {
-            let run = self.run_near(to, &mut chunk);
+            part = self.part_with(part, to, chunk);
+            chunk = part.chunk();
+            let run = self.run_in(&part, to);
             if run.begins_behind(end, steps) {
                 return seen_window(start, from, to, chunk);
             }
@@ -319,8 +392,8 @@ impl PlanRuns {
     ) -> Option<Found>
         ensures found { IsFound self.now page result }
     {
-        let mut seen = Seen { place, chunk: near };
-        self.find_next(page, &mut seen, steps)
+        let mut walk = self.walk(Seen { place, chunk: near });
+        self.find_next(page, &mut walk, steps)
     }
 
     /// Whether each page of the span is mapped, by a walk that begins at `start`.
@@ -328,11 +401,11 @@ impl PlanRuns {
         ensures all { OnTrue result (IsMapped self.now first pages) }
         ensures hole { OnFalse result (HasHole self.now first pages) }
     {
-        let mut seen = start;
+        let mut walk = self.walk(start);
         let mut page = first;
         let mut todo = pages;
         while todo > 0 {
-            let Some(found) = self.find_next(page, &mut seen, steps) else {
+            let Some(found) = self.find_next(page, &mut walk, steps) else {
                 return false;
             };
             if todo <= found.left {

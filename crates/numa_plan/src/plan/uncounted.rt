@@ -7,13 +7,14 @@ ghost use Rattle.std.specs.Bool.{OnTrue, OnFalse};
 ghost use Rattle.std.specs.List.{slice_range, splice};
 ghost use Rattle.numa_ranges.specs.Runs.{AreApart};
 ghost use Rattle.numa_ranges.specs.Windows.{IsWindow};
+ghost use Rattle.numa_rows.specs.Searches.{IsChunkOf};
 ghost use Rattle.numa_plan.specs.Counted.{more_runs};
 ghost use Rattle.numa_plan.specs.Found.{IsFound, IsMapped, HasHole};
 ghost use Rattle.numa_plan.specs.Meaning.{place_refusal, planned_list};
 
 use crate::plan::Plan;
 use crate::runs::{Beside, Found, PlanRuns};
-use crate::search::Seen;
+use crate::search::{Seen, Walk};
 use crate::steps::Steps;
 use numa_machine::NoMemory;
 use numa_ranges::Run;
@@ -55,6 +56,14 @@ pub(super) fn walk_from(runs: &PlanRuns, page: u64) -> Seen {
     runs.walk_from(page, &mut Steps::new())
 }
 
+/// `PlanRuns::walk`.
+#[inline(always)]
+pub(super) fn walk_on(runs: &PlanRuns, start: Seen) -> Walk<'_>
+    ensures part { IsChunkOf runs.now result.part }
+{
+    runs.walk(start)
+}
+
 /// `PlanRuns::covers`.
 pub(super) fn covers(runs: &PlanRuns, first: u64, pages: u64, start: Seen) -> bool
     ensures all { OnTrue result (IsMapped runs.now first pages) }
@@ -65,10 +74,12 @@ pub(super) fn covers(runs: &PlanRuns, first: u64, pages: u64, start: Seen) -> bo
 
 /// `PlanRuns::find_next`.
 #[inline(always)]
-pub(super) fn found_next(runs: &PlanRuns, page: u64, seen: &mut Seen) -> Option<Found>
+pub(super) fn found_next<'a>(runs: &'a PlanRuns, page: u64, walk: &mut Walk<'a>) -> Option<Found>
+    requires part { IsChunkOf runs.now walk.old.part }
+    ensures part { IsChunkOf runs.now walk.new.part }
     ensures found { IsFound runs.now page result }
 {
-    runs.find_next(page, seen, &mut Steps::new())
+    runs.find_next(page, walk, &mut Steps::new())
 }
 
 /// `PlanRuns::find_near`.

@@ -1,20 +1,35 @@
-use Rattle.std.proofs.Common.{◌≡◌, ◌≤◌, ℕ, List, Option, replicate, ap, subst, refl, arith}
+use Rattle.std.proofs.Common.{◌≡◌, ◌≤◌, ℕ, List, Option, replicate, ap, subst, sym, refl, arith}
 use Rattle.std.proofs.lemmas.Simd.{get_or-replicate}
 use Rattle.numa_ranges.specs.declared.run.Run.{Run}
+use Rattle.numa_rows.specs.Searches.{IsChunkOf}
 use Rattle.numa_plan.specs.Found.{IsAt}
 use Rattle.numa_plan.specs.Meaning.{PlanData}
 use Rattle.numa_plan.proofs.FillLemmas.{counted_more, mapped_more, counted_room, counted_none}
 use Rattle.numa_plan.proofs.plan.Plan.counts.Goals as goal
 
 pub loop-todo-init : goal.loop-todo-init
-loop-todo-init c = record {
-  place = refl;
-  low = omega arith;
-  mapped = λ page from to. absurd (omega arith);
-  counted = counted_none c.args.self.now c.args.task c.args.cpu c.args.first (replicate 256 0)
-      (λ node small. get_or-replicate 256 node 0 0 small);
-  long = refl;
-}
+loop-todo-init c =
+    let own : c.self.inside.runs ≡ c.args.self.now.runs =
+    ap (λ (p : PlanData). p.runs) c.self.view_is in
+    record {
+      place = refl;
+      low = omega arith;
+      mapped = λ page from to. absurd (omega arith);
+      counted = counted_none c.args.self.now c.args.task c.args.cpu c.args.first (replicate 256 0)
+          (λ node small. get_or-replicate 256 node 0 0 small);
+      long = refl;
+      part = subst (λ (runs : List (Run (Option ℕ))). IsChunkOf runs c.walk_on-walk.result.part) own
+          c.walk_on-walk.ensures.part;
+    }
+
+pub found_next-requires : goal.found_next-requires
+found_next-requires c =
+    let own : c.self.inside.runs ≡ c.args.self.now.runs =
+    ap (λ (p : PlanData). p.runs) c.self.view_is in
+    record {
+      part = subst (λ (runs : List (Run (Option ℕ))). IsChunkOf runs c.loop-todo.walk.part) (sym own)
+          c.loop-todo.invariant.part;
+    }
 
 pub count-requires-clause-room : goal.count-requires-clause-room
 count-requires-clause-room c =
@@ -45,6 +60,8 @@ loop-todo-preserved c =
           c.rule_for.result.now c.loop-todo.invariant.low short at c.rule_for.ensures.is
           c.loop-todo.invariant.counted c.count.ensures;
       long = c.count.array_long;
+      part = subst (λ (runs : List (Run (Option ℕ))). IsChunkOf runs c.found_next.new.walk.part) own
+          c.found_next.ensures.part;
     }
 
 pub count-requires-clause-rows : goal.count-requires-clause-rows

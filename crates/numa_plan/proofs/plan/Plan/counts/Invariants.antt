@@ -1,4 +1,5 @@
 use Rattle.std.proofs.Common.{◌≡◌, ◌≤◌, ◌+◌, ◌-◌, length}
+use Rattle.numa_rows.specs.Searches.{IsChunkOf}
 use Rattle.numa_plan.specs.Found.{IsMapped}
 use Rattle.numa_plan.specs.Meaning.{CountsFirsts}
 use Rattle.numa_plan.proofs.plan.Plan.counts.Given as goal
@@ -10,6 +11,7 @@ invariant-loop-todo l = record {
   mapped : IsMapped l.self.runs l.first (l.page - l.first);
   counted : CountsFirsts l.self l.task l.first (l.page - l.first) l.cpu l.counts;
   long : length l.counts ≡ 256;
+  part : IsChunkOf l.self.runs l.walk.part;
 }
 
 abbrev pub decreases-loop-todo : goal.decreases-loop-todo

@@ -1,7 +1,8 @@
-use Rattle.std.proofs.Common.{◌≡◌, ℕ, ◌+◌, ◌-◌, List, Option, length, arith, ap, subst, ◌∙◌}
+use Rattle.std.proofs.Common.{◌≡◌, ℕ, ◌+◌, ◌-◌, List, Option, length, arith, ap, subst, sym, ◌∙◌}
 use Rattle.std.proofs.Common.{length-drop}
 use Rattle.std.proofs.lemmas.List.{length-take}
 use Rattle.numa_ranges.specs.declared.run.Run.{Run}
+use Rattle.numa_rows.specs.Searches.{IsChunkOf}
 use Rattle.numa_plan.specs.Found.{IsAt}
 use Rattle.numa_plan.specs.Meaning.{PlanData}
 use Rattle.numa_plan.proofs.FillLemmas.{filled_more, put_length}
@@ -29,6 +30,29 @@ loop-done-preserved c =
           c.min-count.result c.loop-done.out c.fill.new.out c.in-Some.found c.rule_for.result.now
           (omega (arith, c.min-count.ensures)) long (omega (arith, c.min-count.ensures)) at
           c.rule_for.ensures.is c.loop-done.invariant.filled c.fill.ensures;
+      part = subst (λ (runs : List (Run (Option ℕ))). IsChunkOf runs c.found_next.new.walk.part) own
+          c.found_next.ensures.part;
+    }
+
+pub loop-done-init : goal.loop-done-init
+loop-done-init c =
+    let own : c.self.inside.runs ≡ c.args.self.now.runs =
+    ap (λ (p : PlanData). p.runs) c.self.view_is in
+    record {
+      place = omega arith;
+      within = omega arith;
+      filled = λ k low. absurd (omega arith);
+      part = subst (λ (runs : List (Run (Option ℕ))). IsChunkOf runs c.walk_on-walk.result.part) own
+          c.walk_on-walk.ensures.part;
+    }
+
+pub found_next-requires : goal.found_next-requires
+found_next-requires c =
+    let own : c.self.inside.runs ≡ c.args.self.now.runs =
+    ap (λ (p : PlanData). p.runs) c.self.view_is in
+    record {
+      part = subst (λ (runs : List (Run (Option ℕ))). IsChunkOf runs c.loop-done.walk.part) (sym own)
+          c.loop-done.invariant.part;
     }
 
 pub fill-requires-clause-rows : goal.fill-requires-clause-rows

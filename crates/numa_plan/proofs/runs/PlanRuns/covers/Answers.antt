@@ -20,4 +20,5 @@ loop-todo-preserved c = record {
     | inr here ↦ is_mapped c.args.self.now c.loop-todo.page c.in-Some.found page
         c.in-Some.ensures.found here high
   ];
+  part = c.find_next.ensures.part;
 }

@@ -11,7 +11,7 @@ returns-then-at-eq0-clause-found c = none_found c.args.self.now c.args.page c.sp
     c.split-at.result.1 c.split-at.ensures.apart (omega arith) c.split-at.ensures.split
 
 pub returns-clause-found : goal.returns-clause-found
-returns-clause-found c = go c.found_at.result c.found_at.ensures
+returns-clause-found c = go c.found_on-found.result c.found_on-found.ensures.found
   where
     go : (o : Option Found)
         → ((d : Run (Option ℕ))

@@ -7,15 +7,15 @@ use Rattle.numa_plan.proofs.runs.PlanRuns.found_beside.Goals as goal
 
 pub found-requires : goal.found-requires
 found-requires c =
-    let bounds = run-bounds c.args.self.now c.args.seen.now.place c.run_near-run.result
+    let bounds = run-bounds c.args.self.now c.args.walk.now.place c.run_in-run.result
     c.len.ensures.apart (omega (arith, c.len.ensures.count))
-    (c.run_near-run.ensures c.run_near-run.result) in
+    (c.run_in-run.ensures c.run_in-run.result) in
     omega (arith, bounds.1)
 
 pub returns-clause-found : goal.returns-clause-found
 returns-clause-found c =
-    let place = c.args.seen.now.place in
-    let is = c.run_near-run.ensures in
+    let place = c.args.walk.now.place in
+    let is = c.run_in-run.ensures in
     beside_found c.args.self.now c.args.page place c.in_ok-far.far c.in_ok-found.found
     c.len.ensures.apart (omega (arith, c.len.ensures.count))
     (λ d. subst (λ (r : Run (Option ℕ)). r.first + c.in_ok-far.far ≡ c.args.page) (is d)
