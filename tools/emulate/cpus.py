@@ -103,8 +103,8 @@ def sched_getaffinity(all_, task, number, size, start, *_):
 
 
 def rseq(*_):
-    """(It would tell this machine's CPU.)"""
-    fail(errno.ENOSYS)
+    """(It would tell this machine's CPU. As on a kernel without it, which is no refusal of a policy.)"""
+    return -errno.ENOSYS
 
 
 def getcpu(all_, task, cpu, node, *_):
