@@ -5,9 +5,9 @@ use Rattle.std.specs.List.{AllZip}
 use Rattle.numa_space.specs.Standing.{SpaceState}
 use Rattle.numa_core.specs.declared.seat.WorkerSeat.{WorkerSeat}
 use Rattle.numa_core.specs.declared.state.State.{State}
-use Rattle.numa_core.specs.Hints.{AreTaken}
+use Rattle.numa_core.specs.Hints.{AreLowest, AreMarked, AreTaken}
 use Rattle.numa_core.specs.Kept.{IsKept}
-use Rattle.numa_core.specs.Seats.{busy_of, SeatFits, IsSeatCopy}
+use Rattle.numa_core.specs.Seats.{busy_of, HasRoom, SeatFits, IsSeatCopy}
 use Rattle.numa_core.specs.Standing.{frames_before}
 
 pub copies-busy : (seats copies : List WorkerSeat) → AllZip IsSeatCopy seats copies
@@ -34,8 +34,10 @@ pub kept-copy : (state copy : State) → copy.space ≡ state.space
     → AllZip IsSeatCopy state.seats.items copy.seats.items
     → vec_len copy.seats ≡ vec_len state.seats
     → copy.owners.items ≡ state.owners.items → vec_len copy.owners ≡ vec_len state.owners
-    → copy.taken.items ≡ state.taken.items → IsKept state → IsKept copy
-kept-copy state copy space places seats count owners len taken kept =
+    → copy.taken.lowest.items ≡ state.taken.lowest.items
+    → copy.taken.marks.items ≡ state.taken.marks.items
+    → vec_len copy.taken.marks ≡ vec_len state.taken.marks → IsKept state → IsKept copy
+kept-copy state copy space places seats count owners len lowest marks room kept =
     let same : state.places ≡ copy.places = kept.places ∙ ap (λ (s : SpaceState). s.machine.frames)
     (sym space) ∙ sym places in
     record {
@@ -45,7 +47,11 @@ kept-copy state copy space places seats count owners len taken kept =
       owners = subst (λ frames. vec_len copy.owners ≡ frames_before frames (length frames)) same
           (len ∙ kept.owners);
       few = omega (arith, count, kept.few);
-      taken = subst (λ frames. AreTaken frames copy.owners.items copy.taken.items) same
-          (subst (λ os. AreTaken state.places os copy.taken.items) (sym owners)
-          (subst (AreTaken state.places state.owners.items) (sym taken) kept.taken));
+      taken = subst (λ frames. AreTaken frames copy.owners.items copy.taken) same (record {
+        lowest = subst (λ os. AreLowest state.places os copy.taken.lowest.items) (sym owners)
+            (subst (AreLowest state.places state.owners.items) (sym lowest) kept.taken.lowest);
+        marked = subst (λ os. AreMarked os copy.taken.marks.items) (sym owners)
+            (subst (AreMarked state.owners.items) (sym marks) kept.taken.marked);
+        room = subst (λ words. HasRoom state.places words) (sym room) kept.taken.room;
+      });
     }

@@ -24,4 +24,6 @@ pub mod TouchFinds
 pub mod TouchJudged
 pub mod TouchStands
 pub mod TouchTaken
+pub mod KnownFrames
+pub mod MarkedFrames
 pub mod TouchEnds

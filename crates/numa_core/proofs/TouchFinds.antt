@@ -3,6 +3,7 @@ use Rattle.std.proofs.Common.{◌≡◌, ℕ, ◌+◌, ◌<◌, ◌≤◌, true,
 use Rattle.std.proofs.Common.{is_none, List, refl, sym, ap, subst, ◌∙◌, arith, slice_index}
 use native.Mathlib.Decide.{dec_lt}
 use Rattle.std.specs.Option.{option_map}
+use Rattle.numa_core.specs.Hints.{OwnsFrom}
 use Rattle.numa_core.specs.World.{Setup, World}
 use Rattle.numa_core.specs.Standing.{owner_at, place_in, frames_before}
 use Rattle.numa_core.specs.Touching.{Shows, lowest_free}
@@ -40,34 +41,23 @@ finds-frame s frames owners world n k shows low free before =
       first = λ j less. shown_owned s frames owners world n j shows (before j less);
     })
 
-tested-owned : (o : Option ℕ) → false ≡ is_none o → is_some o ≡ true
-tested-owned None e = absurd (cc)
-tested-owned (Some v) e = refl
-
-tested-free : (o : Option ℕ) → true ≡ is_none o → o ≡ None
-tested-free None e = refl
-tested-free (Some v) e = absurd (cc)
-
--- a frame's owner, by what a test of its place says
+-- a frame's owner, by what stands at its place
 pub free-there : (frames : List ℕ) (owners : List (Option ℕ)) (n k : ℕ) → k < slice_index frames n
-    → true ≡ is_none (owner_at owners (Some (frames_before frames n + k)))
+    → owner_at owners (Some (frames_before frames n + k)) ≡ None
     → owner_at owners (place_in frames n k) ≡ None
-free-there frames owners n k low free = ap (owner_at owners) (place-is frames n k low)
-    ∙ tested-free (owner_at owners (Some (frames_before frames n + k))) free
+free-there frames owners n k low free = ap (owner_at owners) (place-is frames n k low) ∙ free
 
--- the frames below a number are known to be owned, and those from it on were tested
+-- the frames below a number are known to be owned, and those from it on were found to be
 pub owned-below : (frames : List ℕ) (owners : List (Option ℕ)) (n from end : ℕ)
     → end ≤ slice_index frames n
     → ((k : ℕ) → k < from → k < slice_index frames n
     → is_some (owner_at owners (place_in frames n k)) ≡ true)
-    → ((k : ℕ) → from ≤ k → k < end
-    → false ≡ is_none (owner_at owners (Some (frames_before frames n + k)))) → (k : ℕ) → k < end
+    → OwnsFrom frames owners n from end → (k : ℕ) → k < end
     → is_some (owner_at owners (place_in frames n k)) ≡ true
-owned-below frames owners n from end within known tested k low = by (dec_lt k from)
+owned-below frames owners n from end within known found k low = by (dec_lt k from)
   where
     by : Dec (k < from) → is_some (owner_at owners (place_in frames n k)) ≡ true
     by (yes less) = known k less (omega (arith, within, low))
     by (no more) =
         ap (λ o. is_some (owner_at owners o)) (place-is frames n k (omega (arith, within, low)))
-        ∙ tested-owned (owner_at owners (Some (frames_before frames n + k)))
-        (tested k (omega (arith, more)) low)
+        ∙ found k (omega (arith, more)) low

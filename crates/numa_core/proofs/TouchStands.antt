@@ -57,7 +57,7 @@ not_same : (a b : ℕ) → a ≢ b → (a == b) ≡ false
 not_same a b h = grind (arith, nat_tests)
 
 -- a table after one write
-get-set : (xs : List (Option ℕ)) (i j : ℕ) (x : Option ℕ) → i < length xs
+pub get-set : (xs : List (Option ℕ)) (i j : ℕ) (x : Option ℕ) → i < length xs
     → slice_get (slice_set xs i x) j ≡ (if j == i then Some x else slice_get xs j)
 get-set [] i j x low = absurd (omega arith)
 get-set (y ∷ ys) zero zero x low = refl

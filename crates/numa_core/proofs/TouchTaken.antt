@@ -9,7 +9,7 @@ use Rattle.numa_machine.specs.declared.frame.Frame.{Frame}
 use Rattle.numa_core.specs.World.{is_frame}
 use Rattle.numa_core.specs.Steps.{put_frame}
 use Rattle.numa_core.specs.Standing.{owner_at, place_in}
-use Rattle.numa_core.specs.Hints.{AreTaken, IsLow}
+use Rattle.numa_core.specs.Hints.{AreLowest, IsLow}
 use Rattle.numa_core.proofs.Answered.{one_frame}
 
 length-set : (xs : List ℕ) (i x : ℕ) → length (slice_set xs i x) ≡ length xs
@@ -28,7 +28,7 @@ pub taken-put : (frames : List ℕ) (old new : List (Option ℕ)) (taken : List 
     (v : ℕ)
     → ((n k : ℕ) → owner_at new (place_in frames n k)
     ≡ put_frame (λ n k. owner_at old (place_in frames n k)) frame (Some v) n k)
-    → AreTaken frames old taken → AreTaken frames new taken
+    → AreLowest frames old taken → AreLowest frames new taken
 taken-put frames old new taken frame v each are = record {
   as_long = are.as_long;
   owned = λ n k low fits. ap is_some (each n k) ∙ owned-put (is_frame frame n k) v
@@ -39,7 +39,7 @@ taken-put frames old new taken frame v each are = record {
 pub taken-raise : (frames : List ℕ) (owners : List (Option ℕ)) (taken : List ℕ) (node number : ℕ)
     → ((k : ℕ) → k < number → is_some (owner_at owners (place_in frames node k)) ≡ true)
     → node < length taken
-    → AreTaken frames owners taken → AreTaken frames owners (slice_set taken node number)
+    → AreLowest frames owners taken → AreLowest frames owners (slice_set taken node number)
 taken-raise frames owners taken node number below within are = record {
   as_long = length-set taken node number ∙ are.as_long;
   owned = λ n k low fits. go n k low fits (eqb_tells n node);
@@ -80,7 +80,7 @@ pub taken-lower : (frames : List ℕ) (old new : List (Option ℕ)) (taken : Lis
     → ((n k : ℕ) → owner_at new (place_in frames n k)
     ≡ put_frame (λ n k. owner_at old (place_in frames n k)) frame None n k)
     → frame.node < length taken → number ≤ slice_index taken frame.node → number ≤ frame.number
-    → AreTaken frames old taken → AreTaken frames new (slice_set taken frame.node number)
+    → AreLowest frames old taken → AreLowest frames new (slice_set taken frame.node number)
 taken-lower frames old new taken frame number each within less low are = record {
   as_long = length-set taken frame.node number ∙ are.as_long;
   owned = λ n k under fits. ap is_some (each n k) ∙ go n k under fits (eqb_tells n frame.node)

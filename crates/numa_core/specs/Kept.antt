@@ -16,14 +16,14 @@ core_state state = core_of state.space state.plan state.seats.items state.owners
 
 -- the table of places is the machine's; each seat has its room and a cursor that stands right;
 -- there is an owner's place for each frame; a worker's number has room in a byte; for each node
--- there is a number below which all its frames are owned
+-- there is a number below which all its frames are owned, and a mark stands at owned frames alone
 pub record IsKept (state : State) : Type 0 where
   pub places : state.places ≡ state.space.machine.frames
   pub seats : (w : ℕ) (seat : WorkerSeat) → slice_get state.seats.items w ≡ Some seat →
       SeatFits state.places seat
   pub owners : vec_len state.owners ≡ frames_before state.places (length state.places)
   pub few : vec_len state.seats ≤ 16
-  pub taken : AreTaken state.places state.owners.items state.taken.items
+  pub taken : AreTaken state.places state.owners.items state.taken
 
 -- where the old core stands for a world, the event may have the answer there, and the new core
 -- stands for the world afterwards

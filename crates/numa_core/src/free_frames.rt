@@ -1,17 +1,27 @@
 //! Finding free frames. The frames that a touch would try in vain all have owners, so its end is
 //! found directly: the lowest frame without an owner of the first listed node that has one, or the
 //! end of the list.
-ghost use Rattle.std.specs.Prelude.{◌≡◌, ℕ, ◌<◌, ◌≤◌, true, Option, None, Some, is_none, is_some};
-ghost use Rattle.std.specs.Prelude.{List, IfOk, IfSome, length, vec_len, slice_index};
+ghost use Rattle.std.specs.Prelude.{◌≡◌, ℕ, ◌+◌, ◌*◌, ◌<◌, ◌≤◌, true, Option, None, Some, is_some};
+ghost use Rattle.std.specs.Prelude.{List, IfOk, IfSome, length, vec_len, slice_index, slice_set};
 ghost use Rattle.numa_core.specs.World.{Setup, World};
-ghost use Rattle.numa_core.specs.Steps.{put_frame};
 ghost use Rattle.numa_core.specs.Standing.{frames_before, owner_at, place_in};
-ghost use Rattle.numa_core.specs.Hints.{AreTaken, IsLow};
+ghost use Rattle.numa_core.specs.Hints.{AreMarked, AreTaken, IsLow, OwnsFrom};
+ghost use Rattle.numa_core.specs.Seats.{HasRoom};
 ghost use Rattle.numa_core.specs.Touching.{lowest_free, first_free, Shows};
 
 use crate::places::Places;
+use crate::tables::{clear, forget, marked_from, meet, none_met};
 use numa_machine::Frame;
 use std::alloc::{AllocError, Global};
+
+/// What is known of the owners, so that a look for a free frame passes many owned ones at once: for
+/// each node a number below which all its frames are owned, and a bit for each frame, which is set
+/// only if the frame is owned.
+#[derive(Drop)]
+pub(crate) struct Known {
+    pub lowest: Vec<u32>,
+    pub marks: Vec<u64>,
+}
 
 /// A frame without an owner, and the place of its node in a list, from 0.
 #[derive(Clone, Copy, Debug, PartialEq, Eq)]
@@ -20,50 +30,134 @@ pub(crate) struct Spot {
     pub rank: u32,
 }
 
-/// For each node, that none of its lowest frames is known to be owned.
-pub(crate) fn none_taken(alloc: Global, places: &Places) -> Result<Vec<u32>, AllocError>
-    ensures { IfOk result (λ taken. (owners : List (Option ℕ)) →
-        AreTaken places.now owners taken.items) }
+/// No frame is known to be owned.
+pub(crate) fn none_taken(alloc: Global, places: &Places) -> Result<Known, AllocError>
+    ensures { IfOk result (λ taken. (owners : List (Option ℕ)) → AreTaken places.now owners taken) }
 {
-    vec![in alloc; 0; places.nodes()]
+    let lowest = vec![in alloc; 0; places.nodes()]?;
+    let mut marks = none_met(alloc, places.total())?;
+    clear(&mut marks);
+    Ok(Known { lowest, marks })
+}
+
+/// A copy of what is known.
+pub(crate) fn known_copy(alloc: Global, known: &Known) -> Result<Known, AllocError>
+    ensures { IfOk result (λ copy. (copy.lowest.items ≡ known.now.lowest.items)
+        × (copy.marks.items ≡ known.now.marks.items)
+        × (vec_len copy.marks ≡ vec_len known.now.marks)) }
+{
+    let lowest = Vec::from_slice(alloc, &known.lowest)?;
+    let marks = Vec::from_slice(alloc, &known.marks)?;
+    Ok(Known { lowest, marks })
 }
 
 /// The number of a node's lowest frames that are known to be owned.
-fn known(taken: &Vec<u32>, node: u8) -> u32
+fn lowest_known(taken: &Vec<u32>, node: u8) -> u32
     ensures { result ≡ slice_index taken.now.items node }
 {
     taken.get(node as usize).copied().unwrap_or(0)
 }
 
-/// A frame is given back: only the frames below it remain known to be owned.
-pub(crate) fn lower(taken: &mut Vec<u32>, frame: Frame)
-    requires { frame.node < vec_len taken.old }
-    ensures { (frames : List ℕ) (old new : List (Option ℕ)) → AreTaken frames old taken.old.items →
-        ((n k : ℕ) → owner_at new (place_in frames n k)
-        ≡ put_frame (λ n k. owner_at old (place_in frames n k)) frame None n k)
-        → AreTaken frames new taken.new.items }
+impl Known {
+    /// A frame at a place was given back.
+    pub(crate) fn lower(&mut self, frame: Frame, place: u32)
+        requires node { frame.node < vec_len self.old.lowest }
+        requires place { place < 64 * vec_len self.old.marks }
+        ensures { (frames : List ℕ) (owners : List (Option ℕ)) → AreTaken frames owners self.old
+            → place_in frames frame.node frame.number ≡ Some place → place < length owners
+            → AreTaken frames (slice_set owners place None) self.new }
+    {
+        let node = frame.node as usize;
+        self.lowest[node] = self.lowest[node].min(frame.number as u32);
+        forget(&mut self.marks, place);
+    }
+
+    /// A frame at a place was taken. Each lower one of its node has an owner.
+    pub(crate) fn raise(&mut self, frame: Frame, place: u32)
+        requires node { frame.node < vec_len self.old.lowest }
+        requires place { place < 64 * vec_len self.old.marks }
+        ensures { (frames : List ℕ) (owners : List (Option ℕ)) (worker : ℕ)
+            → AreTaken frames owners self.old → IsLow frames owners frame
+            → place_in frames frame.node frame.number ≡ Some place → place < length owners
+            → AreTaken frames (slice_set owners place (Some worker)) self.new }
+    {
+        self.lowest[frame.node as usize] = frame.number as u32 + 1;
+        meet(&mut self.marks, place);
+    }
+}
+
+/// How many frames from a place on are owned, as far as one look tells; 0 if the first isn't.
+fn owned_from(owners: &Vec<Option<u8>>, marks: &Vec<u64>, place: u32) -> u32
+    requires owners { place < vec_len owners.now }
+    requires room { place < 64 * vec_len marks.now }
+    requires marked { AreMarked owners.now.items marks.now.items }
+    ensures owned { (p : ℕ) → place ≤ p → p < place + result →
+        is_some (owner_at owners.now.items (Some p)) ≡ true }
+    ensures free { result ≡ 0 → owner_at owners.now.items (Some place) ≡ None }
+    ensures few { result ≤ 64 }
 {
-    let node = frame.node as usize;
-    taken[node] = taken[node].min(frame.number as u32);
+    let marked = marked_from(marks, place);
+    if marked > 0 {
+        return marked;
+    }
+    if owners[place as usize].is_none() {
+        return 0;
+    }
+    1
+}
+
+/// The number of the lowest frame of a node without an owner, from `from` on.
+fn free_number(
+    places: &Places,
+    owners: &Vec<Option<u8>>,
+    marks: &Vec<u64>,
+    node: u8,
+    from: u32,
+) -> Option<u32>
+    requires owners { vec_len owners.now ≡ frames_before places.now (length places.now) }
+    requires room { HasRoom places.now (vec_len marks.now) }
+    requires marked { AreMarked owners.now.items marks.now.items }
+    ensures free { IfSome result (λ number. (number < slice_index places.now node)
+        × (owner_at owners.now.items (Some (frames_before places.now node + number)) ≡ None)) }
+    ensures small { IfSome result (λ number. number < 4096) }
+    ensures below { IfSome result (λ number. OwnsFrom places.now owners.now.items node from number) }
+    ensures none { result ≡ None →
+        OwnsFrom places.now owners.now.items node from (slice_index places.now node) }
+{
+    let frames = places.frames(node);
+    if from >= frames {
+        return None;
+    }
+    let first = places.first(node);
+    let mut number = from;
+    while number < frames {
+        let owned = owned_from(owners, marks, first + number);
+        if owned == 0 {
+            return Some(number);
+        }
+        number += owned;
+    }
+    None
 }
 
 /// The lowest frame of a node without an owner; each one below `from` has one.
-fn lowest_free(places: &Places, owners: &Vec<Option<u8>>, node: u8, from: u32) -> Option<Frame>
+fn lowest_free(
+    places: &Places,
+    owners: &Vec<Option<u8>>,
+    marks: &Vec<u64>,
+    node: u8,
+    from: u32,
+) -> Option<Frame>
     requires owners { vec_len owners.now ≡ frames_before places.now (length places.now) }
+    requires room { HasRoom places.now (vec_len marks.now) }
+    requires marked { AreMarked owners.now.items marks.now.items }
     requires taken { (k : ℕ) → k < from → k < slice_index places.now node →
         is_some (owner_at owners.now.items (place_in places.now node k)) ≡ true }
     ensures lowest { (s : Setup) (world : World) → Shows s places.now owners.now.items world →
         result ≡ lowest_free s world node }
     ensures low { IfSome result (IsLow places.now owners.now.items) }
 {
-    let number = places.lowest(
-        node,
-        from,
-        |place|
-            requires { place < vec_len owners.now }
-            ensures { result ≡ is_none (owner_at owners.entry.now.items (Some place)) }
-        { owners[place as usize].is_none() },
-    )?;
+    let number = free_number(places, owners, marks, node, from)?;
     Some(Frame {
         node,
         number: number as u16,
@@ -74,11 +168,11 @@ fn lowest_free(places: &Places, owners: &Vec<Option<u8>>, node: u8, from: u32) -
 pub(crate) fn first_free(
     places: &Places,
     owners: &Vec<Option<u8>>,
-    taken: &Vec<u32>,
+    taken: &Known,
     nodes: &[u8],
 ) -> Option<Spot>
     requires owners { vec_len owners.now ≡ frames_before places.now (length places.now) }
-    requires taken { AreTaken places.now owners.now.items taken.now.items }
+    requires taken { AreTaken places.now owners.now.items taken.now }
     requires few { length nodes.now ≤ 256 }
     ensures first { (s : Setup) (world : World) → Shows s places.now owners.now.items world →
         result ≡ first_free s world nodes.now }
@@ -86,7 +180,8 @@ pub(crate) fn first_free(
 {
     for rank in 0..nodes.len() {
         let node = nodes[rank];
-        if let Some(frame) = lowest_free(places, owners, node, known(taken, node)) {
+        let from = lowest_known(&taken.lowest, node);
+        if let Some(frame) = lowest_free(places, owners, &taken.marks, node, from) {
             return Some(Spot {
                 frame,
                 rank: rank as u32,

@@ -11,7 +11,7 @@ ghost use Rattle.numa_core.specs.Touching.{touch_answer, touch_world};
 ghost use Rattle.numa_core.specs.declared.seat.WorkerSeat.{WorkerSeat};
 ghost use Rattle.numa_space.specs.declared.event.Event.{Event};
 
-use crate::free_frames::{first_free, lower, none_taken};
+use crate::free_frames::{Known, first_free, known_copy, none_taken};
 use crate::judging::{row_for, seated};
 use crate::places::Places;
 use crate::seat::WorkerSeat;
@@ -24,8 +24,7 @@ use numa_space::{Limits, Placement, Request};
 use std::alloc::Global;
 
 /// The space of all accepted commands with its working plan, the plan of those that are published,
-/// the workers' seats, the owner of each frame, and for each node the number of its lowest frames
-/// that are known to be owned.
+/// the workers' seats, the owner of each frame, and what is known of the owners.
 #[derive(Drop)]
 pub(crate) struct State {
     pub alloc: Global,
@@ -34,7 +33,7 @@ pub(crate) struct State {
     pub places: Places,
     pub seats: Vec<WorkerSeat>,
     pub owners: Vec<Option<u8>>,
-    pub taken: Vec<u32>,
+    pub taken: Known,
 }
 
 /// As many idle seats as workers.
@@ -104,7 +103,7 @@ impl State {
             places: Places::new(self.alloc, self.space.space().machine())?,
             seats: seat_copies(self.alloc, &self.seats)?,
             owners: Vec::from_slice(self.alloc, &self.owners)?,
-            taken: Vec::from_slice(self.alloc, &self.taken)?,
+            taken: known_copy(self.alloc, &self.taken)?,
             plan: self.plan.copy(self.alloc)?,
             space: self.space.copy(self.alloc)?,
         })
@@ -181,7 +180,7 @@ impl State {
             return Err(CoreRefusal::NotOwned);
         }
         self.owners[place as usize] = None;
-        lower(&mut self.taken, frame);
+        self.taken.lower(frame, place);
         Ok(CoreReply::Given)
     }
 
@@ -230,6 +229,6 @@ impl State {
             unreachable!()
         };
         self.owners[place as usize] = Some(worker as u8);
-        self.taken[frame.node as usize] = frame.number as u32 + 1;
+        self.taken.raise(frame, place);
     }
 }

@@ -1,6 +1,6 @@
-//! Tables indexed by place: met frames, one bit each, and owners.
+//! Tables indexed by place: a bit for each frame, and owners.
 ghost use Rattle.std.specs.Prelude.{◌≡◌, ℕ, ◌+◌, ◌*◌, ◌<◌, ◌≤◌, ◌==◌, ◌&&◌, ◌||◌, false, None};
-ghost use Rattle.std.specs.Prelude.{Some, IfOk, is_some, length, vec_len, nat_le, nat_lt};
+ghost use Rattle.std.specs.Prelude.{Some, IfOk, is_some, length, not, true, vec_len, nat_le, nat_lt};
 ghost use Rattle.numa_core.specs.Standing.{is_met, owner_at};
 
 use std::alloc::{AllocError, Global};
@@ -21,6 +21,26 @@ pub(crate) fn meet(met: &mut Vec<u64>, place: u32)
     ensures len { vec_len met.new ≡ vec_len met.old }
 {
     met[place as usize / 64] |= 1u64 << (place % 64);
+}
+
+/// Clears the mark of the frame at a place.
+pub(crate) fn forget(met: &mut Vec<u64>, place: u32)
+    requires { place < 64 * vec_len met.old }
+    ensures met { (p : ℕ) → is_met met.new.items (Some p)
+        ≡ (not (p == place) && is_met met.old.items (Some p)) }
+    ensures len { vec_len met.new ≡ vec_len met.old }
+{
+    met[place as usize / 64] &= !(1u64 << (place % 64));
+}
+
+/// How many frames from a place on are marked one after another, as far as the place's word tells.
+pub(crate) fn marked_from(met: &Vec<u64>, place: u32) -> u32
+    requires { place < 64 * vec_len met.now }
+    ensures marked { (p : ℕ) → place ≤ p → p < place + result
+        → is_met met.now.items (Some p) ≡ true }
+    ensures few { result ≤ 64 }
+{
+    (met[place as usize / 64] >> (place % 64)).trailing_ones()
 }
 
 /// Marks the frame at a place as met if it is owned.

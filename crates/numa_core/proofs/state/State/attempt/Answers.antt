@@ -1,15 +1,14 @@
-use Rattle.std.proofs.Common.{◌≡◌, ◌<◌, Some, slice_set, true, false, is_some, length, arith, sym}
+use Rattle.std.proofs.Common.{◌≡◌, ◌<◌, Some, true, false, is_some, length, arith, sym}
 use Rattle.std.proofs.Common.{ap, ◌∙◌, rules}
 use Rattle.numa_core.specs.Standing.{setup_of, owner_at}
 use Rattle.numa_core.specs.Kept.{core_state}
 use Rattle.numa_core.specs.Seats.{SeatFits}
-use Rattle.numa_core.proofs.InARow.{owner_read, place-some}
+use Rattle.numa_core.proofs.InARow.{owner_read}
 use Rattle.std.proofs.lemmas.Result.{on_err_weaker}
 use Rattle.numa_core.proofs.CoreSteps.{setup-set, shown-again, owned-follows, refused-follows}
 use Rattle.numa_core.proofs.CoreSteps.{won-follows}
 use Rattle.numa_core.proofs.Elements.{there_at, each-set}
-use Rattle.numa_core.proofs.TouchStands.{owner-put}
-use Rattle.numa_core.proofs.TouchTaken.{taken-put}
+use Rattle.numa_core.proofs.KnownFrames.{known-put}
 use Rattle.numa_core.proofs.state.State.attempt.Goals as goal
 
 pub attempt-requires-clause-fits : goal.attempt-requires-clause-fits
@@ -112,20 +111,15 @@ returns c = record {
         c.attempt-2.new.self c.attempt-2.ensures.fits c.requires.kept.seats;
     owners = c.requires.kept.owners;
     few = c.requires.kept.few;
-    taken = taken-put c.args.self.now.places c.args.self.now.owners.items
-        (slice_set c.args.self.now.owners.items c.in-Some.place (Some c.args.worker))
-        c.args.self.now.taken.items c.args.frame c.args.worker
-        (owner-put c.args.self.now.places c.args.self.now.owners.items c.args.frame c.in-Some.place
-        (Some c.args.worker)
-        (place-some c.args.self.now.places c.args.frame.node c.args.frame.number c.in-Some.place
-        (sym c.place.ensures.place ∙ c.in-Some.is)).0 (sym c.place.ensures.place ∙ c.in-Some.is)
+    taken = known-put c.args.self.now.places c.args.self.now.owners.items c.args.frame
+        c.in-Some.place (sym c.place.ensures.place ∙ c.in-Some.is)
         (omega (
           arith,
           c.in-Some.ensures.within,
           c.requires.kept.owners,
           c.args.self.now.owners.ok.0,
-        )))
-        c.requires.kept.taken;
+        ))
+        c.args.self.now.taken c.args.worker c.requires.kept.taken;
   };
   follows = λ world stands. let low : c.args.worker < length c.args.self.now.seats.items =
       omega (arith, c.in_ok-seated.ensures.ok, c.args.self.now.seats.ok.0) in

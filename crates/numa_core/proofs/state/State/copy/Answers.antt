@@ -26,7 +26,8 @@ returns-clause-kept c =
     ))
     (c.in_ok-from_slice.ensures.items ∙ c.deref-2.ensures.value) (c.in_ok-from_slice.ensures.len
     ∙ c.deref-2.ensures.len)
-    (c.in_ok-from_slice-2.ensures.items ∙ c.deref-3.ensures.value) c.requires.kept
+    c.in_ok-known_copy.ensures.0 c.in_ok-known_copy.ensures.1 c.in_ok-known_copy.ensures.2
+    c.requires.kept
 
 pub returns-clause-shown : goal.returns-clause-shown
 returns-clause-shown c =

@@ -1,8 +1,7 @@
-use Rattle.std.proofs.Common.{◌<◌, None, Some, length, slice_set, arith, sym, ap, ◌∙◌, rules}
+use Rattle.std.proofs.Common.{◌<◌, Some, length, arith, sym, ap, ◌∙◌, rules}
 use Rattle.numa_core.proofs.InARow.{owner_read, place-some, index_within}
 use Rattle.numa_core.proofs.CoreSteps.{no_job, give-follows}
 use Rattle.numa_core.proofs.Elements.{there_at}
-use Rattle.numa_core.proofs.TouchStands.{owner-put}
 use Rattle.numa_core.proofs.state.State.give.Goals as goal
 
 pub returns : goal.returns
@@ -13,17 +12,13 @@ returns c = record {
     owners = c.requires.kept.owners;
     few = c.requires.kept.few;
     taken = c.lower.ensures c.args.self.now.places c.args.self.now.owners.items
-        (slice_set c.args.self.now.owners.items c.in-Some.place None) c.requires.kept.taken
-        (owner-put c.args.self.now.places c.args.self.now.owners.items c.args.frame c.in-Some.place
-        None (place-some c.args.self.now.places c.args.frame.node c.args.frame.number
-        c.in-Some.place (sym c.place.ensures.place ∙ c.in-Some.is)).0
-        (sym c.place.ensures.place ∙ c.in-Some.is)
+        c.requires.kept.taken (sym c.place.ensures.place ∙ c.in-Some.is)
         (omega (
           arith,
           c.in-Some.ensures.within,
           c.requires.kept.owners,
           c.args.self.now.owners.ok.0,
-        )));
+        ));
   };
   follows = λ world stands. let low : c.args.worker < length c.args.self.now.seats.items =
       omega (arith, c.in_ok-seated.ensures.ok, c.args.self.now.seats.ok.0) in
@@ -47,14 +42,17 @@ returns c = record {
   setup = search rules;
 }
 
-pub lower-requires : goal.lower-requires
-lower-requires c =
+pub lower-requires-clause-node : goal.lower-requires-clause-node
+lower-requires-clause-node c =
     let there =
     (place-some c.args.self.now.places c.args.frame.node c.args.frame.number c.in-Some.place
     (sym c.place.ensures.place ∙ c.in-Some.is)).0 in
     omega (
       arith,
       index_within c.args.self.now.places c.args.frame.node c.args.frame.number there,
-      c.requires.kept.taken.as_long,
-      c.args.self.now.taken.ok.0,
+      c.requires.kept.taken.lowest.as_long,
+      c.args.self.now.taken.lowest.ok.0,
     )
+
+pub lower-requires-clause-place : goal.lower-requires-clause-place
+lower-requires-clause-place c = omega (arith, c.in-Some.ensures.within, c.requires.kept.taken.room)
