@@ -3,6 +3,7 @@ mod beside;
 mod crew_setting;
 mod crews;
 mod crews_refused;
+mod migrating;
 mod one_frame;
 mod places;
 mod placing;

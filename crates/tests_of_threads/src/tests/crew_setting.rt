@@ -3,6 +3,7 @@ ghost use Rattle.std.specs.Prelude.{◌≡◌};
 ghost use Rattle.std.specs.List.{All};
 ghost use Rattle.numa_fault.specs.declared.worker.FaultWorker.{FaultWorker};
 
+use crate::tests::migrating::{Moves, take_all_turns};
 use crate::tests::setting::{desk_of, machine_of, new_reader, publish_as, publish_map};
 use numa_fault::{Answer, Crew, CrewRefusal, FaultWorker, Gate};
 use numa_pool::{PoolSeat, Pools};
@@ -84,6 +85,11 @@ impl Workers {
         let (pools, mut seat) = Pools::open(alloc, &machine).expect(rt, "memory");
         let workers = workers_of(rt, alloc, desk, &pools, &mut seat, count);
         Workers { pools, workers }
+    }
+
+    /// Each worker moves pages, beside the others.
+    pub fn migrate<R: Threads + Sync>(&mut self, rt: &R, moves: &Moves) {
+        take_all_turns(rt, &mut self.workers, &self.pools, moves);
     }
 
     /// Serves the requests as a crew.

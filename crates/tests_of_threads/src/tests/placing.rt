@@ -2,7 +2,7 @@
 ghost use Rattle.std.specs.Prelude.{◌≡◌};
 
 use crate::tests::setting::{machine_of, new_reader, same};
-use numa_fault::{FaultRefusal, FaultWorker, SpanRefusal};
+use numa_fault::{FaultRefusal, FaultWorker, MigrateRefusal, SpanRefusal};
 use numa_pool::Pools;
 use numa_publish::Desk;
 use numa_space::{Placement, Request};
@@ -37,6 +37,22 @@ impl Placing {
     /// Serves a request, which must be answered so.
     pub fn serve(&mut self, rt: &impl Abort, request: Request, want: Answered) {
         same(rt, &self.fault(request), &want);
+    }
+
+    /// Moves the page of a placement to a node, which must be answered so.
+    pub fn migrate_as(
+        &mut self,
+        rt: &impl Abort,
+        placement: Placement,
+        node: u8,
+        want: Result<Placement, MigrateRefusal>,
+    ) {
+        assert!(rt; self.worker.owns(&placement));
+        same(
+            rt,
+            &self.worker.migrate(&self.pools, placement, node),
+            &want,
+        );
     }
 
     /// Serves a span of task 1 for faults on this node.
