@@ -1,6 +1,7 @@
-//! Workers that serve page faults, and move pages between nodes. Each sees the published plans through its own reader and takes
-//! page frames through its own seat, so that workers in different threads share no lock and never
-//! block each other. A crew is several workers at once, each in a thread.
+//! Workers that serve page faults, and move pages between nodes. Each sees the published plans
+//! through its own reader and takes page frames through its own seat, so that workers in different
+//! threads share no lock and never block each other. A crew is several workers at once, each in a
+//! thread.
 #![tactic(auto)]
 
 pub mod answer;
