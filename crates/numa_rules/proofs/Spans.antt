@@ -13,16 +13,16 @@ use Rattle.numa_ranges.proofs.Pages.{any_page-true, any_page-false}
 use Rattle.numa_ranges.proofs.Walked.{IsWalked}
 use Rattle.numa_space.proofs.Homes.{any_page-within}
 use Rattle.numa_rules.specs.Pages.{passes, reaches}
-use Rattle.numa_rules.specs.declared.span.PageTest.{PageTest}
-use Rattle.numa_rules.specs.declared.span.PageTest.TheVariants.{IsMapped, HasPolicy}
+use Rattle.numa_rules.specs.declared.span.SpanTest.{SpanTest}
+use Rattle.numa_rules.specs.declared.span.SpanTest.TheVariants.{IsMapped, HasPolicy}
 
 -- a test asks nothing of a page's index, and no page that isn't mapped passes
-any-index : (test : PageTest) (i j : ℕ) (r : Option PolicyRecord)
+any-index : (test : SpanTest) (i j : ℕ) (r : Option PolicyRecord)
     → passes test (Some (i, r)) ≡ passes test (Some (j, r))
 any-index IsMapped i j r = refl
 any-index HasPolicy i j r = refl
 
-unmapped-fails : (test : PageTest) → passes test None ≡ false
+unmapped-fails : (test : SpanTest) → passes test None ≡ false
 unmapped-fails IsMapped = refl
 unmapped-fails HasPolicy = refl
 
@@ -37,7 +37,7 @@ not-third true true c h p q = h
 not-third false b c h p q = cc
 not-third true false c h p q = cc
 
-module _ (test : PageTest) (run : Run (Option PolicyRecord))
+module _ (test : SpanTest) (run : Run (Option PolicyRecord))
     (runs : List (Run (Option PolicyRecord))) (first pages : ℕ) where
   -- a page of the run and of the span
   run-passes : (page : ℕ) → passes test (Some (0, run.value)) ≡ true → run.first ≤ page
@@ -82,7 +82,7 @@ module _ (test : PageTest) (run : Run (Option PolicyRecord))
             run-passes run.first parts.2 (omega arith) (omega arith) (omega arith) (omega arith)
       ]
 
-pub reaches-pages : (test : PageTest) (runs : List (Run (Option PolicyRecord)))
+pub reaches-pages : (test : SpanTest) (runs : List (Run (Option PolicyRecord)))
     (from first pages : ℕ) → 0 < pages → AreApart from runs
     → list_any (reaches test first (first + pages)) runs
     ≡ any_page (λ page. passes test (page_at runs page)) first pages
@@ -102,7 +102,7 @@ reaches-pages test (run ∷ runs) from first pages some apart =
     ]
 
 -- one step of the search
-pub reaches-one : (test : PageTest) (first end : ℕ)
+pub reaches-one : (test : SpanTest) (first end : ℕ)
     (before rest : List (Run (Option PolicyRecord))) (run : Run (Option PolicyRecord))
     → before ≡ run ∷ rest → reaches test first end run ≡ true
     → list_any (reaches test first end) before ≡ true
@@ -110,7 +110,7 @@ reaches-one test first end before rest run steps held =
     ap (list_any (reaches test first end)) steps
     ∙ ap (λ b. b || list_any (reaches test first end) rest) held
 
-pub reaches-next : (test : PageTest) (first end : ℕ)
+pub reaches-next : (test : SpanTest) (first end : ℕ)
     (before rest : List (Run (Option PolicyRecord))) (run : Run (Option PolicyRecord))
     → before ≡ run ∷ rest → reaches test first end run ≡ false
     → list_any (reaches test first end) rest ≡ list_any (reaches test first end) before

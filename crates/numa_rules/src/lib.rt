@@ -7,10 +7,10 @@
 //! memory policies) [`say_stretch`] writes in four by which rule a stretch of pages goes, and
 //! [`give_fields`] gives each field with its name.
 //!
-//! [`otherwise_of`] returns what a kernel does differently with a command that a space judges by the
-//! documents, and [`say_hint`] writes it; [`by_other_rules`] returns where a script that is played
-//! by the other rules leads for a page, and [`say_by_other`] writes that. docs/KERNEL.md has the
-//! table on which both are based.
+//! [`otherwise_of`] returns what a kernel does differently with a command that a space judges by
+//! the documents, and [`say_hint`] writes it; [`by_other_rules`] returns where a script that is
+//! played by the other rules leads for a page, and [`say_by_other`] writes that. docs/KERNEL.md has
+//! the table on which both are based.
 #![tactic(auto)]
 
 mod explanation;

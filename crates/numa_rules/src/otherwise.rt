@@ -10,7 +10,7 @@ ghost use Rattle.numa_rules.specs.Otherwise.{otherwise_of, otherwise_of_empty_bi
 ghost use Rattle.numa_rules.specs.Otherwise.{with_command};
 
 use crate::parted::{Parted, parted_in};
-use crate::span::{PageTest, has_hole, has_page, span_of};
+use crate::span::{SpanTest, has_hole, has_page, span_of};
 use numa_mask::NodeMask;
 use numa_mode::{Mode, PolicySpec, Record};
 use numa_space::{Command, Space};
@@ -89,7 +89,7 @@ fn with_bind(space: &Space, start: u64, length: u64, spec: PolicySpec) -> Option
         return None;
     }
     if spec.mode() == Mode::Default {
-        if has_page(space, PageTest::IsMapped, first, pages) && has_hole(space, first, pages) {
+        if has_page(space, SpanTest::IsMapped, first, pages) && has_hole(space, first, pages) {
             return Some(Otherwise::PassesHoles);
         }
         return None;
@@ -110,7 +110,7 @@ fn with_home(space: &Space, start: u64, length: u64, node: u32) -> Option<Otherw
     if node >= space.machine().nodes() || length == 0 {
         return None;
     }
-    if has_page(space, PageTest::HasPolicy, first, pages) {
+    if has_page(space, SpanTest::HasPolicy, first, pages) {
         return None;
     }
     Some(Otherwise::WantsPolicy)

@@ -12,7 +12,7 @@ use numa_space::{PAGE_BYTES, RangeRecord, Space};
 
 /// A test of the pages of a span.
 #[derive(Clone, Copy)]
-pub(crate) enum PageTest {
+pub(crate) enum SpanTest {
     /// Whether it is mapped.
     IsMapped,
     /// Whether its range has an own policy.
@@ -37,17 +37,17 @@ pub(crate) fn span_of(start: u64, length: u64) -> Option<(u64, u64)>
 }
 
 /// Whether a mapped page whose range has this record passes a test.
-fn passes(test: PageTest, value: &RangeRecord) -> bool
+fn passes(test: SpanTest, value: &RangeRecord) -> bool
     ensures { result ≡ passes test (Some (0, value.now)) }
 {
     match test {
-        PageTest::IsMapped => true,
-        PageTest::HasPolicy => value.policy().is_some(),
+        SpanTest::IsMapped => true,
+        SpanTest::HasPolicy => value.policy().is_some(),
     }
 }
 
 /// Whether a run reaches into the pages from `first` up to `end`, and they pass a test.
-fn reaches(test: PageTest, run: &Run<RangeRecord>, first: u64, end: u64) -> bool
+fn reaches(test: SpanTest, run: &Run<RangeRecord>, first: u64, end: u64) -> bool
     ensures { result ≡ reaches test first end run.now }
 {
     let passed = first.saturating_sub(run.first);
@@ -56,7 +56,7 @@ fn reaches(test: PageTest, run: &Run<RangeRecord>, first: u64, end: u64) -> bool
 }
 
 /// Whether some page of a span passes a test.
-pub(crate) fn has_page(space: &Space, test: PageTest, first: u64, pages: u64) -> bool
+pub(crate) fn has_page(space: &Space, test: SpanTest, first: u64, pages: u64) -> bool
     requires span { IsSpan first pages }
     ensures { result ≡ any_page (λ page. passes test (page_at space.now.ranges page)) first
         pages }
