@@ -1,10 +1,9 @@
 -- What is known of the owners, once an owner is written.
-use Rattle.std.proofs.Common.{◌≡◌, ℕ, ◌+◌, ◌<◌, ◌≤◌, ◌==◌, ◌&&◌, ◌||◌, ◌⊎◌, inl, inr, Bool, true}
-use Rattle.std.proofs.Common.{◌≢◌, false, not, Option, Some, None, is_some, List, length, refl, sym}
-use Rattle.std.proofs.Common.{ap, subst, ◌∙◌, arith, vec_len, slice_get, slice_index, slice_set}
+use Rattle.std.proofs.Common.{◌≡◌, ℕ, ◌+◌, ◌<◌, ◌≤◌, ◌==◌, ◌&&◌, ◌||◌, Bool, true}
+use Rattle.std.proofs.Common.{false, not, Option, Some, None, is_some, List, length, refl, sym}
+use Rattle.std.proofs.Common.{ap, subst, ◌∙◌, vec_len, slice_get, slice_index, slice_set}
 use Rattle.std.proofs.Common.{if◌then◌else◌}
 use Rattle.std.specs.Prelude.{option_and_then}
-use Rattle.std.proofs.lemmas.Bool.Decides.{eqb_tells}
 use Rattle.numa_machine.specs.declared.frame.Frame.{Frame}
 use Rattle.numa_core.specs.Hints.{AreLowest, AreMarked, AreTaken, IsLow}
 use Rattle.numa_core.specs.Seats.{HasRoom}

@@ -1,6 +1,6 @@
 -- Marks, one bit each in words of 64: cleared, and read off many at a time.
 use Rattle.std.proofs.Common.{◌≡◌, ◌≢◌, ℕ, ◌+◌, ◌-◌, ◌*◌, ◌/◌, ◌%◌, ◌^◌, ◌<◌, ◌≤◌, ◌==◌, ◌&&◌, ◌⊎◌}
-use Rattle.std.proofs.Common.{inl, inr, true, false, not, Some, List, length, get_or, refl, sym, ap}
+use Rattle.std.proofs.Common.{inl, inr, true, false, not, Some, List, length, get_or, sym, ap}
 use Rattle.std.proofs.Common.{◌∙◌, arith, eq-eqb}
 use native.Mathlib.Decide.{dec_le}
 use native.Mathlib.Nat.{div-le_self}

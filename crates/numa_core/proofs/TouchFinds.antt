@@ -1,6 +1,6 @@
 -- A touch over tables: what a look through the owners of a node finds.
 use Rattle.std.proofs.Common.{◌≡◌, ℕ, ◌+◌, ◌<◌, ◌≤◌, true, false, Option, Some, None, is_some}
-use Rattle.std.proofs.Common.{is_none, List, refl, sym, ap, subst, ◌∙◌, arith, slice_index}
+use Rattle.std.proofs.Common.{is_none, List, sym, ap, subst, ◌∙◌, arith, slice_index}
 use native.Mathlib.Decide.{dec_lt}
 use Rattle.std.specs.Option.{option_map}
 use Rattle.numa_core.specs.Hints.{OwnsFrom}

@@ -1,5 +1,5 @@
-use Rattle.std.proofs.Common.{◌≡◌, ℕ, ◌+◌, ◌<◌, ◌≤◌, Some, None, inl, inr, true, is_some, ap, subst}
-use Rattle.std.proofs.Common.{slice_index, ◌∙◌, arith}
+use Rattle.std.proofs.Common.{◌≡◌, ℕ, ◌+◌, Some, None, inl, inr, true, subst}
+use Rattle.std.proofs.Common.{arith}
 use Rattle.std.proofs.lemmas.Bool.{cases_lt}
 use Rattle.numa_core.specs.Standing.{frames_before, owner_at}
 use Rattle.numa_core.proofs.InARow.{index_within}

@@ -1,4 +1,4 @@
-use Rattle.std.proofs.Common.{ℕ, ◌+◌, ◌/◌, ◌%◌, ◌^◌, ◌<◌, ◌≤◌, arith, subst, sym}
+use Rattle.std.proofs.Common.{ℕ, ◌+◌, ◌%◌, ◌^◌, ◌<◌, ◌≤◌, arith, subst, sym}
 use Rattle.numa_core.proofs.MarkedFrames.{marks_on, marks_few}
 use Rattle.numa_core.proofs.tables.marked_from.Goals as goal
 
