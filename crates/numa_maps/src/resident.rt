@@ -10,7 +10,7 @@ use numa_ranges::Run;
 use numa_space::{Placement, RangeRecord};
 use std::alloc::Global;
 use std::collections::BTreeMap;
-use std::collections::btree_map::Range;
+use std::collections::btree_map::{Entry, Range};
 use std::marker::Model;
 
 /// The placements of pages that have memory, at most one for each page. They are kept by page
@@ -39,6 +39,34 @@ pub enum RecordRefusal {
     NoMemory(Placement),
 }
 
+/// Puts a placement at its page, by one walk through the map.
+///
+/// # Errors
+/// As [`Resident::record`].
+fn put(placements: &mut BTreeMap<u64, Placement>, placement: Placement) -> Result<(), RecordRefusal>
+    ensures ok { OnOk result
+        (placements.new.entries ≡ with_placement placements.old.entries placement) }
+    ensures free { OnOk result (placed_at placements.old.entries placement.page ≡ None) }
+    ensures others { OnOk result ((page : ℕ) → page ≢ placement.page
+        → placed_at placements.new.entries page ≡ placed_at placements.old.entries page) }
+    ensures kept { OnOk result
+        (placed_at placements.new.entries placement.page ≡ Some placement) }
+    ensures err { IfErr result (λ refusal. IsRefusal placements.old.entries placement refusal) }
+    ensures unchanged { OnErr result (placements.new.entries ≡ placements.old.entries) }
+    ensures rising { IsRising placements.new.entries }
+{
+    let Ok(entry) = placements.entry(placement.page) else {
+        return Err(RecordRefusal::NoMemory(placement));
+    };
+    match entry {
+        Entry::Vacant(spot) => {
+            spot.insert(placement);
+            Ok(())
+        }
+        Entry::Occupied(_) => Err(RecordRefusal::Taken(placement)),
+    }
+}
+
 impl Resident {
     /// No placements. It doesn't allocate; the allocator is kept for those that are recorded.
     pub fn new(alloc: Global) -> Resident
@@ -64,14 +92,7 @@ impl Resident {
         ensures unchanged { OnErr result (self.new ≡ self.old) }
         ensures rising { IsRising self.new }
     {
-        let page = placement.page;
-        if self.placements.contains_key(&page) {
-            return Err(RecordRefusal::Taken(placement));
-        }
-        if let Err(refused) = self.placements.insert(page, placement) {
-            return Err(RecordRefusal::NoMemory(refused.value.1));
-        }
-        Ok(())
+        put(&mut self.placements, placement)
     }
 
     /// The placement of a page, if it is placed.
