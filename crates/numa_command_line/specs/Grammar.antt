@@ -23,6 +23,10 @@ node = needed true (number_or (codes "node") (codes "cpu"))
 abbrev pub format : Names → Rule
 format = choice (codes "format") (codes "text")
 
+-- how many ranges a picture or a page shows by themselves
+abbrev pub largest : Rule
+largest = number (codes "largest")
+
 -- in which a word answers
 abbrev pub plain_formats : List Text
 plain_formats = codes "text" ∷ codes "json" ∷ []
@@ -64,11 +68,12 @@ expect_arguments formats =
 
 abbrev pub predict_arguments : Names → List Rule
 predict_arguments formats =
-    task ∷ node ∷ format formats ∷ option (codes "free") ∷ lenient ∷ files ∷ []
+    task ∷ node ∷ format formats ∷ largest ∷ option (codes "free") ∷ lenient ∷ files ∷ []
 
 abbrev pub diff_arguments : Names → List Rule
 diff_arguments formats =
-    task ∷ node ∷ needed true (options (codes "then")) ∷ format formats ∷ lenient ∷ files ∷ []
+    task ∷ node ∷ needed true (options (codes "then")) ∷ format formats ∷ largest ∷ lenient
+    ∷ files ∷ []
 
 abbrev pub explain_arguments : Names → List Rule
 explain_arguments formats =
@@ -77,7 +82,7 @@ explain_arguments formats =
 
 abbrev pub replay_arguments : Names → List Rule
 replay_arguments formats =
-    needed true (option (codes "trace")) ∷ format formats ∷ lenient ∷ files ∷ []
+    needed true (option (codes "trace")) ∷ format formats ∷ largest ∷ lenient ∷ files ∷ []
 
 abbrev pub shell_arguments : List Rule
 shell_arguments = files ∷ []

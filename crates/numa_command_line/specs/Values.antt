@@ -50,17 +50,19 @@ abbrev pub rules_in : List Row → Rules
 rules_in rows = if option_map_or (λ name. bytes_eq name (codes "linux"))
     (first_of (codes "rules") rows) false then Linux else Document
 
-abbrev pub format_named : Text → Format
-format_named name =
+-- the format of a name, with how many ranges are shown, where that is said
+abbrev pub format_named : Option ℕ → Text → Format
+format_named largest name =
     if bytes_eq name (codes "json") then format.Json
     else if bytes_eq name (codes "csv") then format.Csv
-    else if bytes_eq name (codes "svg") then format.Svg
-    else if bytes_eq name (codes "html") then format.Html
+    else if bytes_eq name (codes "svg") then format.Svg (unwrap_or largest 40)
+    else if bytes_eq name (codes "html") then format.Html (unwrap_or largest 400)
     else if bytes_eq name (codes "tap") then format.Tap
     else format.Text
 
 abbrev pub format_in : List Row → Format
-format_in rows = option_map_or format_named (first_of (codes "format") rows) format.Text
+format_in rows = option_map_or (format_named (small_at (codes "largest") rows))
+    (first_of (codes "format") rows) format.Text
 
 -- as many workers as a crew may have
 abbrev pub crew_of : ℕ → Option ℕ

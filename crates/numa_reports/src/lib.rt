@@ -15,6 +15,7 @@ pub mod sheet;
 mod tally;
 mod touch;
 mod turns;
+mod watch;
 
 pub use fault::ReportError;
 pub use filling::{FreePages, fill_all};
@@ -22,6 +23,8 @@ pub use moves::span_moves;
 pub use outlook::{Outlook, PageSpan, common_spans, outlook_of};
 pub use prediction::{RangePrediction, TakeRange, predict_all, predict_range};
 pub use sheet::{
-    Format, Items, Object, Written, cycles_text, difference_text, filling_text, prediction_text,
+    DRAWN, Format, Items, LISTED, Largest, Object, Written, cycles_text, difference_text,
+    filling_text, prediction_text,
 };
 pub use touch::Touch;
+pub use watch::Watch;

@@ -13,6 +13,7 @@ ghost use Rattle.numa_reports.specs.Moved.{meant_moves, pairs, planned_moves};
 use crate::fault::ReportError;
 use crate::outlook::PageSpan;
 use crate::touch::Touch;
+use crate::watch::Watch;
 use numa_plan::Plan;
 use numa_space::PlaceRefusal;
 use std::alloc::{AllocError, Global};
@@ -99,12 +100,13 @@ fn add_block(
 }
 
 /// Adds the pages of a span, block by block.
-pub(crate) fn add_moves(
+pub(crate) fn add_moves<W: Watch>(
     before: &Plan,
     after: &Plan,
     touch: Touch,
     span: PageSpan,
     table: &mut Vec<u64>,
+    watch: &mut W,
 ) -> Result<(), PlaceRefusal>
     requires known { touch.cpu < before.now.nodes }
     requires room { HasRoomFor table.old.items span.pages }
@@ -129,6 +131,7 @@ pub(crate) fn add_moves(
         let part = (end - page).min(BLOCK as u64);
         add_block(before, after, touch, page, part as usize, table)?;
         page += part;
+        watch.pass(part);
     }
     Ok(())
 }
@@ -179,6 +182,7 @@ pub fn span_moves(
     }
     let mut table = empty_table(alloc, ENTRIES)?;
     let span = PageSpan { first, pages };
-    add_moves(before, after, Touch { task, cpu }, span, &mut table)?;
+    let touch = Touch { task, cpu };
+    add_moves(before, after, touch, span, &mut table, &mut ())?;
     Ok(table)
 }

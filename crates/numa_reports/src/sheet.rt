@@ -9,8 +9,10 @@ mod cycles;
 mod drawing;
 mod fields;
 mod items;
+mod largest;
 mod lines;
 mod moved_objects;
+mod moved_parts;
 mod moved_pictures;
 mod nodes;
 mod object;
@@ -25,9 +27,16 @@ mod written;
 pub use changes::difference_text;
 pub use cycles::cycles_text;
 pub use items::Items;
+pub use largest::Largest;
 pub use object::Object;
 pub use parts::{filling_text, prediction_text};
 pub use written::Written;
+
+/// How many ranges a picture shows by themselves, where nothing else is wanted.
+pub const DRAWN: u32 = 40;
+
+/// The same of a page.
+pub const LISTED: u32 = 400;
 
 /// The format of an answer. Each answer has some of them, and is text where it lacks the wanted
 /// one.
@@ -39,10 +48,11 @@ pub enum Format {
     Json,
     /// Records with a header (RFC 4180, lines ended by a line feed).
     Csv,
-    /// A picture (SVG 1.1).
-    Svg,
-    /// A page to explore in a browser (HTML 5), with its data as JSON.
-    Html,
+    /// A picture (SVG 1.1) of so many ranges, the largest; the others are one bar.
+    Svg(u32),
+    /// A page to explore in a browser (HTML 5), with its data as JSON: so many ranges, the largest,
+    /// and the sum of the others.
+    Html(u32),
     /// A test for each compared answer (Test Anything Protocol 13).
     Tap,
 }

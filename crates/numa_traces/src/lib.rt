@@ -10,6 +10,7 @@
 mod access;
 mod fault;
 mod memory;
+mod placed;
 mod reading;
 mod replay;
 mod report;
@@ -19,6 +20,7 @@ mod tallies;
 pub use access::{Access, read_access};
 pub use fault::{AccessError, ReplayError};
 pub use memory::Memory;
+pub use placed::placed_text;
 pub use reading::{Replaying, replay_lines};
 pub use replay::Replay;
 pub use report::report_text;

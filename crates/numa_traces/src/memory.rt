@@ -6,6 +6,7 @@ ghost use Rattle.numa_traces.specs.Placing.{first_free, node_of, frames_with_pag
 use numa_machine::Machine;
 use std::alloc::{AllocError, Global};
 use std::collections::BTreeMap;
+use std::collections::btree_map::Iter;
 use std::marker::Model;
 
 /// The number of frames that each node has left, and the node of each placed page.
@@ -59,6 +60,13 @@ impl Memory {
         ensures { result ≡ node_of self.now.pages page }
     {
         self.nodes.get(&page).copied()
+    }
+
+    /// The placed pages in ascending order, each with its node.
+    pub fn pages(&self) -> Iter<'_, u64, u8>
+        ensures { result ≡ self.now.pages }
+    {
+        self.nodes.iter()
     }
 
     /// The number of frames that a node has left.

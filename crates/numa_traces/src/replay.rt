@@ -55,6 +55,13 @@ impl Replay {
         })
     }
 
+    /// The frames, and the pages in them.
+    pub fn memory(&self) -> &Memory
+        ensures { result.now ≡ self.now.frames }
+    {
+        &self.memory
+    }
+
     /// The numbers of accesses by their ways.
     pub fn tallies(&self) -> &Tallies
         ensures { result.now ≡ self.now.tallies }

@@ -148,7 +148,7 @@ impl Sheet {
         };
         let written = &mut self.written;
         match self.format {
-            Format::Json | Format::Html => {
+            Format::Json | Format::Html(_) => {
                 written.put(self.before.as_bytes());
                 self.before = ",\n";
                 say_object(written, Some(task), &self.of_task);
@@ -178,7 +178,7 @@ impl Sheet {
         self.end_task();
         let written = &mut self.written;
         match self.format {
-            Format::Json | Format::Html => {
+            Format::Json | Format::Html(_) => {
                 written.put(b"\n],\"total\":");
                 say_object(written, None, &self.of_all);
                 written.put(b"}\n");
@@ -192,7 +192,7 @@ impl Sheet {
 
     /// Writes the report of a replay.
     fn say(&mut self, machine: &Machine, replay: &Replay) {
-        if let Format::Json | Format::Html = self.format {
+        if let Format::Json | Format::Html(_) = self.format {
             self.written.put(b"{\"tasks\":[");
         }
         for (way, tally) in replay.tallies().iter() {

@@ -1,10 +1,9 @@
 //! Why pages go where they go, after scripts.
-use crate::findings::{Ended, Findings};
-use crate::halt::Halt;
+use crate::findings::{Ended, Findings, Look};
+use crate::halt::{Halt, halt_by};
 use crate::playing::{Scripts, play};
 use crate::question::{space_of, write};
-use crate::reasons::{explanation_of, shown, text_of};
-use crate::stretches::{PageInterval, stretches_of};
+use numa_answers::{PageInterval, shown, stretches_of, text_of};
 use numa_lines::RunFault;
 use numa_reports::{Format, Touch};
 use numa_rules::{Explanation, by_other_rules, say_by_other};
@@ -57,7 +56,24 @@ fn reasons_in(
         Some(other) => with_other(text, space, other, asked, said.page)?,
         None => text,
     };
-    shown(alloc, said, whole, format)
+    Ok(shown(alloc, said, whole, format)?)
+}
+
+/// Why a page of a space would go where it goes.
+///
+/// # Errors
+/// `NoNode`: the machine lacks the faulting node. `Unmapped`: the page isn't mapped. `Stopped`: out
+/// of memory.
+fn explanation_of(
+    alloc: Global,
+    space: &Space,
+    asked: Touch,
+    page: u64,
+) -> Result<Explanation, Halt> {
+    match numa_rules::explain(alloc, space, asked.task, page, asked.cpu) {
+        Ok(said) => Ok(said),
+        Err(fault) => Err(halt_by(fault, space.machine().nodes())),
+    }
 }
 
 /// Why a page goes where it goes now, as lines.
@@ -69,7 +85,7 @@ pub fn explained(alloc: Global, script: &Script, asked: Touch, page: u64) -> Res
     let said = explanation_of(alloc, space, asked, page)?;
     let text = text_of(alloc, space, &said);
     drop(said);
-    text
+    Ok(text?)
 }
 
 /// The same after played lines, or by which rules a span's pages go.
@@ -85,7 +101,10 @@ fn reasons<T: Write>(
     if let Some(pages) = asked_for.pages {
         let end = first.saturating_add(u64::from(pages));
         let interval = PageInterval { first, end };
-        return stretches_of(alloc, space, asked, interval, format);
+        return match stretches_of(alloc, space, asked, interval, format) {
+            Ok(text) => Ok(text),
+            Err(fault) => Err(halt_by(fault, space.machine().nodes())),
+        };
     }
     let said = explanation_of(alloc, space, asked, first)?;
     let text = reasons_in(alloc, space, findings.other_space(), asked, &said, format);
@@ -124,8 +143,12 @@ pub fn explain<R: Read + Drop, W: Write, T: Write + Drop>(
     told: T,
 ) -> Result<Ended, Halt> {
     let Scripts { texts, rules } = scripts;
-    let both = Findings::new(alloc, rules, told).with_other(rules);
-    let mut findings = match play(alloc, texts, both) {
+    let look = Look {
+        hints: false,
+        other: true,
+        format: Format::Text,
+    };
+    let mut findings = match play(alloc, texts, Findings::new(alloc, rules, look, told)) {
         Ok(findings) => findings,
         Err(why) => return Err(Halt::Stopped(why)),
     };

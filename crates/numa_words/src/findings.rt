@@ -23,6 +23,24 @@ pub enum Ended {
     Faulty,
 }
 
+/// What is looked for in lines, beside errors and refusals, and how messages are written.
+#[derive(Clone, Copy)]
+pub struct Look {
+    /// Whether hints are written: what a running kernel would do differently.
+    pub hints: bool,
+    /// Whether the lines are also played by the rules other than those that apply.
+    pub other: bool,
+    /// Text or JSON.
+    pub format: Format,
+}
+
+/// Errors and refusals alone, as text.
+pub(crate) const PLAIN: Look = Look {
+    hints: false,
+    other: false,
+    format: Format::Text,
+};
+
 /// A script that is played, and the messages about its lines: one for each line with an error or a
 /// refusal and, with hints, one for each line that a running kernel would treat differently.
 #[derive(Drop)]
@@ -31,9 +49,7 @@ pub struct Findings<W> {
     script: Script,
     // The same script by the other rules, if requested.
     other: Option<Script>,
-    // Whether hints are written.
-    hints: bool,
-    format: Format,
+    look: Look,
     output: Watched<W>,
     // What is told of a line.
     text: Vec<u8>,
@@ -43,42 +59,32 @@ pub struct Findings<W> {
     unjudged: u64,
 }
 
+/// A script by the rules other than these, if requested.
+fn other_script(rules: Rules, is_wanted: bool) -> Option<Script> {
+    if is_wanted {
+        Some(Script::by(other_rules(rules)))
+    } else {
+        None
+    }
+}
+
 impl<W: Write> Findings<W> {
     /// The state before the first line. Messages go to the writer. These rules apply unless a line
     /// says otherwise.
-    pub fn new(alloc: Global, rules: Rules, output: W) -> Findings<W> {
+    pub fn new(alloc: Global, rules: Rules, look: Look, output: W) -> Findings<W> {
         let mut output = Watched::new(output);
         // Without that memory each text is written alone.
         let _ = output.gather(alloc);
         Findings {
             alloc,
             script: Script::by(rules),
-            other: None,
-            hints: false,
-            format: Format::Text,
+            other: other_script(rules, look.other),
+            look,
             output,
             text: Vec::new(alloc),
             told: 0,
             unjudged: 0,
         }
-    }
-
-    /// The same, with hints.
-    pub fn with_hints(mut self) -> Findings<W> {
-        self.hints = true;
-        self
-    }
-
-    /// The same, with messages in this format: text or JSON.
-    pub fn with_format(mut self, format: Format) -> Findings<W> {
-        self.format = format;
-        self
-    }
-
-    /// The same, and the lines are also played by the rules other than these.
-    pub fn with_other(mut self, rules: Rules) -> Findings<W> {
-        self.other = Some(Script::by(other_rules(rules)));
-        self
     }
 
     /// The space to which the lines led by the other rules, if they are played by those.
@@ -117,7 +123,7 @@ impl<W: Write> Findings<W> {
     fn tell(&mut self, name: &str, place: u64, finding: &Finding) -> Result<(), RunFault> {
         self.text.clear();
         let text = &mut self.text;
-        let said = match self.format {
+        let said = match self.look.format {
             Format::Json => put_finding(self.alloc, text, name, place, finding),
             _ => say_line(text, name, place, finding),
         };
@@ -131,7 +137,7 @@ impl<W: Write> Findings<W> {
 
     /// What a kernel would do differently with the next line, if hints are written.
     fn hint(&self, line: &[u8]) -> Option<Otherwise> {
-        if !self.hints {
+        if !self.look.hints {
             return None;
         }
         match self.script.core() {
@@ -152,7 +158,7 @@ impl<W: Write> Findings<W> {
         };
         self.text.clear();
         let text = &mut self.text;
-        let said = match self.format {
+        let said = match self.look.format {
             Format::Json => put_hint(self.alloc, text, name, place, &otherwise),
             _ => say_hint(text, name, place, &otherwise),
         };
@@ -196,7 +202,7 @@ impl<W: Write> Findings<W> {
         if self.unjudged > 0 {
             self.text.clear();
             let text = &mut self.text;
-            let said = match self.format {
+            let said = match self.look.format {
                 Format::Json => put_unjudged(self.alloc, text, self.unjudged),
                 _ => say_unjudged(text, self.unjudged),
             };

@@ -5,6 +5,8 @@ ghost use Rattle.numa_words.specs.declared.halt.Halt.TheVariants as halt;
 
 use numa_lines::RunFault;
 use numa_reports::ReportError;
+use numa_rules::ReasonError;
+use numa_space::PlaceRefusal;
 use numa_traces::ReplayError;
 use std::alloc::AllocError;
 
@@ -47,5 +49,14 @@ pub(crate) fn halt_of(fault: ReportError, nodes: u32) -> Halt {
     match fault {
         ReportError::Refused(_) => Halt::NoNode(nodes),
         ReportError::Memory => Halt::Stopped(RunFault::Memory),
+    }
+}
+
+/// Why there is no explanation on a machine with `nodes` nodes.
+pub(crate) fn halt_by(fault: ReasonError, nodes: u32) -> Halt {
+    match fault {
+        ReasonError::Refused(PlaceRefusal::BadCpu) => Halt::NoNode(nodes),
+        ReasonError::Refused(PlaceRefusal::Unmapped) => Halt::Unmapped,
+        ReasonError::NoMemory => Halt::Stopped(RunFault::Memory),
     }
 }

@@ -1,5 +1,5 @@
 //! Playing scripts to their end.
-use crate::findings::{Ended, Findings};
+use crate::findings::{Ended, Findings, Look};
 use numa_lines::{Lines, RunFault, read_all};
 use numa_machine::Rules;
 use numa_reports::Format;
@@ -58,10 +58,12 @@ pub fn check<R: Read + Drop, W: Write + Drop>(
     output: W,
 ) -> Result<Ended, RunFault> {
     let Scripts { texts, rules } = scripts;
-    let told = Findings::new(alloc, rules, output)
-        .with_hints()
-        .with_format(format);
-    let mut findings = match play(alloc, texts, told) {
+    let look = Look {
+        hints: true,
+        other: false,
+        format,
+    };
+    let mut findings = match play(alloc, texts, Findings::new(alloc, rules, look, output)) {
         Ok(findings) => findings,
         Err(why) => return Err(why),
     };

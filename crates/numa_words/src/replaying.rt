@@ -1,34 +1,75 @@
 //! Replaying traces after scripts.
-use crate::findings::{Ended, Findings};
-use crate::halt::Halt;
-use crate::page::page_of;
+use crate::findings::{Ended, Findings, PLAIN};
+use crate::halt::{Halt, halt_of};
 use crate::playing::{Scripts, play};
 use crate::question::{space_after, write};
+use numa_answers::{Page, view_text};
 use numa_compile::compile;
 use numa_lines::RunFault;
 use numa_plan::Plan;
-use numa_reports::Format;
+use numa_reports::{Format, ReportError, Touch};
 use numa_space::Space;
-use numa_traces::{Replaying, replay_lines, report_text};
+use numa_traces::{Replay, Replaying, placed_text, replay_lines, report_text};
 use std::alloc::Global;
 use std::io::{Read, Write};
 
-/// The report of a replay on the machine of a space, as a text.
+/// The most runs of pages on one node that a page shows.
+const RUNS: u64 = 20_000;
+
+/// The task and the CPU's node of the way with the most accesses; 0 and 0 without accesses.
+fn busiest(replay: &Replay) -> Touch {
+    let mut touch = Touch { task: 0, cpu: 0 };
+    let mut most = 0u64;
+    for (way, tally) in replay.tallies().iter() {
+        if tally.accesses > most {
+            most = tally.accesses;
+            touch = Touch {
+                task: way.0,
+                cpu: way.1,
+            };
+        }
+    }
+    touch
+}
+
+/// A page with a report, with where pages lie now and, before the trace, would go for the task and
+/// the CPU with the most accesses, in the largest `number` ranges.
+fn page_text(
+    alloc: Global,
+    space: &Space,
+    plan: &Plan,
+    replay: &Replay,
+    report: &[u8],
+    number: u32,
+) -> Result<Vec<u8>, ReportError> {
+    let view = view_text(alloc, space, plan, busiest(replay), &[], number, &mut ())?;
+    let placed = placed_text(alloc, replay, RUNS)?;
+    let mut page = Page::new(alloc, "replay");
+    page.put("replay", report);
+    page.put("before", view.as_slice());
+    page.put("placed", placed.as_slice());
+    Ok(page.end()?)
+}
+
+/// The report of a replay on the machine of a space, as a text, or as a page.
 fn met(
     alloc: Global,
     space: &Space,
+    plan: &Plan,
     replaying: &Replaying<'_>,
     format: Format,
 ) -> Result<Vec<u8>, Halt> {
     if let Some((place, fault)) = replaying.fault() {
         return Err(Halt::BadAccess(place, fault));
     }
-    let Ok(text) = report_text(alloc, space.machine(), replaying.replay(), format) else {
-        return Err(Halt::Stopped(RunFault::Memory));
+    let replay = replaying.replay();
+    let text = report_text(alloc, space.machine(), replay, format)?;
+    let Format::Html(number) = format else {
+        return Ok(text);
     };
-    match format {
-        Format::Html => page_of(alloc, "replay", "replay", text.as_slice()),
-        _ => Ok(text),
+    match page_text(alloc, space, plan, replay, text.as_slice(), number) {
+        Ok(page) => Ok(page),
+        Err(fault) => Err(halt_of(fault, space.machine().nodes())),
     }
 }
 
@@ -46,7 +87,7 @@ fn replayed_by<S: Read + Drop>(
     };
     match replay_lines(alloc, trace, replaying) {
         Ok(replaying) => {
-            let text = met(alloc, space, &replaying, format);
+            let text = met(alloc, space, plan, &replaying, format);
             drop(replaying);
             text
         }
@@ -94,7 +135,7 @@ pub fn replay<R: Read + Drop, S: Read + Drop, W: Write, T: Write + Drop>(
     told: T,
 ) -> Result<Ended, Halt> {
     let Scripts { texts, rules } = scripts;
-    let mut findings = match play(alloc, texts, Findings::new(alloc, rules, told)) {
+    let mut findings = match play(alloc, texts, Findings::new(alloc, rules, PLAIN, told)) {
         Ok(findings) => findings,
         Err(why) => {
             drop(trace);

@@ -19,9 +19,10 @@ mod terminal;
 mod words;
 
 use endings::tell_fault;
+use numa_answers::Comparison;
 use numa_command_line::{Job, JobFault, ScriptJob, job, open_all, open_with_typed, open_worked};
 use numa_reports::Format;
-use numa_words::{Comparison, Scripts};
+use numa_words::Scripts;
 use std::env::Env;
 use std::io::{IsTerminal, Read};
 use std::process::ExitCode;

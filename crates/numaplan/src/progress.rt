@@ -1,12 +1,16 @@
-//! How far reading is, on standard error.
+//! How far reading and counting are, on standard error.
+use numa_reports::Watch;
 use std::alloc::AllocError;
 use std::io::Read;
 use std::rt::{Clock, Files};
 use std::time::Instant;
 use std::{fs, io};
 
-/// The seconds after which it is told how far reading is.
+/// The seconds after which it is told how far work is.
 const PATIENCE: u64 = 2;
+
+/// The pages after which the clock is looked at again.
+const PAGES: u64 = 1 << 20;
 
 /// The bytes of a megabyte, after which the clock is looked at again.
 const MEGABYTE: u64 = 1 << 20;
@@ -122,4 +126,82 @@ where
         all.push((name, text))?;
     }
     Ok(all)
+}
+
+/// Tells how far work over pages is, if that takes long.
+#[derive(Drop)]
+pub struct PacedPages<'a, R> {
+    rt: &'a R,
+    // Whether anything is to be told, and when the work began.
+    tells: bool,
+    began: Option<Instant>,
+    // The pages of the work, and how many are done.
+    pages: u64,
+    done: u64,
+    // The pages after which the clock is looked at, and the seconds when it was last told.
+    next: u64,
+    told: u64,
+}
+
+impl<'a, R: Clock + Eprint> PacedPages<'a, R> {
+    /// Before the work; nothing is told unless `tells`.
+    pub fn new(rt: &'a R, tells: bool) -> PacedPages<'a, R> {
+        PacedPages {
+            rt,
+            tells,
+            began: None,
+            pages: 0,
+            done: 0,
+            next: 0,
+            told: 0,
+        }
+    }
+
+    /// Looks at the clock, and tells how far the work is, once a second.
+    fn look(&mut self) {
+        self.next = self.done.saturating_add(PAGES);
+        let Some(began) = self.began else {
+            return;
+        };
+        let Ok(elapsed) = began.elapsed(self.rt) else {
+            return;
+        };
+        let seconds = elapsed.as_secs();
+        if seconds >= PATIENCE && seconds > self.told {
+            self.told = seconds;
+            let percent = self
+                .done
+                .saturating_mul(100)
+                .checked_div(self.pages)
+                .unwrap_or(100);
+            let _ = eprint!(self.rt; "\rnumaplan: {percent} % in {seconds} s ");
+        }
+    }
+}
+
+impl<R: Clock + Eprint> Watch for PacedPages<'_, R> {
+    fn begin(&mut self, pages: u64) {
+        self.pages = pages;
+        self.done = 0;
+        self.next = PAGES;
+        self.began = if self.tells {
+            Instant::now(self.rt).ok()
+        } else {
+            None
+        };
+    }
+
+    fn pass(&mut self, pages: u64) {
+        self.done = self.done.saturating_add(pages);
+        if self.done >= self.next {
+            self.look();
+        }
+    }
+
+    fn end(&mut self) {
+        if self.told > 0 {
+            self.told = 0;
+            let _ = eprintln!(self.rt; "");
+        }
+    }
 }

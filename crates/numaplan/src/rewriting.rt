@@ -1,5 +1,5 @@
 //! Writing files anew.
-use numa_words::Updated;
+use numa_answers::Updated;
 use std::alloc::AllocError;
 use std::fs::OpenFile;
 use std::io::Write;

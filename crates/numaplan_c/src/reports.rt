@@ -4,7 +4,7 @@ ghost use Rattle.numaplan_c.specs.Reports.{Reported, TellsReport, end_code, faul
 ghost use Rattle.numaplan_c.specs.Reports.{format_of, halt_code, is_untold};
 
 use crate::codes::Code;
-use numa_reports::{Format, Touch};
+use numa_reports::{DRAWN, Format, LISTED, Touch};
 use numa_words::{Ended, Halt};
 use numaplan_handles::copy_bytes;
 use numaplan_reports::Report;
@@ -52,8 +52,8 @@ pub(crate) fn format_of(number: u32) -> Option<Format>
         0 => Some(Format::Text),
         1 => Some(Format::Json),
         2 => Some(Format::Csv),
-        3 => Some(Format::Svg),
-        4 => Some(Format::Html),
+        3 => Some(Format::Svg(DRAWN)),
+        4 => Some(Format::Html(LISTED)),
         _ => None,
     }
 }

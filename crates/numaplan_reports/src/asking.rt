@@ -37,7 +37,16 @@ pub fn predict(
     let scripts = scripts_of(alloc, script)?;
     let mut answer = Vec::new(alloc);
     let mut told = Vec::new(alloc);
-    let ended = numa_words::predict(alloc, scripts, asked, format, free, &mut answer, &mut told);
+    let ended = numa_words::predict(
+        alloc,
+        scripts,
+        asked,
+        format,
+        free,
+        &mut answer,
+        &mut told,
+        &mut (),
+    );
     report_of(answer, told, ended)
 }
 
@@ -52,7 +61,16 @@ fn diff_by(
     let scripts = first_of(alloc, script)?;
     let mut answer = Vec::new(alloc);
     let mut told = Vec::new(alloc);
-    let ended = numa_words::diff(alloc, scripts, lines, asked, format, &mut answer, &mut told);
+    let ended = numa_words::diff(
+        alloc,
+        scripts,
+        lines,
+        asked,
+        format,
+        &mut answer,
+        &mut told,
+        &mut (),
+    );
     report_of(answer, told, ended)
 }
 

@@ -12,7 +12,7 @@ use crate::jobs::{JobFault, PageQuestion, ScriptJob};
 use crate::usage::{Argument, FILES, SubcommandHelp, Takes};
 use crate::words::asked;
 use crate::words::asked::{NODE, TASK};
-use crate::words::format::format_in;
+use crate::words::format::{LARGEST, format_in};
 use crate::words::lenient::LENIENT;
 use clap::ArgMatches;
 use std::alloc::Global;
@@ -48,7 +48,7 @@ ready after the scripts.",
     more: "Example, from the top of the repository:\n  ./numaplan diff --task 1 --node 0 --then \
 'mems 0' examples/interleaved-range.numaplan",
     reads_lines: true,
-    arguments: &[TASK, NODE, THEN, FORMAT, LENIENT, FILES],
+    arguments: &[TASK, NODE, THEN, FORMAT, LARGEST, LENIENT, FILES],
 };
 
 /// The subcommand.

@@ -3,10 +3,10 @@ ghost use Rattle.std.specs.Prelude.{◌≡◌};
 ghost use Rattle.clap.specs.Words.{found_of, rows_of};
 ghost use Rattle.numa_command_line.specs.Values.{format_in, format_named};
 
-use crate::found::text_at;
+use crate::found::{small_at, text_at};
 use crate::usage::{Argument, Takes};
 use clap::ArgMatches;
-use numa_reports::Format;
+use numa_reports::{DRAWN, Format, LISTED};
 
 /// The option `--format FORMAT` of a subcommand that answers as text or JSON.
 pub const PLAIN: Argument = Argument {
@@ -17,15 +17,25 @@ pub const PLAIN: Argument = Argument {
     takes: Takes::OneOf("text", &["text", "json"]),
 };
 
-/// The format with this name.
-fn format_of(name: &str) -> Format
-    ensures { result ≡ format_named name.now }
+/// The option `--largest N` of a subcommand that answers by a picture or a page.
+pub const LARGEST: Argument = Argument {
+    name: "largest",
+    value: "N",
+    help: "Shows the N largest ranges by themselves, and sums the others: 40 in a picture and 400 \
+in a page, where it isn't given",
+    is_required: false,
+    takes: Takes::Number,
+};
+
+/// The format with this name, and with so many ranges, if it shows some.
+fn format_of(name: &str, largest: Option<u32>) -> Format
+    ensures { result ≡ format_named largest name.now }
 {
     match name {
         "json" => Format::Json,
         "csv" => Format::Csv,
-        "svg" => Format::Svg,
-        "html" => Format::Html,
+        "svg" => Format::Svg(largest.unwrap_or(DRAWN)),
+        "html" => Format::Html(largest.unwrap_or(LISTED)),
         "tap" => Format::Tap,
         _ => Format::Text,
     }
@@ -36,7 +46,7 @@ pub fn format_in(matches: &ArgMatches<'_>) -> Format
     ensures { result ≡ format_in (rows_of (found_of matches.now)) }
 {
     match text_at(matches, "format") {
-        Some(name) => format_of(name),
+        Some(name) => format_of(name, small_at(matches, "largest")),
         None => Format::Text,
     }
 }

@@ -12,7 +12,7 @@ ghost use Rattle.numa_command_line.specs.declared.command.Subcommand.TheVariants
 use crate::jobs::{JobFault, PageQuestion, ScriptJob};
 use crate::usage::{Argument, FILES, SubcommandHelp, Takes};
 use crate::words::asked::{NODE, TASK};
-use crate::words::format::format_in;
+use crate::words::format::{LARGEST, format_in};
 use crate::words::free::FREE;
 use crate::words::lenient::LENIENT;
 use crate::words::{asked, free};
@@ -42,7 +42,7 @@ are, unless --lenient is given, and where no machine is ready after the scripts.
     more: "Example, from the top of the repository:\n  ./numaplan predict --task 1 --node 0 \
 examples/interleaved-range.numaplan",
     reads_lines: true,
-    arguments: &[TASK, NODE, FORMAT, FREE, LENIENT, FILES],
+    arguments: &[TASK, NODE, FORMAT, LARGEST, FREE, LENIENT, FILES],
 };
 
 /// The subcommand.

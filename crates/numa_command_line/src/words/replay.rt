@@ -11,7 +11,7 @@ ghost use Rattle.numa_command_line.specs.declared.command.Subcommand.TheVariants
 use crate::found::{is_on, texts_at};
 use crate::jobs::{JobFault, ScriptJob};
 use crate::usage::{Argument, FILES, SubcommandHelp, Takes};
-use crate::words::format::format_in;
+use crate::words::format::{LARGEST, format_in};
 use crate::words::lenient::LENIENT;
 use clap::ArgMatches;
 use std::alloc::Global;
@@ -50,7 +50,7 @@ the scripts, and where a line of the trace can't be replayed.",
     more: "Example, from the top of the repository:\n  ./numaplan replay --trace \
 examples/replayed.trace examples/interleaved-range.numaplan",
     reads_lines: true,
-    arguments: &[TRACE, FORMAT, LENIENT, FILES],
+    arguments: &[TRACE, FORMAT, LARGEST, LENIENT, FILES],
 };
 
 /// The subcommand.

@@ -19,7 +19,7 @@ pub(crate) struct Place {
 }
 
 /// Draws a rectangle.
-fn put_rectangle(text: &mut Written, place: Place, fill: &str) {
+pub(crate) fn put_rectangle(text: &mut Written, place: Place, fill: &str) {
     let numbers = [place.left, place.top, place.width, place.height];
     text.put_form(
         b"<rect x=\"$\" y=\"$\" width=\"$\" height=\"$\" stroke=\"#333333\" \
@@ -94,10 +94,9 @@ fn put_node(text: &mut Written, whole: Place, before: u64, all: u64, one: NodePa
         width: behind.saturating_sub(left),
         ..whole
     };
-    text.put_form(
-        b"<g><title>node $: $ pages, $ bytes</title>",
-        &[one.node, one.pages, bytes(one.pages)],
-    );
+    text.put_form(b"<g><title>node $: ", &[one.node]);
+    text.put_pages(one.pages);
+    text.put_form(b", $ bytes</title>", &[bytes(one.pages)]);
     put_part(text, place, one.node);
 }
 
@@ -119,10 +118,9 @@ pub(crate) fn put_nodes(text: &mut Written, whole: Place, placed: Placed<'_>) {
         width: whole.width.saturating_sub(left),
         ..whole
     };
-    text.put_form(
-        b"<g class=\"exhausted\"><title>no free page: $ pages</title>",
-        &[lacking],
-    );
+    text.put(b"<g class=\"exhausted\"><title>no free page: ");
+    text.put_pages(lacking);
+    text.put(b"</title>");
     put_rectangle(text, place, "none");
     text.put(b"</g>");
 }

@@ -13,10 +13,12 @@ use crate::fault::ReportError;
 use crate::moves::{BLOCK, ENTRIES, add_moves, empty_table, has_node};
 use crate::outlook::{Outlook, PageSpan, common_spans};
 use crate::sheet::fields::bytes;
+use crate::sheet::moved_parts::SpanTexts;
 use crate::sheet::scale::Scale;
 use crate::sheet::written::Written;
 use crate::sheet::{Format, moved_objects, moved_pictures};
 use crate::touch::Touch;
+use crate::watch::Watch;
 use numa_plan::Plan;
 use numa_space::PlaceRefusal;
 use std::alloc::{AllocError, Global};
@@ -106,6 +108,8 @@ struct Difference {
     scale: Scale,
     text: Written,
     spans: u64,
+    // The spans of a picture or a page.
+    texts: SpanTexts,
     total: Vec<u64>,
     told: Vec<u64>,
     left: u64,
@@ -128,12 +132,14 @@ impl Difference {
         if let Format::Json = format {
             moved_objects::put_head(&mut text, touch);
         }
+        let texts = SpanTexts::new(alloc);
         Ok(Difference {
             format,
             touch,
             scale,
             text,
             spans: 0,
+            texts,
             total,
             told,
             left: u64::MAX,
@@ -147,40 +153,61 @@ impl Difference {
     {
         let table = self.total.as_slice();
         let told = self.told.as_slice();
-        if moved(table, told, nodes) > 0 {
+        let pages = moved(table, told, nodes);
+        if pages > 0 {
             let text = &mut self.text;
             match self.format {
                 Format::Json => {
-                    moved_objects::put_span(text, span, table, told, nodes, self.spans == 0);
+                    moved_objects::begin_span(text, self.spans == 0);
+                    moved_objects::put_span(text, span, table, told, nodes);
                 }
-                Format::Svg if self.spans >= moved_pictures::SPANS => {}
-                Format::Svg => {
-                    let scale = &self.scale;
-                    moved_pictures::put_span(text, self.spans, span, table, told, nodes, scale);
+                Format::Html(_) => moved_objects::put_span(text, span, table, told, nodes),
+                Format::Svg(_) => {
+                    moved_pictures::put_span(text, span, table, told, nodes, &self.scale);
                 }
                 _ => put_line(text, span, table, told, nodes),
             }
             self.spans = self.spans.saturating_add(1);
+            self.texts.add(pages, self.text.len())?;
         }
         note_all(&mut self.told, table, nodes);
         self.text.checked()
     }
 
+    /// Writes a picture of the spans, of which the largest `number` are drawn.
+    fn end_picture(&mut self, nodes: u32, number: u32) -> Result<(), AllocError> {
+        let spans = self.text.take()?;
+        let text = &mut self.text;
+        moved_pictures::put_head(text, self.touch, self.texts.rows(number), &self.scale);
+        let shown = self.texts.put_largest(text, &spans, number, true);
+        moved_pictures::put_total(text, shown, &self.total, nodes);
+        Ok(())
+    }
+
+    /// Writes the object of a page: the largest `number` of the spans, and the total.
+    fn end_page(&mut self, nodes: u32, number: u32) -> Result<(), AllocError> {
+        let spans = self.text.take()?;
+        let text = &mut self.text;
+        moved_objects::put_head(text, self.touch);
+        let shown = self.texts.put_largest(text, &spans, number, false);
+        moved_objects::end_spans(text);
+        moved_objects::put_others(text, shown);
+        moved_objects::put_total(text, &self.total, nodes);
+        Ok(())
+    }
+
     /// Writes the total, and returns the text.
     fn end(&mut self, nodes: u32) -> Result<Vec<u8>, AllocError> {
-        let table = self.total.as_slice();
         match self.format {
-            Format::Json => moved_objects::put_total(&mut self.text, table, nodes),
-            Format::Svg => {
-                let spans = self.text.take()?;
-                let text = &mut self.text;
-                moved_pictures::put_head(text, self.touch, self.spans, &self.scale);
-                text.put(spans.as_slice());
-                moved_pictures::put_total(text, self.spans, table, nodes);
+            Format::Json => {
+                moved_objects::end_spans(&mut self.text);
+                moved_objects::put_total(&mut self.text, self.total.as_slice(), nodes);
             }
+            Format::Svg(number) => self.end_picture(nodes, number)?,
+            Format::Html(number) => self.end_page(nodes, number)?,
             _ => {
                 self.text.put(b"total");
-                put_moves(&mut self.text, table, &[], nodes);
+                put_moves(&mut self.text, self.total.as_slice(), &[], nodes);
             }
         }
         self.text.take()
@@ -207,7 +234,13 @@ fn block_stays(
 }
 
 /// Whether each page of a span goes to the same node by both plans. False if a plan lacks one.
-fn stays(before: &Plan, after: &Plan, touch: Touch, span: PageSpan) -> bool {
+fn stays<W: Watch>(
+    before: &Plan,
+    after: &Plan,
+    touch: Touch,
+    span: PageSpan,
+    watch: &mut W,
+) -> bool {
     let mut old = [0u8; BLOCK];
     let mut new = [0u8; BLOCK];
     let mut left = span.pages;
@@ -225,17 +258,19 @@ fn stays(before: &Plan, after: &Plan, touch: Touch, span: PageSpan) -> bool {
             return false;
         }
         left -= part as u64;
+        watch.pass(part as u64);
     }
     true
 }
 
 /// Counts the pages of a span.
-fn count_span(
+fn count_span<W: Watch>(
     before: &Plan,
     after: &Plan,
     touch: Touch,
     span: PageSpan,
     difference: &mut Difference,
+    watch: &mut W,
 ) -> Result<(), ReportError>
     requires { HasRoomFor difference.old.total.items difference.old.left }
     ensures room { OnOk result (HasRoomFor difference.new.total.items difference.new.left) }
@@ -249,19 +284,21 @@ fn count_span(
     let Some(left) = difference.left.checked_sub(span.pages) else {
         return Err(ReportError::Memory);
     };
-    add_moves(before, after, touch, span, &mut difference.total)?;
+    add_moves(before, after, touch, span, &mut difference.total, watch)?;
     difference.left = left;
     Ok(())
 }
 
-/// Adds a span, and its pages to the total; nothing if all of them stay.
-fn push_span(
+/// Adds a span, and its pages to the total; nothing if all of them stay. At most twice its pages are
+/// passed.
+fn push_span<W: Watch>(
     before: &Plan,
     after: &Plan,
     nodes: u32,
     touch: Touch,
     span: PageSpan,
     difference: &mut Difference,
+    watch: &mut W,
 ) -> Result<(), ReportError>
     requires { HasRoomFor difference.old.total.items difference.old.left }
     ensures room { OnOk result (HasRoomFor difference.new.total.items difference.new.left) }
@@ -269,40 +306,51 @@ fn push_span(
         → PlanStandsFor machine before.now old → PlanStandsFor machine after.now new
         → IfErr result (MovesMayFail machine old new span.first span.pages touch.cpu) }
 {
-    if stays(before, after, touch, span) {
+    if stays(before, after, touch, span, watch) {
+        watch.pass(span.pages);
         return Ok(());
     }
-    count_span(before, after, touch, span, difference)?;
+    count_span(before, after, touch, span, difference, watch)?;
     difference.add(span, nodes)?;
     Ok(())
 }
 
+/// The pages of all spans.
+fn pages_of(spans: &[PageSpan]) -> u64 {
+    let mut sum = 0u64;
+    for span in spans {
+        sum = sum.saturating_add(span.pages);
+    }
+    sum
+}
+
 /// The pages that go to another node, if the task touched each of them on a CPU of node `cpu` after
 /// the change instead of before it: a line, or an object, for each span with such pages, with the
-/// number that go from which node to which, and a last one with the total.
+/// number that go from which node to which, and a last one with the total. The time grows with the
+/// pages, and is watched.
 ///
 /// # Errors
 /// `Refused(BadCpu)`: the machine has no node `cpu`. `Refused(Unmapped)`: an outlook has a page
 /// that its plan lacks. `Memory`: there is no memory for the text.
-pub fn difference_text(
+pub fn difference_text<W: Watch>(
     alloc: Global,
     before: &Outlook,
     after: &Outlook,
     nodes: u32,
-    task: u32,
-    cpu: u32,
+    touch: Touch,
     format: Format,
+    watch: &mut W,
 ) -> Result<Vec<u8>, ReportError>
     ensures err { (machine : Hardware) (old new : List Command) → nodes ≡ machine.nodes
         → IsOutlook machine old before.now → IsOutlook machine new after.now
-        → IfErr result (MayFail nodes cpu) }
-    ensures bad_cpu { nodes ≤ cpu → result ≡ Err (Refused BadCpu) }
+        → IfErr result (MayFail nodes touch.cpu) }
+    ensures bad_cpu { nodes ≤ touch.cpu → result ≡ Err (Refused BadCpu) }
 {
-    if cpu >= nodes {
+    if touch.cpu >= nodes {
         return Err(ReportError::Refused(PlaceRefusal::BadCpu));
     }
     let spans = common_spans(alloc, before.spans.as_slice(), after.spans.as_slice())?;
-    let touch = Touch { task, cpu };
+    watch.begin(pages_of(&spans).saturating_mul(2));
     let scale = Scale::of_spans(&spans);
     let mut difference = Difference::new(alloc, format, touch, scale)?;
     for span in &spans {
@@ -313,7 +361,9 @@ pub fn difference_text(
             touch,
             *span,
             &mut difference,
+            watch,
         )?;
     }
+    watch.end();
     Ok(difference.end(nodes)?)
 }

@@ -4,6 +4,7 @@ use crate::fault::ReportError;
 use crate::period::period_in;
 use crate::sheet::fields::bytes;
 use crate::sheet::items::Items;
+use crate::sheet::largest::Largest;
 use crate::sheet::object::Object;
 use crate::touch::Touch;
 use numa_plan::Plan;
@@ -11,9 +12,7 @@ use numa_ranges::Run;
 use numa_space::{PlaceRefusal, RangeRecord, Space};
 use std::alloc::Global;
 
-/// The most ranges whose cycles are told, and the most pages of such a cycle.
-const RANGES: usize = 4096;
-
+/// The most pages of a cycle that is told.
 const PAGES: usize = 4096;
 
 /// Adds a node, and the number of pages in a row that have it.
@@ -73,8 +72,8 @@ fn push_range(
     Ok(())
 }
 
-/// The nodes of the pages of each range, if the task touched them now, as a list of JSON objects:
-/// of the first 4,096 ranges those whose pages' nodes repeat after at most 4,096. The plan is one of
+/// The nodes of the pages of each of these ranges, if the task touched them now, as a list of JSON
+/// objects; nothing of a range whose pages' nodes repeat after more than 4,096. The plan is one of
 /// the space.
 ///
 /// # Errors
@@ -85,15 +84,14 @@ pub fn cycles_text(
     space: &Space,
     plan: &Plan,
     touch: Touch,
+    shown: Largest,
 ) -> Result<Vec<u8>, ReportError> {
     let mut items = Items::new(alloc);
-    let mut left = RANGES;
+    let mut shown = shown;
     for range in space.range_iter() {
-        if left == 0 {
-            break;
+        if shown.takes(range.pages) {
+            push_range(space, plan, touch, &range, &mut items)?;
         }
-        left -= 1;
-        push_range(space, plan, touch, &range, &mut items)?;
     }
     let value = items.made()?;
     Ok(value.to_vec(alloc)?)

@@ -4,6 +4,7 @@ use crate::outlook::PageSpan;
 use crate::sheet::changes::{entry, moved};
 use crate::sheet::fields::bytes;
 use crate::sheet::items::Items;
+use crate::sheet::moved_parts::ShownSpans;
 use crate::sheet::object::Object;
 use crate::sheet::written::Written;
 use crate::touch::Touch;
@@ -46,6 +47,12 @@ fn put_moves(object: &mut Object, table: &[u64], told: &[u64], nodes: u32) {
     object.put_items("moves", items);
 }
 
+/// Begins a span in the list.
+pub(crate) fn begin_span(text: &mut Written, is_first: bool) {
+    let before = if is_first { "\n" } else { ",\n" };
+    text.put(before.as_bytes());
+}
+
 /// The object of a span.
 pub(crate) fn put_span(
     text: &mut Written,
@@ -53,10 +60,7 @@ pub(crate) fn put_span(
     table: &[u64],
     told: &[u64],
     nodes: u32,
-    is_first: bool,
 ) {
-    let before = if is_first { "\n" } else { ",\n" };
-    text.put(before.as_bytes());
     let mut object = Object::new(text.alloc());
     object.put_number("start", bytes(span.first));
     object.put_number("end", bytes(span.first.saturating_add(span.pages)));
@@ -64,9 +68,24 @@ pub(crate) fn put_span(
     text.put_object(object);
 }
 
-/// Ends the list of spans, and the object, with all pages.
+/// Ends the list of spans.
+pub(crate) fn end_spans(text: &mut Written) {
+    text.put(b"\n]");
+}
+
+/// Writes how many spans aren't in the list, with their pages that move, if there are such spans.
+pub(crate) fn put_others(text: &mut Written, shown: ShownSpans) {
+    if shown.others > 0 {
+        text.put_form(
+            b",\"others\":{\"spans\":$,\"moved\":$}",
+            &[shown.others, shown.moved],
+        );
+    }
+}
+
+/// Ends the object, with all pages.
 pub(crate) fn put_total(text: &mut Written, table: &[u64], nodes: u32) {
-    text.put(b"\n],\"total\":");
+    text.put(b",\"total\":");
     let mut object = Object::new(text.alloc());
     put_moves(&mut object, table, &[], nodes);
     text.put_object(object);

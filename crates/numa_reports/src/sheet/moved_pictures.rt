@@ -8,22 +8,24 @@ use crate::outlook::PageSpan;
 use crate::sheet::bars::{Place, put_part};
 use crate::sheet::changes::{entry, moved};
 use crate::sheet::fields::bytes;
+use crate::sheet::moved_parts::ShownSpans;
 use crate::sheet::scale::{Scale, share};
 use crate::sheet::written::Written;
 use crate::touch::Touch;
-
-/// The most spans that are drawn.
-pub(crate) const SPANS: u64 = 40;
 
 /// The first row of pixels of the spans, and the rows of a span.
 const TOP: u64 = 60;
 
 const SPAN_ROWS: u64 = 60;
 
+/// The row of pixels at which this many spans end.
+fn below(spans: u64) -> u64 {
+    spans.saturating_mul(SPAN_ROWS).saturating_add(TOP)
+}
+
 /// Begins the picture of this many spans.
 pub(crate) fn put_head(text: &mut Written, touch: Touch, spans: u64, scale: &Scale) {
-    let rows = spans.min(SPANS).saturating_mul(SPAN_ROWS);
-    let height = rows.saturating_add(TOP).saturating_add(40);
+    let height = below(spans).saturating_add(40);
     text.put_form(
         b"<?xml version=\"1.0\" encoding=\"UTF-8\"?>\n\
         <svg xmlns=\"http://www.w3.org/2000/svg\" version=\"1.1\" \
@@ -42,10 +44,9 @@ pub(crate) fn put_head(text: &mut Written, touch: Touch, spans: u64, scale: &Sca
 
 /// Draws the pages that go from a node to another, in a bar.
 fn put_pages(text: &mut Written, place: Place, from: u64, to: u64, node: u64, pages: u64) {
-    text.put_form(
-        b"<g><title>node $ to node $: $ pages</title>",
-        &[from, to, pages],
-    );
+    text.put_form(b"<g><title>node $ to node $: ", &[from, to]);
+    text.put_pages(pages);
+    text.put(b"</title>");
     put_part(text, place, node);
     if from == to {
         return;
@@ -90,21 +91,24 @@ fn put_from(
     done
 }
 
-/// Draws a span, with `before` spans before it.
+/// Begins a span, with `before` spans before it.
+pub(crate) fn begin_span(text: &mut Written, before: u64) {
+    text.put_form(
+        b"<g class=\"span\" transform=\"translate(16,$)\">",
+        &[below(before)],
+    );
+}
+
+/// Draws a span that was begun.
 pub(crate) fn put_span(
     text: &mut Written,
-    before: u64,
     span: PageSpan,
     table: &[u64],
     told: &[u64],
     nodes: u32,
     scale: &Scale,
 ) {
-    let top = before.saturating_mul(SPAN_ROWS).saturating_add(TOP);
-    text.put_form(
-        b"<g class=\"span\" transform=\"translate(16,$)\"><text y=\"11\">",
-        &[top],
-    );
+    text.put(b"<text y=\"11\">");
     let end = span.first.saturating_add(span.pages);
     text.put_addresses(bytes(span.first), bytes(end));
     text.put_form(
@@ -119,20 +123,23 @@ pub(crate) fn put_span(
     text.put(b"</g>\n");
 }
 
-/// Ends the picture, behind this many spans, with all pages.
-pub(crate) fn put_total(text: &mut Written, spans: u64, table: &[u64], nodes: u32) {
-    let shown = spans.min(SPANS);
-    let line = shown
-        .saturating_mul(SPAN_ROWS)
-        .saturating_add(TOP)
-        .saturating_add(20);
+/// Ends the picture, behind these spans, with all pages.
+pub(crate) fn put_total(text: &mut Written, shown: ShownSpans, table: &[u64], nodes: u32) {
     text.put_form(
         b"<text class=\"total\" x=\"16\" y=\"$\">total moved=$",
-        &[line, moved(table, &[], nodes)],
+        &[
+            below(shown.rows).saturating_add(20),
+            moved(table, &[], nodes),
+        ],
     );
-    let others = spans.saturating_sub(shown);
-    if others > 0 {
-        text.put_form(b"; $ more spans aren't drawn", &[others]);
+    if shown.others > 0 {
+        text.put_form(b", of them $ in ", &[shown.moved]);
+        text.put_number(shown.others);
+        text.put(if shown.others == 1 {
+            b" span that isn't drawn".as_slice()
+        } else {
+            b" spans that aren't drawn"
+        });
     }
     text.put(b"</text>\n</svg>\n");
 }

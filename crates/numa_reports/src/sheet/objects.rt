@@ -94,10 +94,23 @@ fn put_left(text: &mut Written, left: &[NodePages]) {
     }
 }
 
-/// Ends the list of ranges, and the object, with all pages by node and, if nodes are named, the
-/// free pages left.
+/// Ends the list of ranges.
+pub(crate) fn end_ranges(text: &mut Written) {
+    text.put(b"\n]");
+}
+
+/// Writes the number of ranges that aren't in the list, and their pages by node.
+pub(crate) fn put_others(text: &mut Written, ranges: u64, placed: Placed<'_>) {
+    text.put(b",\"others\":");
+    let mut object = Object::new(text.alloc());
+    object.put_number("ranges", ranges);
+    put_placed(&mut object, placed);
+    put_made(text, object.made(), placed.exhausted);
+}
+
+/// Ends the object, with all pages by node and, if nodes are named, the free pages left.
 pub(crate) fn put_total(text: &mut Written, placed: Placed<'_>, left: &[NodePages]) {
-    text.put(b"\n],\"total\":");
+    text.put(b",\"total\":");
     put_made(text, total_object(text.alloc(), placed), placed.exhausted);
     put_left(text, left);
     text.put(b"}\n");

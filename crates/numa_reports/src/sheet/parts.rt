@@ -10,12 +10,13 @@ use crate::prediction::{RangePrediction, TakeRange, predict_ranges};
 use crate::sheet::cells::{CELLS, first_cells};
 use crate::sheet::drawing::Drawing;
 use crate::sheet::fields::{RangeRow, bytes, placed_of};
+use crate::sheet::largest::sizes_of;
 use crate::sheet::nodes::{NodePages, list_nodes};
 use crate::sheet::policies::PolicyTexts;
-use crate::sheet::scale::Scale;
 use crate::sheet::written::Written;
 use crate::sheet::{Format, lines, objects, pictures, records};
 use crate::touch::{Touch, has_node};
+use crate::watch::Watch;
 use numa_plan::Plan;
 use numa_ranges::Run;
 use numa_space::{PlaceRefusal, RangeRecord, Space};
@@ -35,6 +36,7 @@ struct PredictionWriter {
     ranges: usize,
     pages: u64,
     cells: Vec<u8>,
+    // The ranges of a picture or a page.
     drawing: Drawing,
     // The nodes that get pages of the range being written.
     listed: Vec<NodePages>,
@@ -56,10 +58,7 @@ fn cells_of(cells: &[u8], ranges: usize, pages: u64) -> &[u8] {
 impl PredictionWriter {
     /// Draws the ranges of a picture that aren't drawn by themselves, and returns how many rows it
     /// has.
-    fn end_ranges(&mut self) -> u64 {
-        let Format::Svg = self.format else {
-            return 0;
-        };
+    fn end_picture(&mut self) -> u64 {
         let fills = self.fills;
         match self.drawing.end(&mut self.text, &mut self.listed, fills) {
             Ok(rows) => rows,
@@ -67,6 +66,34 @@ impl PredictionWriter {
                 self.text.lack();
                 0
             }
+        }
+    }
+
+    /// Ends the ranges of a page, with the sum of those that aren't written by themselves.
+    fn end_page(&mut self) {
+        objects::end_ranges(&mut self.text);
+        let fills = self.fills;
+        if let Err(_) = self
+            .drawing
+            .end_objects(&mut self.text, &mut self.listed, fills)
+        {
+            self.text.lack();
+        }
+    }
+
+    /// Ends the ranges, and returns how many rows a picture has.
+    fn end_ranges(&mut self) -> u64 {
+        match self.format {
+            Format::Svg(_) => self.end_picture(),
+            Format::Html(_) => {
+                self.end_page();
+                0
+            }
+            Format::Json => {
+                objects::end_ranges(&mut self.text);
+                0
+            }
+            _ => 0,
         }
     }
 
@@ -82,9 +109,9 @@ impl PredictionWriter {
         let placed = placed_of(&self.listed, self.pages, self.fills);
         let text = &mut self.text;
         match self.format {
-            Format::Json | Format::Html => objects::put_total(text, placed, left),
+            Format::Json | Format::Html(_) => objects::put_total(text, placed, left),
             Format::Csv => records::put_total(text, placed, left),
-            Format::Svg => pictures::put_total(text, placed, counts, left, rows),
+            Format::Svg(_) => pictures::put_total(text, placed, counts, left, rows),
             Format::Text | Format::Tap => lines::put_total(text, placed, left),
         }
     }
@@ -102,9 +129,10 @@ impl TakeRange for PredictionWriter {
         let text = &mut self.text;
         match self.format {
             Format::Text | Format::Tap => lines::put_range(text, row),
-            Format::Json | Format::Html => objects::put_range(text, row, self.ranges == 0),
+            Format::Json => objects::put_range(text, row, self.ranges == 0),
+            Format::Html(_) => self.drawing.put_object(text, row),
             Format::Csv => records::put_range(text, row),
-            Format::Svg => {
+            Format::Svg(_) => {
                 let cells = cells_of(&self.cells, self.ranges, row.placed.pages);
                 self.drawing.put_range(text, row, cells);
             }
@@ -132,11 +160,22 @@ fn head(alloc: Global, asked: PredictionRequest<'_>, format: Format, drawing: &D
     let version = asked.plan.version();
     match format {
         Format::Text | Format::Tap => (),
-        Format::Json | Format::Html => objects::put_head(&mut text, version, touch),
+        Format::Json | Format::Html(_) => objects::put_head(&mut text, version, touch),
         Format::Csv => records::put_head(&mut text),
-        Format::Svg => drawing.put_head(&mut text, version, touch, space),
+        Format::Svg(_) => drawing.put_head(&mut text, version, touch, space),
     }
     text
+}
+
+/// Which ranges are shown by themselves.
+fn drawing_of(alloc: Global, space: &Space, format: Format) -> Result<Drawing, AllocError> {
+    match format {
+        Format::Svg(number) | Format::Html(number) => {
+            let sizes = sizes_of(alloc, space)?;
+            Ok(Drawing::of(sizes.as_slice(), number))
+        }
+        _ => Ok(Drawing::of(&[], 0)),
+    }
 }
 
 /// Before the first range.
@@ -149,13 +188,10 @@ fn begin(
         asked.entry.touch.cpu result }
 {
     let cells = match format {
-        Format::Svg => first_cells(alloc, asked.space, asked.plan, asked.touch, asked.free)?,
+        Format::Svg(_) => first_cells(alloc, asked.space, asked.plan, asked.touch, asked.free)?,
         _ => Vec::new(alloc),
     };
-    let drawing = Drawing::by(match format {
-        Format::Svg => Scale::of(asked.space),
-        _ => Scale::none(),
-    });
+    let drawing = drawing_of(alloc, asked.space, format)?;
     Ok(PredictionWriter {
         format,
         nodes: asked.space.machine().nodes() as usize,
@@ -186,10 +222,34 @@ fn left_on(
     Ok(left)
 }
 
+/// A writer whose ranges are watched.
+#[derive(Drop)]
+struct WatchedWriter<'a, W> {
+    parts: &'a mut PredictionWriter,
+    watch: &'a mut W,
+}
+
+impl<W: Watch> TakeRange for WatchedWriter<'_, W> {
+    fn take(&mut self, range: &Run<RangeRecord>, said: &RangePrediction) -> Result<(), AllocError> {
+        self.watch.pass(range.pages);
+        self.parts.take(range, said)
+    }
+}
+
+/// The pages of all ranges.
+fn sum_of(space: &Space) -> u64 {
+    let mut sum = 0u64;
+    for range in space.range_iter() {
+        sum = sum.saturating_add(range.pages);
+    }
+    sum
+}
+
 /// Writes each range and the total, if nodes are named.
-fn write_filled(
+fn write_filled<W: Watch>(
     parts: &mut PredictionWriter,
     asked: PredictionRequest<'_>,
+    watch: &mut W,
 ) -> Result<(), ReportError>
     requires known { asked.touch.cpu < asked.space.now.machine.nodes }
     ensures err { FailsForNode asked.entry.space.now asked.entry.plan.now
@@ -197,16 +257,26 @@ fn write_filled(
 {
     let before = free_of(asked.free);
     let mut after = before;
-    fill_ranges(asked.space, asked.plan, asked.touch, &mut after, parts)?;
+    watch.begin(sum_of(asked.space));
+    let mut watched = WatchedWriter { parts, watch };
+    fill_ranges(
+        asked.space,
+        asked.plan,
+        asked.touch,
+        &mut after,
+        &mut watched,
+    )?;
+    watch.end();
     let left = left_on(parts.text.alloc(), asked.free, &after)?;
     parts.put_total(&taken(&before, &after), &left);
     Ok(())
 }
 
 /// Writes each range and the total, and returns the text.
-fn write_all(
+fn write_all<W: Watch>(
     parts: &mut PredictionWriter,
     asked: PredictionRequest<'_>,
+    watch: &mut W,
 ) -> Result<Vec<u8>, ReportError>
     requires known { asked.touch.cpu < asked.space.now.machine.nodes }
     ensures err { FailsForNode asked.entry.space.now asked.entry.plan.now
@@ -216,7 +286,7 @@ fn write_all(
         let counts = predict_ranges(asked.space, asked.plan, asked.touch, parts)?;
         parts.put_total(&counts, &[]);
     } else {
-        write_filled(parts, asked)?;
+        write_filled(parts, asked, watch)?;
     }
     Ok(parts.text.take()?)
 }
@@ -225,18 +295,19 @@ fn write_all(
 /// ascending order, and named nodes had these free pages; others never run out. The text has the
 /// number of pages that find no free page (`exhausted`), and the free pages left on named nodes.
 /// The plan is one of the space. The time depends on the number of ranges and, if nodes are named,
-/// on the cycles of their policies.
+/// on the cycles of their policies, and is then watched.
 ///
 /// # Errors
 /// `Refused(BadCpu)`: the machine has no node `cpu`. `Refused(Unmapped)`: the plan isn't one of the
 /// space. `Memory`: there is no memory for the text.
-pub fn filling_text(
+pub fn filling_text<W: Watch>(
     alloc: Global,
     space: &Space,
     plan: &Plan,
     touch: Touch,
     format: Format,
     free: &[FreePages],
+    watch: &mut W,
 ) -> Result<Vec<u8>, ReportError>
     ensures err { FailsForNode space.now plan.now touch.cpu result }
     ensures bad_cpu { space.now.machine.nodes ≤ touch.cpu → result ≡ Err (Refused BadCpu) }
@@ -251,7 +322,7 @@ pub fn filling_text(
         free,
     };
     let mut parts = begin(alloc, asked, format)?;
-    let text = write_all(&mut parts, asked);
+    let text = write_all(&mut parts, asked, watch);
     drop(parts);
     text
 }
@@ -272,5 +343,13 @@ pub fn prediction_text(
     ensures err { FailsForNode space.now plan.now cpu result }
     ensures bad_cpu { space.now.machine.nodes ≤ cpu → result ≡ Err (Refused BadCpu) }
 {
-    filling_text(alloc, space, plan, Touch { task, cpu }, format, &[])
+    filling_text(
+        alloc,
+        space,
+        plan,
+        Touch { task, cpu },
+        format,
+        &[],
+        &mut (),
+    )
 }

@@ -3,7 +3,8 @@
 //! A range is a line of text and a bar; below the ranges are the nodes with their pages, each with a
 //! bar. Parts of bars have the colour and the number of their node, so nothing depends on colours.
 
-use crate::sheet::bars::{CELL, Place, put_nodes as put_bar, put_pages, put_part};
+use crate::sheet::bars::{CELL, Place, put_nodes as put_bar, put_pages, put_part, put_rectangle};
+use crate::sheet::colours::fill_of;
 use crate::sheet::fields::{Placed, RangeRow, bytes};
 use crate::sheet::lines::put_lacking;
 use crate::sheet::nodes::{NodePages, put_nodes};
@@ -21,7 +22,9 @@ const RANGE_ROWS: u64 = 40;
 
 const NODE_ROWS: u64 = 20;
 
-/// The pixels of the longest bar of a node.
+/// The pixels of a node's number, and those of the longest bar of a node, which begins behind it.
+const NODE_MARK: u64 = 24;
+
 const NODE_WIDTH: u64 = 400;
 
 /// The height of a picture in pixels, with this many ranges or less.
@@ -125,7 +128,13 @@ pub(crate) fn put_rest(
     width: u64,
 ) {
     begin_row(text, b"rest", before);
-    text.put_form(b"$ other ranges anon=$", &[ranges, placed.pages]);
+    text.put_number(ranges);
+    text.put(if ranges == 1 {
+        b" other range".as_slice()
+    } else {
+        b" other ranges"
+    });
+    text.put_form(b" anon=$", &[placed.pages]);
     put_counts(text, placed.nodes);
     put_lacking(text, placed);
     text.put(b"</text>");
@@ -143,31 +152,48 @@ pub(crate) fn put_rest(
 fn put_left(text: &mut Written, node: usize, left: &[NodePages]) {
     for one in left {
         if one.node == node as u64 {
-            text.put_form(b", $ pages left", &[one.pages]);
+            text.put(b", ");
+            text.put_pages(one.pages);
+            text.put(b" left");
         }
+    }
+}
+
+/// Draws the number of a node in its colour and, if it gets pages, a bar behind it.
+fn put_node_bar(text: &mut Written, node: u64, bar: u64, top: u64) {
+    let mark = Place {
+        left: 0,
+        top,
+        width: NODE_MARK,
+        height: 16,
+    };
+    text.put_form(b"<g><title>node $</title>", &[node]);
+    put_part(text, mark, node);
+    if bar > 0 {
+        let place = Place {
+            left: NODE_MARK,
+            width: bar,
+            ..mark
+        };
+        put_rectangle(text, place, fill_of(node));
     }
 }
 
 /// Writes the total pages of a node, of at most `most`.
 fn put_node(text: &mut Written, node: usize, pages: u64, most: u64, top: u64, left: &[NodePages]) {
     let number = node as u64;
-    let bar = share(NODE_WIDTH, pages, most);
-    let place = Place {
-        left: 0,
-        top,
-        width: bar.saturating_add(24),
-        height: 16,
+    let bar = match pages {
+        0 => 0,
+        pages => share(NODE_WIDTH, pages, most).max(1),
     };
-    text.put_form(b"<g><title>node $</title>", &[number]);
-    put_part(text, place, number);
-    let line = [
-        bar.saturating_add(32),
-        top.saturating_add(12),
-        number,
-        pages,
-        bytes(pages),
-    ];
-    text.put_form(b"<text x=\"$\" y=\"$\">N$=$ pages, $ bytes", &line);
+    put_node_bar(text, number, bar, top);
+    let column = bar.saturating_add(NODE_MARK).saturating_add(8);
+    text.put_form(
+        b"<text x=\"$\" y=\"$\">N$=",
+        &[column, top.saturating_add(12), number],
+    );
+    text.put_pages(pages);
+    text.put_form(b", $ bytes", &[bytes(pages)]);
     put_left(text, node, left);
     text.put(b"</text>\n");
 }
@@ -189,12 +215,12 @@ pub(crate) fn put_total(
     left: &[NodePages],
     rows: u64,
 ) {
-    let said = [below(rows), placed.pages, bytes(placed.pages)];
     text.put_form(
-        b"<g class=\"total\" transform=\"translate(16,$)\"><text y=\"16\">\
-        total anon=$ pages, $ bytes",
-        &said,
+        b"<g class=\"total\" transform=\"translate(16,$)\"><text y=\"16\">total anon=",
+        &[below(rows)],
     );
+    text.put_pages(placed.pages);
+    text.put_form(b", $ bytes", &[bytes(placed.pages)]);
     put_lacking(text, placed);
     text.put(b"</text>\n");
     let most = most_of(counts);

@@ -1,10 +1,7 @@
-//! Which ranges of a picture are drawn, and how long their bars are.
+//! How long the bars of a picture are.
 use crate::outlook::PageSpan;
+use crate::sheet::largest::Largest;
 use crate::sheet::written::Written;
-use numa_space::Space;
-
-/// The most ranges that are drawn.
-pub(crate) const DRAWN: usize = 40;
 
 /// The pixels of the longest bar, and the most of a page.
 const LONGEST: u64 = 888;
@@ -20,63 +17,12 @@ const LOGARITHMS: &str = "The length of a bar is the logarithm of its pages: som
 
 const PROPORTION: &str = "The length of a bar is in proportion to its pages";
 
-/// Which ranges are drawn, the largest, and how long their bars are.
+/// How long bars are.
 #[derive(Clone, Copy)]
 pub(crate) struct Scale {
     // The pages of the longest bar.
     most: u64,
     is_log: bool,
-    // Ranges with more pages than this are drawn, and of those with as many so many more.
-    least: u64,
-    equals: u64,
-}
-
-/// Puts a number into its place among the largest, which fall.
-fn note(largest: &mut [u64; DRAWN], pages: u64) {
-    let mut moved = pages;
-    for place in 0..DRAWN {
-        let other = largest[place];
-        if moved > other {
-            largest[place] = moved;
-            moved = other;
-        }
-    }
-}
-
-/// How many of the largest are as large as this.
-fn count_of(largest: &[u64; DRAWN], pages: u64) -> u64 {
-    let mut count = 0u64;
-    for place in 0..DRAWN {
-        if largest[place] == pages {
-            count = count.saturating_add(1);
-        }
-    }
-    count
-}
-
-/// The sum of the largest, and the least of them that isn't 0.
-fn sum_of(largest: &[u64; DRAWN]) -> (u64, u64) {
-    let mut sum = 0u64;
-    let mut least = largest[0];
-    for place in 0..DRAWN {
-        let pages = largest[place];
-        sum = sum.saturating_add(pages);
-        if pages > 0 {
-            least = pages;
-        }
-    }
-    (sum, least)
-}
-
-/// The pages of a space's ranges, and those of the largest ones.
-fn largest_of(space: &Space) -> (u64, [u64; DRAWN]) {
-    let mut largest = [0u64; DRAWN];
-    let mut all = 0u64;
-    for range in space.range_iter() {
-        all = all.saturating_add(range.pages);
-        note(&mut largest, range.pages);
-    }
-    (all, largest)
 }
 
 /// A logarithm of a number of pages, with 64 steps to each doubling, and 64 for one page.
@@ -92,18 +38,38 @@ pub(crate) fn share(length: u64, part: u64, whole: u64) -> u64 {
 }
 
 impl Scale {
-    /// The scale of a space's ranges. The bar of all ranges that aren't drawn counts as one more.
-    pub(crate) fn of(space: &Space) -> Scale {
-        let (all, largest) = largest_of(space);
-        let (sum, least) = sum_of(&largest);
-        let rest = all.saturating_sub(sum);
-        let most = largest[0].max(rest);
+    /// The scale of no bars.
+    pub(crate) fn none() -> Scale {
+        Scale {
+            most: 0,
+            is_log: false,
+        }
+    }
+
+    /// The scale of bars with this many pages.
+    fn between(least: u64, most: u64) -> Scale {
         Scale {
             most,
             is_log: most > least.saturating_mul(TIMES),
-            least: largest[DRAWN - 1],
-            equals: count_of(&largest, largest[DRAWN - 1]),
         }
+    }
+
+    /// The scale of ranges of these sizes, of which the largest have a bar each, and the others one
+    /// for all.
+    pub(crate) fn of(sizes: &[u64], largest: Largest) -> Scale {
+        let mut largest = largest;
+        let mut most = 0u64;
+        let mut least = u64::MAX;
+        let mut rest = 0u64;
+        for size in sizes {
+            if largest.takes(*size) {
+                most = most.max(*size);
+                least = least.min(*size);
+            } else {
+                rest = rest.saturating_add(*size);
+            }
+        }
+        Scale::between(least, most.max(rest))
     }
 
     /// The scale of spans, of which all may be drawn.
@@ -114,11 +80,7 @@ impl Scale {
             most = most.max(span.pages);
             least = least.min(span.pages);
         }
-        Scale {
-            most,
-            is_log: most > least.saturating_mul(TIMES),
-            ..Scale::none()
-        }
+        Scale::between(least, most)
     }
 
     /// Writes how long bars are.
@@ -132,27 +94,11 @@ impl Scale {
         text.put(b"</text>\n");
     }
 
-    /// The scale of no ranges.
-    pub(crate) fn none() -> Scale {
-        Scale {
-            most: 0,
-            is_log: false,
-            least: 0,
-            equals: 0,
-        }
-    }
-
-    /// Whether the next range, with this many pages, is drawn.
-    pub(crate) fn takes(&mut self, pages: u64) -> bool {
-        if pages == self.least && self.equals > 0 {
-            self.equals -= 1;
-            return true;
-        }
-        pages > self.least
-    }
-
-    /// The pixels of a bar with this many pages, at least one.
+    /// The pixels of a bar: none without pages, else at least one.
     pub(crate) fn width(&self, pages: u64) -> u64 {
+        if pages == 0 {
+            return 0;
+        }
         if self.is_log {
             return share(LONGEST, level(pages), level(self.most)).max(1);
         }

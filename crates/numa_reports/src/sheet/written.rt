@@ -81,6 +81,16 @@ impl Written {
         self.put_address(end);
     }
 
+    /// Writes a number of pages in words.
+    pub fn put_pages(&mut self, pages: u64) {
+        self.put_number(pages);
+        self.put(if pages == 1 {
+            b" page".as_slice()
+        } else {
+            b" pages"
+        });
+    }
+
     /// Writes a format in which each `$` stands for the next of the numbers.
     pub fn put_form(&mut self, form: &[u8], numbers: &[u64]) {
         let mut rest = numbers;
@@ -104,6 +114,11 @@ impl Written {
             Ok(text) => self.put(text.as_slice()),
             Err(_) => self.lack(),
         }
+    }
+
+    /// The number of bytes written so far.
+    pub(crate) fn len(&self) -> usize {
+        self.text.len()
     }
 
     /// Whether there was memory for all of it.

@@ -1,9 +1,9 @@
 //! Subcommands that ask about pages that a task would touch.
 use crate::endings::{StandardError, answered, fail};
-use crate::progress::with_progress;
+use crate::progress::{PacedPages, with_progress};
 use numa_command_line::{Outlet, PageQuestion};
 use numa_lines::RunFault;
-use numa_reports::Touch;
+use numa_reports::{Touch, Watch};
 use numa_words::{AskedPages, Scripts, diff, explain, predict};
 use std::io;
 use std::io::Read;
@@ -11,7 +11,7 @@ use std::process::ExitCode;
 use std::rt::{Clock, Files};
 
 /// Answers a question about the state that scripts lead to. With `tells`, standard error shows how
-/// far reading is.
+/// far reading and counting are.
 pub fn answer<R, S>(
     rt: &R,
     scripts: Scripts<S>,
@@ -26,7 +26,14 @@ where
 {
     let Scripts { texts, rules } = scripts;
     match with_progress(rt, texts, tells) {
-        Ok(texts) => answer_all(rt, Scripts { texts, rules }, asked, question, lenient),
+        Ok(texts) => answer_all(
+            rt,
+            Scripts { texts, rules },
+            asked,
+            question,
+            lenient,
+            tells,
+        ),
         Err(_) => fail(rt, RunFault::Memory),
     }
 }
@@ -38,21 +45,43 @@ fn answer_all<R, S>(
     asked: Touch,
     question: &PageQuestion,
     lenient: bool,
+    tells: bool,
 ) -> ExitCode
 where
-    R: Print + Eprint + AllocGlobal,
+    R: Clock + Print + Eprint + AllocGlobal,
     S: Read + Drop,
 {
     let alloc = rt.alloc();
     let outlet = Outlet::new();
     let mut output = outlet.writer(io::writer(rt));
     let told = StandardError { rt };
+    let mut watch = PacedPages::new(rt, tells);
     let answer = match question {
         PageQuestion::Predict { format, free } => {
-            predict(alloc, scripts, asked, *format, free, &mut output, told)
+            let watch = &mut watch;
+            predict(
+                alloc,
+                scripts,
+                asked,
+                *format,
+                free,
+                &mut output,
+                told,
+                watch,
+            )
         }
         PageQuestion::Diff { lines, format } => {
-            diff(alloc, scripts, lines, asked, *format, &mut output, told)
+            let watch = &mut watch;
+            diff(
+                alloc,
+                scripts,
+                lines,
+                asked,
+                *format,
+                &mut output,
+                told,
+                watch,
+            )
         }
         PageQuestion::Explain {
             page,
@@ -67,5 +96,6 @@ where
         }
     };
     drop(output);
+    watch.end();
     answered(rt, asked, answer, lenient, &outlet)
 }

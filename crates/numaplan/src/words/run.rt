@@ -1,11 +1,12 @@
 //! Answers scripts.
 use crate::answering::Answering;
 use crate::endings::fail;
+use numa_answers::Answers;
 use numa_command_line::without_names;
 use numa_lines::{Echo, Joined, Lines, RunFault, Watched, read_all};
 use numa_reports::Format;
 use numa_run::run_by;
-use numa_words::{Answers, Scripts};
+use numa_words::Scripts;
 use std::io;
 use std::io::Read;
 use std::process::ExitCode;

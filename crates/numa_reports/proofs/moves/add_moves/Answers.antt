@@ -8,7 +8,7 @@ use Rattle.numa_reports.proofs.Refusing.{both-part, far-refused}
 use Rattle.numa_reports.proofs.moves.add_moves.Goals as goal
 
 pub loop-page-init : goal.loop-page-init
-loop-page-init c = record {
+loop-page-init g c = record {
   low = omega arith;
   high = omega arith;
   counted = λ from to f t.
@@ -24,7 +24,7 @@ loop-page-init c = record {
 }
 
 pub add_block-requires-clause-room : goal.add_block-requires-clause-room
-add_block-requires-clause-room c = record {
+add_block-requires-clause-room g c = record {
   entries = c.loop-page.invariant.entries;
   room = λ from to f t.
       let test : ℕ → Bool =
@@ -42,7 +42,7 @@ add_block-requires-clause-room c = record {
 }
 
 pub loop-page-preserved : goal.loop-page-preserved
-loop-page-preserved c = record {
+loop-page-preserved g c = record {
   low = omega (arith, c.loop-page.invariant.low);
   high = omega (arith, c.min-part.ensures);
   counted = λ from to f t.
@@ -63,7 +63,7 @@ loop-page-preserved c = record {
 }
 
 pub returns-clause-ok : goal.returns-clause-ok
-returns-clause-ok c machine old new was is lt from to f t =
+returns-clause-ok g c machine old new was is lt from to f t =
     let test : ℕ → Bool =
     λ page.
     is_number from (planned_first c.args.before.now c.args.touch.task page c.args.touch.cpu)
@@ -79,12 +79,12 @@ returns-clause-ok c machine old new was is lt from to f t =
     )
 
 pub returns-in_default-clause-err : goal.returns-in_default-clause-err
-returns-in_default-clause-err c =
+returns-in_default-clause-err g c =
     inl (far-refused c.args.before.now c.args.span.first c.args.span.pages c.args.touch.cpu
     c.run_count.ensures.apart c.requires.known (omega arith) (omega (arith, c.in_default.ensures)))
 
 pub returns-in_err-add_block-clause-err : goal.returns-in_err-add_block-clause-err
-returns-in_err-add_block-clause-err c =
+returns-in_err-add_block-clause-err g c =
     let exit = err_from_is_err_and c.from_residual.result c.from_residual.ensures.1 in
     rw (exit.1, exit.2)
     (both-part c.args.before.now c.args.after.now c.args.span.first c.args.span.pages
@@ -93,7 +93,7 @@ returns-in_err-add_block-clause-err c =
     c.in_err-add_block.ensures.err)
 
 pub returns-clause-left : goal.returns-clause-left
-returns-clause-left c left has few = record {
+returns-clause-left g c left has few = record {
   entries = c.loop-page.invariant.entries;
   room = λ from to f t.
       let test : ℕ → Bool =

@@ -3,7 +3,7 @@ use Rattle.numa_reports.specs.Moved.{AddsMoves, planned_moves}
 use Rattle.numa_reports.proofs.moves.add_moves.Given as goal
 
 abbrev pub invariant-loop-page : goal.invariant-loop-page
-invariant-loop-page l = record {
+invariant-loop-page g l = record {
   low : l.first ≤ l.page;
   high : l.page ≤ l.end;
   counted : AddsMoves l.fn.table.items l.table.items
@@ -12,4 +12,4 @@ invariant-loop-page l = record {
 }
 
 abbrev pub decreases-loop-page : goal.decreases-loop-page
-decreases-loop-page l = l.end - l.page
+decreases-loop-page g l = l.end - l.page

@@ -5,7 +5,7 @@ use Rattle.numa_reports.proofs.Refusing.{both-meant}
 use Rattle.numa_reports.proofs.sheet.changes.count_span.Goals as goal
 
 pub returns-in_err-add_moves-clause-err : goal.returns-in_err-add_moves-clause-err
-returns-in_err-add_moves-clause-err c machine old new was is =
+returns-in_err-add_moves-clause-err g c machine old new was is =
     let exit = err_from_is_err_and c.from_residual.result c.from_residual.ensures.1 in
     rw (exit.1, exit.2)
     (both-meant machine c.args.before.now c.args.after.now old new c.args.span.first
@@ -13,7 +13,7 @@ returns-in_err-add_moves-clause-err c machine old new was is =
     c.in_err-add_moves.ensures.err)
 
 pub returns-clause-room : goal.returns-clause-room
-returns-clause-room c =
+returns-clause-room g c =
     let few : c.args.span.pages ≤ c.args.difference.now.left = omega (arith, c.in-Some.ensures) in
     let same : c.args.difference.now.left - c.args.span.pages ≡ c.in-Some.left =
     omega (arith, c.in-Some.ensures) in

@@ -6,7 +6,7 @@ use Rattle.numa_reports.proofs.Refusing.{common-mapped, moves-fail, shown-common
 use Rattle.numa_reports.proofs.sheet.changes.difference_text.Goals as goal
 
 pub returns-in_err-push_span-clause-err : goal.returns-in_err-push_span-clause-err
-returns-in_err-push_span-clause-err c machine old new same was is =
+returns-in_err-push_span-clause-err g c machine old new same was is =
     let items = c.deref-span-items.result.now in
     let d : PageSpan = record { first = 0; pages = 0 } in
     let span = get_or items c.loop-span.span-index d in
@@ -17,8 +17,8 @@ returns-in_err-push_span-clause-err c machine old new same was is =
     let exit = err_from_is_err_and c.from_residual-in_err-push_span.result
     c.from_residual-in_err-push_span.ensures.1 in
     rw (exit.1, exit.2)
-    (subst (λ (nodes : ℕ). MayFail nodes c.args.cpu c.in_err-push_span.field-0.0) (sym same)
-    (moves-fail machine old new span.first span.pages c.args.cpu c.in_err-push_span.field-0.0
+    (subst (λ (nodes : ℕ). MayFail nodes c.args.touch.cpu c.in_err-push_span.field-0.0) (sym same)
+    (moves-fail machine old new span.first span.pages c.args.touch.cpu c.in_err-push_span.field-0.0
     (λ page low high. common-mapped machine old new c.args.before.now c.args.after.now items
     c.loop-span.span-index d page was is common c.loop-span-test.true low high)
     (c.in_err-push_span.ensures.err machine old new was.plan is.plan)))

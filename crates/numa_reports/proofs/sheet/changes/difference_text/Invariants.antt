@@ -2,4 +2,4 @@ use Rattle.numa_reports.specs.Moved.{HasRoomFor}
 use Rattle.numa_reports.proofs.sheet.changes.difference_text.Given as goal
 
 abbrev pub invariant-loop-span : goal.invariant-loop-span
-invariant-loop-span l = HasRoomFor l.difference.total.items l.difference.left
+invariant-loop-span g l = HasRoomFor l.difference.total.items l.difference.left

@@ -3,4 +3,4 @@ use Rattle.std.proofs.lemmas.Bool.Decides.{nat_tests}
 use Rattle.numa_reports.proofs.sheet.parts.filling_text.Goals as goal
 
 pub write_all-text-requires : goal.write_all-text-requires
-write_all-text-requires c = record { known = grind (arith, nat_tests) }
+write_all-text-requires g c = record { known = grind (arith, nat_tests) }

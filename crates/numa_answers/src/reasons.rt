@@ -1,10 +1,8 @@
 //! Why a page goes where it goes, as text or JSON.
-use crate::halt::Halt;
-use numa_lines::RunFault;
-use numa_reports::{Format, Items, Object, Touch};
-use numa_rules::{Explanation, ReasonError, TakeField, give_fields, say_explanation};
-use numa_space::{PlaceRefusal, Space};
-use std::alloc::Global;
+use numa_reports::{Format, Items, Object};
+use numa_rules::{Explanation, TakeField, give_fields, say_explanation};
+use numa_space::Space;
+use std::alloc::{AllocError, Global};
 use std::mem::replace;
 
 /// An object that takes the fields of an explanation.
@@ -33,7 +31,7 @@ impl TakeField for Fields {
 }
 
 /// Adds the fields of an explanation, and the lines of a text that says it.
-pub(crate) fn put_fields(alloc: Global, object: &mut Object, said: &Explanation, text: &[u8]) {
+pub fn put_fields(alloc: Global, object: &mut Object, said: &Explanation, text: &[u8]) {
     let whole = replace(object, Object::new(alloc));
     let mut fields = Fields {
         alloc,
@@ -46,46 +44,31 @@ pub(crate) fn put_fields(alloc: Global, object: &mut Object, said: &Explanation,
     *object = fields.object;
 }
 
-/// Why a page of a space would go where it goes.
+/// The lines of an explanation.
 ///
 /// # Errors
-/// `NoNode`: the machine lacks the faulting node. `Unmapped`: the page isn't mapped. `Stopped`: out
-/// of memory.
-pub(crate) fn explanation_of(
-    alloc: Global,
-    space: &Space,
-    asked: Touch,
-    page: u64,
-) -> Result<Explanation, Halt> {
-    match numa_rules::explain(alloc, space, asked.task, page, asked.cpu) {
-        Ok(said) => Ok(said),
-        Err(ReasonError::NoMemory) => Err(Halt::Stopped(RunFault::Memory)),
-        Err(ReasonError::Refused(PlaceRefusal::Unmapped)) => Err(Halt::Unmapped),
-        Err(ReasonError::Refused(PlaceRefusal::BadCpu)) => {
-            Err(Halt::NoNode(space.machine().nodes()))
-        }
-    }
-}
-
-/// The lines of an explanation.
-pub(crate) fn text_of(alloc: Global, space: &Space, said: &Explanation) -> Result<Vec<u8>, Halt> {
+/// `AllocError`: out of memory.
+pub fn text_of(alloc: Global, space: &Space, said: &Explanation) -> Result<Vec<u8>, AllocError> {
     let mut text = Vec::new(alloc);
     match say_explanation(&mut text, space.machine(), said) {
         Ok(()) => Ok(text),
-        Err(_) => {
+        Err(fault) => {
             drop(text);
-            Err(Halt::Stopped(RunFault::Memory))
+            Err(fault)
         }
     }
 }
 
 /// An explanation as text, or as an object with the lines of the text.
-pub(crate) fn shown(
+///
+/// # Errors
+/// `AllocError`: out of memory.
+pub fn shown(
     alloc: Global,
     said: &Explanation,
     text: Vec<u8>,
     format: Format,
-) -> Result<Vec<u8>, Halt> {
+) -> Result<Vec<u8>, AllocError> {
     let Format::Json = format else {
         return Ok(text);
     };
@@ -96,6 +79,6 @@ pub(crate) fn shown(
     line.clear();
     match object.say_line(&mut line) {
         Ok(()) => Ok(line),
-        Err(_) => Err(Halt::Stopped(RunFault::Memory)),
+        Err(fault) => Err(fault),
     }
 }

@@ -1,47 +1,14 @@
-//! The page that shows an answer in a browser: what stands before its data, and its script.
+//! The page that shows an answer in a browser: the script behind its data.
 
-/// The part of the page before its data.
-static HEAD: &str = "\
-<!DOCTYPE html>
-<html lang='en'>
-<head>
-<meta charset='utf-8'>
-<title>numaplan</title>
-<style>
-body { font: 14px sans-serif; margin: 1em 2em; color: #111; background: #fff; }
-h2 { margin: 1em 0 0.3em; font-size: 16px; }
-table { border-collapse: collapse; font-family: monospace; }
-td, th { padding: 2px 10px; text-align: left; border-bottom: 1px solid #ddd; }
-td.number { text-align: right; }
-th { cursor: pointer; background: #eee; position: sticky; top: 0; }
-tbody tr { cursor: pointer; }
-tbody tr:hover, tr.chosen { background: #eef4ff; }
-.strip { display: flex; height: 34px; margin: 2px 0; border: 1px solid #333; max-width: 1200px; }
-.cell { flex: 1; overflow: hidden; text-align: center; line-height: 34px; font: 11px/34px monospace;
-  border-right: 1px solid #fff; cursor: pointer; min-width: 0; }
-.moved { outline: 3px solid #000; outline-offset: -3px; }
-.bar { display: inline-block; height: 12px; border: 1px solid #333; }
-.mark { display: inline-block; min-width: 20px; text-align: center; border: 1px solid #333; }
-pre { background: #f6f6f6; padding: 8px; max-width: 1184px; white-space: pre-wrap; }
-@media print { button, input { display: none; } th { position: static; } }
-</style>
-</head>
-<body>
-<h1>numaplan</h1>
-<p id='said'></p>
-<div id='page'></div>
-<script type='application/json' id='data'>
-";
-
-/// The part behind it: the script, which needs no network.
+/// The part behind the data: the script, which needs no network.
 static SCRIPT: &str = "
 </script>
 <script>
 'use strict';
 const data = JSON.parse(document.getElementById('data').textContent);
 const page = document.getElementById('page');
-const FILLS = ['#d4d4ff', '#802a00', '#2a2a80', '#00ff80', '#ff00ff', '#805555', '#8080aa', '#2aaa00',
-  '#aaff00', '#002aff', '#ffd4d4', '#d48080', '#5500aa', '#8055aa', '#ff80ff', '#552a2a'];
+const FILLS = ['#d4d4ff', '#802a00', '#2a2a80', '#00ff80', '#ff00ff', '#805555', '#8080aa',
+  '#2aaa00', '#aaff00', '#002aff', '#ffd4d4', '#d48080', '#5500aa', '#8055aa', '#ff80ff', '#552a2a'];
 const DARK = [0, 1, 1, 0, 0, 1, 0, 0, 0, 1, 0, 0, 1, 1, 0, 1];
 const CELLS = 64;
 
@@ -55,6 +22,7 @@ function make(name, parent, text, kind) {
 const hex = (number) => '0x' + number.toString(16);
 const fill = (node) => FILLS[node % 16];
 const ink = (node) => (DARK[node % 16] ? '#fff' : '#000');
+const pagesText = (pages) => pages + (pages === 1 ? ' page' : ' pages');
 const nodesText = (nodes, what) => nodes.map((it) => 'N' + it.node + '=' + it[what]).join(' ');
 
 function paint(made, node) {
@@ -87,8 +55,8 @@ function table(title, heads, rows, chosen) {
       const line = make('tr', body);
       for (const it of row.cells) {
         const cell = make('td', line, shown(it), typeof it === 'number' ? 'number' : '');
-        if (it && it.bar !== undefined) {
-          cell.textContent = '';
+        if (it && it.bar !== undefined) cell.textContent = '';
+        if (it && it.bar > 0) {
           const bar = make('span', cell, undefined, 'bar');
           bar.style.width = it.bar + 'px';
           paint(bar, it.node);
@@ -119,11 +87,20 @@ function table(title, heads, rows, chosen) {
 
 // ---- pages
 
-function viewOf(prediction, stretches, cycles) {
-  const view = { ranges: prediction.ranges, at: new Map(), words: new Map(), prediction };
-  for (const it of cycles) view.at.set(it.start, it);
-  for (const it of stretches.stretches) if (it.mapped) view.words.set(it.start, it);
+// Where pages go by the rules, cycle by cycle.
+function viewOf(state) {
+  const { prediction, stretches, cycles } = state;
+  const { ranges, others } = prediction;
+  const view = { ranges, others, words: new Map(), prediction };
+  const at = new Map(cycles.map((it) => [it.start, it]));
+  for (const it of stretches) view.words.set(it.start, it);
+  view.node = (range, address) => nodeInCycle(at.get(range.start), (address - range.start) / 4096);
   return view;
+}
+
+// Where pages lie, run by run.
+function placedView(view, runs) {
+  return { ...view, lies: true, node: (range, address) => nodeInRuns(runs, address / 4096) };
 }
 
 // The range of a page's address, by halving.
@@ -138,17 +115,33 @@ function rangeOf(view, address) {
   return range && range.start <= address ? range : undefined;
 }
 
-// The node of a page; undefined where it isn't mapped, or the answer doesn't tell.
-function nodeOf(view, address) {
-  const range = rangeOf(view, address);
-  const cycle = range && view.at.get(range.start);
+// The node of a place in a cycle; undefined where there is none.
+function nodeInCycle(cycle, index) {
   if (!cycle) return undefined;
-  let place = ((address - range.start) / 4096) % cycle.pages;
+  let place = index % cycle.pages;
   for (const [node, count] of cycle.cycle) {
     if (place < count) return node;
     place -= count;
   }
   return undefined;
+}
+
+// The node on which a page lies, by halving; undefined where it lies nowhere.
+function nodeInRuns(runs, page) {
+  let [low, high] = [0, runs.length];
+  while (low < high) {
+    const middle = (low + high) >> 1;
+    if (runs[middle][0] + runs[middle][1] <= page) low = middle + 1;
+    else high = middle;
+  }
+  const run = runs[low];
+  return run && run[0] <= page ? run[2] : undefined;
+}
+
+// The node of a page; undefined where it isn't mapped, or the answer doesn't tell.
+function nodeOf(view, address) {
+  const range = rangeOf(view, address);
+  return range && view.node(range, address);
 }
 
 // The nodes of pages, each with its share: of many pages those of at most 256 of them.
@@ -181,7 +174,8 @@ function strips(views, start, end, trail) {
   told.strips.textContent = '';
   told.words.textContent = '';
   const pages = (end - start) / 4096;
-  const line = make('p', told.strips, hex(start) + ' to ' + hex(end) + ', ' + pages + ' pages ');
+  const whole = hex(start) + ' to ' + hex(end) + ', ' + pagesText(pages) + ' ';
+  const line = make('p', told.strips, whole);
   if (trail.length) {
     make('button', line, 'back').onclick = () => {
       const [a, b] = trail[trail.length - 1];
@@ -219,34 +213,40 @@ function cellOf(views, view, strip, from, behind, whole, trail) {
   }
   if (isMoved(views, from, behind)) cell.classList.add('moved');
   const names = [...shares.keys()].map((it) => (it === undefined ? 'none' : it)).join(', ');
-  cell.title = hex(from) + (pages > 1 ? ', ' + pages + ' pages' : '') + ': node ' + names;
+  cell.title = hex(from) + (pages > 1 ? ', ' + pagesText(pages) : '') + ': node ' + names;
   cell.onclick = () => {
     if (pages > 1) strips(views, from, behind, [...trail, whole]);
     else explain(views, from);
   };
 }
 
-// What is known of a page, in words.
+// What is known of a page in a view, in words.
+function explained(view, address) {
+  const range = rangeOf(view, address);
+  if (!range) {
+    const hidden = view.others ? ', or in none of the ranges that are shown' : '';
+    return ['page ' + hex(address) + ' is not mapped' + hidden];
+  }
+  const said = view.words.get(range.start);
+  const node = nodeOf(view, address);
+  const index = said ? ', index ' + (said.index + (address - said.start) / 4096) : '';
+  const where = node === undefined ? (view.lies ? 'on no node' : 'node ?') : 'node ' + node;
+  const line = 'page ' + hex(address) + index + ': ' + where;
+  return view.lies || !said ? [line] : [line, ...said.words];
+}
+
 function explain(views, address) {
   const lines = [];
   for (const [name, view] of views) {
-    const range = rangeOf(view, address);
-    const said = range && view.words.get(range.start);
-    const node = nodeOf(view, address);
     if (views.length > 1) lines.push(name + ':');
-    if (!range) {
-      lines.push('page ' + hex(address) + ' is not mapped');
-      continue;
-    }
-    const index = said ? ', index ' + (said.index + (address - said.start) / 4096) : '';
-    lines.push('page ' + hex(address) + index + ': node ' + (node === undefined ? '?' : node));
-    if (said) lines.push(...said.words);
+    lines.push(...explained(view, address));
   }
   told.words.textContent = lines.join('\\n');
 }
 
-function rangeRows(view) {
-  return view.ranges.map((it) => ({
+// The table of a view's ranges, and what the others have.
+function rangesPart(title, view, views) {
+  const rows = view.ranges.map((it) => ({
     value: it,
     cells: [
       { key: it.start, text: hex(it.start) },
@@ -256,6 +256,14 @@ function rangeRows(view) {
       nodesText(it.nodes, 'pages'),
     ],
   }));
+  table(title, ['start', 'end', 'pages', 'policy', 'nodes'], rows, (it) => {
+    strips(views, it.start, it.end, []);
+  });
+  const rest = view.others;
+  if (rest) {
+    make('p', page, 'These are the largest. Others: ' + rest.ranges + ', with '
+      + pagesText(rest.anon) + ', ' + nodesText(rest.nodes, 'pages'), 'others');
+  }
 }
 
 function totals(title, prediction) {
@@ -293,25 +301,20 @@ function say(text) {
 }
 
 function prediction() {
-  const it = data.before;
-  const view = viewOf(it.prediction, it.stretches, it.cycles);
-  const { task, cpu, version, total } = it.prediction;
+  const view = viewOf(data.before);
+  const { task, cpu, version, total, left } = view.prediction;
+  const exhausted = total.exhausted ? ', ' + total.exhausted + ' exhausted' : '';
   say('Where pages would go that task ' + task + ' touched on node ' + cpu + ' (version ' + version
-    + '): ' + total.anon + ' pages' + (total.exhausted ? ', ' + total.exhausted + ' exhausted' : ''));
-  totals('Totals', it.prediction);
-  if (it.prediction.left) {
-    table('Left', ['node', 'pages'], it.prediction.left.map((l) => ({ cells: [l.node, l.pages] })));
-  }
-  table('Ranges', ['start', 'end', 'pages', 'policy', 'nodes'], rangeRows(view), (range) => {
-    strips([['now', view]], range.start, range.end, []);
-  });
+    + '): ' + pagesText(total.anon) + exhausted);
+  totals('Totals', view.prediction);
+  if (left) table('Left', ['node', 'pages'], left.map((it) => ({ cells: [it.node, it.pages] })));
+  rangesPart('Ranges', view, [['now', view]]);
   pagesPart([['now', view]]);
 }
 
 function difference() {
-  const { spans, total, task, cpu } = data.difference;
-  const before = viewOf(data.before.prediction, data.before.stretches, data.before.cycles);
-  const after = viewOf(data.after.prediction, data.after.stretches, data.after.cycles);
+  const { spans, total, task, cpu, others } = data.difference;
+  const [before, after] = [viewOf(data.before), viewOf(data.after)];
   const views = [['before', before], ['after', after]];
   const moves = (list) => list.map((m) => 'N' + m.from + '->N' + m.to + '=' + m.pages).join(' ');
   say('Pages that would go elsewhere if task ' + task + ' touched them on node ' + cpu + ': '
@@ -332,9 +335,11 @@ function difference() {
     })),
     (it) => strips(views, it.start, it.end, []),
   );
-  table('Ranges after', ['start', 'end', 'pages', 'policy', 'nodes'], rangeRows(after), (it) => {
-    strips(views, it.start, it.end, []);
-  });
+  if (others) {
+    make('p', page, 'These are the largest. Others: ' + others.spans + ', with '
+      + pagesText(others.moved) + ' that move', 'others');
+  }
+  rangesPart('Ranges after', after, views);
   pagesPart(views);
 }
 
@@ -361,6 +366,16 @@ function replay() {
         it.unserved],
     })),
   );
+  const before = viewOf(data.before);
+  const { task, cpu } = before.prediction;
+  const views = [['by the rules, for task ' + task + ' on node ' + cpu, before],
+    ['after the trace', placedView(before, data.placed.runs)]];
+  rangesPart('Ranges', before, views);
+  if (data.placed.others) {
+    const pages = pagesText(data.placed.others);
+    make('p', page, 'Of ' + pages + ' it is not told where they lie', 'others');
+  }
+  pagesPart(views);
 }
 
 if (data.kind === 'prediction') prediction();
@@ -371,11 +386,6 @@ document.body.dataset.ready = 'yes';
 </body>
 </html>
 ";
-
-/// The part of the page before its data.
-pub(crate) fn head() -> &'static str {
-    HEAD
-}
 
 /// The part of the page behind its data.
 pub(crate) fn script() -> &'static str {

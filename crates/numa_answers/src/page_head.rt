@@ -1,0 +1,39 @@
+//! The page that shows an answer in a browser: what stands before its data.
+
+/// The part of the page before its data.
+static HEAD: &str = "\
+<!DOCTYPE html>
+<html lang='en'>
+<head>
+<meta charset='utf-8'>
+<title>numaplan</title>
+<style>
+body { font: 14px sans-serif; margin: 1em 2em; color: #111; background: #fff; }
+h2 { margin: 1em 0 0.3em; font-size: 16px; }
+table { border-collapse: collapse; font-family: monospace; }
+td, th { padding: 2px 10px; text-align: left; border-bottom: 1px solid #ddd; }
+td.number { text-align: right; }
+th { cursor: pointer; background: #eee; position: sticky; top: 0; }
+tbody tr { cursor: pointer; }
+tbody tr:hover, tr.chosen { background: #eef4ff; }
+.strip { display: flex; height: 34px; margin: 2px 0; border: 1px solid #333; max-width: 1200px; }
+.cell { flex: 1; overflow: hidden; text-align: center; line-height: 34px; font: 11px/34px monospace;
+  border-right: 1px solid #fff; cursor: pointer; min-width: 0; }
+.moved { outline: 3px solid #000; outline-offset: -3px; }
+.bar { display: inline-block; height: 12px; border: 1px solid #333; }
+.mark { display: inline-block; min-width: 20px; text-align: center; border: 1px solid #333; }
+pre { background: #f6f6f6; padding: 8px; max-width: 1184px; white-space: pre-wrap; }
+@media print { button, input { display: none; } th { position: static; } }
+</style>
+</head>
+<body>
+<h1>numaplan</h1>
+<p id='said'></p>
+<div id='page'></div>
+<script type='application/json' id='data'>
+";
+
+/// The part of the page before its data.
+pub(crate) fn head() -> &'static str {
+    HEAD
+}
