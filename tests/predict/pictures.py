@@ -10,8 +10,8 @@ CELLS = 64
 CELL = 12
 NAMED = 8
 PAGE = re.compile(r"([0-9a-f]{8,}): node (\d+)")
-NODE = re.compile(r"node (\d+): (\d+) pages, (\d+) bytes")
-LACKING = re.compile(r"no free page: (\d+) pages")
+NODE = re.compile(r"node (\d+): (\d+) pages?, (\d+) bytes")
+LACKING = re.compile(r"no free page: (\d+) pages?")
 
 
 class Row:
@@ -22,6 +22,15 @@ class Row:
         self.start, self.end, self.policy = start, end, policy
         self.cells, self.counts, self.lacking = cells, dict(counts), lacking
         self.pages = (end - start) // 4096
+
+
+def said(count, what="page"):
+    return f"{count} {what}" + ("" if count == 1 else "s")
+
+
+def largest(rows, number):
+    """The numbers of the rows with the most pages, in their order; of equal ones the first."""
+    return sorted(sorted(range(len(rows)), key=lambda k: (-rows[k].pages, k))[:number])
 
 
 def counts_text(counts, lacking):
@@ -70,7 +79,8 @@ def bar_difference(row, parts):
     if told != row.counts or lacks != ([row.lacking] if row.lacking else []):
         return f"{told} and {lacks}, not {row.counts} and {row.lacking}"
     for (_, _, wide, number), it in zip(parts, nodes):
-        if it and (abs(wide - width * int(it[2]) / row.pages) > 1 or int(it[3]) != 4096 * int(it[2])
+        if it and (abs(wide - width * int(it[2]) / row.pages) > 1
+                   or it[0] != f"node {it[1]}: {said(int(it[2]))}, {4096 * int(it[2])} bytes"
                    or number != (it[1] if wide >= CELL else None)):
             return f"{wide} of {width} pixels for {it[0]}"
     return None
@@ -90,13 +100,13 @@ def length_difference(text, sizes, widths):
     return None
 
 
-def difference(text, rows, nodes, left=None):
+def difference(text, rows, nodes, left=None, number=DRAWN):
     """What is wrong with a picture of these rows on a machine of so many nodes, or None."""
     root = ElementTree.fromstring(text)
     groups = {kind: [it for it in root.findall(SVG + "g") if it.get("class") == kind]
               for kind in ("range", "rest", "total")}
-    order = sorted(range(len(rows)), key=lambda k: (-rows[k].pages, k))[:DRAWN]
-    drawn = [rows[k] for k in sorted(order)]
+    order = largest(rows, number)
+    drawn = [rows[k] for k in order]
     others = [row for k, row in enumerate(rows) if k not in order]
     if len(groups["range"]) != len(drawn) or len(groups["rest"]) != bool(others):
         return f"{len(groups['range'])} ranges are drawn, not {len(drawn)}"
@@ -115,7 +125,7 @@ def difference(text, rows, nodes, left=None):
     if others:
         counts = sum((Counter(row.counts) for row in others), Counter())
         lacking = sum(row.lacking for row in others)
-        line = (f"{len(others)} other ranges anon={sum(counts.values())}"
+        line = (f"{said(len(others), 'other range')} anon={sum(counts.values())}"
                 f"{counts_text(counts, lacking)}")
         if groups["rest"][0].find(SVG + "text").text != line:
             return f"{groups['rest'][0].find(SVG + 'text').text!r}, not {line!r}"
@@ -125,15 +135,47 @@ def difference(text, rows, nodes, left=None):
     return wrong or total_difference(root, groups["total"][0], rows, nodes, left or {})
 
 
+def moves_difference(picture, page, lines, number):
+    """What is wrong with a picture and the spans of a page of a difference, whose spans have these
+    lines as text and of which so many are shown, or None."""
+    moved = [int(re.search(r" moved=(\d+)", line)[1]) for line in lines]
+    order = sorted(sorted(range(len(lines)), key=lambda k: (-moved[k], k))[:number])
+    rest = [moved[k] for k in range(len(lines)) if k not in order]
+    root = ElementTree.fromstring(picture)
+    groups = [it for it in root.findall(SVG + "g") if it.get("class") == "span"]
+    told = [it.find(SVG + "text").text.split(" of ")[0] for it in groups]
+    if told != [" ".join(lines[k].split(" ")[:2]) for k in order]:
+        return f"spans {told} are drawn"
+    tops = [it.get("transform") for it in groups]
+    if tops != [f"translate(16,{60 + 60 * k})" for k in range(len(groups))]:
+        return f"spans are drawn at {tops}"
+    for k, group in zip(order, groups):
+        parts = [it.find(SVG + "title").text for it in group.findall(SVG + "g")]
+        want = re.findall(r" N(\d+)->N(\d+)=(\d+)", lines[k])
+        if any(f"node {a} to node {b}: {said(int(pages))}" not in parts for a, b, pages in want):
+            return f"{parts} of {lines[k]}"
+    behind = f", of them {sum(rest)} in {said(len(rest), 'span')} that " if rest else ""
+    behind += ("isn't drawn" if len(rest) == 1 else "aren't drawn") if rest else ""
+    total = root.find(f"{SVG}text[@class='total']").text
+    if total != f"total moved={sum(moved)}{behind}":
+        return f"{total!r} behind the spans"
+    starts = [f"{it['start']:08x}-{it['end']:08x} moved={it['moved']}" for it in page["spans"]]
+    if starts != told or page.get("others") != (
+            {"spans": len(rest), "moved": sum(rest)} if rest else None):
+        return f"page: {starts} and {page.get('others')}"
+    return None
+
+
 def total_difference(root, group, rows, nodes, left):
     """What is wrong with what each node gets, or None."""
     counts = sum((Counter(row.counts) for row in rows), Counter())
     lacking, anon = sum(row.lacking for row in rows), sum(counts.values())
     lacks = f" exhausted={lacking}" if lacking else ""
-    want = [f"total anon={anon} pages, {anon * 4096} bytes{lacks}"]
+    want = [f"total anon={said(anon)}, {anon * 4096} bytes{lacks}"]
     for node in range(nodes):
-        behind = f", {left[node]} pages left" if node in left else ""
-        want.append(f"N{node}={counts.get(node, 0)} pages, {counts.get(node, 0) * 4096} bytes{behind}")
+        behind = f", {said(left[node])} left" if node in left else ""
+        pages = counts.get(node, 0)
+        want.append(f"N{node}={said(pages)}, {pages * 4096} bytes{behind}")
     told = [it.text for it in group.findall(SVG + "text")]
     if told != want:
         return f"{told}, not {want}"
@@ -141,7 +183,12 @@ def total_difference(root, group, rows, nodes, left):
     if top + 24 + 20 * nodes > int(root.get("height")):
         return f"nodes end below {root.get('height')} pixels"
     most = max([1, *counts.values()])
-    for node, (_, _, width, number) in enumerate(parts_of(group)):
-        if number != str(node) or abs(width - 24 - 400 * counts.get(node, 0) / most) > 1:
-            return f"{width} pixels for {counts.get(node, 0)} pages of node {node}"
-    return None
+    marks = [(left, width, number) for _, left, width, number in parts_of(group)]
+    if marks != [(0, 24, str(node)) for node in range(nodes)]:
+        return f"nodes are marked {marks}"
+    bars = {int(it.get("y")): int(it.get("width")) for it in group.findall(SVG + "rect")}
+    for node in range(nodes):
+        pages, width = counts.get(node, 0), bars.pop(24 + 20 * node, 0)
+        if (width > 0) != (pages > 0) or abs(width - max(pages > 0, 400 * pages / most)) > 1:
+            return f"{width} pixels for {pages} pages of node {node}"
+    return f"bars at {bars}" if bars else None
