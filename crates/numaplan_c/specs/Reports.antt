@@ -17,8 +17,8 @@ format_of number =
     if number == 0 then Some format.Text
     else if number == 1 then Some format.Json
     else if number == 2 then Some format.Csv
-    else if number == 3 then Some format.Svg
-    else if number == 4 then Some format.Html
+    else if number == 3 then Some (format.Svg 40)
+    else if number == 4 then Some (format.Html 400)
     else None
 
 -- why a question about a script has no answer
