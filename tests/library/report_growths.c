@@ -1,0 +1,165 @@
+/* Each growth of a report refused in turn, through the library's three functions of memory: the call
+ * answers NP_NO_MEMORY and has changed nothing, or what it answers with memory, and no block is held.
+ * Not proved. */
+#include "numaplan_reports.h"
+
+#include <stdio.h>
+#include <stdlib.h>
+#include <string.h>
+
+struct tried {
+    bool ok;
+    void *at;
+};
+static long left = -1; /* how many growths are still let through; -1: all */
+static long blocks;    /* how many are held */
+static char nothing[16];
+
+static struct tried tried(void *at) {
+    struct tried got = {at != NULL, at ? at : nothing};
+    return got;
+}
+
+static bool refused(void) { return left >= 0 && left-- == 0; }
+
+struct tried rattle_alloc(size_t length, size_t align) {
+    void *at = refused() ? NULL : malloc(length ? length : align);
+    blocks += at != NULL;
+    return tried(at);
+}
+
+struct tried rattle_realloc(void *at, size_t kept, size_t length, size_t align) {
+    (void)kept;
+    return tried(refused() ? NULL : realloc(at, length ? length : align));
+}
+
+void rattle_dealloc(void *at) {
+    blocks--;
+    free(at);
+}
+
+#define TEXT(words) (const uint8_t *)(words), strlen(words)
+#define HOST "machine 4 0-3 2 flat\nlimits 64 64 64\nmap 0x10000 0x8000 0x10\nmbend 1\n" \
+    "mbind 0x10000 0x4000 weighted:0-2\nweight 1 3\ntask 1 interleave=static:0-3\nmap 1 1 1\n"
+#define LINES "mems 0-1\nmems 9\n# \xff"
+#define TRACE "# a trace\n1 0x10000 0\n2 0x10000 1 3\n1 0x17000 3\n"
+
+/* What a call is told to write into, and what it wrote. */
+static struct told {
+    uint8_t text[1 << 16];
+    np_report report;
+    np_counts counts;
+    np_explanation explanation;
+} told, wanted, before;
+
+static np_core core;
+static np_question asked = {1, 1, NP_RULES_DOCUMENT, NP_FORMAT_TEXT};
+static const np_free two[2] = {{3, 1}, {1, 0}};
+
+#define ROOM told.text, sizeof told.text, &told.report
+
+static uint32_t call(int which) {
+    switch (which) {
+    case 0: return np_check(TEXT(HOST LINES), &asked, ROOM);
+    case 1: return np_predict(TEXT(HOST), TEXT(LINES), &asked, two, 2, ROOM);
+    case 2: return np_diff(TEXT(HOST), TEXT(LINES), &asked, ROOM);
+    case 3: return np_explain(TEXT(HOST), TEXT(LINES), &asked, 0x11, ROOM);
+    case 4: return np_replay(TEXT(HOST), TEXT(LINES), TEXT(TRACE), &asked, ROOM);
+    case 5: return np_core_predict(&core, 1, 1, &told.counts);
+    case 6: return np_core_fill(&core, 1, 1, &told.counts);
+    case 7: return np_core_explain(&core, 1, 0x11, 1, &told.explanation);
+    default: return NP_UNKNOWN;
+    }
+}
+enum { CALLS = 8, WORDS = 5, FORMATS = 5 };
+
+/* A core whose plan isn't made yet. */
+static bool opens(void) {
+    static const uint32_t frames[4] = {2, 2, 2, 2};
+    uint8_t distances[16];
+    static const np_limits limits = {64, 8, 1000};
+    for (int k = 0; k < 16; k++)
+        distances[k] = k % 5 == 0 ? 10 : 20;
+    uint32_t codes = np_core_open(&core, TEXT("0-3"), frames, 4, distances, 16, &limits, 1);
+    codes |= np_core_map(&core, 0x10000, 0x8000, 0x10);
+    codes |= np_core_set_weight(&core, 1, 3);
+    codes |= np_core_mbind(&core, 0x10000, 0x4000, TEXT("weighted:0-2"));
+    codes |= np_core_set_task(&core, 1, TEXT("interleave=static:0-3"));
+    return codes == NP_OK;
+}
+
+/* Whether the core has its four commands, none of them published. */
+static bool stands(void) {
+    uint64_t accepted = 0, published = 1;
+    return np_core_versions(&core, &accepted, &published) == NP_OK && accepted == 4 && published == 0;
+}
+
+static void begin(void) {
+    memset(&told, 0, sizeof told);
+    told.counts.pages[0] = 5;
+    told.counts.pages[2] = 1;
+}
+
+/* Writes what was told anew, without what lies between the fields of structs. */
+static void tidy(void) {
+    static struct told clean;
+    memset(&clean, 0, sizeof clean);
+    memcpy(clean.text, told.text, sizeof clean.text);
+    clean.report = told.report;
+    clean.counts = told.counts;
+    clean.explanation.policy = told.explanation.policy;
+    clean.explanation.index = told.explanation.index;
+    clean.explanation.place = told.explanation.place;
+    clean.explanation.places = told.explanation.places;
+    clean.explanation.scope = told.explanation.scope;
+    clean.explanation.rule = told.explanation.rule;
+    clean.explanation.node = told.explanation.node;
+    memcpy(&told, &clean, sizeof told);
+}
+
+/* Makes a call of a script or of a new core with one growth refused; how many growths it let through
+ * before, or -1 where it came to none that was refused, -2 where something is wrong. */
+static long tries(int which, long growth) {
+    core = (np_core){0};
+    if (!opens())
+        return -2;
+    begin();
+    memcpy(&before, &told, sizeof told);
+    left = growth;
+    uint32_t code = call(which);
+    bool all = left >= 0;
+    left = -1;
+    tidy();
+    bool well = stands();
+    if (code == NP_NO_MEMORY)
+        well = well && !all && memcmp(&told, &before, sizeof told) == 0;
+    else
+        well = well && code == NP_OK && memcmp(&told, &wanted, sizeof told) == 0;
+    np_core_close(&core);
+    return !well || blocks != 0 ? -2 : all ? -1 : growth;
+}
+
+int main(void) {
+    long growths = 0;
+    for (int which = 0; which < CALLS; which++)
+        for (asked.format = 0; asked.format < (which < WORDS ? FORMATS : 1); asked.format++) {
+            if (!opens())
+                return 1;
+            begin();
+            uint32_t code = call(which);
+            tidy();
+            memcpy(&wanted, &told, sizeof told);
+            np_core_close(&core);
+                    long growth = 0, got = 0;
+            while (code == NP_OK && got >= 0)
+                got = tries(which, growth++);
+            if (code != NP_OK || got != -1) {
+                printf("call %d, format %u: %u, growth %ld: %ld, %ld blocks are held\n", which,
+                       asked.format, code, growth - 1, got, blocks);
+                return 1;
+            }
+            growths += growth - 1;
+        }
+    printf("%ld growths\n", growths);
+    return growths < 500;
+}
