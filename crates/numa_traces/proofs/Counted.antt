@@ -1,4 +1,4 @@
--- Ways that compare as equal are one, so that what is counted for one is counted for no other.
+-- Routes that compare as equal are one, so that what is counted for one is counted for no other.
 use Rattle.std.proofs.Common.{◌≡◌, ◌==◌, ℕ, Bool, true, Option, Some, None, List, refl, ap, ◌∙◌}
 use Rattle.std.proofs.Common.{inl, inr}
 use Rattle.std.specs.Prelude.{nat_lt, unwrap_or, if◌then◌else◌}
@@ -9,9 +9,10 @@ use Rattle.std.specs.Ordering.{nat_cmp, ordering_then, is_eq}
 use Rattle.std.specs.declared.cmp.Ordering.{Ordering}
 use Rattle.std.specs.declared.cmp.Ordering.TheVariants.{Less, Equal, Greater}
 use Rattle.std.proofs.lemmas.Bool.{cases_Bool, eqb-true}
-use Rattle.numa_traces.specs.Tallies.{Way, way_cmp, is_way, tally_at, with_accesses, no_accesses}
+use Rattle.numa_traces.specs.Tallies.{Route, route_cmp, is_route, tally_at, with_accesses}
+use Rattle.numa_traces.specs.Tallies.{no_accesses}
 use Rattle.numa_traces.specs.Tallies.{Counts}
-use Rattle.numa_traces.specs.declared.tallies.Tally.{Tally}
+use Rattle.numa_traces.specs.declared.tallies.AccessCounts.{AccessCounts}
 
 then-equal : (o p : Ordering) → is_eq (ordering_then o p) ≡ true → (is_eq o ≡ true)
     × (is_eq p ≡ true)
@@ -34,8 +35,8 @@ option-equal None (Some y) h = absurd (cc)
 option-equal (Some x) None h = absurd (cc)
 option-equal (Some x) (Some y) h = ap Some (nat-equal x y h)
 
-pub way-same : (a b : Way) → is_way a b ≡ true → a ≡ b
-way-same a b h =
+pub route-same : (a b : Route) → is_route a b ≡ true → a ≡ b
+route-same a b h =
     let last = then-equal (ordering_then (nat_cmp a.0 b.0) (nat_cmp a.1 b.1))
     (option_cmp nat_cmp a.2 b.2) h in
     let first = then-equal (nat_cmp a.0 b.0) (nat_cmp a.1 b.1) last.0 in
@@ -44,18 +45,20 @@ way-same a b h =
     let node : a.2 ≡ b.2 = option-equal a.2 b.2 last.1 in
     λ i. (task i, cpu i, node i)
 
--- one way's tally is written
-pub counted : (old new : List (Way × Tally)) (way : Way) (tally : Tally) (count : ℕ)
+-- one route's tally is written
+pub counted : (old new : List (Route × AccessCounts)) (route : Route) (tally : AccessCounts)
+    (count : ℕ)
     (is_fault : Bool)
-    → ((q : Way) → lookup (is_at (way_cmp q)) new
-    ≡ (if is_at (way_cmp way) q then Some tally else lookup (is_at (way_cmp q)) old))
-    → tally ≡ with_accesses (tally_at old way) count is_fault
-    → Counts old way count is_fault new
-counted old new way tally count is_fault written is other = elim (cases_Bool (is_way way other)) [
-  | inl t ↦
-      let here : tally_at new other ≡ tally =
-      ap (λ o. unwrap_or o no_accesses) (rw t at (written other)) in
-      let same : way ≡ other = way-same way other t in
-      rw t (here ∙ is ∙ ap (λ w. with_accesses (tally_at old w) count is_fault) same)
-  | inr f ↦ rw f (ap (λ o. unwrap_or o no_accesses) (rw f at (written other)))
-]
+    → ((q : Route) → lookup (is_at (route_cmp q)) new
+    ≡ (if is_at (route_cmp route) q then Some tally else lookup (is_at (route_cmp q)) old))
+    → tally ≡ with_accesses (tally_at old route) count is_fault
+    → Counts old route count is_fault new
+counted old new route tally count is_fault written is other =
+    elim (cases_Bool (is_route route other)) [
+      | inl t ↦
+          let here : tally_at new other ≡ tally =
+          ap (λ o. unwrap_or o no_accesses) (rw t at (written other)) in
+          let same : route ≡ other = route-same route other t in
+          rw t (here ∙ is ∙ ap (λ w. with_accesses (tally_at old w) count is_fault) same)
+      | inr f ↦ rw f (ap (λ o. unwrap_or o no_accesses) (rw f at (written other)))
+    ]

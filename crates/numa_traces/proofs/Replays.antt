@@ -10,8 +10,8 @@ use Rattle.numa_space.specs.declared.refusal.PlaceRefusal.{PlaceRefusal}
 use Rattle.numa_space.specs.declared.refusal.PlaceRefusal.TheVariants.{Unmapped}
 use Rattle.numa_traces.specs.Placing.{Frames, node_of, frames_with_page}
 use Rattle.numa_traces.specs.Replaying.{EndsReplay, Replayed, IsReplay, frames_after, is_first}
-use Rattle.numa_traces.specs.Replaying.{way_from}
-use Rattle.numa_traces.specs.Tallies.{Counts, IsFull, IsRoomFault, Way, is_way, with_accesses}
+use Rattle.numa_traces.specs.Replaying.{route_from}
+use Rattle.numa_traces.specs.Tallies.{Counts, IsFull, IsRoomFault, Route, is_route, with_accesses}
 use Rattle.numa_traces.specs.declared.access.Access.{Access}
 use Rattle.numa_traces.specs.declared.fault.ReplayError.{ReplayError}
 use Rattle.numa_traces.specs.declared.fault.ReplayError.TheVariants.{Malformed, Refused, TooMany}
@@ -32,38 +32,38 @@ none-refused plan task page cpu nodes lt planned = rw (lt-leb plan.nodes cpu lt)
     go f None e = absurd (let odd = e in cc)
     go f (Some at) e = refl
 
--- why accesses that go a way can't be counted
-pub room-ends : {A : Type 0} (plan : PlanData) (met : Replayed) (access : Access) (way : Way)
+-- why accesses that take a route can't be counted
+pub room-ends : {A : Type 0} (plan : PlanData) (met : Replayed) (access : Access) (route : Route)
     (first : Bool) (result : Result A ReplayError) → place_refusal plan access.page access.cpu
     ≡ None
-    → way_from plan met.frames access ≡ way → is_first met.frames access ≡ first
+    → route_from plan met.frames access ≡ route → is_first met.frames access ≡ first
     → IfErr result IsRoomFault
-    → IfErr result (λ why. why ≡ TooMany → IsFull met.tallies way access.count first)
+    → IfErr result (λ why. why ≡ TooMany → IsFull met.tallies route access.count first)
     → IfErr result (EndsReplay plan met access)
-room-ends plan met access way first (Ok a) none goes is room full = tt
-room-ends plan met access way first (Err TooMany) none goes is room full = (
+room-ends plan met access route first (Ok a) none goes is room full = tt
+room-ends plan met access route first (Err TooMany) none goes is room full = (
   none,
-  subst (λ (w : Way). IsFull met.tallies w access.count (is_first met.frames access))
-      (sym goes) (subst (λ (b : Bool). IsFull met.tallies way access.count b) (sym is)
+  subst (λ (w : Route). IsFull met.tallies w access.count (is_first met.frames access))
+      (sym goes) (subst (λ (b : Bool). IsFull met.tallies route access.count b) (sym is)
       (full refl)),
 )
-room-ends plan met access way first (Err NoMemory) none goes is room full = none
-room-ends plan met access way first (Err (Refused r)) none goes is room full = absurd room
-room-ends plan met access way first (Err (Malformed f)) none goes is room full = absurd room
+room-ends plan met access route first (Err NoMemory) none goes is room full = none
+room-ends plan met access route first (Err (Refused r)) none goes is room full = absurd room
+room-ends plan met access route first (Err (Malformed f)) none goes is room full = absurd room
 
--- the way of an access whose page is placed already
-pub placed-way : (plan : PlanData) (frames : Frames) (access : Access) (node : ℕ)
-    → node_of frames.pages access.page ≡ Some node → way_from plan frames access
+-- the route of an access whose page is placed already
+pub placed-route : (plan : PlanData) (frames : Frames) (access : Access) (node : ℕ)
+    → node_of frames.pages access.page ≡ Some node → route_from plan frames access
     ≡ (access.task, access.cpu, Some node)
-placed-way plan frames access node lies = ap (λ (n : Option ℕ). (access.task, access.cpu, n))
+placed-route plan frames access node lies = ap (λ (n : Option ℕ). (access.task, access.cpu, n))
     (rw lies lies)
 
 -- and of one whose page is placed by it
-pub touched-way : (plan : PlanData) (old new : Frames) (access : Access) (nodes : List ℕ)
+pub touched-route : (plan : PlanData) (old new : Frames) (access : Access) (nodes : List ℕ)
     (place : Option ℕ) → planned_list plan access.task access.page access.cpu ≡ Some nodes
     → new ≡ frames_with_page old access.page nodes → node_of new.pages access.page ≡ place
-    → way_from plan old access ≡ (access.task, access.cpu, place)
-touched-way plan old new access nodes place planned touches lies =
+    → route_from plan old access ≡ (access.task, access.cpu, place)
+touched-route plan old new access nodes place planned touches lies =
     let list : unwrap_or (planned_list plan access.task access.page access.cpu) [] ≡ nodes =
     ap (λ (o : Option (List ℕ)). unwrap_or o []) planned in
     ap (λ (n : Option ℕ). (access.task, access.cpu, n))
@@ -81,10 +81,10 @@ replayed machine plan trace access old new nodes planned touches counts was = re
   start = was.start;
   fresh = was.fresh;
   frames = after;
-  tallies = λ way. counts way
-      ∙ (λ i. if is_way (access.task, access.cpu, node_of (after i).pages access.page) way
-      then with_accesses (was.tallies way i) access.count
-      (not (is_some (node_of (was.frames i).pages access.page))) else was.tallies way i);
+  tallies = λ route. counts route
+      ∙ (λ i. if is_route (access.task, access.cpu, node_of (after i).pages access.page) route
+      then with_accesses (was.tallies route i) access.count
+      (not (is_some (node_of (was.frames i).pages access.page))) else was.tallies route i);
 }
   where
     list : nodes ≡ unwrap_or (planned_list plan access.task access.page access.cpu) []

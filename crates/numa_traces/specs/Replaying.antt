@@ -5,13 +5,13 @@ use Rattle.std.specs.Prelude.{slice_index, unwrap_or, if◌then◌else◌}
 use Rattle.numa_machine.specs.Machine.{Hardware, frames_of}
 use Rattle.numa_plan.specs.Meaning.{PlanData, place_refusal, planned_list}
 use Rattle.numa_traces.specs.Placing.{Frames, node_of, frames_with_page}
-use Rattle.numa_traces.specs.Tallies.{IsFull, Tallied, Way, is_way, no_accesses, tally_at}
+use Rattle.numa_traces.specs.Tallies.{IsFull, Tallied, Route, is_route, no_accesses, tally_at}
 use Rattle.numa_traces.specs.Tallies.{with_accesses}
 use Rattle.numa_traces.specs.declared.access.Access.{Access}
 use Rattle.numa_traces.specs.declared.fault.ReplayError.{ReplayError}
 use Rattle.numa_traces.specs.declared.fault.ReplayError.TheVariants.{Malformed, Refused}
 use Rattle.numa_traces.specs.declared.fault.ReplayError.TheVariants.{TooMany, NoMemory}
-use Rattle.numa_traces.specs.declared.tallies.Tally.{Tally}
+use Rattle.numa_traces.specs.declared.tallies.AccessCounts.{AccessCounts}
 
 -- no page is placed, and every frame is free
 pub record IsFresh (machine : Hardware) (frames : Frames) : Type 0 where
@@ -30,9 +30,9 @@ frames_after plan start (access ∷ trace) =
 abbrev pub is_first : Frames → Access → Bool
 is_first frames access = not (is_some (node_of frames.pages access.page))
 
--- the way of an access: to the node on which its page lies once it is touched
-abbrev pub way_from : PlanData → Frames → Access → Way
-way_from plan frames access = (
+-- the route of an access: to the node on which its page lies once it is touched
+abbrev pub route_from : PlanData → Frames → Access → Route
+route_from plan frames access = (
   access.task,
   access.cpu,
   node_of (frames_with_page frames access.page
@@ -43,19 +43,19 @@ way_from plan frames access = (
 abbrev pub is_fault : PlanData → Frames → List Access → Access → Bool
 is_fault plan start trace access = is_first (frames_after plan start trace) access
 
-abbrev pub way_of : PlanData → Frames → List Access → Access → Way
-way_of plan start trace access = way_from plan (frames_after plan start trace) access
+abbrev pub route_of : PlanData → Frames → List Access → Access → Route
+route_of plan start trace access = route_from plan (frames_after plan start trace) access
 
--- the accesses of a trace that went a way, and how many of them were faults
-abbrev pub tally_of : PlanData → Frames → List Access → Way → Tally
-tally_of plan start [] way = no_accesses
-tally_of plan start (access ∷ trace) way =
-    if is_way (way_of plan start trace access) way
-    then with_accesses (tally_of plan start trace way) access.count
+-- the accesses of a trace that took a route, and how many of them were faults
+abbrev pub tally_of : PlanData → Frames → List Access → Route → AccessCounts
+tally_of plan start [] route = no_accesses
+tally_of plan start (access ∷ trace) route =
+    if is_route (route_of plan start trace access) route
+    then with_accesses (tally_of plan start trace route) access.count
     (is_fault plan start trace access)
-    else tally_of plan start trace way
+    else tally_of plan start trace route
 
--- the frames, and how many accesses went which way
+-- the frames, and how many accesses took which route
 pub record Replayed : Type 0 where
   pub frames : Frames
   pub tallies : Tallied
@@ -66,14 +66,15 @@ pub record IsReplay (machine : Hardware) (plan : PlanData) (trace : List Access)
   pub start : Frames
   pub fresh : IsFresh machine start
   pub frames : met.frames ≡ frames_after plan start trace
-  pub tallies : (way : Way) → tally_at met.tallies way ≡ tally_of plan start trace way
+  pub tallies : (route : Route) → tally_at met.tallies route ≡ tally_of plan start trace route
 
 -- why an access that was read can't be replayed: the plan refuses it, for this cause; else a number
--- of its way would pass 2^64 - 1, or there was no memory
+-- of its route would pass 2^64 - 1, or there was no memory
 abbrev pub EndsReplay : PlanData → Replayed → Access → ReplayError → Type 0
 EndsReplay plan met access (Malformed fault) = ⊥
 EndsReplay plan met access (Refused refusal) =
     place_refusal plan access.page access.cpu ≡ Some refusal
 EndsReplay plan met access TooMany = (place_refusal plan access.page access.cpu ≡ None)
-    × IsFull met.tallies (way_from plan met.frames access) access.count (is_first met.frames access)
+    × IsFull met.tallies (route_from plan met.frames access) access.count
+    (is_first met.frames access)
 EndsReplay plan met access NoMemory = place_refusal plan access.page access.cpu ≡ None

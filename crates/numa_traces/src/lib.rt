@@ -24,4 +24,4 @@ pub use placed::placed_text;
 pub use reading::{Replaying, replay_lines};
 pub use replay::Replay;
 pub use report::report_text;
-pub use tallies::{Tallies, Tally, Way};
+pub use tallies::{AccessCounts, Route, Tallies};

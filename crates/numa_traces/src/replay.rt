@@ -62,7 +62,7 @@ impl Replay {
         &self.memory
     }
 
-    /// The numbers of accesses by their ways.
+    /// The numbers of accesses by their routes.
     pub fn tallies(&self) -> &Tallies
         ensures { result.now ≡ self.now.tallies }
     {

@@ -1,7 +1,7 @@
 //! The report of a replay, as text or JSON.
 use crate::replay::Replay;
 use crate::summary::Summary;
-use crate::tallies::{Tally, Way};
+use crate::tallies::{AccessCounts, Route};
 use numa_machine::Machine;
 use numa_reports::{Format, Object, Written};
 use serde_json::Value;
@@ -160,9 +160,9 @@ impl Sheet {
         }
     }
 
-    /// Adds the accesses of a way; those of a task come together.
-    fn add(&mut self, machine: &Machine, way: &Way, tally: &Tally) {
-        let (task, cpu, node) = *way;
+    /// Adds the accesses of a route; those of a task come together.
+    fn add(&mut self, machine: &Machine, route: &Route, tally: &AccessCounts) {
+        let (task, cpu, node) = *route;
         if self.task != Some(task) {
             self.end_task();
             self.task = Some(task);
@@ -195,8 +195,8 @@ impl Sheet {
         if let Format::Json | Format::Html(_) = self.format {
             self.written.put(b"{\"tasks\":[");
         }
-        for (way, tally) in replay.tallies().iter() {
-            self.add(machine, way, tally);
+        for (route, tally) in replay.tallies().iter() {
+            self.add(machine, route, tally);
         }
         self.end();
     }

@@ -1,5 +1,5 @@
 //! Sums of the accesses of a task, or of all.
-use crate::tallies::Tally;
+use crate::tallies::AccessCounts;
 
 /// The accesses of a task, or of all.
 #[derive(Drop)]
@@ -32,7 +32,7 @@ impl Summary {
     }
 
     /// Adds accesses to pages on a node at a distance, or to pages that found no frame.
-    pub(crate) fn add(&mut self, place: Option<(u8, u8)>, tally: &Tally) {
+    pub(crate) fn add(&mut self, place: Option<(u8, u8)>, tally: &AccessCounts) {
         self.accesses = self.accesses.saturating_add(tally.accesses);
         let Some((node, distance)) = place else {
             self.unserved = self.unserved.saturating_add(tally.accesses);

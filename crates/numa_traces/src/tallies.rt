@@ -1,4 +1,4 @@
-//! The numbers of accesses by their ways.
+//! The numbers of accesses by their routes.
 ghost use Rattle.std.specs.Prelude.{◌≡◌, [], IfErr, OnOk, OnErr, if◌then◌else◌};
 ghost use Rattle.numa_traces.specs.Tallies.{Counts, IsFull, IsRoomFault, tally_at};
 ghost use Rattle.numa_traces.specs.declared.fault.ReplayError.TheVariants as fault;
@@ -9,22 +9,22 @@ use std::collections::BTreeMap;
 use std::collections::btree_map::Iter;
 use std::marker::Model;
 
-/// The number of accesses of one way, and of those among them that were a fault, which placed the
+/// The number of accesses of one route, and of those among them that were a fault, which placed the
 /// page or found no frame.
 #[derive(Clone, Copy, Drop)]
-pub struct Tally {
+pub struct AccessCounts {
     pub accesses: u64,
     pub faults: u64,
 }
 
-/// The way of an access: the task, the CPU's node, and the node of the page, `None` if the page
+/// The route of an access: the task, the CPU's node, and the node of the page, `None` if the page
 /// found no frame.
-pub type Way = (u32, u32, Option<u8>);
+pub type Route = (u32, u32, Option<u8>);
 
-/// The numbers of accesses by their ways.
+/// The numbers of accesses by their routes.
 #[derive(Drop)]
 pub struct Tallies {
-    tallies: BTreeMap<Way, Tally>,
+    tallies: BTreeMap<Route, AccessCounts>,
 }
 
 impl Model for Tallies {
@@ -55,47 +55,50 @@ impl Tallies {
         }
     }
 
-    /// The tally of a way.
-    pub fn get(&self, way: Way) -> Tally
-        ensures { result ≡ tally_at self.now way }
+    /// The tally of a route.
+    pub fn get(&self, route: Route) -> AccessCounts
+        ensures { result ≡ tally_at self.now route }
     {
-        match self.tallies.get(&way) {
+        match self.tallies.get(&route) {
             Some(tally) => *tally,
-            None => Tally {
+            None => AccessCounts {
                 accesses: 0,
                 faults: 0,
             },
         }
     }
 
-    /// The ways of the accesses so far, each with its tally, ordered by task, then by the CPU's
+    /// The routes of the accesses so far, each with its tally, ordered by task, then by the CPU's
     /// node, then by the page's.
-    pub fn iter(&self) -> Iter<'_, Way, Tally>
+    pub fn iter(&self) -> Iter<'_, Route, AccessCounts>
         ensures { result ≡ self.now }
     {
         self.tallies.iter()
     }
 
-    /// Counts accesses of a way, the first of which is a fault or not.
+    /// Counts accesses of a route, the first of which is a fault or not.
     ///
     /// # Errors
     /// `TooMany`: a number would exceed 2^64 - 1; else `NoMemory`: out of memory. Then nothing has
     /// changed.
-    pub fn add(&mut self, way: Way, count: u32, is_fault: bool) -> Result<(), ReplayError>
-        ensures counts { OnOk result (Counts self.old way count is_fault self.new) }
+    pub fn add(&mut self, route: Route, count: u32, is_fault: bool) -> Result<(), ReplayError>
+        ensures counts { OnOk result (Counts self.old route count is_fault self.new) }
         ensures err { IfErr result IsRoomFault }
         ensures full { IfErr result (λ why. why ≡ fault.TooMany
-            → IsFull self.old way count is_fault) }
+            → IsFull self.old route count is_fault) }
         ensures unchanged { OnErr result (self.new ≡ self.old) }
     {
-        let tally = self.get(way);
+        let tally = self.get(route);
         let Some(accesses) = tally.accesses.checked_add(u64::from(count)) else {
             return Err(ReplayError::TooMany);
         };
         let Some(faults) = tally.faults.checked_add(fault_count(is_fault)) else {
             return Err(ReplayError::TooMany);
         };
-        if let Err(_) = self.tallies.insert(way, Tally { accesses, faults }) {
+        if let Err(_) = self
+            .tallies
+            .insert(route, AccessCounts { accesses, faults })
+        {
             return Err(ReplayError::NoMemory);
         }
         Ok(())

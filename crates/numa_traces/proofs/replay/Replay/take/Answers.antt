@@ -3,8 +3,8 @@ use Rattle.std.proofs.Common.{subst, ◌∙◌}
 use Rattle.numa_traces.specs.Placing.{node_of}
 use Rattle.numa_traces.specs.Replaying.{EndsReplay, IsReplay, Replayed}
 use Rattle.numa_traces.specs.Tallies.{Counts}
-use Rattle.numa_traces.proofs.Replays.{none-refused, on-ok, placed-way, replayed, room-ends}
-use Rattle.numa_traces.proofs.Replays.{touched-way}
+use Rattle.numa_traces.proofs.Replays.{none-refused, on-ok, placed-route, replayed, room-ends}
+use Rattle.numa_traces.proofs.Replays.{touched-route}
 use Rattle.numa_traces.proofs.replay.Replay.take.Goals as goal
 
 pub returns-in_default-place-clause-err : goal.returns-in_default-place-clause-err
@@ -26,7 +26,7 @@ returns-in-Some-clause-err c =
       c.args.access.cpu,
       Some c.in-Some.node,
     ) false c.add.result none
-    (placed-way c.args.plan.now old.frames c.args.access c.in-Some.node lies)
+    (placed-route c.args.plan.now old.frames c.args.access c.in-Some.node lies)
     (ap (λ (o : Option ℕ). not (is_some o)) lies) c.add.ensures.err c.add.ensures.full)
 
 pub returns-clause-err : goal.returns-clause-err
@@ -42,7 +42,7 @@ returns-clause-err c =
       c.args.access.cpu,
       c.in-Ok-place.node,
     ) true c.add-2.result none
-    (touched-way c.args.plan.now old.frames c.place.new.self c.args.access c.in-Ok.list.now
+    (touched-route c.args.plan.now old.frames c.place.new.self c.args.access c.in-Ok.list.now
     c.in-Ok-place.node c.in-Ok.ensures.ok.1 c.in-Ok-place.ensures.placed
     c.in-Ok-place.ensures.lies)
     (ap (λ (o : Option ℕ). not (is_some o)) (sym c.node_of.ensures ∙ c.in_default.is))

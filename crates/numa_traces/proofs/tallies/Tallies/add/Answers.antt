@@ -1,16 +1,17 @@
 use Rattle.std.proofs.Common.{◌≡◌, ◌+◌, List, ap, sym, subst, ◌∙◌}
-use Rattle.numa_traces.specs.Tallies.{Way, Counts, tally_at, with_accesses}
-use Rattle.numa_traces.specs.declared.tallies.Tally.{Tally}
+use Rattle.numa_traces.specs.Tallies.{Route, Counts, tally_at, with_accesses}
+use Rattle.numa_traces.specs.declared.tallies.AccessCounts.{AccessCounts}
 use Rattle.numa_traces.proofs.Counted.{counted}
 use Rattle.numa_traces.proofs.tallies.Tallies.add.Goals as goal
 
 pub returns-clause-counts : goal.returns-clause-counts
 returns-clause-counts c =
-    let P : List (Way × Tally) → Type 0 = λ old. Counts old c.args.way c.args.count c.args.is_fault
+    let P : List (Route × AccessCounts) → Type 0 =
+    λ old. Counts old c.args.route c.args.count c.args.is_fault
     c.insert.new.self.entries in
-    let written : Tally =
+    let written : AccessCounts =
     record { accesses = c.in-Some.accesses; faults = c.in-Some-checked_add.faults } in
-    let is : written ≡ with_accesses (tally_at c.args.self.now c.args.way) c.args.count
+    let is : written ≡ with_accesses (tally_at c.args.self.now c.args.route) c.args.count
     c.args.is_fault =
     (λ i.
     record {
@@ -20,10 +21,10 @@ returns-clause-counts c =
           (c.in-Some-checked_add.ensures.1 ∙ (λ j. (c.get-tally.ensures j).faults
           + c.fault_count.ensures j)) i;
     }) in
-    let here : written ≡ with_accesses (tally_at c.self.inside.tallies.entries c.args.way)
+    let here : written ≡ with_accesses (tally_at c.self.inside.tallies.entries c.args.route)
     c.args.count c.args.is_fault =
-    is ∙ ap (λ tallies. with_accesses (tally_at tallies c.args.way) c.args.count c.args.is_fault)
+    is ∙ ap (λ tallies. with_accesses (tally_at tallies c.args.route) c.args.count c.args.is_fault)
     (sym c.self.view_is) in
     subst P c.self.view_is
-    (counted c.self.inside.tallies.entries c.insert.new.self.entries c.args.way written
+    (counted c.self.inside.tallies.entries c.insert.new.self.entries c.args.route written
     c.args.count c.args.is_fault c.in_default-insert.ensures.updates.0 here)
