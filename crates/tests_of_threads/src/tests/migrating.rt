@@ -86,9 +86,9 @@ impl Moves {
     }
 }
 
-/// Whether a page went to the node, and kept the rest.
-fn is_moved(placement: &Placement, page: u64, node: u8) -> bool {
-    (placement.version, placement.page, placement.rank) == (1, page, 0)
+/// Whether a page went to the node, and its placement kept the rest.
+fn is_moved(placement: &Placement, page: u64, rank: u32, node: u8) -> bool {
+    (placement.version, placement.page, placement.rank) == (1, page, rank)
         && (placement.node, placement.frame.node) == (node, node)
 }
 
@@ -104,14 +104,14 @@ fn move_to(
     ensures { worker.new.seat.table ≡ worker.old.seat.table }
 {
     let page = placement.page;
-    let from = placement.node;
+    let (from, rank) = (placement.node, placement.rank);
     if !worker.owns(&placement) {
         moves.note(&moves.left, false);
         return placement;
     }
     match worker.migrate(pools, placement, node) {
         Ok(there) => {
-            moves.note(&moves.moved, is_moved(&there, page, node));
+            moves.note(&moves.moved, is_moved(&there, page, rank, node));
             there
         }
         Err(refusal) => {
