@@ -14,15 +14,15 @@ const PAGE: u64 = 4096;
 
 /// A span of pages: the first, and the one after the last.
 #[derive(Clone, Copy)]
-struct PageInterval {
+struct LinePages {
     first: u64,
     end: u64,
 }
 
 /// `count` pages from that of an address on.
-fn pages_from(address: u64, count: u64) -> PageInterval {
+fn pages_from(address: u64, count: u64) -> LinePages {
     let first = address / PAGE;
-    PageInterval {
+    LinePages {
         first,
         end: first.saturating_add(count),
     }
@@ -37,7 +37,7 @@ fn page_count(length: u64) -> u64 {
 }
 
 /// The span of a command that has one.
-fn span_of(command: &Command) -> Option<PageInterval> {
+fn span_of(command: &Command) -> Option<LinePages> {
     match *command {
         Command::Map { start, length, .. }
         | Command::Unmap { start, length }
@@ -56,7 +56,7 @@ fn page_detail(page: Option<u64>) -> Detail {
 }
 
 /// The page of a span that causes a command's refusal.
-fn span_detail(space: &Space, pages: PageInterval, refusal: Refusal) -> Detail {
+fn span_detail(space: &Space, pages: LinePages, refusal: Refusal) -> Detail {
     match refusal {
         Refusal::Unaligned => Detail::Page(pages.first),
         Refusal::Overlap => page_detail(first_mapped(space, pages.first, pages.end)),
@@ -90,7 +90,7 @@ fn last_node(space: &Space) -> Detail {
 }
 
 /// The pages of a question.
-fn asked_pages(question: &Question) -> Option<PageInterval> {
+fn asked_pages(question: &Question) -> Option<LinePages> {
     match *question {
         Question::Place { address, .. } => Some(pages_from(address, 1)),
         Question::Span { address, pages, .. } => Some(pages_from(address, pages as u64)),

@@ -33,8 +33,8 @@ pub(crate) fn policy_words(fault: SpecError) -> &'static str {
 pub(crate) fn machine_words(fault: MachineFault) -> &'static str {
     match fault {
         MachineFault::NodeCount => {
-            "NODES isn't from 1 to 256, DIST or FRAMES have another number of entries, or cpus names \
-another node"
+            "NODES isn't from 1 to 256, DIST or FRAMES have another number of entries, or cpus \
+names another node"
         }
         MachineFault::NoMemoryNode => {
             "MEM names a node that the machine lacks; nodes are 0 to NODES - 1"
