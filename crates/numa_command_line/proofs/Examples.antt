@@ -1,15 +1,15 @@
 -- Command lines, and what they ask for.
-use Rattle.std.proofs.Common.{◌≡◌, List, [], ◌∷◌, Option, Some, None, codes, map, refl, true, false}
-use Rattle.clap.specs.Words.{Text, fault_of, is_simple_and_free}
+use Rattle.std.proofs.Common.{◌≡◌, List, [], ◌∷◌, Some, None, codes, map, refl, true}
+use Rattle.clap.specs.Words.{Text, fault_of}
 use Rattle.clap.specs.declared.error.kind.ErrorKind.TheVariants as kind
 use Rattle.clap.proofs.OnLiterals.{clap_on_literals}
-use Rattle.numa_machine.specs.declared.rules.Rules.TheVariants.{Document, Linux}
+use Rattle.numa_machine.specs.declared.rules.Rules.TheVariants.{Document}
 use Rattle.numa_command_line.specs.Asked.{doings_asked}
 use Rattle.numa_reports.specs.declared.sheet.Format.TheVariants as format
 use Rattle.numa_command_line.specs.Grammar.{AreChoices, Choices, diff_formats, plain_formats}
 use Rattle.numa_command_line.specs.Grammar.{predict_formats, program, replay_formats, rules_names}
 use Rattle.numa_command_line.specs.Grammar.{test_formats}
-use Rattle.numa_command_line.specs.Jobs.{Doings, check, expect, run, scripts, storm}
+use Rattle.numa_command_line.specs.Jobs.{check, expect, run, scripts, storm}
 use Rattle.numa_command_line.specs.Usage.{Names}
 
 -- names that lie nowhere

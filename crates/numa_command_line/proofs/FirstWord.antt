@@ -5,9 +5,9 @@ use Rattle.std.specs.Option.{option_map, unwrap_or}
 use Rattle.std.specs.Prelude.{IfOk, option_and_then}
 use Rattle.std.specs.Str.{bytes_eq}
 use Rattle.std.proofs.lemmas.Slice.Eq.{bytes_eq-Decides}
-use Rattle.clap.specs.Words.{App, Row, subcommand_of}
+use Rattle.clap.specs.Words.{Row, subcommand_of}
 use Rattle.numa_reports.specs.declared.touch.Touch.{Touch}
-use Rattle.numa_command_line.specs.Asked.{Answers, asked_in, asking_name, doing_name, doings_found}
+use Rattle.numa_command_line.specs.Asked.{Answers, asking_name, doing_name}
 use Rattle.numa_command_line.specs.Asked.{job_named, name_of, rows_behind, scripts_asked}
 use Rattle.numa_command_line.specs.Asked.{word_named, work_asked}
 use Rattle.numa_command_line.specs.Jobs.{Asking, Doing, Doings, Text, ask, diff, doings_of, explain}

@@ -1,16 +1,13 @@
 -- What the parse's outcome means for the job.
-use Rattle.std.proofs.Common.{◌≡◌, ◌≢◌, ◌∙◌, ◌&&◌, ◌⊎◌, Bool, true, false, refl, sym, ap, subst}
-use Rattle.std.proofs.Common.{List, [], Option, Some, None, Result, Ok, Err, inl, inr}
-use Rattle.clap.specs.Words.{App, FailsBy, HasKind, IsAmong, Kinds, Row, fault_of, is_simple}
-use Rattle.clap.specs.Words.{is_simple_and_free, kind_of, subcommand_of}
+use Rattle.std.proofs.Common.{◌≡◌, ◌∙◌, ◌&&◌, Bool, true, false, refl, sym, ap, subst}
+use Rattle.std.proofs.Common.{List, [], Option, None, Result, Ok, Err, inl, inr}
+use Rattle.clap.specs.Words.{App, HasKind, Row, fault_of}
+use Rattle.clap.specs.Words.{kind_of, subcommand_of}
 use Rattle.clap.specs.declared.error.Error.{Error}
-use Rattle.clap.specs.declared.error.kind.ErrorKind.{ErrorKind}
 use Rattle.clap.specs.declared.error.kind.ErrorKind.TheVariants as kind
-use Rattle.clap.specs.Faults.{is_free_app}
-use Rattle.clap.specs.Simple.{built}
-use Rattle.numa_command_line.specs.Asked.{HasNoJob, IsJobOf, IsShown, IsTold, doings_asked}
+use Rattle.numa_command_line.specs.Asked.{HasNoJob, IsJobOf, IsShown, IsTold}
 use Rattle.numa_command_line.specs.Asked.{doings_found}
-use Rattle.numa_command_line.specs.Jobs.{Doings, IsMade, IsRefusal, Text, doings_of}
+use Rattle.numa_command_line.specs.Jobs.{IsMade, IsRefusal, Text, doings_of}
 use Rattle.numa_command_line.specs.declared.jobs.Job.{Job}
 use Rattle.numa_command_line.specs.declared.jobs.JobFault.{JobFault}
 use Rattle.numa_command_line.specs.declared.jobs.JobFault.TheVariants.{Help, Usage, NoMemory}

@@ -1,5 +1,5 @@
 -- The word of a command line, and what the parse found behind it.
-use Rattle.std.proofs.Common.{◌≡◌, ◌∙◌, Bool, cond, true, false, refl, sym, ap, List, Option, Some}
+use Rattle.std.proofs.Common.{◌≡◌, Bool, cond, true, false, refl, ap, List, Option, Some}
 use Rattle.std.proofs.Common.{None}
 use Rattle.std.specs.Option.{option_map, unwrap_or}
 use Rattle.std.specs.Str.{bytes_eq}

@@ -1,5 +1,5 @@
 -- The words of the command line, and the arguments of each.
-use Rattle.std.specs.Prelude.{◌≡◌, ◌∷◌, [], List, Bool, true, false, codes, map, if◌then◌else◌}
+use Rattle.std.specs.Prelude.{◌≡◌, ◌∷◌, [], List, Bool, true, codes, map}
 use Rattle.clap.specs.Words.{App, Rule, Shape, Text, with_rule, with_subcommand}
 use Rattle.clap.specs.Simple.{new_shape}
 use Rattle.numa_command_line.specs.Usage.{Names, bare, choice, flag, needed, number, number_or}

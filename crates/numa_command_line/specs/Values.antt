@@ -1,9 +1,9 @@
 -- What the parse found for an argument, as a value.
 use Rattle.std.specs.Prelude.{ℕ, ◌==◌, ◌^◌, ◌&&◌, ◌||◌, ◌++◌, ◌∷◌, ◌/◌, ◌*◌, ◌-◌, ◌%◌, [], List}
 use Rattle.std.specs.Prelude.{Bool, false}
-use Rattle.std.specs.Prelude.{Option, Some, None, codes, drop, length, map, nat_lt, nat_le}
+use Rattle.std.specs.Prelude.{Option, Some, None, codes, length, nat_lt, nat_le}
 use Rattle.std.specs.Prelude.{slice_get}
-use Rattle.std.specs.Prelude.{take, unwrap_or, if◌then◌else◌, option_and_then, option_map, not}
+use Rattle.std.specs.Prelude.{take, unwrap_or, if◌then◌else◌, option_and_then, option_map}
 use Rattle.std.specs.Char.{digit_value}
 use Rattle.std.specs.List.{list_all, list_any}
 use Rattle.std.specs.Option.{option_map_or}

@@ -132,7 +132,8 @@ where
     }
 }
 
-/// Opens files, each with its name, and then standard input, of the name `-`, unless a file is that.
+/// Opens files, each with its name, and then standard input, of the name `-`, unless a file is
+/// that.
 ///
 /// # Errors
 /// `Usage`: a file can't be opened, with its name and the cause.

@@ -22,8 +22,8 @@ static WORD: SubcommandHelp = SubcommandHelp {
     about: "Answers a script. The script is read from the files in turn, or from standard input, \
 and its answers are written to standard output: one line for each line of the script, but none \
 for an empty line or a comment, and for `maps` one for each range. At a terminal, where no file is \
-named, there is a prompt, what is wrong with a line is told too, and a line `help` tells the lines. \
-With --format json there is a line of JSON for each answer.",
+named, there is a prompt, what is wrong with a line is told too, and a line `help` tells the \
+lines. With --format json there is a line of JSON for each answer.",
     more: "Example, from the top of the repository:\n  ./numaplan run \
 examples/first-run.numaplan\n\nThe language of scripts is told in docs/SCRIPT.md of the \
 repository.",

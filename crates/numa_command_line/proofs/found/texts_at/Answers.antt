@@ -1,4 +1,4 @@
-use Rattle.std.proofs.Common.{◌≡◌, ◌∙◌, ap, refl, sym, [], List, Option, None, Some, unwrap_or, map}
+use Rattle.std.proofs.Common.{◌≡◌, ◌∙◌, ap, [], List, Option, None, Some, unwrap_or, map}
 use Rattle.std.proofs.lemmas.Result.{IfOk-weaker}
 use Rattle.clap.specs.Words.{all_of, found_of, rows_of}
 use Rattle.clap.proofs.WalkLemmas.{raw_values-rows}

@@ -1,6 +1,6 @@
 use Rattle.std.proofs.Common.{◌≡◌, ◌∙◌, List, ap₂, refl, true, false}
 use Rattle.std.proofs.lemmas.Result.{IfOk-weaker}
-use Rattle.clap.specs.Words.{App, Rule, Shape, Text, app_of, with_subcommand}
+use Rattle.clap.specs.Words.{Rule, Text, with_subcommand}
 use Rattle.numa_command_line.specs.Grammar.{IsWord, check_arguments, diff_arguments}
 use Rattle.numa_command_line.specs.Grammar.{expect_arguments, explain_arguments, predict_arguments}
 use Rattle.numa_command_line.specs.Grammar.{reader, replay_arguments, rules, run_arguments}
@@ -31,27 +31,33 @@ returns c =
     option.2) in
     let check = c.in_ok-program-2.ensures.app
     ∙ ap₂ with_subcommand run
-    (reader_is c.word-2.result.now said option.0 _ (check_arguments c.word-2.ensures.0) c.word-2.ensures.2
+    (reader_is c.word-2.result.now said option.0 _ (check_arguments c.word-2.ensures.0)
+    c.word-2.ensures.2
     option.2) in
     let expect = c.in_ok-program-3.ensures.app
     ∙ ap₂ with_subcommand check
-    (reader_is c.word-3.result.now said option.0 _ (expect_arguments c.word-3.ensures.0) c.word-3.ensures.2
+    (reader_is c.word-3.result.now said option.0 _ (expect_arguments c.word-3.ensures.0)
+    c.word-3.ensures.2
     option.2) in
     let predict = c.in_ok-program-4.ensures.app
     ∙ ap₂ with_subcommand expect
-    (reader_is c.word-4.result.now said option.0 _ (predict_arguments c.word-4.ensures.0) c.word-4.ensures.2
+    (reader_is c.word-4.result.now said option.0 _ (predict_arguments c.word-4.ensures.0)
+    c.word-4.ensures.2
     option.2) in
     let diff = c.in_ok-program-5.ensures.app
     ∙ ap₂ with_subcommand predict
-    (reader_is c.word-5.result.now said option.0 _ (diff_arguments c.word-5.ensures.0) c.word-5.ensures.2
+    (reader_is c.word-5.result.now said option.0 _ (diff_arguments c.word-5.ensures.0)
+    c.word-5.ensures.2
     option.2) in
     let explain = c.in_ok-program-6.ensures.app
     ∙ ap₂ with_subcommand diff
-    (reader_is c.word-6.result.now said option.0 _ (explain_arguments c.word-6.ensures.0) c.word-6.ensures.2
+    (reader_is c.word-6.result.now said option.0 _ (explain_arguments c.word-6.ensures.0)
+    c.word-6.ensures.2
     option.2) in
     let replay = c.in_ok-program-7.ensures.app
     ∙ ap₂ with_subcommand explain
-    (reader_is c.word-7.result.now said option.0 _ (replay_arguments c.word-7.ensures.0) c.word-7.ensures.2
+    (reader_is c.word-7.result.now said option.0 _ (replay_arguments c.word-7.ensures.0)
+    c.word-7.ensures.2
     option.2) in
     let shell = c.in_ok-program-8.ensures.app
     ∙ ap₂ with_subcommand replay

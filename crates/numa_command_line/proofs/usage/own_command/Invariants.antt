@@ -1,5 +1,5 @@
 use Rattle.std.proofs.Common.{◌≡◌, take, map, []}
-use Rattle.clap.specs.Words.{App, app_of}
+use Rattle.clap.specs.Words.{app_of}
 use Rattle.clap.specs.Simple.{new_shape}
 use Rattle.numa_command_line.specs.Usage.{IsLocal, rule_said}
 use Rattle.numa_command_line.proofs.usage.own_command.Given as goal

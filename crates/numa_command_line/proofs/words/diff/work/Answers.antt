@@ -1,4 +1,4 @@
-use Rattle.std.proofs.Common.{List, Some, codes, map, subst}
+use Rattle.std.proofs.Common.{List, Some, map, subst}
 use Rattle.std.specs.String.{string_bytes}
 use Rattle.clap.specs.Words.{found_of, rows_of}
 use Rattle.numa_reports.specs.declared.sheet.Format.{Format}

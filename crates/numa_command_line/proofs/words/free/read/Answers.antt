@@ -1,4 +1,4 @@
-use Rattle.std.proofs.Common.{◌≡◌, ◌∙◌, ◌==◌, ◌∷◌, List, Option, Some, None, ap, refl, sym, true}
+use Rattle.std.proofs.Common.{◌≡◌, ◌∙◌, ◌==◌, ◌∷◌, List, Some, None, ap, refl, sym, true}
 use Rattle.std.specs.List.{list_any}
 use Rattle.numa_reports.specs.declared.filling.FreePages.{FreePages}
 use Rattle.numa_command_line.specs.Jobs.{Text}
