@@ -36,7 +36,8 @@ where
     ended(rt, name, answer, lenient, &outlet)
 }
 
-/// Replays the trace of a file after scripts. With `tells`, standard error shows how far reading is.
+/// Replays the trace of a file after scripts. With `tells`, standard error shows how far reading
+/// is.
 ///
 /// # Errors
 /// `Usage`: the trace can't be opened. `NoMemory`: out of memory.
