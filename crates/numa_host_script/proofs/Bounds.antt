@@ -1,0 +1,93 @@
+-- The limits that the lines of one process lead to.
+use Rattle.std.proofs.Common.{◌≡◌, ℕ, Bool, true, false, Option, Some, None, Result, Ok, Err, refl}
+use Rattle.std.specs.Prelude.{if◌then◌else◌}
+use Rattle.numa_machine.specs.Machine.{Hardware}
+use Rattle.numa_machine.specs.declared.fault.MachineFault.{MachineFault}
+use Rattle.numa_mask.specs.declared.list.ListFault.{ListFault}
+use Rattle.numa_space.specs.Limited.{Bounds}
+use Rattle.numa_space.specs.declared.command.Command.{Command}
+use Rattle.numa_script.specs.declared.line.Line.{Line}
+use Rattle.numa_script.specs.declared.line.Line.TheVariants as line
+use Rattle.numa_script.specs.declared.line.MachineLine.{MachineLine}
+use Rattle.numa_script.specs.declared.policy.WordError.{WordError}
+use Rattle.numa_script.specs.declared.reply.Reply.TheVariants as reply
+use Rattle.numa_run.specs.Answers.{State, after}
+use Rattle.numa_run.specs.Machines.{first_fault, hardware_of, limits_fit, nodes_with_cpus}
+use Rattle.numa_run.specs.Replies.{bind_nothing, command_outcome, cpus_outcome}
+use Rattle.numa_run.specs.Replies.{machine_outcome, machine_unless, outcome_of, served_by}
+use Rattle.numa_run.specs.Replies.{with_reply}
+use Rattle.numa_host_script.specs.Sessions.{bounds_after}
+
+-- limits, where they fit
+limits-kept : (fit : Bool) (given : Bounds) (state : State)
+    → (if fit then with_reply reply.LimitsOk (record {
+      bounds = given;
+      rules = state.rules;
+      cpus = state.cpus;
+      machine = state.machine;
+      world = state.world;
+      resident = state.resident;
+    }) else with_reply reply.BadLimits state).state.bounds
+    ≡ (if fit then given else state.bounds)
+limits-kept true given state = refl
+limits-kept false given state = refl
+
+cpus-kept : (said : Result ℕ ListFault) (state : State)
+    → (cpus_outcome said state).state.bounds ≡ state.bounds
+cpus-kept (Ok cpus) state = refl
+cpus-kept (Err fault) state = refl
+
+unless-kept : (fault : Option MachineFault) (hardware : Hardware) (state : State)
+    → (machine_unless fault hardware state).state.bounds ≡ state.bounds
+unless-kept None hardware state = refl
+unless-kept (Some fault) hardware state = refl
+
+machine-kept : (refused : Bool) (said : MachineLine) (memory : Result ℕ ListFault)
+    (state : State) → (machine_outcome refused said memory state).state.bounds ≡ state.bounds
+machine-kept refused said (Err fault) state = refl
+machine-kept refused said (Ok memory) state =
+    let cpus = nodes_with_cpus said.nodes state.cpus in
+    let hardware = hardware_of said memory state.rules cpus in
+    unless-kept (first_fault refused cpus hardware) hardware state
+
+command-kept : (refused : Bool) (machine : Hardware) (state : State)
+    (said : Result Command WordError)
+    → (command_outcome refused machine state said).state.bounds ≡ state.bounds
+command-kept refused machine state (Ok said) = refl
+command-kept refused machine state (Err fault) = refl
+
+by-machine : (machine : Option Hardware) (refused : Bool) (state : State) (said : Line)
+    → (served_by machine refused state said).state.bounds
+    ≡ bounds_after machine state.bounds said
+by-machine None refused state line.Silent = refl
+by-machine None refused state line.Malformed = refl
+by-machine None refused state (line.Limits ranges tasks commands) =
+    limits-kept (limits_fit ranges tasks)
+    (record { max_ranges = ranges; max_tasks = tasks; max_commands = commands }) state
+by-machine None refused state (line.Rules rules) = refl
+by-machine None refused state (line.Cpus said) = cpus-kept said state
+by-machine None refused state (line.Machine said) = machine-kept refused said said.memory state
+by-machine None refused state (line.Command said) = refl
+by-machine None refused state (line.EmptyBind start fault) = refl
+by-machine None refused state (line.Question said) = refl
+by-machine None refused state (line.Maps task) = refl
+by-machine None refused state (line.Work said) = refl
+by-machine (Some machine) refused state line.Silent = refl
+by-machine (Some machine) refused state line.Malformed = refl
+by-machine (Some machine) refused state (line.Limits ranges tasks commands) = refl
+by-machine (Some machine) refused state (line.Rules rules) = refl
+by-machine (Some machine) refused state (line.Cpus said) = refl
+by-machine (Some machine) refused state (line.Machine said) = refl
+by-machine (Some machine) refused state (line.Command said) =
+    command-kept refused machine state said
+by-machine (Some machine) refused state (line.EmptyBind start fault) =
+    command-kept refused machine state (bind_nothing machine.rules start fault)
+by-machine (Some machine) refused state (line.Question said) = refl
+by-machine (Some machine) refused state (line.Maps task) = refl
+by-machine (Some machine) refused state (line.Work said) = refl
+
+-- the limits after a line
+pub bounds-after : (refused : Bool) (state : State) (said : Line)
+    → (after refused state said).bounds ≡ bounds_after state.machine state.bounds said
+unfolding outcome_of
+bounds-after refused state said = by-machine state.machine refused state said

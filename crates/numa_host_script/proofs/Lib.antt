@@ -1,0 +1,5 @@
+mod Worked
+pub mod Begun
+pub mod Bounds
+pub mod Obeyed
+pub mod Seen

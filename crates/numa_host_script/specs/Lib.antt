@@ -1,0 +1,4 @@
+pub mod Lines
+pub mod Texts
+pub mod Sessions
+pub mod Standing

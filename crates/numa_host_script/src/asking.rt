@@ -1,0 +1,91 @@
+//! What a process answers: questions by a plan that is made of its space, and `maps` by the space.
+ghost use Rattle.std.specs.Prelude.{◌≡◌, [], List, false};
+ghost use Rattle.numa_compile.specs.Standing.{PlanStandsFor};
+ghost use Rattle.numa_lines.specs.Written.{Said};
+ghost use Rattle.numa_machine.specs.Machine.{Hardware};
+ghost use Rattle.numa_run.specs.Questions.{question_text};
+ghost use Rattle.numa_run.specs.Ranges.{listing_of};
+ghost use Rattle.numa_space.specs.Standing.{StandsFor};
+ghost use Rattle.numa_space.specs.declared.command.Command.{Command};
+
+use numa_compile::compile;
+use numa_lines::Watched;
+use numa_maps::{Resident, write_maps};
+use numa_plan::Plan;
+use numa_run::questions::{fault_at, say_pages, say_place, say_span};
+use numa_script::Question;
+use numa_script::tell::{say_ranges, say_starved};
+use numa_space::Space;
+use std::alloc::Global;
+use std::io::Write;
+
+/// Answers a question about a space. Returns whether memory ran out; then the answer says so.
+pub fn ask<W: Write>(
+    alloc: Global,
+    space: &Space,
+    question: Question,
+    output: &mut Watched<W>,
+) -> bool
+    ensures answer { (history : List Command) → StandsFor space.now history
+        → Said W.contents output.old output.new
+        (question_text result space.now.machine history question) }
+    ensures ranges { question ≡ Question.Ranges → result ≡ false }
+{
+    if let Question::Ranges = question {
+        say_ranges(output, space.ranges() as u64);
+        return false;
+    }
+    let Ok(plan) = compile(alloc, space) else {
+        say_starved(output);
+        return true;
+    };
+    let starved = ask_plan(alloc, &plan, question, output);
+    drop(plan);
+    starved
+}
+
+/// Answers a question by a plan. Returns whether memory ran out; then the answer says so.
+fn ask_plan<W: Write>(
+    alloc: Global,
+    plan: &Plan,
+    question: Question,
+    output: &mut Watched<W>,
+) -> bool
+    requires { question ≡ Question.Ranges → ⊥ }
+    ensures { (machine : Hardware) (history : List Command) → PlanStandsFor machine plan.now history
+        → Said W.contents output.old output.new (question_text result machine history question) }
+{
+    match question {
+        Question::Place { task, address, cpu } => {
+            say_place(plan, fault_at(task, address, cpu), output);
+            false
+        }
+        Question::Span {
+            task,
+            address,
+            pages,
+            cpu,
+        } => say_span(alloc, plan, fault_at(task, address, cpu), pages, output),
+        Question::Counts {
+            task,
+            address,
+            pages,
+            cpu,
+        } => {
+            say_pages(plan, fault_at(task, address, cpu), pages, output);
+            false
+        }
+        Question::Ranges => unreachable!(),
+    }
+}
+
+/// Lists the ranges of a space, with their policies for a task.
+pub fn list<W: Write>(alloc: Global, space: &Space, task: u32, output: &mut Watched<W>)
+    ensures { (history : List Command) → StandsFor space.now history
+        → Said W.contents output.old output.new (listing_of space.now.machine history task []) }
+{
+    // Tells the proof that the ranges are in ascending order and maximal.
+    let _ = space.range_iter();
+    let resident = Resident::new(alloc);
+    let _ = write_maps(space, task, &resident, output);
+}
