@@ -138,7 +138,7 @@ with core.compile() as bound:
         want(buffer is None or answered is buffer, True, "what is handed back")
     kept = bytearray(b"##")
     for pages, buffer, fault in (([16, 17], bytearray(3), "nodes has 3 bytes for 2 pages"),
-                                 ([16], bytearray(), "nodes has 0 bytes for 1 pages")):
+                                 ([16], bytearray(), "nodes has 0 bytes for 1 page")):
         want(raised(lambda: bound.choice_many(9, pages, 1, buffer)), ("ValueError", fault), "a room")
     for pages, cpu, cause in (([16, 20], 1, numaplan.Unmapped), ([16, 17], 2, numaplan.BadCpu),
                               ([], 2, numaplan.BadCpu)):

@@ -94,7 +94,7 @@ def bar(pages, left, top):
         width = WIDTH * count / all_
         parts.append(f'<rect x="{left + at:.1f}" y="{top}" width="{width:.1f}" height="{HEIGHT}" '
                      f'fill="{COLORS[node % len(COLORS)]}" stroke="#333333" stroke-width="0.5">'
-                     f"<title>node {node}: {count} pages</title></rect>")
+                     f"<title>node {node}: {count} page{'s' * (count != 1)}</title></rect>")
         if width >= 30:
             parts.append(f'<text x="{left + at + width / 2:.1f}" y="{top + 12}" font-size="10" '
                          f'text-anchor="middle">{node}</text>')
