@@ -139,14 +139,10 @@ impl HostScript {
 }
 
 impl Serve for HostScript {
-    ghost use Rattle.numa_machine.specs.declared.rules.Rules.TheVariants.{Document};
     ghost use Rattle.numa_host_script.specs.Sessions.{Session, session_after, session_answer};
-    ghost use Rattle.numa_host_script.specs.Sessions.{session_by};
     ghost use Rattle.numa_host_script.specs.Standing.{StandsIn};
 
     ghost State = { Session };
-
-    ghost start = { session_by Document };
 
     ghost stands_for = { λ server session. StandsIn server.script server.limits server.host
         session };

@@ -6,38 +6,10 @@ ghost use Rattle.numa_lines.specs.Watching.{read_count};
 ghost use Rattle.numa_host_script.specs.Sessions.{session_after, session_answer, session_by};
 
 use crate::script::HostScript;
-use numa_lines::{RunFault, Serve, Watched, serve_script};
+use numa_lines::{RunFault, Watched, serve_script};
 use numa_machine::Rules;
 use std::alloc::Global;
 use std::io::{Read, Write};
-
-/// A script that follows the kernel's rules unless a line says otherwise.
-#[derive(Drop)]
-struct KernelScript {
-    script: HostScript,
-}
-
-impl Serve for KernelScript {
-    ghost use Rattle.numa_machine.specs.declared.rules.Rules.TheVariants.{Linux};
-    ghost use Rattle.numa_host_script.specs.Sessions.{Session, session_after, session_answer};
-    ghost use Rattle.numa_host_script.specs.Sessions.{session_by};
-    ghost use Rattle.numa_host_script.specs.Standing.{StandsIn};
-
-    ghost State = { Session };
-
-    ghost start = { session_by Linux };
-
-    ghost stands_for = { λ server session. StandsIn server.script.script server.script.limits
-        server.script.host session };
-
-    ghost answer_of = { session_answer };
-
-    ghost after = { session_after };
-
-    fn serve<W: Write>(&mut self, alloc: Global, line: &[u8], output: &mut Watched<W>) {
-        let _ = self.script.serve_line(alloc, line, output);
-    }
-}
 
 /// Reads a script and writes its answers, as `run_by` of `numa_run` does; its lines may be a host's.
 /// Each answer is written before the next read. These rules apply unless a line says otherwise.
@@ -62,11 +34,5 @@ pub fn run_by<R: Read, W: Write>(
         NeverBegins R.remaining W.contents input.old input.new output.old output.new }
     ensures reads { read_count input.new ≤ read_count input.old + most_reads }
 {
-    match rules {
-        Rules::Document => serve_script(alloc, HostScript::by(Rules::Document), input, output),
-        Rules::Linux => {
-            let script = HostScript::by(Rules::Linux);
-            serve_script(alloc, KernelScript { script }, input, output)
-        }
-    }
+    serve_script(alloc, HostScript::by(rules), input, output)
 }

@@ -1,16 +1,21 @@
 use Rattle.std.proofs.Common.{ap}
-use Rattle.numa_host_script.specs.Sessions.{Served}
+use Rattle.numa_host_script.specs.Sessions.{Served, session_by}
 use Rattle.numa_host_script.proofs.Seen.{served_seen}
 use Rattle.numa_host_script.proofs.streams.run_by.Goals as goal
 
-pub serve_script-requires-clause-enough : goal.serve_script-requires-clause-enough
-serve_script-requires-clause-enough g c = λ refused session line. (
-  ap (λ (s : Served). s.text) (served_seen refused session line),
-  ap (λ (s : Served). s.session) (served_seen refused session line),
-)
+pub serve_script-requires : goal.serve_script-requires
+serve_script-requires g c = record {
+  enough = λ refused session line. (
+    ap (λ (s : Served). s.text) (served_seen refused session line),
+    ap (λ (s : Served). s.session) (served_seen refused session line),
+  );
+}
 
-pub serve_script-requires-in-Linux-clause-enough : goal.serve_script-requires-in-Linux-clause-enough
-serve_script-requires-in-Linux-clause-enough g c = λ refused session line. (
-  ap (λ (s : Served). s.text) (served_seen refused session line),
-  ap (λ (s : Served). s.session) (served_seen refused session line),
-)
+pub returns-clause-ok : goal.returns-clause-ok
+returns-clause-ok g c = c.serve_script.ensures.ok (session_by c.args.rules) c.by.ensures
+
+pub returns-clause-read : goal.returns-clause-read
+returns-clause-read g c = c.serve_script.ensures.read (session_by c.args.rules) c.by.ensures
+
+pub returns-clause-write : goal.returns-clause-write
+returns-clause-write g c = c.serve_script.ensures.write (session_by c.args.rules) c.by.ensures
