@@ -6,7 +6,8 @@ who had not read the program. Where both answer a script alike, two readers have
 documents alike; where they don't, one of the two or the documents are wrong. It is not proved, it
 is slow, and it never wants memory; nothing of the program depends on it. Its parts, one function a
 rule: words.py what a line says; space.py pages, policies and node lists; commands.py what changes
-them; workers.py the search for frames; this file the questions and the answer to each line.
+them; workers.py the search for frames; hosts.py processes and control groups; this file the
+questions and the answer to each line.
 
     tests/model/model.py < examples/first-run.numaplan
 
@@ -14,6 +15,7 @@ tests/model/run-built compares it with the built program."""
 
 import sys
 
+import hosts
 from commands import COMMANDS, accept
 from space import (Space, firsts, has_hole, index_at, is_live, machine_of, page_of, ranges,
                    resolved)
@@ -32,9 +34,10 @@ class State:
         self.cpus = None
         self.space = None
         self.crew = None
+        self.host = None  # once a line `host` is accepted
 
 
-# ---- before the machine
+# ---- before the commands
 
 
 def limits(state, ranges_most, tasks_most, commands_most):
@@ -69,6 +72,14 @@ def machine(state, *words):
 
 
 OPENING = {"limits": limits, "rules": rules, "cpus": cpus, "machine": machine}
+
+
+def host(state):
+    """`host`: behind `machine` and before every command, all that follows is a host's."""
+    if state.space is None or state.space.version > 0:
+        return "bad state"
+    state.host = hosts.Host(state.space)
+    return "host ok"
 
 
 # ---- questions
@@ -136,6 +147,15 @@ def counts(space, task, address, pages, cpu):
 QUESTIONS = {"place": place, "span": span, "counts": counts}
 
 
+def asked(space, name, arguments):
+    """The answer of a process of a host, which has no workers."""
+    if name == "ranges":
+        return f"ranges {len(ranges(space))}"
+    if name == "maps":
+        return maps(space, Crew(space), *arguments)
+    return QUESTIONS[name](space, *arguments)
+
+
 # ---- the listing
 
 
@@ -182,6 +202,10 @@ def answer(state, line):
     """The answer to a line that isn't silent: bad words, then bad state, then faults of lists,
     policies, machines and limits, then what the machine says."""
     try:
+        if state.host:
+            return hosts.answer(state.host, line, asked)
+        if line == "host":
+            return host(state)
         name, arguments = line_of(line)
     except BadWords:
         return "bad words"

@@ -1,0 +1,254 @@
+"""Hosts: processes in a tree of control groups, each with a space of its own. One function a rule.
+
+A line is told apart by its first word, and what stands behind `in P` is read as a line by itself.
+Written from docs/SCRIPT.md alone. Not proved."""
+
+from commands import COMMANDS, mems as allow
+from space import ERRNO, Space
+from words import BadWords, Fault, is_found_late, is_silent, line_of, node_list, small, words_of
+
+HOST_ERRNO = {
+    "GroupExists": "EEXIST",
+    "NoSuchGroup": "ENOENT",
+    "TooManyGroups": "ENOSPC",
+    "RootGroup": "EACCES",
+    "Populated": "ENOSPC",
+    "ProcessExists": "EEXIST",
+    "NoSuchProcess": "ESRCH",
+    "TooManyProcesses": "EAGAIN",
+    "GroupMems": "EPERM",
+}
+
+
+def list_or_none(word):
+    """LIST, or - for none."""
+    return None if word == "-" else node_list(word)
+
+
+FORMS = {
+    "cgroup": [small, small],
+    "cgroup-mems": [small, list_or_none],
+    "process": [small, small],
+    "exit": [small],
+    "attach": [small, small],
+    "fork": [small, small, small, small],
+    "weight": [small, small],
+}
+
+# What is no process's: lines that make a machine, and the host's weights.
+NOT_IN = ["limits", "rules", "cpus", "machine", "weight"]
+WORKS = ["publish", "begin", "look", "try", "give", "touch", "release"]
+
+
+class Host:
+    """The groups, each with its parent and its list or none; the processes, each with its group and
+    its space."""
+
+    def __init__(self, space):
+        self.machine = space.machine
+        self.limits = space.limits
+        self.version = 0
+        self.groups = {0: (None, None)}
+        self.processes = {}
+        self.weights = [1] * space.machine.nodes
+        self.weight_count = 0  # accepted lines `weight`, which each process begins with
+
+
+def effective(host, group):
+    """The list of a group cut by its parent's nodes, where anything is left; else the parent's. The
+    root has all nodes with memory."""
+    parent, own = host.groups[group]
+    if parent is None:
+        return host.machine.memory
+    above = effective(host, parent)
+    return (own & above or above) if own is not None else above
+
+
+def is_within(host, group, above):
+    """Whether a group is the other or below it."""
+    while group is not None and group != above:
+        group = host.groups[group][0]
+    return group == above
+
+
+def follow(host):
+    """Each process is allowed the nodes of its group; where these are as they were, nothing is
+    done."""
+    for group, space in host.processes.values():
+        nodes = effective(host, group)
+        if nodes != space.allowed:
+            allow(space, nodes)
+            space.version += 1
+
+
+# ---- commands of a host: each answers the cause of a refusal, or None
+
+
+def new_group(host, group, parent):
+    """`cgroup`: a group below another, without a list."""
+    if group in host.groups:
+        return "GroupExists"
+    if parent not in host.groups:
+        return "NoSuchGroup"
+    if len(host.groups) > 1024:
+        return "TooManyGroups"
+    host.groups[group] = (parent, None)
+    return None
+
+
+def group_mems(host, group, nodes):
+    """`cgroup-mems`: the group's list, or none."""
+    if group not in host.groups:
+        return "NoSuchGroup"
+    if group == 0:
+        return "RootGroup"
+    if nodes is not None and max(nodes) >= host.machine.nodes:
+        return "NoSuchNode"
+    parent, own = host.groups[group]
+    populated = any(is_within(host, it, group) for it, _ in host.processes.values())
+    if nodes is None and own is not None and populated:
+        return "Populated"
+    host.groups[group] = (parent, nodes)
+    follow(host)
+    return None
+
+
+def new_process(host, process, group):
+    """`process`: without pages and policies."""
+    if process in host.processes:
+        return "ProcessExists"
+    if group not in host.groups:
+        return "NoSuchGroup"
+    if len(host.processes) >= 4096:
+        return "TooManyProcesses"
+    space = Space(host.machine, host.limits)
+    space.weights = list(host.weights)
+    space.version = host.weight_count
+    host.processes[process] = (group, space)
+    follow(host)
+    return None
+
+
+def leave(host, process):
+    """`exit`: the process is there no more."""
+    if process not in host.processes:
+        return "NoSuchProcess"
+    del host.processes[process]
+    return None
+
+
+def attach(host, process, group):
+    """`attach`: the process moves to the group."""
+    if process not in host.processes:
+        return "NoSuchProcess"
+    if group not in host.groups:
+        return "NoSuchGroup"
+    host.processes[process] = (group, host.processes[process][1])
+    follow(host)
+    return None
+
+
+def fork(host, parent, child, maker, number):
+    """`fork`: the child is a copy, and one of its tasks has the policy of one of the parent's."""
+    if child in host.processes:
+        return "ProcessExists"
+    if parent not in host.processes:
+        return "NoSuchProcess"
+    if len(host.processes) >= 4096:
+        return "TooManyProcesses"
+    group, space = host.processes[parent]
+    copy = space.copy()
+    cause = COMMANDS["inherit"](copy, number, maker)
+    if cause is None:
+        copy.version += 1
+        host.processes[child] = (group, copy)
+    return cause
+
+
+def weigh(host, node, value):
+    """`weight`: for every process, also those to come."""
+    blank = Space(host.machine, host.limits)
+    cause = COMMANDS["weight"](blank, node, value)
+    if cause:
+        return cause
+    COMMANDS["weight"](host, node, value)
+    host.weight_count += 1
+    for _, space in host.processes.values():
+        COMMANDS["weight"](space, node, value)
+        space.version += 1
+    return None
+
+
+def in_process(host, process, name, arguments):
+    """`in P` before a command."""
+    if process not in host.processes:
+        return "NoSuchProcess"
+    if name == "mems":
+        return "GroupMems"
+    group, space = host.processes[process]
+    after = space.copy()
+    cause = COMMANDS[name](after, *arguments)
+    if cause is None:
+        after.version += 1
+        host.processes[process] = (group, after)
+    return cause
+
+
+CHANGES = {"cgroup": new_group, "cgroup-mems": group_mems, "process": new_process, "exit": leave,
+           "attach": attach, "fork": fork, "weight": weigh, "in": in_process}
+
+
+def accept(host, name, arguments):
+    """The answer to a command: an accepted one raises the host's version."""
+    cause = "CommandsSpent" if host.version >= host.limits[2] else CHANGES[name](host, *arguments)
+    if cause:
+        return refused(cause)
+    host.version += 1
+    return f"ok {host.version}"
+
+
+def refused(cause):
+    return f"refused {cause} {HOST_ERRNO.get(cause) or ERRNO[cause]}"
+
+
+# ---- lines
+
+
+def answer(host, line, ask):
+    """The answer to a line of a host that isn't silent. `ask` answers a question of a space."""
+    words = words_of(line)
+    name, rest = words[0], words[1:]
+    if line == "host":
+        return "bad state"
+    if name == "in":
+        return answer_in(host, rest, ask)
+    if name not in FORMS:
+        line_of(line)
+        return "bad state"
+    if len(rest) != len(FORMS[name]):
+        raise BadWords
+    arguments = [read(word) for read, word in zip(FORMS[name], rest)]
+    fault = next((it for it in arguments if isinstance(it, Fault)), None)
+    return fault.text if fault else accept(host, name, arguments)
+
+
+def answer_in(host, words, ask):
+    """`in P LINE`: what a script of the process's own commands answers."""
+    if not words:
+        raise BadWords
+    process, line = small(words[0]), " ".join(words[1:])
+    if is_silent(line):
+        raise BadWords
+    name, arguments = line_of(line)
+    if name in NOT_IN:
+        raise BadWords
+    if name in WORKS:
+        return "bad state"
+    fault = next((it for it in arguments if isinstance(it, Fault)), None)
+    if fault and not (host.machine.is_linux and is_found_late(name, arguments)):
+        return fault.text
+    if name in COMMANDS:
+        return accept(host, "in", (process, name, arguments))
+    if process not in host.processes:
+        return refused("NoSuchProcess")
+    return ask(host.processes[process][1], name, arguments)
