@@ -86,10 +86,11 @@ def bar_difference(row, parts):
     return None
 
 
-def length_difference(text, sizes, widths):
-    """What is wrong with the lengths of bars with so many pages, or None."""
+def length_difference(text, sizes, widths, drawn):
+    """What is wrong with the lengths of bars with so many pages, or None. The first `drawn` are those
+    of ranges, of which none may be too short."""
     most, longest = max(sizes), max(widths)
-    is_log = most > 1000 * min(sizes)
+    is_log = most > 1000 * min(sizes[:drawn])
     if is_log != ("The length of a bar is the logarithm of its pages" in text):
         return f"bars of {sizes} pages, by logarithms: {not is_log}"
     for pages, width in zip(sizes, widths):
@@ -131,7 +132,7 @@ def difference(text, rows, nodes, left=None, number=DRAWN):
             return f"{groups['rest'][0].find(SVG + 'text').text!r}, not {line!r}"
         sizes.append(sum(row.pages for row in others))
         widths.append(width_of(parts_of(groups["rest"][0])))
-    wrong = length_difference(text, sizes, widths) if sizes else None
+    wrong = length_difference(text, sizes, widths, len(drawn)) if sizes else None
     return wrong or total_difference(root, groups["total"][0], rows, nodes, left or {})
 
 
