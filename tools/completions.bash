@@ -11,7 +11,7 @@ _numaplan() {
         run:--format | check:--format | explain:--format) words='text json' ;;
         run:--rules | check:--rules | expect:--rules | predict:--rules | diff:--rules | explain:--rules | replay:--rules | shell:--rules) words='document linux' ;;
         expect:--format) words='text json tap' ;;
-        predict:--task | predict:--node | predict:--free | diff:--task | diff:--node | diff:--then | explain:--task | explain:--node | explain:--pages | storm:--workers) : ;;
+        predict:--task | predict:--node | predict:--largest | predict:--free | diff:--task | diff:--node | diff:--then | diff:--largest | explain:--task | explain:--node | explain:--pages | replay:--largest | storm:--workers) : ;;
         predict:--format) words='text json csv svg html' ;;
         diff:--format) words='text json svg html' ;;
         replay:--trace) files=yes ;;
@@ -22,10 +22,10 @@ _numaplan() {
                 run) words='--echo --format --rules --help' files=yes ;;
                 check) words='--format --rules --help' files=yes ;;
                 expect) words='--format --ignore-versions --update --rules --help' files=yes ;;
-                predict) words='--task --node --format --free --lenient --rules --help' files=yes ;;
-                diff) words='--task --node --then --format --lenient --rules --help' files=yes ;;
+                predict) words='--task --node --format --largest --free --lenient --rules --help' files=yes ;;
+                diff) words='--task --node --then --format --largest --lenient --rules --help' files=yes ;;
                 explain) words='--task --node --pages --format --lenient --rules --help' files=yes ;;
-                replay) words='--trace --format --lenient --rules --help' files=yes ;;
+                replay) words='--trace --format --largest --lenient --rules --help' files=yes ;;
                 shell) words='--rules --help' files=yes ;;
                 storm) words='--workers --help' ;;
                 help) words='run check expect predict diff explain replay shell storm help' ;;

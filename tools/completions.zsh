@@ -52,6 +52,7 @@ _numaplan() {
                 '(--task)--task[The task that touches the pages]:T: ' \
                 '(--node)--node[The node of the CPU on which it does]:N: ' \
                 '(--format)--format[How the answer is written]:FORMAT:(text json csv svg html)' \
+                '(--largest)--largest[Shows the N largest ranges by themselves, and sums the others\: 40 in a picture and 400 in a page, where it isn'\''t given]:N: ' \
                 '(--free)--free[So many free pages on these nodes; with K, M, G or T behind it a number is one of bytes]:NODE=PAGES,..: ' \
                 '(--lenient)--lenient[Ends with status 0 where lines were faulty or refused]' \
                 '(--rules)--rules[Whose rules count, where no line `rules` of the scripts says so]:RULES:(document linux)' \
@@ -64,6 +65,7 @@ _numaplan() {
                 '(--node)--node[The node of the CPU on which it does]:N: ' \
                 '*--then[A script line that is added; several in turn]:LINE: ' \
                 '(--format)--format[How the answer is written]:FORMAT:(text json svg html)' \
+                '(--largest)--largest[Shows the N largest ranges by themselves, and sums the others\: 40 in a picture and 400 in a page, where it isn'\''t given]:N: ' \
                 '(--lenient)--lenient[Ends with status 0 where lines were faulty or refused]' \
                 '(--rules)--rules[Whose rules count, where no line `rules` of the scripts says so]:RULES:(document linux)' \
                 '(-h --help)-h[Print help]' '(-h --help)--help[Print help]' \
@@ -84,6 +86,7 @@ _numaplan() {
             _arguments \
                 '(--trace)--trace[The file of the trace; - is standard input]:TRACE:_files' \
                 '(--format)--format[How the answer is written]:FORMAT:(text json html)' \
+                '(--largest)--largest[Shows the N largest ranges by themselves, and sums the others\: 40 in a picture and 400 in a page, where it isn'\''t given]:N: ' \
                 '(--lenient)--lenient[Ends with status 0 where lines were faulty or refused]' \
                 '(--rules)--rules[Whose rules count, where no line `rules` of the scripts says so]:RULES:(document linux)' \
                 '(-h --help)-h[Print help]' '(-h --help)--help[Print help]' \
