@@ -146,8 +146,8 @@ def _predicted(question: Question) -> Answer:
 
 
 def _total(text: str) -> Any:
-    """The last part of a report, its total; to read the ranges before it takes as long as to ask."""
-    return json.loads(text[text.rindex('"total":') + len('"total":'):text.rindex("}")])
+    """The total of a report; to read the ranges before it, too, takes longer."""
+    return json.JSONDecoder().raw_decode(text, text.rindex('"total":') + len('"total":'))[0]
 
 
 def _last_line(text: str) -> str:
