@@ -167,7 +167,7 @@ for each in sweep(asked, workers=2):
 del each
 check("a sweep that is left leaves no process", multiprocessing.active_children(), [])
 LONG = """if True:
-    import sys, numaplan
+    import sys, numaplan, numaplan._progress
     numaplan._progress.FIRST = 0.1
     try:
         for one in numaplan.sweep([(sys.argv[1], sys.argv[2])] * int(sys.argv[3]), workers=2):
