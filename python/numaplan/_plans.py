@@ -59,8 +59,8 @@ class Plan(Owner):
         into = bytearray(len(numbers)) if nodes is None else nodes
         place, room = bytes_to_write("nodes", into)
         if room != len(numbers):
-            pages = f"{len(numbers)} page{'s' * (len(numbers) != 1)}"
-            raise ValueError(f"nodes has {room} bytes for {pages}")
+            wanted = f"{len(numbers)} page{'s' * (len(numbers) != 1)}"
+            raise ValueError(f"nodes has {room} bytes for {wanted}")
         memmove(place, found, room)
         return into
 
