@@ -1,6 +1,6 @@
-"""The worked scripts: those of tests/worked/scripts and of examples/, as NAME.answers. Each holds script
-lines and their answers; docs/COMMANDS.md tells the form. It is read here a second time, apart from the
-program. Not proved."""
+"""The worked scripts: those of tests/worked/scripts, of hosts/ beside it and of examples/, as
+NAME.answers. Each holds script lines and their answers; docs/COMMANDS.md tells the form. It is read
+here a second time, apart from the program. Not proved."""
 
 import glob
 import os
@@ -31,12 +31,14 @@ def read(path):
     return (b"".join(it + b"\n" for it in script), b"".join(it + b"\n" for it in answers))
 
 
-def paths():
-    """The files, by name."""
+def paths(hosts=False):
+    """The files, by name; those of hosts, which `run` and `expect` alone know, where they are wanted."""
     files = glob.glob(TOP + "/tests/worked/scripts/*.answers") + glob.glob(TOP + "/examples/*.answers")
+    if hosts:
+        files += glob.glob(TOP + "/tests/worked/hosts/*.answers")
     return {os.path.basename(it)[: -len(".answers")]: it for it in sorted(files)}
 
 
 def row(name):
     """The script of this name, and its answers."""
-    return read(paths()[name])
+    return read(paths(True)[name])
