@@ -8,7 +8,7 @@
 # whole; NUMAPLAN_JOBS is how many run side by side instead, each with one job. Not proved.
 
 declare -A proof_takes=(
-    [proved]='30 to 50 minutes on four processors, and 3 GB of disk'
+    [proved]='some 40 minutes on four processors, and 3 GB of disk'
     [library]='some 30 minutes on four processors, or 7 if the program is proved'
 )
 
