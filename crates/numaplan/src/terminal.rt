@@ -40,6 +40,7 @@ begin W TASK ADDR CPU          a worker begins to look for a frame; its single s
 look W WORD                      a look at 64 frames of its current node,
 try W NODE FRAME                 one try at a frame, and
 give W NODE FRAME                to give a frame back
+host                           from here on a host's lines, as man numaplan-script tells
 ";
 
 /// The help on the words of lines.
@@ -50,6 +51,11 @@ or 0x and hexadecimal; START, LENGTH and ADDR count bytes, OFFSET and PAGES page
 is the node of a CPU. Words stand between single spaces. A line that begins with # says nothing.
 ";
 
+/// What a question of a shell about a host is told.
+const OF_A_HOST: &str = "\
+predict and explain ask scripts of one process; ask a host by in P place TASK ADDR CPU
+";
+
 /// A typed script.
 #[derive(Drop)]
 struct Typed<W, T> {
@@ -57,6 +63,8 @@ struct Typed<W, T> {
     // Whether questions of a shell are answered, and whether the shell was ended.
     is_shell: bool,
     has_quit: bool,
+    // Whether the script is a host's, whose lines aren't judged.
+    is_host: bool,
     answering: Answering,
     // The same script, for finding what is wrong with a line.
     judged: Script,
@@ -93,6 +101,20 @@ fn find(
 }
 
 impl<W: Write, T: Write> Typed<W, T> {
+    /// Writes what is wrong with a line whose answer is in `text`, unless the script is a host's.
+    fn tell(&mut self, name: &str, place: u64, line: &[u8]) -> Result<(), RunFault> {
+        if self.text.as_slice() == b"host ok\n".as_slice() {
+            self.is_host = true;
+        }
+        if self.is_host {
+            return Ok(());
+        }
+        self.text.clear();
+        let script = &mut self.judged;
+        find(self.alloc, script, name, place, line, &mut self.text)?;
+        put(&mut self.told, self.text.as_slice())
+    }
+
     /// Writes the answer to a line, and what is wrong with it.
     fn answer(&mut self, name: &str, place: u64, line: &[u8]) -> Result<(), RunFault> {
         self.text.clear();
@@ -100,10 +122,7 @@ impl<W: Write, T: Write> Typed<W, T> {
             return Err(RunFault::Memory);
         }
         put(&mut self.output, self.text.as_slice())?;
-        self.text.clear();
-        let script = &mut self.judged;
-        find(self.alloc, script, name, place, line, &mut self.text)?;
-        put(&mut self.told, self.text.as_slice())
+        self.tell(name, place, line)
     }
 
     /// Plays a line of a file, and writes what is wrong with it.
@@ -112,10 +131,7 @@ impl<W: Write, T: Write> Typed<W, T> {
         if let Err(_) = self.answering.respond(line, &mut self.text) {
             return Err(RunFault::Memory);
         }
-        self.text.clear();
-        let script = &mut self.judged;
-        find(self.alloc, script, name, place, line, &mut self.text)?;
-        put(&mut self.told, self.text.as_slice())
+        self.tell(name, place, line)
     }
 
     /// Answers a question of a shell, and returns whether the line is one.
@@ -123,6 +139,10 @@ impl<W: Write, T: Write> Typed<W, T> {
         let Some(question) = question_of(line) else {
             return Ok(false);
         };
+        if self.is_host {
+            put(&mut self.told, OF_A_HOST.as_bytes())?;
+            return Ok(true);
+        }
         match answer_to(self.alloc, &self.judged, question) {
             Ok(text) => put(&mut self.output, text.as_slice())?,
             Err(Some(message)) => {
@@ -197,6 +217,7 @@ where
         alloc,
         is_shell,
         has_quit: false,
+        is_host: false,
         answering: Answering::new(alloc, rules),
         judged: Script::by(rules),
         text: Vec::new(alloc),
