@@ -22,7 +22,7 @@ use std::sync::Wait;
 
 /// What is measured together.
 #[derive(Clone, Copy)]
-enum Part {
+enum Topic {
     First,
     Plan,
     Space,
@@ -31,15 +31,15 @@ enum Part {
     Fault,
 }
 
-impl Part {
+impl Topic {
     fn name(self) -> &'static str {
         match self {
-            Part::First => "first",
-            Part::Plan => "plan",
-            Part::Space => "space",
-            Part::Compile => "compile",
-            Part::Publish => "publish",
-            Part::Fault => "fault",
+            Topic::First => "first",
+            Topic::Plan => "plan",
+            Topic::Space => "space",
+            Topic::Compile => "compile",
+            Topic::Publish => "publish",
+            Topic::Fault => "fault",
         }
     }
 }
@@ -49,17 +49,17 @@ impl Part {
 fn print_part<R: Print + Clock + Wait>(
     rt: &R,
     alloc: Global,
-    part: Part,
+    part: Topic,
     measures: bool,
 ) -> io::Result<()> {
     match part {
-        Part::First if measures => Ok(()),
-        Part::First => first::print_nodes(rt, alloc),
-        Part::Plan => plan::print(rt, alloc, measures),
-        Part::Space => space::print(rt, alloc, measures),
-        Part::Compile => compile::print(rt, alloc, measures),
-        Part::Publish => publish::print(rt, alloc, measures),
-        Part::Fault => fault::print(rt, alloc, measures),
+        Topic::First if measures => Ok(()),
+        Topic::First => first::print_nodes(rt, alloc),
+        Topic::Plan => plan::print(rt, alloc, measures),
+        Topic::Space => space::print(rt, alloc, measures),
+        Topic::Compile => compile::print(rt, alloc, measures),
+        Topic::Publish => publish::print(rt, alloc, measures),
+        Topic::Fault => fault::print(rt, alloc, measures),
     }
 }
 
@@ -71,12 +71,12 @@ fn print_parts<R: Print + Clock + Wait>(
     wanted: Option<&str>,
 ) -> io::Result<()> {
     for part in [
-        Part::First,
-        Part::Plan,
-        Part::Space,
-        Part::Compile,
-        Part::Publish,
-        Part::Fault,
+        Topic::First,
+        Topic::Plan,
+        Topic::Space,
+        Topic::Compile,
+        Topic::Publish,
+        Topic::Fault,
     ] {
         let name = part.name();
         match wanted {

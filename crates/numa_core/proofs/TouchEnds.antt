@@ -3,7 +3,7 @@ use Rattle.std.proofs.Common.{◌≡◌, ℕ, false, Option, Some, None, Ok, Err
 use Rattle.std.proofs.Common.{unwrap_or, List, [], nat_le, refl, sym, ap, subst, ◌∙◌}
 use Rattle.numa_space.specs.declared.request.Request.{Request}
 use Rattle.numa_core.specs.declared.state.State.{State}
-use Rattle.numa_core.specs.declared.free_frames.Spot.{Spot}
+use Rattle.numa_core.specs.declared.free_frames.FreeFrame.{FreeFrame}
 use Rattle.numa_space.specs.declared.event.CoreReply.TheVariants.{Exhausted, Won}
 use Rattle.numa_space.specs.declared.event.CoreRefusal.{CoreRefusal}
 use Rattle.numa_space.specs.declared.event.CoreRefusal.TheVariants.{NoSuchWorker, Busy, BadCpu}
@@ -68,7 +68,7 @@ exhausts core w request nodes world stands judged listed none =
 
 -- a free frame is won
 pub wins : (core : CoreState) (owners : List (Option ℕ)) (w : ℕ) (request : Request)
-    (nodes : List ℕ) (spot : Spot) (world : World) → CoreStandsFor core world
+    (nodes : List ℕ) (spot : FreeFrame) (world : World) → CoreStandsFor core world
     → IsJudged core w request None → IsListed core request nodes
     → first_free (setup_of core) world nodes ≡ Some spot
     → ((n k : ℕ) → owner_at owners (place_in core.space.machine.frames n k)

@@ -14,7 +14,7 @@ use Rattle.numa_space.specs.declared.event.CoreReply.TheVariants.{Still, Exhaust
 use Rattle.numa_space.specs.declared.event.CoreRefusal.{CoreRefusal}
 use Rattle.numa_space.specs.declared.event.CoreRefusal.TheVariants.{NoSuchWorker, Busy, BadCpu}
 use Rattle.numa_space.specs.declared.event.CoreRefusal.TheVariants.{Unmapped}
-use Rattle.numa_core.specs.declared.free_frames.Spot.{Spot}
+use Rattle.numa_core.specs.declared.free_frames.FreeFrame.{FreeFrame}
 use Rattle.numa_core.specs.World.{Setup, FrameSearch, World, newest_published, frame_search_of}
 use Rattle.numa_core.specs.World.{last_of, list_at, is_frame, current_rank, has_unmet, may_try}
 use Rattle.numa_core.specs.World.{frame_search_past, new_frame_search}
@@ -72,7 +72,7 @@ module _ (s : Setup) (world : World) (w : ℕ) (request : Request) (nodes : List
         (if is_some current then Some (searching met) else None);
   }
 
-  abbrev ending : Option Spot → Answered
+  abbrev ending : Option FreeFrame → Answered
   ending spot =
       record { answer = Ok (touch_reply s world request spot); world = touch_effect s world w spot }
 
@@ -254,7 +254,7 @@ module _ (s : Setup) (world : World) (w : ℕ) (request : Request) (nodes : List
           (answered_with s (so_far met (Some rank)).world (Try w (frame_at rank k)))
           ≡ ending (first_free s world nodes)
       go None is =
-          let spot : Spot = record { frame = frame_at rank k; rank = rank } in
+          let spot : FreeFrame = record { frame = frame_at rank k; rank = rank } in
           ap (λ x. tried_on s n w x) (wins met rank k e low is)
           ∙ idle s w n (ending (Some spot))
           (frame_search-put (with_owner world (frame_at rank k) (Some w)) w (newest_published world)

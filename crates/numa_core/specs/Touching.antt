@@ -8,7 +8,7 @@ use Rattle.std.specs.Option.{option_map, option_map_or, option_or}
 use Rattle.numa_machine.specs.Machine.{frames_of}
 use Rattle.numa_machine.specs.declared.frame.Frame.{Frame}
 use Rattle.numa_space.specs.declared.request.Request.{Request}
-use Rattle.numa_core.specs.declared.free_frames.Spot.{Spot}
+use Rattle.numa_core.specs.declared.free_frames.FreeFrame.{FreeFrame}
 use Rattle.numa_space.specs.declared.event.Event.{Event}
 use Rattle.numa_space.specs.declared.event.Event.TheVariants.{Begin, Try}
 use Rattle.numa_space.specs.declared.event.CoreReply.{CoreReply}
@@ -72,7 +72,7 @@ module _ (s : Setup) where
 -- ---- what a touch comes to
 
 -- the frame at the head of the list if there is one, else the spot after the head
-abbrev pub spot_or : Option Frame → Option Spot → Option Spot
+abbrev pub spot_or : Option Frame → Option FreeFrame → Option FreeFrame
 spot_or (Some frame) behind = Some (record { frame = frame; rank = 0 })
 spot_or None behind = option_map (λ spot. record { frame = spot.frame; rank = spot.rank + 1 })
     behind
@@ -84,17 +84,17 @@ module _ (s : Setup) where
       (lowest_below (λ k. is_none (world.owner n k)) (frames_of s.machine n))
 
   -- the lowest frame without an owner of the first listed node that has one
-  abbrev pub first_free : World → List ℕ → Option Spot
+  abbrev pub first_free : World → List ℕ → Option FreeFrame
   first_free world [] = None
   first_free world (n ∷ nodes) = spot_or (lowest_free world n) (first_free world nodes)
 
   -- the first free frame of the request's list in the newest published version
-  abbrev pub free_for : World → Request → Option Spot
+  abbrev pub free_for : World → Request → Option FreeFrame
   free_for world request =
       first_free world (new_frame_search s world (newest_published world) request).nodes
 
   -- the worker wins the spot; without one its list is exhausted
-  abbrev pub touch_reply : World → Request → Option Spot → CoreReply
+  abbrev pub touch_reply : World → Request → Option FreeFrame → CoreReply
   touch_reply world request None = Exhausted (newest_published world)
   touch_reply world request (Some spot) = Won (record {
     version = newest_published world;
@@ -107,7 +107,7 @@ module _ (s : Setup) where
 
   -- the worker has taken the newest published version and is idle, and the frame at the spot is its
   -- own
-  abbrev pub touch_effect : World → ℕ → Option Spot → World
+  abbrev pub touch_effect : World → ℕ → Option FreeFrame → World
   touch_effect world w None = with_worker world w (newest_published world) None
   touch_effect world w (Some spot) = with_worker (with_owner world spot.frame (Some w))
       w (newest_published world) None

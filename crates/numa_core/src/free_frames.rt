@@ -25,7 +25,7 @@ pub(crate) struct Known {
 
 /// A frame without an owner, and the place of its node in a list, from 0.
 #[derive(Clone, Copy, Debug, PartialEq, Eq)]
-pub(crate) struct Spot {
+pub(crate) struct FreeFrame {
     pub frame: Frame,
     pub rank: u32,
 }
@@ -170,7 +170,7 @@ pub(crate) fn first_free(
     owners: &Vec<Option<u8>>,
     taken: &Known,
     nodes: &[u8],
-) -> Option<Spot>
+) -> Option<FreeFrame>
     requires owners { vec_len owners.now ≡ frames_before places.now (length places.now) }
     requires taken { AreTaken places.now owners.now.items taken.now }
     requires few { length nodes.now ≤ 256 }
@@ -182,7 +182,7 @@ pub(crate) fn first_free(
         let node = nodes[rank];
         let from = lowest_known(&taken.lowest, node);
         if let Some(frame) = lowest_free(places, owners, &taken.marks, node, from) {
-            return Some(Spot {
+            return Some(FreeFrame {
                 frame,
                 rank: rank as u32,
             });

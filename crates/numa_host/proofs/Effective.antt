@@ -4,7 +4,7 @@ use Rattle.std.proofs.lemmas.Bool.{cases_Bool, both_ways, eq-eqb}
 use Rattle.numa_mask.specs.NodeSet.{both}
 use Rattle.numa_mode.proofs.Subsets.{both-within}
 use Rattle.numa_space.proofs.NodeLists.{within-both, within-from_both}
-use Rattle.numa_host.specs.declared.group.Group.{Group}
+use Rattle.numa_host.specs.declared.group.ControlGroup.{ControlGroup}
 use Rattle.numa_host.specs.Groups.{effective_mems, narrowed}
 
 -- of some nodes with memory some are left
@@ -26,7 +26,8 @@ narrowed-some memory above (Some mems) h =
       })
     ]
 
-pub effective-some : (memory : ℕ) (groups : List Group) (name : ℕ) → AreSome memory memory
+pub effective-some : (memory : ℕ) (groups : List ControlGroup) (name : ℕ)
+    → AreSome memory memory
     → AreSome memory (effective_mems memory groups name)
 effective-some memory [] name h = h
 effective-some memory (group ∷ older) name h =

@@ -15,7 +15,7 @@ use Rattle.numa_machine.specs.Machine.{Hardware}
 use Rattle.numa_space.specs.Standing.{StandsFor}
 use Rattle.numa_host.specs.declared.command.HostCommand.{HostCommand}
 use Rattle.numa_host.specs.declared.command.HostCommand.TheVariants.{SetGroupMems}
-use Rattle.numa_host.specs.declared.group.Group.{Group}
+use Rattle.numa_host.specs.declared.group.ControlGroup.{ControlGroup}
 use Rattle.numa_host.specs.declared.process.Process.{Process}
 use Rattle.numa_host.specs.declared.refusal.HostRefusal.TheVariants.{Populated}
 use Rattle.numa_host.specs.Groups.{effective_mems, groups_of, has_own_mems, is_group, is_within}
@@ -75,9 +75,10 @@ nodes-held host history k d stands sound inside =
     ∙ sym (sound.allowed k d inside)
 
 -- a list of nodes changes no name
-named-same : (groups : List Group) (name : ℕ) (mems : Option ℕ) (known : ℕ)
-    → list_any (λ (group : Group). eqb group.name known) (map (with_mems name mems) groups)
-    ≡ list_any (λ (group : Group). eqb group.name known) groups
+named-same : (groups : List ControlGroup) (name : ℕ) (mems : Option ℕ) (known : ℕ)
+    → list_any (λ (group : ControlGroup). eqb group.name known)
+    (map (with_mems name mems) groups)
+    ≡ list_any (λ (group : ControlGroup). eqb group.name known) groups
 named-same [] name mems known = refl
 named-same (group ∷ groups) name mems known =
     elim (cases_Bool (eqb group.name name)) [
@@ -85,14 +86,14 @@ named-same (group ∷ groups) name mems known =
       | inr e ↦ rw e (ap (λ b. eqb group.name known || b) (named-same groups name mems known))
     ]
 
-pub groups-same : (groups : List Group) (name : ℕ) (mems : Option ℕ) (known : ℕ)
+pub groups-same : (groups : List ControlGroup) (name : ℕ) (mems : Option ℕ) (known : ℕ)
     → is_group (map (with_mems name mems) groups) known ≡ is_group groups known
 groups-same groups name mems known =
     ap (λ b. eqb known 0 || b) (named-same groups name mems known)
 
 module _ (old : HostState) (name : ℕ) (mems : Option ℕ) (news : List Process)
     (sound : IsHostSound old) where
-  abbrev pub groups_next : List Group
+  abbrev pub groups_next : List ControlGroup
   groups_next = map (with_mems name mems) old.groups
 
   abbrev pub nodes_next : Process → ℕ

@@ -9,7 +9,7 @@ use Rattle.std.specs.Option.{option_map_or}
 use Rattle.numa_machine.specs.Machine.{Hardware}
 use Rattle.numa_space.specs.declared.command.Command.{Command}
 use Rattle.numa_host.specs.declared.command.HostCommand.{HostCommand}
-use Rattle.numa_host.specs.declared.group.Group.{Group}
+use Rattle.numa_host.specs.declared.group.ControlGroup.{ControlGroup}
 use Rattle.numa_host.specs.declared.process.Process.{Process}
 use Rattle.numa_host.specs.Groups.{effective_mems, groups_of}
 use Rattle.numa_host.specs.Processes.{Member, group_in, is_there, members_of, nodes_of}
@@ -71,7 +71,7 @@ map-filter f test (x ∷ xs) =
 -- ---- the nodes that they are allowed
 
 -- a process of a list that a history means, whose groups it means too
-pub nodes-at : (machine : Hardware) (history : List HostCommand) (groups : List Group)
+pub nodes-at : (machine : Hardware) (history : List HostCommand) (groups : List ControlGroup)
     (ps : List Process) (k : ℕ) (d : Process) → groups ≡ groups_of history
     → map member_of ps ≡ members_of history → AllPairs (λ (a b : Process). a.id ≢ b.id) ps
     → k < length ps
@@ -83,7 +83,7 @@ nodes-at machine history groups ps k d meant members once inside =
     ∙ member-group ps k d once inside in
     ap (λ (o : Option ℕ). option_map_or (effective_mems machine.memory (groups_of history)) o
     machine.memory) group
-    ∙ ap (λ (gs : List Group). effective_mems machine.memory gs (get_or ps k d).group)
+    ∙ ap (λ (gs : List ControlGroup). effective_mems machine.memory gs (get_or ps k d).group)
     (sym meant)
 
 pub moved-nowhere : (old new : ℕ) (commands : List Command) → old ≡ new

@@ -14,7 +14,7 @@ use Rattle.numa_host.specs.declared.command.HostCommand.{HostCommand}
 use Rattle.numa_host.specs.declared.command.HostCommand.TheVariants.{NewGroup, SetGroupMems}
 use Rattle.numa_host.specs.declared.command.HostCommand.TheVariants.{NewProcess, Exit, Attach}
 use Rattle.numa_host.specs.declared.command.HostCommand.TheVariants.{Fork, In, SetWeight}
-use Rattle.numa_host.specs.declared.group.Group.{Group}
+use Rattle.numa_host.specs.declared.group.ControlGroup.{ControlGroup}
 use Rattle.numa_host.specs.declared.refusal.HostRefusal.{HostRefusal}
 use Rattle.numa_host.specs.declared.refusal.HostRefusal.TheVariants as cause
 use Rattle.numa_host.specs.Causes.{cause_of, first_of, when}
@@ -39,12 +39,12 @@ not-false false is = absurd (cc)
 -- ---- the tree
 
 -- each group has a name of its own, and its parent is older
-abbrev pub IsTree : List Group → Type 0
+abbrev pub IsTree : List ControlGroup → Type 0
 IsTree [] = Unit {0}
 IsTree (group ∷ older) = (is_group older group.name ≡ false)
     × (is_group older group.parent ≡ true) × IsTree older
 
-tree-with_mems : (name : ℕ) (mems : Option ℕ) (groups : List Group) → IsTree groups
+tree-with_mems : (name : ℕ) (mems : Option ℕ) (groups : List ControlGroup) → IsTree groups
     → IsTree (map (with_mems name mems) groups)
 tree-with_mems name mems [] tree = tt
 tree-with_mems name mems (group ∷ older) tree =
@@ -109,7 +109,7 @@ narrowed-inside (Some mems) above =
     ]
 
 -- both a group and its parent are among the groups
-record IsKnown (groups : List Group) (group : Group) : Type 0 where
+record IsKnown (groups : List ControlGroup) (group : ControlGroup) : Type 0 where
   pub name : is_group groups group.name ≡ true
   pub parent : is_group groups group.parent ≡ true
 
@@ -123,19 +123,19 @@ or-middle true b c h = refl
 or-middle false true c h = refl
 or-middle false false c h = absurd (cc)
 
-tree-known : (groups : List Group) → IsTree groups
-    → All (λ (group : Group). IsKnown groups group) groups
-tree-known [] tree = All-nil (λ (group : Group). IsKnown [] group)
+tree-known : (groups : List ControlGroup) → IsTree groups
+    → All (λ (group : ControlGroup). IsKnown groups group) groups
+tree-known [] tree = All-nil (λ (group : ControlGroup). IsKnown [] group)
 tree-known (first ∷ older) tree =
-    All-cons (λ (group : Group). IsKnown (first ∷ older) group) first older
+    All-cons (λ (group : ControlGroup). IsKnown (first ∷ older) group) first older
     (record {
       name = or-middle (eqb first.name 0) (eqb first.name first.name) _
           (eq-eqb first.name first.name refl);
       parent =
           or-right (eqb first.parent 0) (eqb first.name first.parent) _ tree.1;
     })
-    (All-weaker (λ (group : Group). IsKnown older group)
-    (λ (group : Group). IsKnown (first ∷ older) group)
+    (All-weaker (λ (group : ControlGroup). IsKnown older group)
+    (λ (group : ControlGroup). IsKnown (first ∷ older) group)
     (λ group known. record {
       name = or-right (eqb group.name 0) (eqb first.name group.name) _ known.name;
       parent =
@@ -144,7 +144,7 @@ tree-known (first ∷ older) tree =
     older (tree-known older tree.2))
 
 -- the nodes of a group that is older than the first
-effective-older : (memory : ℕ) (first : Group) (older : List Group) (name : ℕ)
+effective-older : (memory : ℕ) (first : ControlGroup) (older : List ControlGroup) (name : ℕ)
     → is_group older first.name ≡ false → is_group older name ≡ true
     → effective_mems memory (first ∷ older) name ≡ effective_mems memory older name
 effective-older memory first older name new known =
@@ -153,11 +153,11 @@ effective-older memory first older name new known =
     ∙ known))) refl
 
 -- a group's effective nodes are inside its parent's
-abbrev pub IsNested : ℕ → List Group → Group → Type 0
+abbrev pub IsNested : ℕ → List ControlGroup → ControlGroup → Type 0
 IsNested memory groups group = both (effective_mems memory groups group.name)
     (effective_mems memory groups group.parent) ≡ effective_mems memory groups group.name
 
-pub tree-nested : (memory : ℕ) (groups : List Group) → IsTree groups
+pub tree-nested : (memory : ℕ) (groups : List ControlGroup) → IsTree groups
     → All (IsNested memory groups) groups
 tree-nested memory [] tree = All-nil (IsNested memory [])
 tree-nested memory (first ∷ older) tree =

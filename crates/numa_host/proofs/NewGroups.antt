@@ -5,7 +5,7 @@ use Rattle.std.proofs.Common.{subst, arith, ◌||◌}
 use Rattle.std.proofs.lemmas.Bool.{both_ways, ne_eqb, lt-leb}
 use Rattle.numa_host.specs.declared.command.HostCommand.{HostCommand}
 use Rattle.numa_host.specs.declared.command.HostCommand.TheVariants.{NewGroup}
-use Rattle.numa_host.specs.declared.group.Group.{Group}
+use Rattle.numa_host.specs.declared.group.ControlGroup.{ControlGroup}
 use Rattle.numa_host.specs.declared.process.Process.{Process}
 use Rattle.numa_host.specs.Causes.{host_refusal_of}
 use Rattle.numa_host.specs.Groups.{effective_mems, groups_of, is_group}
@@ -16,7 +16,7 @@ use Rattle.numa_host.proofs.Members.{nodes-at, moved-nowhere}
 use Rattle.numa_host.proofs.Steps.{IsHostStep, not-spent, group-known, groups-count}
 
 -- a group that is there isn't the new one
-other-name : (groups : List Group) (name known : ℕ) → is_group groups name ≡ false
+other-name : (groups : List ControlGroup) (name known : ℕ) → is_group groups name ≡ false
     → is_group groups known ≡ true → eqb name known ≡ false
 other-name groups name known absent there =
     ne_eqb name known (λ same. both_ways (is_group groups name) absent

@@ -6,7 +6,7 @@ use Rattle.std.proofs.lemmas.List.{length-map}
 use Rattle.numa_machine.specs.Machine.{Hardware}
 use Rattle.numa_space.specs.Limited.{Bounds}
 use Rattle.numa_host.specs.declared.command.HostCommand.{HostCommand}
-use Rattle.numa_host.specs.declared.group.Group.{Group}
+use Rattle.numa_host.specs.declared.group.ControlGroup.{ControlGroup}
 use Rattle.numa_host.specs.declared.refusal.HostRefusal.{HostRefusal}
 use Rattle.numa_host.specs.declared.refusal.HostRefusal.TheVariants.{NoMemory}
 use Rattle.numa_host.specs.Causes.{host_refusal_of}
@@ -106,10 +106,10 @@ module _ (host : HostState) (history : List HostCommand) (stands : HostStandsFor
         (omega (arith, room, stands.version))
 
     pub group-known : (name : ℕ) → is_group (groups_of history) name ≡ is_group host.groups name
-    group-known name = ap (λ (gs : List Group). is_group gs name) (sym stands.groups)
+    group-known name = ap (λ (gs : List ControlGroup). is_group gs name) (sym stands.groups)
 
     pub groups-count : length (groups_of history) ≡ length host.groups
-    groups-count = ap (λ (gs : List Group). length gs) (sym stands.groups)
+    groups-count = ap (λ (gs : List ControlGroup). length gs) (sym stands.groups)
 
     pub members-count : length (members_of history) ≡ length host.processes
     members-count = ap (λ (ms : List Member). length ms) (sym stands.members)

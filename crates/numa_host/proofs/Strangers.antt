@@ -12,7 +12,7 @@ use Rattle.numa_host.specs.declared.command.HostCommand.{HostCommand}
 use Rattle.numa_host.specs.declared.command.HostCommand.TheVariants.{NewGroup, SetGroupMems}
 use Rattle.numa_host.specs.declared.command.HostCommand.TheVariants.{NewProcess, Exit, Attach}
 use Rattle.numa_host.specs.declared.command.HostCommand.TheVariants.{Fork, In, SetWeight}
-use Rattle.numa_host.specs.declared.group.Group.{Group}
+use Rattle.numa_host.specs.declared.group.ControlGroup.{ControlGroup}
 use Rattle.numa_host.specs.Groups.{effective_mems, groups_of, with_mems}
 use Rattle.numa_host.specs.Processes.{Member, commands_of, group_in, members_of, moved_member}
 use Rattle.numa_host.specs.Processes.{nodes_of, weights_of, when_moved}
@@ -112,7 +112,7 @@ module _ (these : ℕ → Bool) where
   groups-without (NewGroup name parent ∷ history) =
       λ i. record { name = name; parent = parent; mems = None } ∷ groups-without history i
   groups-without (SetGroupMems name mems ∷ history) =
-      ap (λ (gs : List Group). map (with_mems name mems) gs) (groups-without history)
+      ap (λ (gs : List ControlGroup). map (with_mems name mems) gs) (groups-without history)
   groups-without (NewProcess process group ∷ history) =
       elim (cases_Bool (these process)) [
         | inl e ↦ rw e (groups-without history)

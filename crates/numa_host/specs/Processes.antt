@@ -11,7 +11,7 @@ use Rattle.numa_host.specs.declared.command.HostCommand.{HostCommand}
 use Rattle.numa_host.specs.declared.command.HostCommand.TheVariants.{NewProcess, Exit, Attach}
 use Rattle.numa_host.specs.declared.command.HostCommand.TheVariants.{Fork}
 use Rattle.numa_host.specs.declared.command.HostCommand.TheVariants.{In, SetWeight}
-use Rattle.numa_host.specs.declared.group.Group.{Group}
+use Rattle.numa_host.specs.declared.group.ControlGroup.{ControlGroup}
 use Rattle.numa_host.specs.Groups.{groups_of, effective_mems, is_within}
 
 -- ---- which processes there are, and in which group each is
@@ -44,7 +44,7 @@ members_of (Fork parent child from task ∷ history) =
 members_of (_ ∷ history) = members_of history
 
 -- whether one of the processes is in the group or below it
-abbrev pub has_process : List Group → ℕ → List Member → Bool
+abbrev pub has_process : List ControlGroup → ℕ → List Member → Bool
 has_process groups name members =
     list_any (λ (member : Member). is_within groups member.1 name) members
 

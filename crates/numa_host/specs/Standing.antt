@@ -12,7 +12,7 @@ use Rattle.numa_host.specs.declared.command.HostCommand.TheVariants.{NewGroup, S
 use Rattle.numa_host.specs.declared.command.HostCommand.TheVariants.{NewProcess, Exit, Attach}
 use Rattle.numa_host.specs.declared.command.HostCommand.TheVariants.{Fork}
 use Rattle.numa_host.specs.declared.command.HostCommand.TheVariants.{In, SetWeight}
-use Rattle.numa_host.specs.declared.group.Group.{Group}
+use Rattle.numa_host.specs.declared.group.ControlGroup.{ControlGroup}
 use Rattle.numa_host.specs.declared.process.Process.{Process}
 use Rattle.numa_host.specs.declared.refusal.HostRefusal.{HostRefusal}
 use Rattle.numa_host.specs.declared.refusal.HostRefusal.TheVariants.{NoMemory}
@@ -26,7 +26,7 @@ use Rattle.numa_host.specs.Causes.{host_refusal_of}
 pub record HostState : Type 0 where
   pub blank : SpaceState
   pub version : ℕ
-  pub groups : List Group
+  pub groups : List ControlGroup
   pub processes : List Process
 
 abbrev pub member_of : Process → Member

@@ -3,7 +3,7 @@ ghost use Rattle.std.specs.Prelude.{◌≡◌, ◌==◌, ◌&&◌, is_some, map,
 ghost use Rattle.std.specs.List.{list_any};
 ghost use Rattle.std.specs.Option.{option_map_or};
 ghost use Rattle.numa_mask.specs.NodeSet.{members};
-ghost use Rattle.numa_host.specs.declared.group.Group.{Group};
+ghost use Rattle.numa_host.specs.declared.group.ControlGroup.{ControlGroup};
 ghost use Rattle.numa_host.specs.Groups.{effective_mems, has_own_mems, is_group};
 ghost use Rattle.numa_host.specs.Groups.{is_within, narrowed, with_mems};
 
@@ -11,7 +11,7 @@ use numa_mask::NodeMask;
 
 /// A group below the root: its name, that of its parent, and its own list of nodes, if it has one.
 #[derive(Clone, Copy, Debug, PartialEq, Eq, Drop)]
-pub struct Group {
+pub struct ControlGroup {
     pub name: u32,
     pub parent: u32,
     pub mems: Option<NodeMask>,
@@ -33,7 +33,7 @@ pub(crate) fn narrowed(mems: &Option<NodeMask>, above: NodeMask) -> NodeMask
 }
 
 /// The effective nodes of a group (`cpuset.mems.effective`).
-pub(crate) fn effective(memory: NodeMask, groups: &[Group], name: u32) -> NodeMask
+pub(crate) fn effective(memory: NodeMask, groups: &[ControlGroup], name: u32) -> NodeMask
     ensures { result ≡ effective_mems memory groups.now name }
 {
     let Some((group, older)) = groups.split_first() else {
@@ -47,21 +47,21 @@ pub(crate) fn effective(memory: NodeMask, groups: &[Group], name: u32) -> NodeMa
 }
 
 /// Whether a group below the root has this name.
-fn has_name(groups: &[Group], name: u32) -> bool
-    ensures { result ≡ list_any (λ (group : Group). group.name == name) groups.now }
+fn has_name(groups: &[ControlGroup], name: u32) -> bool
+    ensures { result ≡ list_any (λ (group : ControlGroup). group.name == name) groups.now }
 {
     groups.iter().any(|group| group.name == name)
 }
 
 /// Whether there is such a group.
-pub(crate) fn is_group(groups: &[Group], name: u32) -> bool
+pub(crate) fn is_group(groups: &[ControlGroup], name: u32) -> bool
     ensures { result ≡ is_group groups.now name }
 {
     name == 0 || has_name(groups, name)
 }
 
 /// Whether a group has a list of its own.
-pub(crate) fn has_own_mems(groups: &[Group], name: u32) -> bool
+pub(crate) fn has_own_mems(groups: &[ControlGroup], name: u32) -> bool
     ensures { result ≡ has_own_mems groups.now name }
 {
     groups
@@ -70,7 +70,7 @@ pub(crate) fn has_own_mems(groups: &[Group], name: u32) -> bool
 }
 
 /// Whether a group is this one or below it.
-pub(crate) fn is_within(groups: &[Group], name: u32, above: u32) -> bool
+pub(crate) fn is_within(groups: &[ControlGroup], name: u32, above: u32) -> bool
     ensures { result ≡ is_within groups.now name above }
 {
     let Some((group, older)) = groups.split_first() else {
@@ -83,11 +83,11 @@ pub(crate) fn is_within(groups: &[Group], name: u32, above: u32) -> bool
 }
 
 /// The group with its own list of nodes, or with none, where it has this name.
-fn with_mems(group: Group, name: u32, mems: &Option<NodeMask>) -> Group
+fn with_mems(group: ControlGroup, name: u32, mems: &Option<NodeMask>) -> ControlGroup
     ensures { result ≡ with_mems name mems.now group }
 {
     if group.name == name {
-        return Group {
+        return ControlGroup {
             name: group.name,
             parent: group.parent,
             mems: *mems,
@@ -97,7 +97,7 @@ fn with_mems(group: Group, name: u32, mems: &Option<NodeMask>) -> Group
 }
 
 /// Gives the group of a name its own list of nodes, or takes it away.
-pub(crate) fn set_mems(groups: &mut [Group], name: u32, mems: &Option<NodeMask>)
+pub(crate) fn set_mems(groups: &mut [ControlGroup], name: u32, mems: &Option<NodeMask>)
     ensures { groups.new ≡ map (with_mems name mems.now) groups.old }
 {
     for group in groups.iter_mut() {

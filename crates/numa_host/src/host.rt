@@ -11,7 +11,7 @@ ghost use Rattle.numa_host.specs.Standing.{HasHostHistory, HostState, HostStands
 ghost use Rattle.numa_host.specs.Standing.{IsHostSound, IsSpaceOf, member_of};
 
 use crate::command::HostCommand;
-use crate::group::{Group, effective, is_group};
+use crate::group::{ControlGroup, effective, is_group};
 use crate::process::{Process, copies_of, find};
 use crate::refusal::HostRefusal;
 use arrayvec::ArrayVec;
@@ -30,7 +30,7 @@ pub struct Host {
     blank: Space,
     limits: Limits,
     version: u64,
-    groups: Vec<Group>,
+    groups: Vec<ControlGroup>,
     processes: Vec<Process>,
 }
 
@@ -125,7 +125,7 @@ impl Host {
 
     /// The groups below the root, the newest first; so the parent of each is the root or comes
     /// later.
-    pub fn groups(&self) -> &[Group]
+    pub fn groups(&self) -> &[ControlGroup]
         ensures groups { result.now ≡ self.now.groups }
         ensures meaning { (history : List HostCommand) → HostStandsFor self.now history
             → result.now ≡ groups_of history }

@@ -6,7 +6,7 @@ ghost use Rattle.numa_machine.specs.Machine.{Hardware};
 ghost use Rattle.numa_space.specs.Limited.{Bounds};
 ghost use Rattle.numa_space.specs.Standing.{IsAccepted};
 ghost use Rattle.numa_host.specs.declared.command.HostCommand.{HostCommand};
-ghost use Rattle.numa_host.specs.declared.group.Group.{Group};
+ghost use Rattle.numa_host.specs.declared.group.ControlGroup.{ControlGroup};
 ghost use Rattle.numa_host.specs.Groups.{effective_mems, groups_of};
 ghost use Rattle.numa_host.specs.Processes.{commands_of};
 ghost use Rattle.numa_host.specs.Standing.{IsHostAccepted};
@@ -31,7 +31,8 @@ pub fn group_nodes()
         ≡ effective_mems memory (groups_of history) name) }
     ensures nested { (machine : Hardware) (bounds : Bounds) (history : List HostCommand)
         (memory : ℕ) → IsHostAccepted machine bounds history
-        → All (λ (group : Group). both (effective_mems memory (groups_of history) group.name)
+        → All (λ (group : ControlGroup).
+        both (effective_mems memory (groups_of history) group.name)
         (effective_mems memory (groups_of history) group.parent)
         ≡ effective_mems memory (groups_of history) group.name) (groups_of history) }
 {}

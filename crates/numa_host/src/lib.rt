@@ -15,7 +15,7 @@ pub mod process;
 pub mod refusal;
 
 pub use command::HostCommand;
-pub use group::Group;
+pub use group::ControlGroup;
 pub use host::Host;
 pub use process::Process;
 pub use refusal::{HostErrno, HostRefusal};

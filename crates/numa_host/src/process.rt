@@ -15,7 +15,7 @@ ghost use Rattle.numa_host.specs.Groups.{effective_mems, has_own_mems, is_within
 ghost use Rattle.numa_host.specs.Following.{AreFollowed, HasMore, IsBorn, IsChildOf, IsHeirOf};
 ghost use Rattle.numa_host.specs.Following.{IsMoved, IsTold, lacks_place};
 
-use crate::group::{Group, effective, has_own_mems, is_within};
+use crate::group::{ControlGroup, effective, has_own_mems, is_within};
 use numa_machine::NoMemory;
 use numa_mask::NodeMask;
 use numa_space::{Command, Refusal, Space};
@@ -96,7 +96,7 @@ pub(crate) fn weigh_all(processes: &mut [Process], node: u32, weight: u32)
 }
 
 /// Gives every process the nodes of its group. Never refused.
-pub(crate) fn allow_all(processes: &mut [Process], memory: NodeMask, groups: &[Group])
+pub(crate) fn allow_all(processes: &mut [Process], memory: NodeMask, groups: &[ControlGroup])
     requires some { memory ≢ 0 }
     requires room { All (λ (p : Process). (p.space.version < p.space.bounds.max_commands)
         × (p.space.machine.memory ≡ memory)) processes.old }
@@ -111,7 +111,7 @@ pub(crate) fn allow_all(processes: &mut [Process], memory: NodeMask, groups: &[G
 }
 
 /// Whether a process is in a group or below it.
-pub(crate) fn has_process(processes: &[Process], groups: &[Group], name: u32) -> bool
+pub(crate) fn has_process(processes: &[Process], groups: &[ControlGroup], name: u32) -> bool
     ensures { result ≡ list_any (λ (p : Process). is_within groups.now p.group name) processes.now }
 {
     processes
@@ -123,7 +123,7 @@ pub(crate) fn has_process(processes: &[Process], groups: &[Group], name: u32) ->
 pub(crate) fn unsets_populated(
     mems: &Option<NodeMask>,
     processes: &[Process],
-    groups: &[Group],
+    groups: &[ControlGroup],
     name: u32,
 ) -> bool
     ensures { result ≡ (not (is_some mems.now) && (has_own_mems groups.now name
@@ -180,7 +180,7 @@ pub(crate) fn move_to(
     processes: &mut Vec<Process>,
     place: usize,
     memory: NodeMask,
-    groups: &[Group],
+    groups: &[ControlGroup],
     group: u32,
 )
     requires place { place < length processes.old.items }
@@ -201,7 +201,7 @@ pub(crate) fn move_to(
 pub(crate) fn born(
     alloc: Global,
     blank: &Space,
-    groups: &[Group],
+    groups: &[ControlGroup],
     id: u32,
     group: u32,
 ) -> Result<Process, NoMemory>

@@ -7,7 +7,7 @@ ghost use Rattle.numa_pool.specs.Frames.{bit_in, set_below};
 ghost use Rattle.numa_pool.specs.Seats.{Closes, IsShaped, Marks};
 
 use crate::closed::Closed;
-use crate::steps::{Rest, Token, Words, close};
+use crate::steps::{FrameWords, Rest, Token, close};
 
 /// Whether the bit is set.
 fn is_set(word: u64, bit: usize) -> bool
@@ -89,7 +89,7 @@ fn count_all(rest: &Rest, frames: &[u32]) -> [u32; 256]
 }
 
 /// Counts the taken frames, and frees the words.
-pub(crate) fn counted(words: Words, token: Token, bits: &[u64], frames: &[u32]) -> Closed
+pub(crate) fn counted(words: FrameWords, token: Token, bits: &[u64], frames: &[u32]) -> Closed
     requires shape { (token.table ≡ words.table) × (words.frames ≡ frames.now)
         × IsShaped words.table frames.now }
     requires marks { Marks words.table.words bits.now token.view.held }

@@ -13,7 +13,7 @@ use crate::closed::Closed;
 use crate::marks::{add_marks, blank, mark, unmark};
 use crate::search::take_frame;
 use crate::seat::PoolSeat;
-use crate::steps::{Words, another, clear, opening, pour};
+use crate::steps::{FrameWords, another, clear, opening, pour};
 use numa_machine::{Frame, Machine, NoMemory};
 use std::alloc::{AllocError, Global};
 use std::marker::Model;
@@ -24,7 +24,7 @@ use std::marker::Model;
 /// set while the frame is taken.
 #[derive(Drop)]
 pub struct Pools {
-    words: Words,
+    words: FrameWords,
     frames: Vec<u32>,
 }
 

@@ -7,12 +7,12 @@ ghost use Rattle.numa_pool.specs.Walk.{IsWalk, LoadsOnce, TriesOnce};
 ghost use Rattle.numa_pool.specs.Search.{Reached, SearchedWord};
 ghost use Rattle.numa_pool.specs.declared.view.Entry.{Entry};
 
-use crate::steps::{Token, Words, attempt, look};
+use crate::steps::{FrameWords, Token, attempt, look};
 use numa_machine::Frame;
 
 /// Takes a free frame of a word in which the node has `limit` frames.
 fn take_word(
-    words: &Words,
+    words: &FrameWords,
     token: &mut Token,
     node: usize,
     word: usize,
@@ -49,7 +49,12 @@ fn take_word(
 }
 
 /// Takes a free frame of the node.
-pub(crate) fn take_frame(words: &Words, token: &mut Token, node: u8, frames: usize) -> Option<Frame>
+pub(crate) fn take_frame(
+    words: &FrameWords,
+    token: &mut Token,
+    node: u8,
+    frames: usize,
+) -> Option<Frame>
     requires shape { (token.old.table ≡ words.now.table)
         × IsShaped words.now.table words.now.frames }
     requires frames { (node < length words.now.frames)

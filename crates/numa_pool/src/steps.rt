@@ -85,11 +85,11 @@ impl Join<View> for JoinSeats {
 
 /// The frame words, with their memory.
 #[derive(Drop)]
-pub(crate) struct Words {
+pub(crate) struct FrameWords {
     table: Table<Option<()>, View, Vec<u32>, CountedRule, Global>,
 }
 
-impl Model for Words {
+impl Model for FrameWords {
     ghost use Rattle.numa_pool.specs.Seats.{PoolsView, IsShaped};
 
     ghost Value = { PoolsView };
@@ -127,7 +127,7 @@ pub(crate) fn opening(
     alloc: Global,
     bits: &[u64],
     frames: &Vec<u32>,
-) -> Result<(Words, Token), AllocError>
+) -> Result<(FrameWords, Token), AllocError>
     requires nodes { (0 < length frames.now.items) × (length frames.now.items ≤ 256)
         × ((n : ℕ) → slice_index frames.now.items n ≤ 4096) }
     requires bits { (length bits.now ≡ 64 * length frames.now.items)
@@ -138,11 +138,11 @@ pub(crate) fn opening(
         × (opened.1.view ≡ newcomer)) }
 {
     let (table, seat) = Table::vacant(alloc, bits, 0, frames)?;
-    Ok((Words { table }, Token { seat }))
+    Ok((FrameWords { table }, Token { seat }))
 }
 
 /// Loads a word of a node.
-pub(crate) fn look(words: &Words, token: &mut Token, node: usize, word: usize) -> u64
+pub(crate) fn look(words: &FrameWords, token: &mut Token, node: usize, word: usize) -> u64
     requires table { token.old.table ≡ words.now.table }
     requires word { (node < length words.now.frames) × (word < 64) }
     ensures { (token.new.table ≡ token.old.table)
@@ -154,7 +154,7 @@ pub(crate) fn look(words: &Words, token: &mut Token, node: usize, word: usize) -
 
 /// Sets the bit of a frame, and returns whether it was clear.
 pub(crate) fn attempt(
-    words: &Words,
+    words: &FrameWords,
     token: &mut Token,
     node: usize,
     word: usize,
@@ -173,7 +173,7 @@ pub(crate) fn attempt(
 }
 
 /// Clears the bit of a frame that the seat holds.
-pub(crate) fn clear(words: &Words, token: &mut Token, node: usize, word: usize, bit: usize)
+pub(crate) fn clear(words: &FrameWords, token: &mut Token, node: usize, word: usize, bit: usize)
     requires table { token.old.table ≡ words.now.table }
     requires place { (node < length words.now.frames) × (word < 64) × (bit < 64) }
     requires held { 0 < times node (64 * word + bit) token.old.view.held }
@@ -185,7 +185,7 @@ pub(crate) fn clear(words: &Words, token: &mut Token, node: usize, word: usize, 
 }
 
 /// A new seat, which holds nothing.
-pub(crate) fn another(words: &Words, token: &mut Token) -> Token
+pub(crate) fn another(words: &FrameWords, token: &mut Token) -> Token
     requires { token.old.table ≡ words.now.table }
     ensures same { (token.new.table ≡ token.old.table)
         × (token.new.view ≡ after_split token.old.view) }
@@ -197,7 +197,7 @@ pub(crate) fn another(words: &Words, token: &mut Token) -> Token
 }
 
 /// The first seat takes over the frames of the second.
-pub(crate) fn pour(words: &Words, token: &mut Token, other: Token)
+pub(crate) fn pour(words: &FrameWords, token: &mut Token, other: Token)
     requires { (token.old.table ≡ words.now.table) × (other.table ≡ words.now.table) }
     ensures { (token.new.table ≡ token.old.table)
         × (token.new.view ≡ after_join token.old.view other.view) }
@@ -208,7 +208,7 @@ pub(crate) fn pour(words: &Words, token: &mut Token, other: Token)
 }
 
 /// The final words, with what the rule says of them.
-pub(crate) fn close(words: Words, token: Token) -> Rest
+pub(crate) fn close(words: FrameWords, token: Token) -> Rest
     requires { token.table ≡ words.table }
     ensures words { IsFull result.words × (slots_len result.words ≡ 64 * length words.frames)
         × (slots_len result.slots ≡ 0) }
@@ -216,7 +216,7 @@ pub(crate) fn close(words: Words, token: Token) -> Rest
     ensures held { (n k : ℕ) → 0 < times n k token.view.held
         → (k < slice_index words.frames n) × (bit_in (slots_items result.words) n k ≡ 1) }
 {
-    let Words { table } = words;
+    let FrameWords { table } = words;
     let Token { seat } = token;
     table.close_with(seat)
 }

@@ -12,7 +12,7 @@ ghost use Rattle.numa_publish.specs.Knowing.{last_of, told, told_by};
 use crate::ghosts::About;
 use crate::issue::{Issue, Shown};
 use crate::log::{Front, Log, Pending};
-use crate::rule::{Look, ShownWriter};
+use crate::rule::{ReaderLook, ShownWriter};
 use core::mem::replace_with;
 use left_right::writer::Writer;
 use numa_compile::PlannedSpace;
@@ -145,7 +145,7 @@ fn turned<R: Wait>(writer: ShownWriter, rt: &R) -> (ShownWriter, Result<(), Allo
         writer.desk.shown.value result.0.desk.shown.value
         (place_view writer.desk.place) (place_view result.0.desk.place) }
 {
-    writer.publish_as::<Look, R>(rt)
+    writer.publish_as::<ReaderLook, R>(rt)
 }
 
 /// Shows readers this issue from now on.

@@ -10,7 +10,7 @@ use crate::issue::Issue;
 use crate::log::Front;
 use crate::past::Past;
 use crate::receipt::Receipt;
-use crate::rule::{Look, ShownReader};
+use crate::rule::{ReaderLook, ShownReader};
 use crate::view::PlanView;
 use std::marker::Model;
 
@@ -128,7 +128,7 @@ impl PlanReader {
     {
         let PlanReader { reader, mut past } = self;
         past.enters = past.enters.next();
-        let reading = match reader.enter_as::<Look>() {
+        let reading = match reader.enter_as::<ReaderLook>() {
             Ok(reading) => reading,
             Err(reader) => {
                 past.refused = past.refused.next();

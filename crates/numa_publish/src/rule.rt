@@ -28,9 +28,9 @@ impl Protocol<Shown, Knows> for PublishedLog {
 }
 
 /// What a publish and an enter pass on.
-pub struct Look;
+pub struct ReaderLook;
 
-impl Outcome<Shown, Knows> for Look {
+impl Outcome<Shown, Knows> for ReaderLook {
     ghost use Rattle.numa_publish.specs.Knowing.{Sees};
 
     ghost then = { Sees };

@@ -10,4 +10,4 @@ pub mod report;
 mod setting;
 
 pub use play::storm;
-pub use report::Report;
+pub use report::StormReport;

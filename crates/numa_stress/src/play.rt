@@ -7,12 +7,12 @@ ghost use Rattle.numa_fault.specs.declared.worker.FaultWorker.{FaultWorker};
 ghost use Rattle.numa_lines.specs.Watching.{has_failed};
 ghost use Rattle.numa_lines.specs.Written.{Wrote, WroteFront};
 ghost use Rattle.numa_stress.specs.Storm.{status_of, text_of};
-ghost use Rattle.numa_stress.specs.declared.report.Report.{Report};
+ghost use Rattle.numa_stress.specs.declared.report.StormReport.{StormReport};
 
 use crate::compare::{all_listed, exhausted, placed, spaces};
 use crate::crew::{joined, serve, workers};
 use crate::gate::Together;
-use crate::report::{Report, say_report};
+use crate::report::{StormReport, say_report};
 use crate::setting::{FIRST_COMMANDS, POLICIES, command, limits, machine, requests};
 use numa_fault::{Answer, FaultWorker};
 use numa_lines::{RunFault, Watched};
@@ -88,14 +88,14 @@ fn play_on<K: DeskName + Send + Sync, R: Threads + Wait + Sync>(
     alloc: Global,
     desk: &SharedDesk<K>,
     count: u32,
-) -> Option<Report>
+) -> Option<StormReport>
     ensures { IfSome result (λ report. report.workers ≡ count) }
 {
     let requests = requests(alloc)?;
     let spaces = spaces(alloc)?;
     let gate = Together::new(count);
     let (answers, closed) = play(rt, alloc, desk, count, &requests, &gate)?;
-    Some(Report {
+    Some(StormReport {
         workers: count,
         placed: placed(&answers),
         exhausted: exhausted(&answers),
@@ -111,7 +111,7 @@ fn play_to_the_end<K: DeskName + Send + Sync, R: Threads + Wait + Sync>(
     alloc: Global,
     desk: Desk,
     count: u32,
-) -> Option<Report>
+) -> Option<StormReport>
     requires { desk.desk ≡ K.desk }
     ensures { IfSome result (λ report. report.workers ≡ count) }
 {
@@ -122,7 +122,7 @@ fn play_to_the_end<K: DeskName + Send + Sync, R: Threads + Wait + Sync>(
 }
 
 /// A storm on a new desk. `None` if a call is refused.
-fn storm_once<R: Threads + Wait + Sync>(rt: &R, alloc: Global, count: u32) -> Option<Report>
+fn storm_once<R: Threads + Wait + Sync>(rt: &R, alloc: Global, count: u32) -> Option<StormReport>
     requires { IsCrew count }
     ensures { IfSome result (λ report. report.workers ≡ count) }
 {
@@ -149,12 +149,12 @@ pub fn storm<R: Threads + Wait + Sync, W: Write>(
     requires writer { has_failed output.old ≡ false }
 
     // The five lines were written.
-    ensures ok { IfOk result (λ status. (report : Report) × (report.workers ≡ count)
+    ensures ok { IfOk result (λ status. (report : StormReport) × (report.workers ≡ count)
         × (status ≡ status_of report) × (has_failed output.new ≡ false)
         × Wrote W.contents output.old output.new (text_of report)) }
 
     // The first part of them was written, and nothing more.
-    ensures write { IsErrOf result RunFault.Write → (report : Report)
+    ensures write { IsErrOf result RunFault.Write → (report : StormReport)
         × (report.workers ≡ count) × (has_failed output.new ≡ true)
         × WroteFront W.contents output.old output.new (text_of report) }
 

@@ -8,7 +8,7 @@ use std::io::Write;
 
 /// The results of a storm.
 #[derive(Clone, Copy, PartialEq, Eq, Debug, Drop)]
-pub struct Report {
+pub struct StormReport {
     /// The number of workers.
     pub workers: u32,
     /// The number of requests that were answered by a placement.
@@ -23,7 +23,7 @@ pub struct Report {
     pub is_sound: bool,
 }
 
-impl Report {
+impl StormReport {
     /// The exit status: 0 if all went as it must on any schedule, else 1.
     pub fn status(&self) -> u8
         ensures { result ≡ status_of self.now }
@@ -60,7 +60,7 @@ fn say_match<W: Write>(output: &mut Watched<W>, plans_match: bool)
 }
 
 /// Writes the number of workers, and how their requests were answered.
-fn say_answers<W: Write>(output: &mut Watched<W>, report: &Report)
+fn say_answers<W: Write>(output: &mut Watched<W>, report: &StormReport)
     ensures { Said W.contents output.old output.new (line_of (codes "workers") report.now.workers
         ++ line_of (codes "placed") report.now.placed
         ++ line_of (codes "exhausted") report.now.exhausted) }
@@ -71,7 +71,7 @@ fn say_answers<W: Write>(output: &mut Watched<W>, report: &Report)
 }
 
 /// Writes the five lines.
-pub fn say_report<W: Write>(output: &mut Watched<W>, report: &Report)
+pub fn say_report<W: Write>(output: &mut Watched<W>, report: &StormReport)
     ensures { Said W.contents output.old output.new (text_of report.now) }
 {
     say_answers(output, report);

@@ -4,7 +4,7 @@ ghost use Rattle.numa_host.specs.declared.command.HostCommand.{HostCommand};
 ghost use Rattle.numa_host.specs.Standing.{IsHostApplied};
 
 use crate::command::HostCommand;
-use crate::group::{Group, is_group, names_beyond, set_mems};
+use crate::group::{ControlGroup, is_group, names_beyond, set_mems};
 use crate::host::Host;
 use crate::process::{
     allow_all, born, child_of, has_no_place, is_the_host_s, is_there, move_to, place_of, remove,
@@ -57,7 +57,7 @@ impl Host {
         if self.groups.len() >= MAX_GROUPS {
             return Err(HostRefusal::TooManyGroups);
         }
-        let group = Group {
+        let group = ControlGroup {
             name,
             parent,
             mems: None,

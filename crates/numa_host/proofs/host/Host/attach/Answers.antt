@@ -4,7 +4,7 @@ use Rattle.std.proofs.Common.{◌∙◌, subst}
 use Rattle.std.specs.List.{position}
 use Rattle.numa_machine.specs.Machine.{Hardware}
 use Rattle.numa_host.specs.declared.command.HostCommand.TheVariants.{Attach}
-use Rattle.numa_host.specs.declared.group.Group.{Group}
+use Rattle.numa_host.specs.declared.group.ControlGroup.{ControlGroup}
 use Rattle.numa_host.specs.declared.process.Process.{Process}
 use Rattle.numa_host.specs.declared.refusal.HostRefusal.TheVariants as cause
 use Rattle.numa_host.specs.Following.{IsMoved}
@@ -76,7 +76,7 @@ invariant_of-self c =
     let memory : c.memory-memory.result ≡ host.blank.machine.memory =
     c.memory-memory.ensures.memory ∙ ap (λ (m : Hardware). m.memory) c.machine.ensures in
     let news : List Process = c.move_to.new.processes.items in
-    let M : ℕ → List Group
+    let M : ℕ → List ControlGroup
     → Type 0 = λ m gs. IsMoved place c.args.group (effective_mems m gs c.args.group)
     host.processes news in
     let moved : M host.blank.machine.memory host.groups =
@@ -105,7 +105,7 @@ returns c =
     let memory : c.memory-memory.result ≡ host.blank.machine.memory =
     c.memory-memory.ensures.memory ∙ ap (λ (m : Hardware). m.memory) c.machine.ensures in
     let news : List Process = c.move_to.new.processes.items in
-    let M : ℕ → List Group
+    let M : ℕ → List ControlGroup
     → Type 0 = λ m gs. IsMoved place c.args.group (effective_mems m gs c.args.group)
     host.processes news in
     let moved : M host.blank.machine.memory host.groups =

@@ -2,7 +2,7 @@ use Rattle.std.proofs.Common.{◌≡◌, ◌<◌, ◌+◌, true, false, List, le
 use Rattle.std.proofs.Common.{Err, sym, ap}
 use Rattle.std.proofs.Common.{◌∙◌, subst, arith}
 use Rattle.numa_host.specs.declared.command.HostCommand.TheVariants.{NewGroup}
-use Rattle.numa_host.specs.declared.group.Group.{Group}
+use Rattle.numa_host.specs.declared.group.ControlGroup.{ControlGroup}
 use Rattle.numa_host.specs.declared.refusal.HostRefusal.TheVariants as cause
 use Rattle.numa_host.specs.Groups.{is_group}
 use Rattle.numa_host.specs.Inside.{shown_of}
@@ -60,7 +60,7 @@ returns-then-len-ge-MAX_GROUPS c =
       c.if-len-ge-MAX_GROUPS.true,
       c.len.ensures,
       c.deref.ensures.len,
-      ap (λ (gs : List Group). length gs) c.deref.ensures.value,
+      ap (λ (gs : List ControlGroup). length gs) c.deref.ensures.value,
     )))
 
 pub returns-in_default : goal.returns-in_default
@@ -80,7 +80,7 @@ returns-in_default c =
       c.if-len-ge-MAX_GROUPS.false,
       c.len.ensures,
       c.deref.ensures.len,
-      ap (λ (gs : List Group). length gs) c.deref.ensures.value,
+      ap (λ (gs : List ControlGroup). length gs) c.deref.ensures.value,
     ) in
     let shown : HostState =
     record {
@@ -123,7 +123,7 @@ invariant_of-self-2 c =
       c.if-len-ge-MAX_GROUPS.false,
       c.len.ensures,
       c.deref.ensures.len,
-      ap (λ (gs : List Group). length gs) c.deref.ensures.value,
+      ap (λ (gs : List ControlGroup). length gs) c.deref.ensures.value,
     ) in
     let after : HostState = next host c.args.name c.args.parent in
     let step : IsHostStep host (NewGroup c.args.name c.args.parent) after =
@@ -164,7 +164,7 @@ returns c =
       c.if-len-ge-MAX_GROUPS.false,
       c.len.ensures,
       c.deref.ensures.len,
-      ap (λ (gs : List Group). length gs) c.deref.ensures.value,
+      ap (λ (gs : List ControlGroup). length gs) c.deref.ensures.value,
     ) in
     let after : HostState = next host c.args.name c.args.parent in
     let step : IsHostStep host (NewGroup c.args.name c.args.parent) after =

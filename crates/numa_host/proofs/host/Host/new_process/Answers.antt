@@ -3,7 +3,7 @@ use Rattle.std.proofs.Common.{Err, sym, ap}
 use Rattle.std.proofs.Common.{◌∙◌, subst, arith}
 use Rattle.std.specs.List.{list_any}
 use Rattle.numa_host.specs.declared.command.HostCommand.TheVariants.{NewProcess}
-use Rattle.numa_host.specs.declared.group.Group.{Group}
+use Rattle.numa_host.specs.declared.group.ControlGroup.{ControlGroup}
 use Rattle.numa_host.specs.declared.process.Process.{Process}
 use Rattle.numa_host.specs.declared.refusal.HostRefusal.TheVariants as cause
 use Rattle.numa_host.specs.Following.{IsBorn}
@@ -183,7 +183,7 @@ invariant_of-self-2 c =
     let made : Process = c.in-Ok-born.made in
     let born : IsBorn host.blank c.args.process c.args.group
     (effective_mems host.blank.machine.memory host.groups c.args.group) made =
-    subst (λ (gs : List Group). IsBorn host.blank c.args.process c.args.group
+    subst (λ (gs : List ControlGroup). IsBorn host.blank c.args.process c.args.group
     (effective_mems host.blank.machine.memory gs c.args.group) made) c.deref-3.ensures.value
     c.in-Ok-born.ensures in
     let after : HostState = next host (NewProcess c.args.process c.args.group) made in
@@ -235,7 +235,7 @@ returns c =
     let made : Process = c.in-Ok-born.made in
     let born : IsBorn host.blank c.args.process c.args.group
     (effective_mems host.blank.machine.memory host.groups c.args.group) made =
-    subst (λ (gs : List Group). IsBorn host.blank c.args.process c.args.group
+    subst (λ (gs : List ControlGroup). IsBorn host.blank c.args.process c.args.group
     (effective_mems host.blank.machine.memory gs c.args.group) made) c.deref-3.ensures.value
     c.in-Ok-born.ensures in
     let after : HostState = next host (NewProcess c.args.process c.args.group) made in

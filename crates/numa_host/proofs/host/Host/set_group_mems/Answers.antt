@@ -10,7 +10,7 @@ use Rattle.std.specs.Prelude.{nat_le}
 use Rattle.numa_mask.specs.NodeSet.{members}
 use Rattle.numa_machine.specs.Machine.{Hardware}
 use Rattle.numa_host.specs.declared.command.HostCommand.TheVariants.{SetGroupMems}
-use Rattle.numa_host.specs.declared.group.Group.{Group}
+use Rattle.numa_host.specs.declared.group.ControlGroup.{ControlGroup}
 use Rattle.numa_host.specs.declared.process.Process.{Process}
 use Rattle.numa_host.specs.declared.refusal.HostRefusal.TheVariants.{Populated}
 use Rattle.numa_space.specs.Limited.{Bounds}
@@ -77,7 +77,7 @@ invariant_of-self c =
     ∙ c.deref_mut.ensures.len)) in
     let lent : c.deref-4.result.now ≡ map (with_mems c.args.name mems) host.groups =
     c.deref-4.ensures.value ∙ seam_groups ∙ groups in
-    let F : ℕ → List Group → List Process
+    let F : ℕ → List ControlGroup → List Process
     → Type 0 = λ m gs olds. AreFollowed
     (λ (p q : Process). HasMore (when_moved p.space.allowed (effective_mems m gs p.group))
     (effective_mems m gs p.group) p q) olds news in
@@ -165,7 +165,7 @@ returns c =
     ∙ c.deref_mut.ensures.len)) in
     let lent : c.deref-4.result.now ≡ map (with_mems c.args.name mems) host.groups =
     c.deref-4.ensures.value ∙ seam_groups ∙ groups in
-    let F : ℕ → List Group → List Process
+    let F : ℕ → List ControlGroup → List Process
     → Type 0 = λ m gs olds. AreFollowed
     (λ (p q : Process). HasMore (when_moved p.space.allowed (effective_mems m gs p.group))
     (effective_mems m gs p.group) p q) olds news in
