@@ -23,7 +23,8 @@ written owners place p owner within = ap (λ o. option_and_then (λ o. o) o)
 module _ (owners : List (Option ℕ)) (place : ℕ) (within : place < length owners) where
   marked-put : (v : ℕ) (marks : List ℕ) → AreMarked owners marks
       → AreMarked (slice_set owners place (Some v)) marks
-  marked-put v marks are p on = ap is_some (written owners place p (Some v) within) ∙ go (p == place)
+  marked-put v marks are p on = ap is_some (written owners place p (Some v) within)
+      ∙ go (p == place)
     where
       go : (b : Bool)
           → is_some (option_and_then (λ o. o) (if b then Some (Some v) else slice_get owners p))
@@ -90,7 +91,8 @@ module _ (frames : List ℕ) (owners : List (Option ℕ)) (frame : Frame) (place
               (subst (λ n. frame.node < n) (sym are.lowest.as_long)
               (index_within frames frame.node frame.number there))
               (taken-put frames owners now old.lowest.items frame v put are.lowest));
-          marked = marked-raise owners place within v old.marks.items new.marks.items each are.marked;
+          marked = marked-raise owners place within v old.marks.items new.marks.items each
+              are.marked;
           room = subst (λ words. HasRoom frames words) (sym len) are.room;
         }
 

@@ -120,7 +120,8 @@ fn free_number(
     ensures free { IfSome result (λ number. (number < slice_index places.now node)
         × (owner_at owners.now.items (Some (frames_before places.now node + number)) ≡ None)) }
     ensures small { IfSome result (λ number. number < 4096) }
-    ensures below { IfSome result (λ number. OwnsFrom places.now owners.now.items node from number) }
+    ensures below { IfSome result (λ number.
+        OwnsFrom places.now owners.now.items node from number) }
     ensures none { result ≡ None →
         OwnsFrom places.now owners.now.items node from (slice_index places.now node) }
 {

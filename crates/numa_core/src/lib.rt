@@ -51,8 +51,8 @@ impl Core {
     /// A core of this machine, with these limits and `workers` workers, numbered from 0. Nothing is
     /// accepted, version 0 is published, each worker is idle and no frame is owned.
     ///
-    /// It allocates all memory that Begin, Look, Try and Give ever use: two bytes and a bit for each
-    /// frame of the machine, and for each worker 256 bytes and one bit for each frame.
+    /// It allocates all memory that Begin, Look, Try and Give ever use: two bytes and a bit for
+    /// each frame of the machine, and for each worker 256 bytes and one bit for each frame.
     ///
     /// # Errors
     /// `NoMemory`: out of memory.

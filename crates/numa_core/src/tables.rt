@@ -1,6 +1,7 @@
 //! Tables indexed by place: a bit for each frame, and owners.
 ghost use Rattle.std.specs.Prelude.{◌≡◌, ℕ, ◌+◌, ◌*◌, ◌<◌, ◌≤◌, ◌==◌, ◌&&◌, ◌||◌, false, None};
-ghost use Rattle.std.specs.Prelude.{Some, IfOk, is_some, length, not, true, vec_len, nat_le, nat_lt};
+ghost use Rattle.std.specs.Prelude.{Some, IfOk, is_some, length, not, true, vec_len};
+ghost use Rattle.std.specs.Prelude.{nat_le, nat_lt};
 ghost use Rattle.numa_core.specs.Standing.{is_met, owner_at};
 
 use std::alloc::{AllocError, Global};

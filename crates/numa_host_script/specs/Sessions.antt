@@ -1,5 +1,5 @@
--- What each line is answered, and the state after it. Until a line `host` is accepted, all is as in a
--- script of one process. `refused` says whether a growth was refused while the line was served.
+-- What each line is answered, and the state after it. Until a line `host` is accepted, all is as in
+-- a script of one process. `refused` says whether a growth was refused while the line was served.
 use Rattle.std.specs.Prelude.{◌≡◌, ℕ, ◌==◌, ◌&&◌, Bool, true, false, Option, Some, None, List, []}
 use Rattle.std.specs.Prelude.{◌∷◌, length, codes, if◌then◌else◌, Result, Ok, Err, is_some}
 use Rattle.std.specs.Str.{bytes_eq}

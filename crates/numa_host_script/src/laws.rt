@@ -18,8 +18,8 @@ pub fn without_host()
         × (session_after refused (Single state) bytes ≡ Single (after_bytes refused state bytes)) }
 {}
 
-/// A process answers a question, and `maps`, as a script does that has accepted its commands and has
-/// placed no page.
+/// A process answers a question, and `maps`, as a script does that has accepted its commands and
+/// has placed no page.
 pub fn process_answers()
     ensures asked { (refused : Bool) (at : Hosting) (process : ℕ) (state : State)
         (question : Question) → state.machine ≡ Some at.machine

@@ -1,7 +1,8 @@
 //! Serving the lines of a host.
 ghost use Rattle.std.specs.Prelude.{◌≡◌, Ok};
 ghost use Rattle.numa_host_script.specs.Sessions.{command_outcome, given_outcome, host_outcome};
-ghost use Rattle.numa_host_script.specs.Sessions.{in_outcome, listed_where, asked_where, plain_reply};
+ghost use Rattle.numa_host_script.specs.Sessions.{in_outcome, listed_where, asked_where};
+ghost use Rattle.numa_host_script.specs.Sessions.{plain_reply};
 ghost use Rattle.numa_host_script.specs.Sessions.{is_no_memory, with_reply};
 ghost use Rattle.numa_host_script.specs.Standing.{Serves};
 ghost use Rattle.numa_host.specs.Processes.{is_there, members_of};

@@ -11,12 +11,13 @@ use numa_machine::Rules;
 use std::alloc::Global;
 use std::io::{Read, Write};
 
-/// Reads a script and writes its answers, as `run_by` of `numa_run` does; its lines may be a host's.
-/// Each answer is written before the next read. These rules apply unless a line says otherwise.
+/// Reads a script and writes its answers, as `run_by` of `numa_run` does; its lines may be a
+/// host's. Each answer is written before the next read. These rules apply unless a line says
+/// otherwise.
 ///
 /// # Errors
-/// `Read`: a read failed, or one more than 4,294,967,295 was needed. `Write`: a write failed or took
-/// no byte, after which nothing more is read or written. `Memory`: there was no memory for the
+/// `Read`: a read failed, or one more than 4,294,967,295 was needed. `Write`: a write failed or
+/// took no byte, after which nothing more is read or written. `Memory`: there was no memory for the
 /// current line and the answers, before anything was read.
 pub fn run_by<R: Read, W: Write>(
     alloc: Global,

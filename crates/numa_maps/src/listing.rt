@@ -45,9 +45,9 @@ pub fn say_maps<W: Write>(space: &Space, task: u32, resident: &Resident, output:
 ///   all tasks are shown, but no placement on an unmapped page;
 /// - a line feed.
 ///
-/// Other fields of numa_maps are left out. It doesn't allocate. Lines are handed to the writer whole,
-/// after what was written before. The time depends on the number of ranges and placements, not of
-/// pages.
+/// Other fields of numa_maps are left out. It doesn't allocate. Lines are handed to the writer
+/// whole, after what was written before. The time depends on the number of ranges and placements,
+/// not of pages.
 ///
 /// # Errors
 /// `WriteFault`: this or an earlier write failed. The first part of the listing was written, or

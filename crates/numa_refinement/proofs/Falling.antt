@@ -102,7 +102,8 @@ won-owner s w f world old new low tied makes =
     ∙ rw (eq-eqb f.node f.node refl, eq-eqb f.number f.number refl) refl
 
 -- it is the newest of the turns of a walk that won it
-pub walk-owner : (s : Setup) (w : ℕ) (nodes : List ℕ) (f : Frame) (begun : World) (turns : List Turn)
+pub walk-owner : (s : Setup) (w : ℕ) (nodes : List ℕ) (f : Frame) (begun : World)
+    (turns : List Turn)
     → TakesTurns s w begun turns → IsWalk s.machine.frames nodes (Some f) (steps_of turns)
     → owner_of (world_left s w begun turns) f ≡ Some w
 walk-owner s w nodes f begun [] taken walk = absurd walk

@@ -184,8 +184,9 @@ pub fn a_fault_leaves_its_worker_ready()
 /// request whose fallback list is this node alone. If it answers `Exhausted`, the steps that its
 /// seat gained are a frame search that is answered Exhausted. If it moves the page, all of them but
 /// the newest are a frame search that is answered Won with a placement in the new frame, which is
-/// the worker's then; and the newest is a Give of the old frame, which is answered Given. What falls
-/// so in every interleaving is told by the next law, since the Give is a step like the others.
+/// the worker's then; and the newest is a Give of the old frame, which is answered Given. What
+/// falls so in every interleaving is told by the next law, since the Give is a step like the
+/// others.
 pub fn a_migration_is_a_frame_search_and_a_give()
     ensures exhausted { (s : Setup) (w : ℕ) (history : List Command) (request : Request) (node : ℕ)
         (first : World) (before after : SeatView) (turns : List Turn) (placement back : Placement)

@@ -24,8 +24,8 @@ rule_number (rule.PreferredMany node) = 3
 rule_number (rule.Interleave turn) = 4
 rule_number (rule.WeightedInterleave turn) = 5
 
--- the node in whose order the nodes are: the faulting node, the home, the lowest of the policy's, or
--- the one whose turn it is
+-- the node in whose order the nodes are: the faulting node, the home, the lowest of the policy's,
+-- or the one whose turn it is
 abbrev pub rule_node : OrderRule → ℕ
 rule_node (rule.Local node) = node
 rule_node (rule.Preferred node) = node

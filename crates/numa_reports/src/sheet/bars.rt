@@ -52,8 +52,8 @@ fn put_number(text: &mut Written, place: Place, node: u64) {
     text.put(b"</text>");
 }
 
-/// Draws a part of a bar in the colour of a node, with its number. Its title, which tells more where
-/// the mouse points, was written before it.
+/// Draws a part of a bar in the colour of a node, with its number. Its title, which tells more
+/// where the mouse points, was written before it.
 pub(crate) fn put_part(text: &mut Written, place: Place, node: u64) {
     put_rectangle(text, place, fill_of(node));
     put_number(text, place, node);

@@ -289,8 +289,8 @@ fn count_span<W: Watch>(
     Ok(())
 }
 
-/// Adds a span, and its pages to the total; nothing if all of them stay. At most twice its pages are
-/// passed.
+/// Adds a span, and its pages to the total; nothing if all of them stay. At most twice its pages
+/// are passed.
 fn push_span<W: Watch>(
     before: &Plan,
     after: &Plan,

@@ -77,8 +77,8 @@ fn push_range(
 /// the space.
 ///
 /// # Errors
-/// `Refused`: the machine lacks the faulting node, or the plan isn't one of the space. `Memory`: out
-/// of memory.
+/// `Refused`: the machine lacks the faulting node, or the plan isn't one of the space. `Memory`:
+/// out of memory.
 pub fn cycles_text(
     alloc: Global,
     space: &Space,

@@ -1,7 +1,8 @@
 //! Predictions as a picture: SVG 1.1, which browsers show.
 //!
-//! A range is a line of text and a bar; below the ranges are the nodes with their pages, each with a
-//! bar. Parts of bars have the colour and the number of their node, so nothing depends on colours.
+//! A range is a line of text and a bar; below the ranges are the nodes with their pages, each with
+//! a bar. Parts of bars have the colour and the number of their node, so nothing depends on
+//! colours.
 
 use crate::sheet::bars::{CELL, Place, put_nodes as put_bar, put_pages, put_part, put_rectangle};
 use crate::sheet::colours::fill_of;

@@ -12,7 +12,8 @@ returns-clause-exhausted c frames node placement back before after migrates =
 
 pub returns-clause-gained : goal.returns-clause-gained
 returns-clause-gained c frames node placement moved before after migrated =
-    subst (λ (fs : List Frame). Holds fs moved.frame) (sym migrated.held) (newest-held _ moved.frame)
+    subst (λ (fs : List Frame). Holds fs moved.frame) (sym migrated.held)
+    (newest-held _ moved.frame)
 
 pub returns-clause-given_up : goal.returns-clause-given_up
 returns-clause-given_up c frames node placement moved before after migrated held now =
