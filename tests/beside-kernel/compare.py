@@ -69,19 +69,27 @@ def run(program, lines):
     return done.stdout.splitlines()
 
 
+def parts(line):
+    """Of a host's line of a process `in P `, else nothing, and the line behind it."""
+    words = line.split(" ", 2)
+    return (f"in {words[1]} ", words[2]) if words[0] == "in" else ("", line)
+
+
 def ask(program, rules, machine, lines):
     """numaplan's answers; of a place line the first node, a colon, and the policy shown there."""
     script = [f"rules {rules}"] + opening(machine)
     before = len(script)
     for line in lines:
         script.append(line)
-        if line.startswith("place "):
-            script += ["maps " + line.split()[1], "ranges"]
+        process, bare = parts(line)
+        if bare.startswith("place "):
+            script += [f"{process}maps {bare.split()[1]}", f"{process}ranges"]
     said = iter(run(program, script)[before:])
     for line in lines:
         answer = next(said)
-        if line.startswith("place "):
-            policy, address = "?", int(line.split()[2], 16)
+        _, bare = parts(line)
+        if bare.startswith("place "):
+            policy, address = "?", int(bare.split()[2], 16)
             for entry in said:
                 if entry.startswith("ranges "):
                     break
@@ -113,7 +121,7 @@ def short(answer):
         return words[2]
     if words[:2] == ["bad", "policy"]:
         return "EINVAL"
-    return "ok" if words[0] == "ok" else answer
+    return "ok" if words[0] == "ok" or answer == "host ok" else answer
 
 
 def cause(line, mine, seen, before, left):
@@ -158,16 +166,17 @@ def compare(program, rules, machine, script, counts):
         if before & APART:
             counts["lines behind these two, not compared"] += 1
             continue
+        _, bare = parts(line)
         counts["lines"] += 1
-        counts["pages"] += line.startswith("place ")
-        if line.startswith("mems") and seen == "ok":
+        counts["pages"] += bare.startswith("place ")
+        if bare.startswith("mems") and seen == "ok":
             before.add("mems")
         if mine.startswith("refused NotSupported"):
             before.add("home")
         if short(mine) == seen:
             counts["refused"] += seen.startswith("E")
             continue
-        row = cause(line, mine, seen, before, LEFT[rules])
+        row = cause(bare, mine, seen, before, LEFT[rules])
         if row not in LEFT[rules]:
             counts["new"] += 1
             print(f"{name}: {line}: numaplan {mine}, the kernel {seen}")
