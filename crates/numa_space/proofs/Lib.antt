@@ -1,5 +1,4 @@
 pub mod Editing
-pub mod Moved
 pub mod Moving
 pub mod SameTest
 pub mod Homes
@@ -24,3 +23,4 @@ pub mod ListSizes
 pub mod Meant
 pub mod ModeRows
 pub mod RangeCounts
+pub mod Shared

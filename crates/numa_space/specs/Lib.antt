@@ -12,4 +12,5 @@ pub mod Edits
 pub mod Standing
 pub mod Steps
 pub mod Spans
+pub mod Shared
 pub mod Inside

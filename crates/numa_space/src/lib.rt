@@ -86,6 +86,7 @@ pub mod refusal;
 pub mod request;
 pub mod space;
 mod task_policies;
+mod task_records;
 
 pub use command::{Command, PAGE_BYTES};
 pub use event::{CoreRefusal, CoreReply, Event};
