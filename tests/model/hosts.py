@@ -38,6 +38,8 @@ FORMS = {
 # What is no process's: lines that make a machine, and the host's weights.
 NOT_IN = ["limits", "rules", "cpus", "machine", "weight"]
 WORKS = ["publish", "begin", "look", "try", "give", "touch", "release"]
+PLACES = ["at", "room", "memory-migrate", "migrate", "move", "moved", "mbind strict", "mbind move",
+          "mbind strict move"]
 
 
 class Host:
@@ -242,7 +244,7 @@ def answer_in(host, words, ask):
     name, arguments = line_of(line)
     if name in NOT_IN:
         raise BadWords
-    if name in WORKS:
+    if name in WORKS + PLACES:
         return "bad state"
     fault = next((it for it in arguments if isinstance(it, Fault)), None)
     if fault and not (host.machine.is_linux and is_found_late(name, arguments)):

@@ -6,7 +6,7 @@ who had not read the program. Where both answer a script alike, two readers have
 documents alike; where they don't, one of the two or the documents are wrong. It is not proved, it
 is slow, and it never wants memory; nothing of the program depends on it. Its parts, one function a
 rule: words.py what a line says; space.py pages, policies and node lists; commands.py what changes
-them; workers.py the search for frames; hosts.py processes and control groups; this file the
+them; workers.py the search for frames; placed.py pages that are there; hosts.py processes and control groups; this file the
 questions and the answer to each line.
 
     tests/model/model.py < examples/first-run.numaplan
@@ -16,7 +16,8 @@ tests/model/run-built compares it with the built program."""
 import sys
 
 import hosts
-from commands import COMMANDS, accept
+import placed
+from commands import COMMANDS
 from space import (Space, firsts, has_hole, index_at, is_live, machine_of, page_of, ranges,
                    resolved)
 from words import BadWords, Fault, is_found_late, is_silent, line_of, lines_of
@@ -34,6 +35,7 @@ class State:
         self.cpus = None
         self.space = None
         self.crew = None
+        self.placed = None
         self.host = None  # once a line `host` is accepted
 
 
@@ -68,6 +70,7 @@ def machine(state, *words):
     made.is_linux = state.rules == "linux"
     state.space = Space(made, state.limits)
     state.crew = Crew(state.space)
+    state.placed = placed.Placed()
     return "ready"
 
 
@@ -152,23 +155,23 @@ def asked(space, name, arguments):
     if name == "ranges":
         return f"ranges {len(ranges(space))}"
     if name == "maps":
-        return maps(space, Crew(space), *arguments)
+        return maps(space, {}, *arguments)
     return QUESTIONS[name](space, *arguments)
 
 
 # ---- the listing
 
 
-def maps(space, crew, task):
+def maps(space, nodes, task):
     """`maps`: one line for each range, rising; none where nothing is mapped."""
-    return "\n".join(range_line(space, crew, task, each) for each in ranges(space))
+    return "\n".join(range_line(space, nodes, task, each) for each in ranges(space))
 
 
-def range_line(space, crew, task, each):
+def range_line(space, nodes, task, each):
     """The address in at least eight digits, the policy, and the placed pages."""
     record = resolved(space, task, each)
     text = policy_text(record) if is_live(record) else "default"
-    return f"{each.first * 4096:08x} {text}{placed_text(crew, each)}"
+    return f"{each.first * 4096:08x} {text}{placed_text(nodes, each)}"
 
 
 def policy_text(record):
@@ -186,9 +189,9 @@ def list_text(nodes):
     return ",".join(str(one) if one == last else f"{one}-{last}" for one, last in pairs)
 
 
-def placed_text(crew, each):
+def placed_text(placed_nodes, each):
     """Where pages of a range are placed: how many, on which nodes, and the size of a page."""
-    nodes = [node for page, (node, _) in crew.kept.items() if each.first <= page < each.end]
+    nodes = [node for page, node in placed_nodes.items() if each.first <= page < each.end]
     if not nodes:
         return ""
     shown = "".join(f" N{node}={nodes.count(node)}" for node in sorted(set(nodes)))
@@ -227,14 +230,15 @@ def served(state, name, arguments):
     if name in OPENING:
         return OPENING[name](state, *arguments)
     if name in COMMANDS:
-        text, state.space = accept(state.space, name, arguments)
-        return text
+        return placed.command(state, name, arguments)
+    if name in placed.LINES:
+        return placed.LINES[name](state, *arguments)
     if name in QUESTIONS:
         return QUESTIONS[name](state.space, *arguments)
     if name == "ranges":
         return f"ranges {len(ranges(state.space))}"
     if name == "maps":
-        return maps(state.space, state.crew, *arguments)
+        return maps(state.space, placed.nodes_of(state), *arguments)
     if name == "publish":
         return publish(state.crew, state.space)
     return STEPS[name](state.crew, *arguments)

@@ -150,9 +150,9 @@ BY_MPOL_NEW = {"bad policy NodesForbidden", "bad policy FlagsForbidden", "bad po
 
 
 def is_found_late(name, arguments):
-    """An `mbind` of length 0 whose policy has a fault that mpol_new finds: do_mbind of a kernel
-    returns before it calls it."""
-    if name != "mbind" or arguments[1] != 0 or not isinstance(arguments[2], Fault):
+    """An `mbind` of length 0, with any flags, whose policy has a fault that mpol_new finds: do_mbind
+    of a kernel returns before it calls it."""
+    if not name.startswith("mbind") or arguments[1] or not isinstance(arguments[2], Fault):
         return False
     return arguments[2].text in BY_MPOL_NEW
 
@@ -197,6 +197,13 @@ def rules(word):
     return word
 
 
+def switch(word):
+    """`on` or `off`."""
+    if word not in ("on", "off"):
+        raise BadWords
+    return word == "on"
+
+
 # ---- lines
 
 FORMS = {
@@ -224,6 +231,15 @@ FORMS = {
     "give": [small, node_of_frame, frame_number],
     "touch": [small, small, number, small],
     "release": [small, number],
+    "at": [number, number, small],
+    "room": [small, number],
+    "memory-migrate": [switch],
+    "migrate": [node_list, node_list],
+    "move": [number, small],
+    "moved": [],
+    "mbind strict": [number, number, policy],
+    "mbind move": [number, number, policy, small, small],
+    "mbind strict move": [number, number, policy, small, small],
 }
 
 
@@ -231,6 +247,11 @@ def line_of(line):
     """The first word says which words follow; each has its form. Faults of lists and policies
     stand inside, since they are judged after the state."""
     name, *rest = words_of(line)
+    if name == "mbind":
+        for flag in rest[3:5]:
+            if flag in ("strict", "move"):
+                name += " " + flag
+        del rest[3 : 3 + name.count(" ")]
     if name not in FORMS or len(rest) != len(FORMS[name]):
         raise BadWords
     return name, [read(word) for read, word in zip(FORMS[name], rest)]
