@@ -1,0 +1,88 @@
+#!/usr/bin/env python3
+"""Random scripts of pages that are there, mostly right, with near-right faults: move_scripts.py SEED
+
+Other lines are those of scripts.py; mappings are short, as the model asks for its pages one by one. Not
+proved."""
+
+import sys
+
+import scripts
+from scripts import BASE, PAGE, PAGES
+
+
+class MoveScript(scripts.Script):
+    """The lines of one script, and what stands after them."""
+
+    def __init__(self, seed):
+        super().__init__(f"of moves {seed}")
+
+    def map(self):
+        """A short mapping, whose words are as they should be."""
+        first, pages = BASE + self.dice.randrange(PAGES), self.dice.randint(1, 12)
+        if self.likely(0.1):
+            self.add(f"unmap {first * PAGE} {pages * PAGE}")
+        self.add(f"map {first * PAGE} {self.number(pages * PAGE)} {self.number(first)}")
+
+    def a_node(self):
+        """A node with memory mostly, often an allowed one."""
+        if self.likely(0.6):
+            return self.dice.choice(sorted(self.state.space.allowed))
+        return self.dice.choice(sorted(self.memory)) if self.likely(0.7) else self.node()
+
+    def a_list(self):
+        some = self.some_nodes(self.nodes)
+        if self.likely(0.5):
+            most = sorted(self.memory)
+            some = self.dice.sample(most, self.dice.randint(1, min(len(most), 6)))
+        return self.bad_list() if self.likely(0.03) else self.list_text(some)
+
+    # ---- lines
+
+    def at(self):
+        self.say("at", *self.bytes(*self.span()), self.a_node())
+
+    def room(self):
+        pages = self.dice.choice([0, 0, 1, 2, 3, 5, 8, 2**32, 2**64 - 1])
+        self.say("room", self.a_node(), self.number(pages))
+
+    def follows(self):
+        self.say("memory-migrate", self.dice.choice(["on"] * 5 + ["off", "of"]))
+
+    def migrate(self):
+        self.say("migrate", self.a_list(), self.a_list())
+
+    def move(self):
+        stated = sorted(self.state.placed.stated)
+        address = self.address()
+        if stated and self.likely(0.8):
+            address = self.number(self.dice.choice(stated) * PAGE + self.dice.choice([0, 0, 4095]))
+        self.say("move", address, self.a_node())
+
+    def mbind_with(self):
+        words = [*self.bytes(*self.span()), self.policy()]
+        task = [self.task_number(), self.dice.randrange(self.nodes)]
+        kind = self.dice.choice(["strict", "move", "move", "both", "both", "late"])
+        words += {"strict": ["strict"], "move": ["move", *task], "both": ["strict", "move", *task],
+                  "late": ["move", *task, "strict"] if self.likely(0.1) else ["strict"]}[kind]
+        self.say("mbind", *words)
+
+    def moved(self):
+        self.say("moved")
+
+    def write(self):
+        """The script as bytes."""
+        length = self.dice.randint(25, 70)
+        self.opening()
+        self.follows()
+        told = [self.at] * 8 + [self.room] * 3 + [self.follows] * self.likely(0.2)
+        moves = [self.mems] * 4 + [self.migrate] * 6 + [self.move] * 4 + [self.mbind_with] * 7
+        commands = [self.map] * 4 + [self.mbind] * 3 + [self.task] * 2 + [self.unmap, self.weight]
+        asked = [self.maps] * 5 + [self.moved] * 4 + [self.place, self.publish]
+        work = [self.touch] * 3 + [self.release]
+        while len(self.lines) < length:
+            self.dice.choice(told + moves + commands + asked + work + [self.odd] * self.likely(0.1))()
+        return ("\n".join(self.lines) + "\n").encode("latin-1")
+
+
+if __name__ == "__main__":
+    sys.stdout.buffer.write(MoveScript(sys.argv[1]).write())
