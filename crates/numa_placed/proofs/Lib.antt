@@ -1,11 +1,14 @@
 pub mod Binding
 pub mod Counting
+pub mod Departing
 pub mod Edits
 pub mod Filtered
 pub mod MoveRows
 pub mod MovedNodes
 pub mod Reaching
 pub mod Shared
+pub mod ShiftRows
+pub mod Sources
 pub mod Stating
 pub mod Summed
 pub mod Tests

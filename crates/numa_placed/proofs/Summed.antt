@@ -41,7 +41,7 @@ count-all test a (suc n) h =
     (omega (arith, count-all test (a + 1) n (λ p low high. h p (omega arith) (omega arith))))
 
 -- the pages of a run pass together
-count-run : (test : ℕ → Bool) (passes : Bool) (a n : ℕ)
+pub count-run : (test : ℕ → Bool) (passes : Bool) (a n : ℕ)
     → ((p : ℕ) → a ≤ p → p < a + n → test p ≡ passes) → count_pages test a n ≡ pages_if passes n
 count-run test true a n h = count-all test a n h
 count-run test false a n h = count-none test a n h

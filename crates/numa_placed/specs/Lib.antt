@@ -3,5 +3,7 @@ pub mod Binds
 pub mod Exact
 pub mod Moves
 pub mod Refusals
+pub mod Shifts
 pub mod Spots
+pub mod Standing
 pub mod Wholes

@@ -5,9 +5,11 @@ ghost use Rattle.numa_ranges.specs.Maps.{IsSpan};
 ghost use Rattle.numa_ranges.specs.Runs.{page_at};
 ghost use Rattle.numa_placed.specs.Refusals.{IsLack, IsMoveLack, lacks_node, hold_cause};
 ghost use Rattle.numa_placed.specs.Refusals.{move_cause, release_cause, spot_cause};
+ghost use Rattle.numa_placed.specs.Shifts.{AreRooms, HasRoom, room_cause, room_of};
 ghost use Rattle.numa_placed.specs.declared.spot.Spot.{Spot};
 
 use crate::refusal::{MoveRefusal, PlacedRefusal};
+use crate::rooms::Rooms;
 use crate::spot::Spot;
 use numa_machine::Machine;
 use numa_space::Space;
@@ -104,6 +106,22 @@ pub(crate) fn judge_move(space: &Space, page: u64, node: u32, spot: Spot) -> Res
         return Err(MoveRefusal::Unmapped);
     }
     judge_spot(node, spot)
+}
+
+/// Refuses to move a page that lies here to a node, unless the node has room for it.
+pub(crate) fn judge_room(rooms: &Rooms, node: u8, spot: Spot) -> Result<(), MoveRefusal>
+    ensures cause { (room : ℕ → ℕ) → AreRooms rooms.now room → MatchResult result
+        (λ done. room_cause room node spot ≡ None)
+        (λ refusal. room_cause room node spot ≡ Some refusal) }
+    ensures room { OnOk result (HasRoom (room_of rooms.now) node spot) }
+{
+    let Spot::Stated(from) = spot else {
+        return Ok(());
+    };
+    if from == node || rooms.pages[node as usize] > 0 {
+        return Ok(());
+    }
+    Err(MoveRefusal::NoRoom)
 }
 
 /// What a move answers after an edit.

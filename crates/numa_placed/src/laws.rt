@@ -3,8 +3,10 @@
 ghost use Rattle.std.specs.Prelude.{◌≡◌, ◌≢◌, ◌<◌, ◌≤◌, ◌^◌, ℕ, true, false};
 ghost use Rattle.numa_mask.specs.NodeSet.{has, weight_of};
 ghost use Rattle.numa_placed.specs.Moves.{moved_node, moved_spot};
+ghost use Rattle.numa_placed.specs.Shifts.{shifted};
 ghost use Rattle.numa_placed.specs.Spots.{is_placed, pages_where, run_count};
 ghost use Rattle.numa_placed.specs.declared.spot.Spot.{Spot};
+ghost use Rattle.numa_placed.specs.declared.spot.Spot.TheVariants.{Stated};
 
 /// Pages go from the old set to the new one. Those of a node that the new set has stay where they
 /// are unless the sets have as many nodes; those of a node that the old set lacks stay too, and
@@ -26,4 +28,14 @@ pub fn moves_keep_pages()
     ensures runs { (old new : ℕ → Spot) (go : ℕ → ℕ)
         → ((page : ℕ) → new page ≡ moved_spot go (old page))
         → run_count new ≤ run_count old }
+{}
+
+/// A move as far as there is room loses no page either, and pages of a node that the new set has
+/// stay unless the sets have as many nodes.
+pub fn moves_within_rooms()
+    ensures pages { (spots : ℕ → Spot) (old new : ℕ) (room : ℕ → ℕ)
+        → pages_where is_placed (shifted spots old new room) ≡ pages_where is_placed spots }
+    ensures stays { (spots : ℕ → Spot) (old new : ℕ) (room : ℕ → ℕ) (page node : ℕ)
+        → weight_of old ≢ weight_of new → has new node ≡ true → spots page ≡ Stated node
+        → shifted spots old new room page ≡ Stated node }
 {}

@@ -21,19 +21,26 @@
 //! **Runs.** A run is a maximal run of pages that lie alike, and there may be 1,048,576 of them.
 //! `follow` and `migrate` never make more, and take no memory.
 //!
-//! A node never fills.
+//! **Rooms.** A node never fills unless [`Rooms`] says how many more pages it takes. Moves by rooms
+//! (`follow_within`, `migrate_within`, `move_page_within`) go node by node, as Linux does: each time
+//! the lowest node whose target isn't still to go, else the highest. Within a node the lowest pages
+//! go first, and a page that leaves gives its room back. A node that fills ends the move: the pages
+//! that found no room stay, and so do those of all nodes that were still to go.
 #![tactic(auto)]
 
 mod astray;
 mod bind;
 pub mod bound;
 mod change;
+mod course;
 mod edit;
+mod filling;
 mod judge;
 pub mod laws;
 pub mod moved;
 pub mod placed;
 pub mod refusal;
+pub mod rooms;
 mod shift;
 mod spans;
 pub mod spot;
@@ -44,5 +51,6 @@ pub use bound::Bound;
 pub use moved::Moved;
 pub use placed::Placed;
 pub use refusal::{MoveRefusal, PlacedRefusal};
+pub use rooms::Rooms;
 pub use spot::Spot;
 pub use targets::moved_node;

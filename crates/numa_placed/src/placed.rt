@@ -7,11 +7,14 @@ ghost use Rattle.numa_space.specs.History.{page_of, page_count};
 ghost use Rattle.numa_placed.specs.Astray.{strict_cause};
 ghost use Rattle.numa_placed.specs.Binds.{IsBound, bound_spots, first_in};
 ghost use Rattle.numa_placed.specs.Moves.{IsMove, moved_node};
-ghost use Rattle.numa_placed.specs.Refusals.{IsRefusal, IsMoveRefusal, state_cause, span_cause};
+ghost use Rattle.numa_placed.specs.Refusals.{IsLack, IsRefusal, IsMoveRefusal, state_cause};
+ghost use Rattle.numa_placed.specs.Refusals.{span_cause};
 ghost use Rattle.numa_placed.specs.Refusals.{hold_cause, migrate_cause, move_cause, release_cause};
 ghost use Rattle.numa_placed.specs.Spots.{spot_at, is_on, pages_where, run_count, too_many};
 ghost use Rattle.numa_placed.specs.Spots.{changed_spots, stated_spots, stated_spot, forgotten_spot};
 ghost use Rattle.numa_placed.specs.Spots.{released_spot};
+ghost use Rattle.numa_placed.specs.Shifts.{AreRooms, IsShift, first_of, room_cause, room_moved};
+ghost use Rattle.numa_placed.specs.Shifts.{shifted};
 ghost use Rattle.numa_placed.specs.Wholes.{AreWhole};
 ghost use Rattle.numa_placed.specs.declared.spot.Spot.TheVariants.{Nowhere, Held};
 
@@ -20,9 +23,11 @@ use crate::bind::{Touch, bind_span};
 use crate::bound::Bound;
 use crate::change::Change;
 use crate::edit::{edit, placed_runs};
-use crate::judge::{judge_hold, judge_move, judge_page, lacks_node, move_outcome};
+use crate::filling::fill;
+use crate::judge::{judge_hold, judge_move, judge_page, judge_room, lacks_node, move_outcome};
 use crate::moved::Moved;
 use crate::refusal::{MoveRefusal, PlacedRefusal};
+use crate::rooms::Rooms;
 use crate::shift::shift;
 use crate::spans::{span_of, state_span};
 use crate::spot::Spot;
@@ -338,5 +343,95 @@ impl Placed {
             return Err(PlacedRefusal::NodesNotAllowed);
         }
         Ok(self.follow(from, &targets))
+    }
+
+    /// Moves pages as `follow` does, as far as there is room.
+    ///
+    /// # Errors
+    /// Nothing has changed: `TooManyRuns`, `NoMemory`, as [`PlacedRefusal`] says. `NoMemory` can
+    /// come before `TooManyRuns`.
+    pub fn follow_within(
+        &mut self,
+        old: &NodeMask,
+        new: &NodeMask,
+        rooms: &mut Rooms,
+    ) -> Result<Moved, PlacedRefusal>
+        ensures ok { (room : ℕ → ℕ) → AreRooms rooms.old room → IfOk result (IsShift
+            (spot_at self.old) old.now new.now room (spot_at self.new) rooms.new) }
+        ensures err { (room : ℕ → ℕ) → AreRooms rooms.old room → IfErr result (IsLack
+            (shifted (spot_at self.old) old.now new.now room)) }
+        ensures unchanged { OnErr result (self.new ≡ self.old) }
+        ensures rooms { OnErr result (rooms.new ≡ rooms.old) }
+    {
+        fill(&mut self.map, old, new, rooms)
+    }
+
+    /// Moves pages as `migrate` does, as far as there is room.
+    ///
+    /// # Errors
+    /// The first of these that applies; nothing has changed: `NodesNotAllowed`, `TooManyRuns`,
+    /// `NoMemory`, as [`PlacedRefusal`] says. `NoMemory` can come before `TooManyRuns`.
+    pub fn migrate_within(
+        &mut self,
+        space: &Space,
+        from: &NodeMask,
+        to: &NodeMask,
+        rooms: &mut Rooms,
+    ) -> Result<Moved, PlacedRefusal>
+        ensures accepted { OnOk result (migrate_cause space.now.allowed to.now ≡ None) }
+        ensures ok { (room : ℕ → ℕ) → AreRooms rooms.old room → IfOk result (IsShift
+            (spot_at self.old) from.now (both to.now space.now.allowed) room (spot_at self.new)
+            rooms.new) }
+        ensures err { (room : ℕ → ℕ) → AreRooms rooms.old room → IfErr result (IsRefusal
+            (migrate_cause space.now.allowed to.now) (shifted (spot_at self.old) from.now
+            (both to.now space.now.allowed) room)) }
+        ensures unchanged { OnErr result (self.new ≡ self.old) }
+        ensures rooms { OnErr result (rooms.new ≡ rooms.old) }
+    {
+        let targets = to.and(&space.allowed());
+        if targets.is_empty() {
+            return Err(PlacedRefusal::NodesNotAllowed);
+        }
+        self.follow_within(from, &targets, rooms)
+    }
+
+    /// Moves a page to a node, as `move_page` does, if the node has room for it.
+    ///
+    /// # Errors
+    /// The first of these that applies; nothing has changed: `NoSuchNode`, `NodesNotAllowed`,
+    /// `Unmapped`, `NotPlaced`, `NoRoom`, `TooManyRuns`, `NoMemory`, as [`MoveRefusal`] says.
+    pub fn move_page_within(
+        &mut self,
+        space: &Space,
+        page: u64,
+        node: u32,
+        rooms: &mut Rooms,
+    ) -> Result<(), MoveRefusal>
+        ensures accepted { (room : ℕ → ℕ) → AreRooms rooms.old room → OnOk result (first_of
+            (move_cause space.now.machine space.now.allowed node (is_some
+            (page_at space.now.ranges page)) (spot_at self.old page))
+            (room_cause room node (spot_at self.old page)) ≡ None) }
+        ensures ok { OnOk result ((other : ℕ) → spot_at self.new other
+            ≡ changed_spots page 1 (stated_spot node) (spot_at self.old) other) }
+        ensures taken { (room : ℕ → ℕ) → AreRooms rooms.old room → OnOk result
+            (AreRooms rooms.new (room_moved room node (spot_at self.old page))) }
+        ensures few { OnOk result (too_many (spot_at self.new) ≡ false) }
+        ensures err { (room : ℕ → ℕ) → AreRooms rooms.old room → IfErr result (IsMoveRefusal
+            (first_of (move_cause space.now.machine space.now.allowed node (is_some
+            (page_at space.now.ranges page)) (spot_at self.old page))
+            (room_cause room node (spot_at self.old page)))
+            (changed_spots page 1 (stated_spot node) (spot_at self.old))) }
+        ensures unchanged { OnErr result (self.new ≡ self.old) }
+        ensures rooms { OnErr result (rooms.new ≡ rooms.old) }
+    {
+        let spot = self.at(page);
+        judge_move(space, page, node, spot)?;
+        judge_room(rooms, node as u8, spot)?;
+        let outcome = edit(&mut self.map, page, 1, Change::State(node as u8));
+        if let Err(refusal) = move_outcome(outcome) {
+            return Err(refusal);
+        }
+        rooms.pass_one(spot, node as u8);
+        Ok(())
     }
 }
