@@ -121,7 +121,8 @@ enum np_answer {
 
     /* a question about a script has no answer */
     NP_NO_MACHINE = 80, /* no line of the script makes a machine */
-    NP_BAD_ACCESS = 81  /* a line of the trace can't be replayed */
+    NP_BAD_ACCESS = 81, /* a line of the trace can't be replayed */
+    NP_MANY_PROCESSES = 82 /* the script is a host's, and the answer is about one process */
 };
 
 /* ---- types */

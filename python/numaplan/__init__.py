@@ -21,8 +21,8 @@ from ._causes import AllTaken, AnswerLost, BadAccess, BadCpu, BadDistance, BadFo
 from ._causes import BadNodeCount, BadOffset
 from ._causes import BadOrders, BadRules, BadTry, BadWeight, BadWorkers, BothFlags, Busy, Closed
 from ._causes import CommandsSpent, EmptyLength, Exhausted, FlagsForbidden, Hole, Idle
-from ._causes import ListBackwards, ListBadDigit, ListEmpty, ListTooHigh, NoMachine, NoMemory
-from ._causes import NoMemoryNode
+from ._causes import ListBackwards, ListBadDigit, ListEmpty, ListTooHigh, ManyProcesses, NoMachine
+from ._causes import NoMemory, NoMemoryNode
 from ._causes import NoNodeAllowed, NoPolicy, NoPolicyThere, NoRange, NoRoom, NoSuchNode
 from ._causes import NoSuchWorker, NodesForbidden
 from ._causes import NodesMissing, NodesNotAllowed, NotOwned, NotSupported, Open, OutOfSpace
@@ -45,7 +45,8 @@ __all__ = [
     "BadNodeCount", "BadOffset",
     "BadOrders", "BadRules", "BadTry", "BadWeight", "BadWorkers", "BothFlags", "Busy", "CAUSES",
     "Closed", "CommandsSpent", "EmptyLength", "Exhausted", "FlagsForbidden", "Hole", "Idle",
-    "ListBackwards", "ListBadDigit", "ListEmpty", "ListTooHigh", "NoMachine", "NoMemory",
+    "ListBackwards", "ListBadDigit", "ListEmpty", "ListTooHigh", "ManyProcesses", "NoMachine",
+    "NoMemory",
     "NoMemoryNode", "NoNodeAllowed", "NoPolicy",
     "NoPolicyThere", "NoRange", "NoRoom", "NoSuchNode", "NoSuchWorker", "NodesForbidden",
     "NodesMissing", "NodesNotAllowed", "NotOwned", "NotSupported", "Open", "OutOfSpace", "Overlap",

@@ -296,6 +296,11 @@ class BadAccess(Refused):
     words = "a line of the trace can't be replayed; the last message tells which, and why"
 
 
+class ManyProcesses(Refused):
+    number = 82
+    words = "the script is a host's, and the answer is about one process"
+
+
 CAUSES: dict[int, type[Refused]] = {cause.number: cause for cause in Refused.__subclasses__()}
 
 

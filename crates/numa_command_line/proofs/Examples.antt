@@ -45,9 +45,16 @@ are_choices = record {
 run_of_files : (c : Choices)
     → doings_asked (program c) (codes "numaplan" ∷ codes "run" ∷ codes "--echo" ∷ codes "a"
     ∷ codes "-" ∷ [])
-    ≡ Some (scripts (codes "a" ∷ codes "-" ∷ []) Document (run true format.Text))
+    ≡ Some (scripts (codes "a" ∷ codes "-" ∷ []) Document None (run true format.Text))
 unfolding clap_on_literals
 run_of_files c = refl
+
+check_of_a_process : (c : Choices)
+    → doings_asked (program c) (codes "numaplan" ∷ codes "check" ∷ codes "--process" ∷ codes "3"
+    ∷ codes "a" ∷ [])
+    ≡ Some (scripts (codes "a" ∷ []) Document (Some 3) (check format.Text))
+unfolding clap_on_literals
+check_of_a_process c = refl
 
 storm_of_four : (c : Choices)
     → doings_asked (program c) (codes "numaplan" ∷ codes "storm" ∷ codes "--workers=4" ∷ [])

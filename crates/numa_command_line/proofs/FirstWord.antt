@@ -12,7 +12,7 @@ use Rattle.numa_command_line.specs.Asked.{job_named, name_of, rows_behind, scrip
 use Rattle.numa_command_line.specs.Asked.{word_named, work_asked}
 use Rattle.numa_command_line.specs.Jobs.{Asking, Doing, Doings, Text, ask, diff, doings_of, explain}
 use Rattle.numa_command_line.specs.Jobs.{predict, scripts, storm}
-use Rattle.numa_command_line.specs.Values.{format_in, frees_in, is_on, page_in, rules_in, small_at}
+use Rattle.numa_command_line.specs.Values.{format_in, frees_in, is_on, page_in, process_in, rules_in, small_at}
 use Rattle.numa_command_line.specs.Values.{texts_at, touch_in, workers_in}
 use Rattle.numa_command_line.specs.declared.command.Subcommand.{Subcommand}
 use Rattle.numa_command_line.specs.declared.command.Subcommand.TheVariants as word
@@ -90,13 +90,15 @@ work_name word.Explain rows doing e =
 work_name word.Replay rows doing e = ap doing_name (sym (some_is _ doing e))
 work_name word.Shell rows doing e = ap doing_name (sym (some_is _ doing e))
 
-scripts_name : (files : List Text) (rows : List Row) (work : Option Doing) (d : Doings)
-    (named : Text)
+scripts_name : (files : List Text) (rows : List Row) (process : Option (Option ℕ))
+    (work : Option Doing) (d : Doings) (named : Text)
     → ((doing : Doing) → work ≡ Some doing → doing_name doing ≡ named)
-    → option_map (scripts files (rules_in rows)) work ≡ Some d → name_of d ≡ named
-scripts_name files rows None d named names e = cc
-scripts_name files rows (Some doing) d named names e =
-    ap name_of (sym (some_is (scripts files (rules_in rows) doing) d e)) ∙ names doing refl
+    → option_and_then (λ p. option_map (scripts files (rules_in rows) p) work) process ≡ Some d
+    → name_of d ≡ named
+scripts_name files rows None work d named names e = cc
+scripts_name files rows (Some p) None d named names e = cc
+scripts_name files rows (Some p) (Some doing) d named names e =
+    ap name_of (sym (some_is (scripts files (rules_in rows) p doing) d e)) ∙ names doing refl
 
 storm_name : (workers : Option ℕ) (d : Doings) → option_map storm workers ≡ Some d
     → name_of d ≡ codes "storm"
@@ -108,7 +110,7 @@ word_name : (name : Text) (rows : List Row) (found : Option Subcommand) (d : Doi
     → option_and_then (scripts_asked rows) found ≡ Some d → name ≡ name_of d
 word_name name rows None d names e = cc
 word_name name rows (Some w) d names e = names w refl
-    ∙ sym (scripts_name (texts_at (codes "FILE") rows) rows (work_asked w rows) d (label w)
+    ∙ sym (scripts_name (texts_at (codes "FILE") rows) rows (process_in rows) (work_asked w rows) d (label w)
     (work_name w rows) e)
 
 job_name : (name : Text) (rows : List Row) (d : Doings) → job_named name rows ≡ Some d

@@ -12,6 +12,7 @@ use Rattle.numa_command_line.specs.Jobs.{Asking, Doing, Doings, Text, ask, check
 use Rattle.numa_command_line.specs.Jobs.{expect, explain, predict, replay, run, scripts, shell}
 use Rattle.numa_command_line.specs.Jobs.{storm}
 use Rattle.numa_command_line.specs.Values.{format_in, frees_in, is_on, page_in, rules_in, small_at}
+use Rattle.numa_command_line.specs.Values.{process_in}
 use Rattle.numa_command_line.specs.Values.{texts_at, touch_in, workers_in}
 use Rattle.numa_command_line.specs.declared.command.Subcommand.{Subcommand}
 use Rattle.numa_command_line.specs.declared.command.Subcommand.TheVariants as word
@@ -55,7 +56,8 @@ work_asked word.Shell rows = Some shell
 
 abbrev pub scripts_asked : List Row → Subcommand → Option Doings
 scripts_asked rows word =
-    option_map (scripts (texts_at (codes "FILE") rows) (rules_in rows)) (work_asked word rows)
+    option_and_then (λ process. option_map (scripts (texts_at (codes "FILE") rows) (rules_in rows)
+    process) (work_asked word rows)) (process_in rows)
 
 -- what the word of a name asks for
 abbrev pub job_named : Text → List Row → Option Doings
@@ -93,7 +95,7 @@ doing_name (replay trace format lenient) = codes "replay"
 doing_name shell = codes "shell"
 
 abbrev pub name_of : Doings → Text
-name_of (scripts files rules what) = doing_name what
+name_of (scripts files rules process what) = doing_name what
 name_of (storm workers) = codes "storm"
 
 -- help, or the version

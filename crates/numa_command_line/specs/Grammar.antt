@@ -20,6 +20,10 @@ task = needed true (number (codes "task"))
 abbrev pub node : Rule
 node = needed true (number_or (codes "node") (codes "cpu"))
 
+-- which process of a host is asked for
+abbrev pub process : Rule
+process = option (codes "process")
+
 abbrev pub format : Names → Rule
 format = choice (codes "format") (codes "text")
 
@@ -60,7 +64,7 @@ abbrev pub run_arguments : Names → List Rule
 run_arguments formats = flag (codes "echo") ∷ format formats ∷ files ∷ []
 
 abbrev pub check_arguments : Names → List Rule
-check_arguments formats = format formats ∷ files ∷ []
+check_arguments formats = format formats ∷ process ∷ files ∷ []
 
 abbrev pub expect_arguments : Names → List Rule
 expect_arguments formats =
@@ -68,24 +72,26 @@ expect_arguments formats =
 
 abbrev pub predict_arguments : Names → List Rule
 predict_arguments formats =
-    task ∷ node ∷ format formats ∷ largest ∷ option (codes "free") ∷ lenient ∷ files ∷ []
+    task ∷ node ∷ process ∷ format formats ∷ largest ∷ option (codes "free") ∷ lenient ∷ files
+    ∷ []
 
 abbrev pub diff_arguments : Names → List Rule
 diff_arguments formats =
-    task ∷ node ∷ needed true (options (codes "then")) ∷ format formats ∷ largest ∷ lenient
-    ∷ files ∷ []
+    task ∷ node ∷ needed true (options (codes "then")) ∷ process ∷ format formats ∷ largest
+    ∷ lenient ∷ files ∷ []
 
 abbrev pub explain_arguments : Names → List Rule
 explain_arguments formats =
-    task ∷ node ∷ number (codes "pages") ∷ format formats ∷ lenient
+    task ∷ node ∷ number (codes "pages") ∷ process ∷ format formats ∷ lenient
     ∷ needed true (bare (codes "ADDRESS")) ∷ files ∷ []
 
 abbrev pub replay_arguments : Names → List Rule
 replay_arguments formats =
-    needed true (option (codes "trace")) ∷ format formats ∷ largest ∷ lenient ∷ files ∷ []
+    needed true (option (codes "trace")) ∷ process ∷ format formats ∷ largest ∷ lenient ∷ files
+    ∷ []
 
 abbrev pub shell_arguments : List Rule
-shell_arguments = files ∷ []
+shell_arguments = process ∷ files ∷ []
 
 abbrev pub storm_arguments : List Rule
 storm_arguments = needed true (option (codes "workers")) ∷ []

@@ -41,7 +41,7 @@ pub data Doing : Type 0 where
   shell : Doing
 
 pub data Doings : Type 0 where
-  scripts : List Text → Rules → Doing → Doings
+  scripts : List Text → Rules → Option ℕ → Doing → Doings
   storm : ℕ → Doings
 
 abbrev pub question_of : PageQuestion → Asking
@@ -58,7 +58,8 @@ work_of (Replay trace format lenient) = replay (map string_bytes trace.items) fo
 work_of Shell = shell
 
 abbrev pub doings_of : Job → Doings
-doings_of (Scripts files rules work) = scripts (map string_bytes files.items) rules (work_of work)
+doings_of (Scripts files rules process work) =
+    scripts (map string_bytes files.items) rules process (work_of work)
 doings_of (Storm workers) = storm workers
 
 -- what is wanted is made, or is refused as invalid if nothing is wanted, or memory ran out

@@ -17,7 +17,7 @@ use Rattle.numa_reports.specs.declared.filling.FreePages.{FreePages}
 use Rattle.numa_reports.specs.declared.sheet.Format.{Format}
 use Rattle.numa_reports.specs.declared.sheet.Format.TheVariants as format
 use Rattle.numa_reports.specs.declared.touch.Touch.{Touch}
-use Rattle.numa_script.specs.Numbers.{node_of, number_of}
+use Rattle.numa_script.specs.Numbers.{node_of, number_of, small_of}
 use Rattle.numa_command_line.specs.Jobs.{Text}
 
 -- ---- flags, texts and numbers
@@ -49,6 +49,14 @@ small_at id rows = option_and_then small_in (one_of id rows)
 abbrev pub rules_in : List Row → Rules
 rules_in rows = if option_map_or (λ name. bytes_eq name (codes "linux"))
     (first_of (codes "rules") rows) false then Linux else Document
+
+-- the process of a host that is asked for; none where all are
+abbrev pub process_named : Text → Option (Option ℕ)
+process_named name =
+    if bytes_eq name (codes "all") then Some None else option_map Some (small_of name)
+
+abbrev pub process_in : List Row → Option (Option ℕ)
+process_in rows = option_map_or process_named (first_of (codes "process") rows) (Some None)
 
 -- the format of a name, with how many ranges are shown, where that is said
 abbrev pub format_named : Option ℕ → Text → Format

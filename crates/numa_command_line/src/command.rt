@@ -11,7 +11,7 @@ use crate::found::{is_on, texts_at};
 use crate::jobs::{Job, JobFault, ScriptJob};
 use crate::program::program;
 use crate::words::format::format_in;
-use crate::words::{diff, explain, predict, replay, rules, storm};
+use crate::words::{diff, explain, predict, process, replay, rules, storm};
 use clap::error::ErrorKind;
 use clap::{ArgMatches, Command, Error};
 use std::alloc::Global;
@@ -95,6 +95,10 @@ fn scripts_job(alloc: Global, word: Subcommand, matches: &ArgMatches<'_>) -> Res
     ensures asked { IsMade doings_of
         (scripts_asked (rows_of (found_of matches.now)) word) result }
 {
+    let process = match process::process_in(alloc, matches) {
+        Ok(process) => process,
+        Err(fault) => return Err(fault),
+    };
     let work = match work_of(alloc, word, matches) {
         Ok(work) => work,
         Err(fault) => return Err(fault),
@@ -103,6 +107,7 @@ fn scripts_job(alloc: Global, word: Subcommand, matches: &ArgMatches<'_>) -> Res
         Ok(files) => Ok(Job::Scripts {
             files,
             rules: rules::rules_in(matches),
+            process,
             work,
         }),
         Err(_) => {

@@ -67,10 +67,12 @@ pub enum ScriptJob {
 #[derive(Drop)]
 pub enum Job {
     /// Do this with the scripts of these files; `-` is standard input, which is also read without
-    /// files. These rules apply unless a line of a script says otherwise.
+    /// files. These rules apply unless a line of a script says otherwise. Of a host this process is
+    /// asked for; all are if none is named.
     Scripts {
         files: Vec<String>,
         rules: Rules,
+        process: Option<u32>,
         work: ScriptJob,
     },
     /// Let this many workers place pages while policies change.

@@ -8,6 +8,7 @@ pub mod format;
 pub mod free;
 pub mod lenient;
 pub mod predict;
+pub mod process;
 pub mod replay;
 pub mod rules;
 pub mod run;

@@ -1,18 +1,23 @@
 -- What checking a line finds.
 use Rattle.std.specs.Prelude.{◌≡◌, ℕ, Bool, List, Option}
 use Rattle.std.specs.Option.{option_map}
-use Rattle.numa_script.specs.Lines.{line_of}
-use Rattle.numa_run.specs.Answers.{State, after}
-use Rattle.numa_run.specs.Judged.{fault_of}
-use Rattle.numa_run.specs.Scripts.{ScriptStandsFor}
-use Rattle.numa_run.specs.declared.script.Script.{Script}
+use Rattle.numa_host_script.specs.Judged.{session_fault}
+use Rattle.numa_host_script.specs.Sessions.{Session, session_after}
+use Rattle.numa_host_script.specs.Standing.{StandsIn}
+use Rattle.numa_host_script.specs.declared.fault.LineFault.{LineFault}
+use Rattle.numa_host_script.specs.declared.script.HostScript.{HostScript}
 use Rattle.numa_diagnose.specs.declared.finding.Finding.{Finding}
 
--- the fault or the refusal that the line is answered is found, or nothing where it is answered
+-- the fault or the refusal that the line is answered is returned, or nothing where it is answered
 -- neither, and the script goes on
-abbrev pub Checks : Script → List ℕ → Option Finding → Script → Type 0
-Checks old line found new =
-    (state : State) → ScriptStandsFor old state
+abbrev pub Judged : HostScript → List ℕ → Option LineFault → HostScript → Type 0
+Judged old line found new =
+    (session : Session) → StandsIn old.script old.limits old.host session
     → (refused : Bool)
-    × (option_map (λ finding. finding.fault) found ≡ fault_of refused state (line_of line))
-    × ScriptStandsFor new (after refused state (line_of line))
+    × StandsIn new.script new.limits new.host (session_after refused session line)
+    × (found ≡ session_fault refused session line)
+
+-- the same of what is found
+abbrev pub Checks : HostScript → List ℕ → Option Finding → HostScript → Type 0
+Checks old line found new =
+    Judged old line (option_map (λ finding. finding.fault) found) new

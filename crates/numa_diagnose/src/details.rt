@@ -1,7 +1,7 @@
 //! Details of an error or a refusal.
 use crate::finding::Detail;
 use crate::pages::{first_mapped, first_unmapped, first_without_home, is_mapped};
-use numa_core::Core;
+use numa_machine::Machine;
 use numa_mask::ListFault;
 use numa_mask::parts::first_place;
 use numa_run::Script;
@@ -86,7 +86,12 @@ fn command_detail(space: &Space, command: &Command, refusal: Refusal) -> Detail 
 
 /// The highest node of the machine.
 fn last_node(space: &Space) -> Detail {
-    Detail::LastNode(space.machine().nodes().saturating_sub(1))
+    last_of(space.machine())
+}
+
+/// The highest node of a machine.
+pub(crate) fn last_of(machine: &Machine) -> Detail {
+    Detail::LastNode(machine.nodes().saturating_sub(1))
 }
 
 /// The pages of a question.
@@ -124,8 +129,7 @@ fn unmapped_detail(space: &Space, said: &Line<'_>) -> Detail {
 }
 
 /// The details of a refusal.
-fn refusal_detail(core: &Core, said: &Line<'_>, cause: CoreRefusal) -> Detail {
-    let space = core.space();
+pub(crate) fn refusal_detail(space: &Space, said: &Line<'_>, cause: CoreRefusal) -> Detail {
     match cause {
         CoreRefusal::Command(refusal) => match said {
             Line::Command(Ok(command)) => command_detail(space, command, refusal),
@@ -167,7 +171,7 @@ fn names_all(line: &[u8]) -> bool {
 }
 
 /// Whether the second word of a line begins with 0, and has more digits, but no `0x`.
-fn is_decimal_start(line: &[u8]) -> bool {
+pub(crate) fn is_decimal_start(line: &[u8]) -> bool {
     let mut words = words(line);
     let Some(_) = words.next() else {
         return false;
@@ -179,7 +183,7 @@ fn is_decimal_start(line: &[u8]) -> bool {
 }
 
 /// The way to write all nodes of a machine with `nodes` nodes.
-fn all_nodes(nodes: u32) -> Detail {
+pub(crate) fn all_nodes(nodes: u32) -> Detail {
     Detail::AllNodes(nodes.saturating_sub(1))
 }
 
@@ -194,8 +198,8 @@ fn all_detail(script: &Script, said: &Line<'_>) -> Detail {
     }
 }
 
-/// The details of an error in a list or a policy.
-fn word_detail(script: &Script, line: &[u8], said: &Line<'_>, fault: WordError) -> Detail {
+/// The details of an error in a list or a policy, where `all` would be these nodes.
+pub(crate) fn list_detail(line: &[u8], all: Detail, fault: WordError) -> Detail {
     if ends_with_return(line) {
         return Detail::CarriageReturn;
     }
@@ -203,7 +207,7 @@ fn word_detail(script: &Script, line: &[u8], said: &Line<'_>, fault: WordError) 
         return Detail::Tab;
     }
     match fault {
-        WordError::List(ListFault::BadDigit) if names_all(line) => all_detail(script, said),
+        WordError::List(ListFault::BadDigit) if names_all(line) => all,
         _ => Detail::None,
     }
 }
@@ -217,12 +221,12 @@ pub(crate) fn detail_of(script: &Script, line: &[u8], said: &Line<'_>, fault: Re
         },
         Reply::BadState if script.core().is_some() => Detail::MachineReady,
         Reply::BadState => Detail::NoMachine,
-        Reply::BadWord(fault) => word_detail(script, line, said, fault),
+        Reply::BadWord(fault) => list_detail(line, all_detail(script, said), fault),
         Reply::Refused(CoreRefusal::Command(Refusal::Unaligned)) if is_decimal_start(line) => {
             Detail::DecimalStart
         }
         Reply::Refused(cause) => match script.core() {
-            Some(core) => refusal_detail(core, said, cause),
+            Some(core) => refusal_detail(core.space(), said, cause),
             None => Detail::None,
         },
         _ => Detail::None,

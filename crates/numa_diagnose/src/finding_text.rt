@@ -1,7 +1,10 @@
 //! Findings as texts.
 use crate::finding::{Detail, Finding};
+use crate::hint::HostHint;
+use crate::host_text::{put_host_cause, put_host_refused};
 use crate::words::{list_words, machine_words, policy_words, worker_words};
-use numa_rules::Text;
+use numa_host_script::LineFault;
+use numa_rules::{Text, say_hint, say_otherwise};
 use numa_script::keyword::Keyword;
 use numa_script::names::Named;
 use numa_script::parameter::parameters;
@@ -103,7 +106,7 @@ fn cause_words(cause: Cause) -> &'static str {
 }
 
 /// Appends why a line is malformed.
-fn put_cause(text: &mut Text, cause: Cause) {
+pub(crate) fn put_cause(text: &mut Text, cause: Cause) {
     text.put(cause_words(cause));
     match cause {
         Cause::StrayByte(byte) => put_byte(text, byte),
@@ -190,7 +193,7 @@ fn put_counted(text: &mut Text, cause: CoreRefusal, words: &str, number: u64, be
 }
 
 /// Appends why a line is refused.
-fn put_refusal(text: &mut Text, cause: CoreRefusal, detail: Detail) {
+pub(crate) fn put_refusal(text: &mut Text, cause: CoreRefusal, detail: Detail) {
     match detail {
         Detail::Page(page) => put_page(text, page, page_words(cause)),
         Detail::Unpublished(page) => put_page(text, page, UNPUBLISHED),
@@ -211,8 +214,8 @@ fn put_refused(text: &mut Text, cause: CoreRefusal, detail: Detail) {
     put_refusal(text, cause, detail);
 }
 
-/// Appends a line's error or refusal, and its cause.
-fn put_answer(text: &mut Text, fault: Reply, detail: Detail) {
+/// Appends an error or a refusal of a script of one process, and its cause.
+fn put_reply(text: &mut Text, fault: Reply, detail: Detail) {
     match fault {
         Reply::BadWords => text.put("bad words"),
         Reply::BadState => text.put("bad state"),
@@ -227,10 +230,22 @@ fn put_answer(text: &mut Text, fault: Reply, detail: Detail) {
     }
 }
 
+/// Appends a line's error or refusal, and its cause.
+fn put_answer(text: &mut Text, fault: LineFault, detail: Detail) {
+    match fault {
+        LineFault::Reply(reply) => put_reply(text, reply, detail),
+        LineFault::Refused(refusal) => put_host_refused(text, refusal, detail),
+    }
+}
+
 /// The text of a detail of bad words or a bad state.
 fn detail_words(detail: Detail) -> &'static str {
     match detail {
-        Detail::Malformed(_) => ": ",
+        Detail::Malformed(_) | Detail::HostMalformed(_) => ": ",
+        Detail::LateHost => ": host stands behind machine and before the first command",
+        Detail::HostReady => ": the script is a host's already; take the line out",
+        Detail::NeedsProcess => ": in a host a line of one process stands behind in P; write that",
+        Detail::NoWorkers => ": a host has no workers; they are for scripts of one process",
         Detail::NoMachine => ": no machine is ready; limits and machine come first",
         Detail::MachineReady => {
             ": a machine is ready already; limits, rules, cpus and machine come before it"
@@ -254,6 +269,7 @@ fn put_detail(text: &mut Text, detail: Detail) {
     text.put(detail_words(detail));
     match detail {
         Detail::Malformed(malformed) => put_cause(text, malformed.cause),
+        Detail::HostMalformed(malformed) => put_host_cause(text, malformed.cause),
         Detail::CarriageReturn => text.put(RETURN),
         Detail::Tab => text.put(TAB),
         Detail::AllNodes(last) => put_all(text, last),
@@ -277,14 +293,19 @@ pub fn say_finding(text: &mut Vec<u8>, finding: &Finding) -> Result<(), AllocErr
     written.end(text)
 }
 
-/// Appends the position of a finding: the name of the text, the line, and for bad words the column.
-fn put_place(text: &mut Text, name: &str, place: u64, detail: Detail) {
+/// Appends the position of a finding: the name of the text, the line, for bad words the column, and
+/// the process of a host, if one was told or asked the line.
+fn put_place(text: &mut Text, name: &str, place: u64, finding: &Finding) {
     text.put(name);
     text.put_number(":", place);
-    if let Detail::Malformed(malformed) = detail {
-        text.put_number(":", malformed.column as u64);
+    if let Some(column) = finding.detail.column() {
+        text.put_number(":", column as u64);
     }
     text.put(": ");
+    if let Some(process) = finding.process {
+        text.put_number("process ", process as u64);
+        text.put(": ");
+    }
 }
 
 /// Appends a message about a line: its position, by the name of its text and its number there from
@@ -299,10 +320,35 @@ pub fn say_line(
     finding: &Finding,
 ) -> Result<(), AllocError> {
     let mut written = Text::of(text);
-    put_place(&mut written, name, place, finding.detail);
+    put_place(&mut written, name, place, finding);
     put_finding(&mut written, finding);
     written.put("\n");
     written.end(text)
+}
+
+/// Appends a message about a line: its position, the process of a host, if there is one, and what a
+/// running kernel would do differently with the line.
+///
+/// # Errors
+/// `AllocError`: out of memory. A part may have been appended.
+pub fn say_hint_line(
+    text: &mut Vec<u8>,
+    name: &str,
+    place: u64,
+    hint: &HostHint,
+) -> Result<(), AllocError> {
+    let Some(process) = hint.process else {
+        return say_hint(text, name, place, &hint.otherwise);
+    };
+    let mut written = Text::of(text);
+    written.put(name);
+    written.put_number(":", place);
+    written.put_number(": process ", process as u64);
+    written.put(": ");
+    written.end(text)?;
+    say_otherwise(text, &hint.otherwise)?;
+    text.push(b'\n')?;
+    Ok(())
 }
 
 /// Appends a message about `count` lines that weren't judged.

@@ -1,15 +1,36 @@
 //! What a running kernel would do differently with a line, and playing a script by the other rules.
 ghost use Rattle.std.specs.Prelude.{◌≡◌, Option};
 ghost use Rattle.numa_script.specs.Lines.{line_of};
-ghost use Rattle.numa_run.specs.Scripts.{ScriptReplies};
-ghost use Rattle.numa_diagnose.specs.Hints.{hint_for, turned};
+ghost use Rattle.numa_diagnose.specs.Checks.{Judged};
+ghost use Rattle.numa_diagnose.specs.Hints.{hint_for, rules_text, turned_bytes};
 
+use numa_host::{Host, HostCommand, Process};
+use numa_host_script::{HostLine, HostScript, LineFault, parse_host};
+use numa_machine::{NoMemory, Rules};
 use numa_rules::{Otherwise, other_rules, otherwise_of, otherwise_of_empty_bind};
-use numa_run::Script;
+use numa_script::Line;
 use numa_script::line::parse;
-use numa_script::{Line, Reply};
-use numa_space::Space;
+use numa_space::{Command, Space};
 use std::alloc::Global;
+
+/// What a running kernel would do differently with a line of a process: one of a host's, or that of
+/// the script.
+#[derive(Clone, Copy)]
+pub struct HostHint {
+    pub process: Option<u32>,
+    pub otherwise: Otherwise,
+}
+
+/// What a running kernel would do differently with what a line says.
+fn hint_by(space: &Space, said: &Line<'_>) -> Option<Otherwise>
+    ensures { result ≡ hint_for space.now said.now }
+{
+    match said {
+        Line::Command(Ok(command)) => otherwise_of(space, command),
+        Line::EmptyBind { start, .. } => otherwise_of_empty_bind(space, *start),
+        _ => None,
+    }
+}
 
 /// What a running kernel would do differently with a line, without its line feed, in a space that
 /// follows the documents' rules. `Some` only if the line is a command, or is one by the kernel's
@@ -17,21 +38,124 @@ use std::alloc::Global;
 pub fn hint_of(space: &Space, line: &[u8]) -> Option<Otherwise>
     ensures { result ≡ hint_for space.now (line_of line.now) }
 {
-    match parse(line) {
-        Line::Command(Ok(command)) => otherwise_of(space, &command),
-        Line::EmptyBind { start, .. } => otherwise_of_empty_bind(space, start),
-        _ => None,
+    hint_by(space, &parse(line))
+}
+
+/// The hint of a process, if there is one.
+fn of_process(process: u32, otherwise: Option<Otherwise>) -> Option<HostHint> {
+    match otherwise {
+        Some(otherwise) => Some(HostHint {
+            process: Some(process),
+            otherwise,
+        }),
+        None => None,
+    }
+}
+
+/// What a running kernel would do differently with a line of a process.
+fn hint_of_process(host: &Host, process: u32, said: &Line<'_>) -> Option<HostHint> {
+    if let Line::Command(Ok(Command::SetMems { .. } | Command::SetWeight { .. })) = said {
+        return None;
+    }
+    match host.process(process) {
+        Some(space) => of_process(process, hint_by(space, said)),
+        None => None,
+    }
+}
+
+/// What a running kernel would do differently with the weight of a node.
+fn hint_of_weight(host: &Host, node: u32, weight: u32) -> Option<HostHint> {
+    let machine = host.machine();
+    if machine.rules().is_linux() || weight != 0 || node >= machine.nodes() {
+        return None;
+    }
+    Some(HostHint {
+        process: None,
+        otherwise: Otherwise::PutsBackWeight,
+    })
+}
+
+/// What a running kernel would do differently where a process's allowed nodes come to those that it
+/// has in another host.
+fn hint_of_change(process: &Process, after: &Host) -> Option<HostHint> {
+    let Some(space) = after.process(process.id) else {
+        return None;
+    };
+    let mask = space.allowed();
+    if mask == process.space.allowed() {
+        return None;
+    }
+    of_process(
+        process.id,
+        otherwise_of(&process.space, &Command::SetMems { mask }),
+    )
+}
+
+/// The first process to whose policies a kernel would give other nodes, where its allowed nodes
+/// come to those of another host.
+fn hint_of_changes(host: &Host, after: &Host) -> Option<HostHint> {
+    for process in host.processes() {
+        let hint = hint_of_change(process, after);
+        if hint.is_some() {
+            return hint;
+        }
+    }
+    None
+}
+
+/// What a running kernel would do differently with a command that changes allowed nodes.
+fn hint_of_nodes(host: &Host, command: &HostCommand) -> Result<Option<HostHint>, NoMemory> {
+    let mut after = match host.copy() {
+        Ok(after) => after,
+        Err(fault) => return Err(fault),
+    };
+    let hint = match after.apply(command) {
+        Ok(()) => hint_of_changes(host, &after),
+        Err(_) => None,
+    };
+    drop(after);
+    Ok(hint)
+}
+
+/// What a running kernel would do differently with a line of a host, without its line feed; of a
+/// change of the allowed nodes the first process to whose policies it would give other nodes.
+///
+/// # Errors
+/// `NoMemory`: there is no memory to try the line on a copy of the host.
+pub fn hint_in(host: &Host, line: &[u8]) -> Result<Option<HostHint>, NoMemory> {
+    match parse_host(line) {
+        HostLine::In { process, line } => Ok(hint_of_process(host, process, &line)),
+        HostLine::Command(Ok(HostCommand::SetWeight { node, weight })) => {
+            Ok(hint_of_weight(host, node, weight))
+        }
+        HostLine::Command(Ok(command)) => match command {
+            HostCommand::SetGroupMems { .. } | HostCommand::Attach { .. } => {
+                hint_of_nodes(host, &command)
+            }
+            _ => Ok(None),
+        },
+        _ => Ok(None),
+    }
+}
+
+/// The line that chooses these rules.
+fn rules_line(rules: Rules) -> &'static [u8]
+    ensures { result.now ≡ rules_text rules }
+{
+    match rules {
+        Rules::Document => b"rules document",
+        Rules::Linux => b"rules linux",
     }
 }
 
 /// Carries out a line, without its line feed, but takes a line `rules` for one with the other
-/// rules. So of two scripts that begin with different rules and are given the same lines, one by
-/// `judge` and one by this, each follows its own set of rules.
-pub fn reply_by_other(alloc: Global, script: &mut Script, line: &[u8]) -> Option<Reply>
-    ensures { ScriptReplies script.old (turned (line_of line.now)) result script.new }
+/// rules, and returns what is wrong with it. So of two scripts that begin with different rules and
+/// are given the same lines, one by `judge` and one by this, each follows its own set of rules.
+pub fn judge_by_other(alloc: Global, script: &mut HostScript, line: &[u8]) -> Option<LineFault>
+    ensures { Judged script.old (turned_bytes line.now) result script.new }
 {
-    match parse(line) {
-        Line::Rules(rules) => script.reply(alloc, &Line::Rules(other_rules(rules))),
-        said => script.reply(alloc, &said),
+    if let Line::Rules(rules) = parse(line) {
+        return script.judge(alloc, rules_line(other_rules(rules)));
     }
+    script.judge(alloc, line)
 }

@@ -5,18 +5,22 @@
 //! [`say_line`] in a line with its position.
 //!
 //! By the documents' rules, [`hint_of`] returns what a running kernel would do differently with a
-//! line, and [`numa_rules::say_hint`] writes it. A second script that is given the same lines by
-//! [`reply_by_other`] follows the other rules; [`numa_rules::by_other_rules`] returns where it
-//! leads for a page.
+//! line, [`hint_in`] with one of a host, and [`say_hint_line`] writes it. A second script that is
+//! given the same lines by [`judge_by_other`] follows the other rules;
+//! [`numa_rules::by_other_rules`] returns where it leads for a page.
 #![tactic(auto)]
 
 mod details;
 mod finding;
 mod finding_text;
 mod hint;
+mod host_details;
+mod host_text;
+mod host_words;
 mod pages;
 mod words;
 
 pub use finding::{Detail, Finding, judge};
-pub use finding_text::{say_finding, say_line, say_unjudged};
-pub use hint::{hint_of, reply_by_other};
+pub use finding_text::{say_finding, say_hint_line, say_line, say_unjudged};
+pub use hint::{HostHint, hint_in, hint_of, judge_by_other};
+pub use host_words::{HostCause, HostMalformed};

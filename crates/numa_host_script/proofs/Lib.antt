@@ -1,5 +1,6 @@
 mod Worked
 pub mod Begun
 pub mod Bounds
+pub mod Found
 pub mod Obeyed
 pub mod Seen

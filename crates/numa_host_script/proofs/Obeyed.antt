@@ -35,7 +35,7 @@ room-needed (own.SetWeight node weight) room = absurd room
 room-needed (own.SetMems mask) room = absurd room
 
 -- and so does one of the host
-host-room_needed : (said : HostCommand) → HostMayNeedRoom said → host_needs_room said ≡ true
+pub host-room_needed : (said : HostCommand) → HostMayNeedRoom said → host_needs_room said ≡ true
 host-room_needed (command.NewGroup group parent) room = refl
 host-room_needed (command.SetGroupMems group mems) room = absurd room
 host-room_needed (command.NewProcess process group) room = refl
@@ -46,7 +46,7 @@ host-room_needed (command.In process said) room = room-needed said room
 host-room_needed (command.SetWeight node weight) room = absurd room
 
 -- the answered cause is the first of all, where a growth may have been refused
-first-told : (needs : Bool) (first : Option HostRefusal) (refusal : HostRefusal)
+pub first-told : (needs : Bool) (first : Option HostRefusal) (refusal : HostRefusal)
     → MatchOption first (refusal ≡ NoMemory) (λ cause. refusal ≡ cause)
     → (refusal ≡ NoMemory → needs ≡ true)
     → first_of first (when needs NoMemory) ≡ Some refusal
@@ -55,7 +55,7 @@ first-told needs None refusal is room =
 first-told needs (Some cause) refusal is room = sym (ap Some is)
 
 -- the cause that stands against a command of the host is that of the definition
-cause-here : (host : HostState) (at : Hosting) (said : HostCommand) → RunsAs host at
+pub cause-here : (host : HostState) (at : Hosting) (said : HostCommand) → RunsAs host at
     → host_refusal_of host.blank.machine host.blank.bounds at.history said
     ≡ host_refusal_of at.machine at.bounds at.history said
 cause-here host at said stands =
@@ -63,7 +63,7 @@ cause-here host at said stands =
     ∙ ap (λ (b : Bounds). host_refusal_of at.machine b at.history said) stands.bounds
 
 -- the same host stands for the same
-same-host : (old new : HostState) (at : Hosting) → new ≡ old → RunsAs old at
+pub same-host : (old new : HostState) (at : Hosting) → new ≡ old → RunsAs old at
     → RunsAs new (record {
       machine = at.machine;
       bounds = at.bounds;

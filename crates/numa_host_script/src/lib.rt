@@ -8,6 +8,8 @@
 
 pub mod asking;
 mod cutting;
+mod fault;
+mod judging;
 pub mod keyword;
 pub mod laws;
 pub mod line;
@@ -16,6 +18,7 @@ mod serving;
 pub mod streams;
 pub mod tell;
 
+pub use fault::LineFault;
 pub use line::{HostLine, parse_host};
 pub use script::HostScript;
 pub use streams::run_by;

@@ -4,10 +4,14 @@ ghost use Rattle.numa_lines.specs.Written.{Said};
 ghost use Rattle.numa_host_script.specs.Sessions.{Session, Starves, begins_starved, begun};
 ghost use Rattle.numa_host_script.specs.Sessions.{session_after, session_answer, session_by};
 ghost use Rattle.numa_host_script.specs.Sessions.{bounds_after, is_begin, is_fresh};
+ghost use Rattle.numa_host_script.specs.Judged.{IsAlone, IsHost, IsHostIn, IsScriptIn};
+ghost use Rattle.numa_host_script.specs.Judged.{begun_fault, session_fault};
 ghost use Rattle.numa_run.specs.Answers.{State};
 ghost use Rattle.numa_run.specs.Scripts.{ScriptStandsFor};
 ghost use Rattle.numa_host_script.specs.Standing.{StandsIn};
 
+use crate::fault::LineFault;
+use crate::judging::judge;
 use crate::line::parse_host;
 use crate::serving::serve;
 use crate::tell::say_refusal;
@@ -135,6 +139,69 @@ impl HostScript {
         let said = parse(line);
         self.limits = limits_after(&self.script, self.limits, &said);
         self.script.serve_line(alloc, &said, output)
+    }
+
+    /// The script, while it is one process's.
+    pub fn script(&self) -> Option<&Script>
+        ensures { (session : Session) → StandsIn self.now.script self.now.limits self.now.host
+            session → MatchOption result (IsHost session)
+            (λ script. IsScriptIn script.now session) }
+    {
+        if let Some(_) = &self.host {
+            return None;
+        }
+        Some(&self.script)
+    }
+
+    /// The host, once the script is a host's.
+    pub fn host(&self) -> Option<&Host>
+        ensures { (session : Session) → StandsIn self.now.script self.now.limits self.now.host
+            session → MatchOption result (IsAlone session) (λ host. IsHostIn host.now session) }
+    {
+        self.host.as_ref()
+    }
+
+    /// Judges a line `host`.
+    fn judge_begin(&mut self, alloc: Global) -> Option<LineFault>
+        ensures { (session : Session) → StandsIn self.old.script self.old.limits self.old.host
+            session → (refused : Bool)
+            × StandsIn self.new.script self.new.limits self.new.host (begun refused session).session
+            × (result ≡ begun_fault refused session) }
+    {
+        if let Some(_) = &self.host {
+            return Some(LineFault::Reply(Reply::BadState));
+        }
+        let Some(machine) = fresh_machine(&self.script) else {
+            return Some(LineFault::Reply(Reply::BadState));
+        };
+        let Ok(copy) = machine.copy(alloc) else {
+            return Some(LineFault::Refused(HostRefusal::NoMemory));
+        };
+        self.host = Some(Host::new(alloc, copy, self.limits));
+        None
+    }
+
+    /// Carries out a line, as `serve_line`, and returns what is wrong with it: `Some` exactly if its
+    /// answer is an error or a refusal, and then that one. A question is judged and not answered.
+    pub fn judge(&mut self, alloc: Global, line: &[u8]) -> Option<LineFault>
+        ensures { (session : Session) → StandsIn self.old.script self.old.limits self.old.host
+            session → (refused : Bool)
+            × StandsIn self.new.script self.new.limits self.new.host
+            (session_after refused session line.now)
+            × (result ≡ session_fault refused session line.now) }
+    {
+        if is_begin(line) {
+            return self.judge_begin(alloc);
+        }
+        if let Some(host) = &mut self.host {
+            return judge(host, alloc, &parse_host(line));
+        }
+        let said = parse(line);
+        self.limits = limits_after(&self.script, self.limits, &said);
+        match self.script.judge(alloc, &said) {
+            Some(reply) => Some(LineFault::Reply(reply)),
+            None => None,
+        }
     }
 }
 

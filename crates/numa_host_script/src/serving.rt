@@ -143,7 +143,7 @@ fn serve_in<W: Write>(
 }
 
 /// The reply to a line of every script.
-fn plain_reply(line: &Line<'_>) -> Reply
+pub(crate) fn plain_reply(line: &Line<'_>) -> Reply
     ensures { result ≡ plain_reply line.now }
 {
     match line {

@@ -39,7 +39,14 @@ const ALL_PAGES: u64 = 1 << 35;
 pub(crate) fn free_of(named: &[FreePages]) -> [u64; 256]
     ensures { result ≡ with_named (replicate 256 (2 ^ 35)) named.now }
 {
-    let mut free = [ALL_PAGES; 256];
+    free_from(ALL_PAGES, named)
+}
+
+/// The same, with `others` free pages on nodes that aren't named.
+pub(crate) fn free_from(others: u64, named: &[FreePages]) -> [u64; 256]
+    ensures { result ≡ with_named (replicate 256 others) named.now }
+{
+    let mut free = [others; 256];
     let mut rest = named;
     while let Some((one, behind)) = rest.split_first() {
         free[usize::from(one.node)] = one.pages;

@@ -5,6 +5,7 @@
 //! as text.
 #![tactic(auto)]
 
+mod account;
 mod fault;
 mod filling;
 mod moves;
@@ -17,14 +18,15 @@ mod touch;
 mod turns;
 mod watch;
 
+pub use account::{Account, fill_more};
 pub use fault::ReportError;
 pub use filling::{FreePages, fill_all};
 pub use moves::span_moves;
 pub use outlook::{Outlook, PageSpan, common_spans, outlook_of};
 pub use prediction::{RangePrediction, TakeRange, predict_all, predict_range};
 pub use sheet::{
-    DRAWN, Format, Items, LISTED, Largest, Object, Written, cycles_text, difference_text,
-    filling_text, prediction_text,
+    ByProcess, DRAWN, Format, Items, LISTED, Largest, MoveSum, Object, Written, cycles_text,
+    difference_more, difference_text, filling_text, prediction_text, shared_text,
 };
 pub use touch::Touch;
 pub use watch::Watch;

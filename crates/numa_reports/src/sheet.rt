@@ -1,6 +1,7 @@
 //! Reports as text, JSON, CSV and SVG.
 
 mod bars;
+mod by_process;
 mod bytes_text;
 mod cells;
 mod changes;
@@ -22,14 +23,17 @@ mod pictures;
 mod policies;
 mod records;
 mod scale;
+mod shared;
 mod written;
 
-pub use changes::difference_text;
+pub use by_process::{ByProcess, MoveSum};
+pub use changes::{difference_more, difference_text};
 pub use cycles::cycles_text;
 pub use items::Items;
 pub use largest::Largest;
 pub use object::Object;
 pub use parts::{filling_text, prediction_text};
+pub use shared::shared_text;
 pub use written::Written;
 
 /// How many ranges a picture shows by themselves, where nothing else is wanted.

@@ -2,12 +2,13 @@
 use crate::findings::{Ended, Findings, Look};
 use crate::halt::{Halt, halt_by};
 use crate::playing::{Scripts, play};
-use crate::question::{space_of, write};
+use crate::question::{Subject, subject_of, write};
 use numa_answers::{PageInterval, shown, stretches_of, text_of};
+use numa_host::{Host, Process};
+use numa_host_script::HostScript;
 use numa_lines::RunFault;
-use numa_reports::{Format, Touch};
+use numa_reports::{ByProcess, Format, Touch};
 use numa_rules::{Explanation, by_other_rules, say_by_other};
-use numa_run::Script;
 use numa_space::Space;
 use std::alloc::Global;
 use std::io::{Read, Write};
@@ -76,59 +77,160 @@ fn explanation_of(
     }
 }
 
-/// Why a page goes where it goes now, as lines.
-///
-/// # Errors
-/// `NoMachine`, `NoNode`, `Unmapped`, or `Stopped`: out of memory.
-pub fn explained(alloc: Global, script: &Script, asked: Touch, page: u64) -> Result<Vec<u8>, Halt> {
-    let space = space_of(script)?;
-    let said = explanation_of(alloc, space, asked, page)?;
-    let text = text_of(alloc, space, &said);
-    drop(said);
-    Ok(text?)
+/// What is asked of a space.
+#[derive(Clone, Copy)]
+struct Asked {
+    touch: Touch,
+    pages: AskedPages,
+    format: Format,
 }
 
-/// The same after played lines, or by which rules a span's pages go.
-fn reasons<T: Write>(
+/// Why a page of a space goes where it goes, or by which rules a span's pages go.
+fn reasons(
     alloc: Global,
-    findings: &Findings<T>,
-    asked: Touch,
-    asked_for: AskedPages,
-    format: Format,
+    space: &Space,
+    other: Option<&Space>,
+    asked: Asked,
 ) -> Result<Vec<u8>, Halt> {
-    let space = space_of(findings.script())?;
-    let first = asked_for.page;
-    if let Some(pages) = asked_for.pages {
+    let Asked {
+        touch,
+        pages: AskedPages { page: first, pages },
+        format,
+    } = asked;
+    if let Some(pages) = pages {
         let end = first.saturating_add(u64::from(pages));
         let interval = PageInterval { first, end };
-        return match stretches_of(alloc, space, asked, interval, format) {
+        return match stretches_of(alloc, space, touch, interval, format) {
             Ok(text) => Ok(text),
             Err(fault) => Err(halt_by(fault, space.machine().nodes())),
         };
     }
-    let said = explanation_of(alloc, space, asked, first)?;
-    let text = reasons_in(alloc, space, findings.other_space(), asked, &said, format);
+    let said = explanation_of(alloc, space, touch, first)?;
+    let text = reasons_in(alloc, space, other, touch, &said, format);
     drop(said);
     text
 }
 
+/// The space of a process of the other script, if there is one.
+fn other_process(other: Option<&HostScript>, process: u32) -> Option<&Space> {
+    let host = other?.host()?;
+    host.process(process)
+}
+
+/// Adds why a page of a process goes where it goes; nothing if the process hasn't mapped it.
+fn add_reasons(
+    alloc: Global,
+    process: &Process,
+    other: Option<&HostScript>,
+    asked: Asked,
+    answers: &mut ByProcess,
+) -> Result<(), Halt> {
+    let other = other_process(other, process.id);
+    match reasons(alloc, &process.space, other, asked) {
+        Ok(text) => {
+            answers.add(process.id, text.as_slice());
+            drop(text);
+            Ok(())
+        }
+        Err(Halt::Unmapped) => Ok(()),
+        Err(halt) => Err(halt),
+    }
+}
+
+/// Adds why the pages of processes go where they go.
+fn add_each(
+    alloc: Global,
+    processes: &[Process],
+    other: Option<&HostScript>,
+    asked: Asked,
+    answers: &mut ByProcess,
+) -> Result<Vec<u8>, Halt> {
+    for process in processes {
+        add_reasons(alloc, process, other, asked, answers)?;
+    }
+    if answers.processes() == 0 {
+        return Err(Halt::Unmapped);
+    }
+    Ok(answers.take()?)
+}
+
+/// Why a page goes where it goes, in each process of a host that has mapped it.
+fn reasons_of_each(
+    alloc: Global,
+    host: &Host,
+    other: Option<&HostScript>,
+    asked: Asked,
+) -> Result<Vec<u8>, Halt> {
+    let nodes = host.machine().nodes();
+    if asked.touch.cpu >= nodes {
+        return Err(Halt::NoNode(nodes));
+    }
+    let mut answers = ByProcess::new(alloc, asked.format);
+    let text = add_each(alloc, host.processes(), other, asked, &mut answers);
+    drop(answers);
+    text
+}
+
+/// The one space of the other script, if there is one.
+fn other_space(other: Option<&HostScript>, process: Option<u32>) -> Option<&Space> {
+    match subject_of(other?, process) {
+        Ok(Subject::One(space)) => Some(space),
+        _ => None,
+    }
+}
+
+/// Why pages go where they go after scripts, of which one was played by the other rules.
+fn reasons_after(
+    alloc: Global,
+    script: &HostScript,
+    other: Option<&HostScript>,
+    process: Option<u32>,
+    asked: Asked,
+) -> Result<Vec<u8>, Halt> {
+    match subject_of(script, process) {
+        Ok(Subject::One(space)) => reasons(alloc, space, other_space(other, process), asked),
+        Ok(Subject::Each(host)) => reasons_of_each(alloc, host, other, asked),
+        Err(halt) => Err(halt),
+    }
+}
+
+/// Why a page goes where it goes now, as lines: of a process, or of each of a host's that has mapped
+/// it, if none is named.
+///
+/// # Errors
+/// `NoMachine`, `NoNode`, `NoHost`, `NoProcess`, `Unmapped`, or `Stopped`: out of memory.
+pub fn explained(
+    alloc: Global,
+    script: &HostScript,
+    process: Option<u32>,
+    touch: Touch,
+    page: u64,
+) -> Result<Vec<u8>, Halt> {
+    let asked = Asked {
+        touch,
+        pages: AskedPages { page, pages: None },
+        format: Format::Text,
+    };
+    reasons_after(alloc, script, None, process, asked)
+}
+
 /// Finishes the messages, and returns the explanation.
-fn reasons_after<T: Write>(
+fn explanation_after<T: Write>(
     alloc: Global,
     findings: &mut Findings<T>,
-    asked: Touch,
-    asked_for: AskedPages,
-    format: Format,
+    process: Option<u32>,
+    asked: Asked,
 ) -> Result<Vec<u8>, Halt> {
     match findings.end() {
-        Ok(()) => reasons(alloc, findings, asked, asked_for, format),
+        Ok(()) => reasons_after(alloc, findings.script(), findings.other(), process, asked),
         Err(why) => Err(Halt::Stopped(why)),
     }
 }
 
 /// Plays the scripts, and writes why a page would go where it goes, if it were touched now, and by
 /// which rules, if by the others it would go elsewhere; of a span, which policy and which rule
-/// serve each stretch. What is wrong with a line is written to `told`, and the line is skipped. The
+/// serve each stretch. Of a host without a process the answer is by process, of those that have
+/// mapped the page. What is wrong with a line is written to `told`, and the line is skipped. The
 /// answer is complete before its first byte is written.
 ///
 /// # Errors
@@ -142,17 +244,27 @@ pub fn explain<R: Read + Drop, W: Write, T: Write + Drop>(
     output: &mut W,
     told: T,
 ) -> Result<Ended, Halt> {
-    let Scripts { texts, rules } = scripts;
+    let Scripts {
+        texts,
+        rules,
+        process,
+    } = scripts;
     let look = Look {
         hints: false,
         other: true,
+        process: None,
         format: Format::Text,
     };
     let mut findings = match play(alloc, texts, Findings::new(alloc, rules, look, told)) {
         Ok(findings) => findings,
         Err(why) => return Err(Halt::Stopped(why)),
     };
-    let text = reasons_after(alloc, &mut findings, asked, asked_for, format);
+    let asked = Asked {
+        touch: asked,
+        pages: asked_for,
+        format,
+    };
+    let text = explanation_after(alloc, &mut findings, process, asked);
     let ended = findings.ended();
     drop(findings);
     write(text, ended, output)

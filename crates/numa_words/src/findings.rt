@@ -3,14 +3,19 @@ ghost use Rattle.std.specs.Prelude.{◌≡◌};
 ghost use Rattle.numa_words.specs.Faults.{ended_by, has_faults};
 
 use crate::found_objects::{put_finding, put_hint, put_unjudged};
-use numa_diagnose::{Detail, Finding, hint_of, judge, reply_by_other, say_line, say_unjudged};
+use numa_diagnose::{
+    Detail, Finding, HostHint, hint_in, hint_of, judge, judge_by_other, say_hint_line, say_line,
+    say_unjudged,
+};
+use numa_host::HostRefusal;
+use numa_host_script::{HostScript, LineFault};
 use numa_lines::{RunFault, TakeLine, Watched};
 use numa_machine::Rules;
 use numa_reports::Format;
-use numa_rules::{Otherwise, other_rules, say_hint};
-use numa_run::{Script, lacks_memory};
+use numa_rules::other_rules;
+use numa_run::Script;
 use numa_script::Reply;
-use numa_space::{CoreRefusal, Refusal, Space};
+use numa_space::{CoreRefusal, Refusal};
 use std::alloc::Global;
 use std::io::Write;
 
@@ -30,6 +35,8 @@ pub struct Look {
     pub hints: bool,
     /// Whether the lines are also played by the rules other than those that apply.
     pub other: bool,
+    /// The process of a host, if messages are wanted of its lines alone.
+    pub process: Option<u32>,
     /// Text or JSON.
     pub format: Format,
 }
@@ -38,6 +45,7 @@ pub struct Look {
 pub(crate) const PLAIN: Look = Look {
     hints: false,
     other: false,
+    process: None,
     format: Format::Text,
 };
 
@@ -46,9 +54,9 @@ pub(crate) const PLAIN: Look = Look {
 #[derive(Drop)]
 pub struct Findings<W> {
     alloc: Global,
-    script: Script,
+    script: HostScript,
     // The same script by the other rules, if requested.
-    other: Option<Script>,
+    other: Option<HostScript>,
     look: Look,
     output: Watched<W>,
     // What is told of a line.
@@ -60,9 +68,9 @@ pub struct Findings<W> {
 }
 
 /// A script by the rules other than these, if requested.
-fn other_script(rules: Rules, is_wanted: bool) -> Option<Script> {
+fn other_script(rules: Rules, is_wanted: bool) -> Option<HostScript> {
     if is_wanted {
-        Some(Script::by(other_rules(rules)))
+        Some(HostScript::by(other_rules(rules)))
     } else {
         None
     }
@@ -77,7 +85,7 @@ impl<W: Write> Findings<W> {
         let _ = output.gather(alloc);
         Findings {
             alloc,
-            script: Script::by(rules),
+            script: HostScript::by(rules),
             other: other_script(rules, look.other),
             look,
             output,
@@ -87,17 +95,13 @@ impl<W: Write> Findings<W> {
         }
     }
 
-    /// The space to which the lines led by the other rules, if they are played by those.
-    pub fn other_space(&self) -> Option<&Space> {
-        let other = self.other.as_ref()?;
-        match other.core() {
-            Some(core) => Some(core.space()),
-            None => None,
-        }
+    /// The script that the lines led to by the other rules, if they are played by those.
+    pub fn other(&self) -> Option<&HostScript> {
+        self.other.as_ref()
     }
 
     /// The script after the lines so far.
-    pub fn script(&self) -> &Script {
+    pub fn script(&self) -> &HostScript {
         &self.script
     }
 
@@ -136,14 +140,16 @@ impl<W: Write> Findings<W> {
     }
 
     /// What a kernel would do differently with the next line, if hints are written.
-    fn hint(&self, line: &[u8]) -> Option<Otherwise> {
+    fn hint(&self, line: &[u8]) -> Result<Option<HostHint>, RunFault> {
         if !self.look.hints {
-            return None;
+            return Ok(None);
         }
-        match self.script.core() {
-            Some(core) => hint_of(core.space(), line),
-            None => None,
-        }
+        hint_of_next(&self.script, line)
+    }
+
+    /// Whether messages are wanted of lines of this process, or of none.
+    fn is_wanted(&self, process: Option<u32>) -> bool {
+        self.look.process.is_none() || self.look.process == process
     }
 
     /// Writes what a kernel would do differently with a line, if anything.
@@ -151,16 +157,19 @@ impl<W: Write> Findings<W> {
         &mut self,
         name: &str,
         place: u64,
-        hint: Option<Otherwise>,
+        hint: Option<HostHint>,
     ) -> Result<(), RunFault> {
-        let Some(otherwise) = hint else {
+        let Some(hint) = hint else {
             return Ok(());
         };
+        if !self.is_wanted(hint.process) {
+            return Ok(());
+        }
         self.text.clear();
         let text = &mut self.text;
         let said = match self.look.format {
-            Format::Json => put_hint(self.alloc, text, name, place, &otherwise),
-            _ => say_hint(text, name, place, &otherwise),
+            Format::Json => put_hint(self.alloc, text, name, place, &hint),
+            _ => say_hint_line(text, name, place, &hint),
         };
         if said.is_err() {
             return Err(RunFault::Memory);
@@ -175,8 +184,11 @@ impl<W: Write> Findings<W> {
         name: &str,
         place: u64,
         finding: &Finding,
-        hint: Option<Otherwise>,
+        hint: Option<HostHint>,
     ) -> Result<(), RunFault> {
+        if !self.is_wanted(finding.process) {
+            return Ok(());
+        }
         match self.tell(name, place, finding) {
             Ok(()) if !is_spent(finding) => self.tell_hint(name, place, hint),
             told => told,
@@ -188,8 +200,8 @@ impl<W: Write> Findings<W> {
         let Some(other) = &mut self.other else {
             return Ok(());
         };
-        match reply_by_other(self.alloc, other, line) {
-            Some(reply) if lacks_memory(reply) => Err(RunFault::Memory),
+        match judge_by_other(self.alloc, other, line) {
+            Some(fault) if fault.lacks_memory() => Err(RunFault::Memory),
             _ => Ok(()),
         }
     }
@@ -217,7 +229,38 @@ impl<W: Write> Findings<W> {
 
 /// Whether a line is refused only for the number of commands, as by a kernel's rules too.
 fn is_spent(finding: &Finding) -> bool {
-    finding.fault == Reply::Refused(CoreRefusal::Command(Refusal::CommandsSpent))
+    match finding.fault {
+        LineFault::Reply(reply) => {
+            reply == Reply::Refused(CoreRefusal::Command(Refusal::CommandsSpent))
+        }
+        LineFault::Refused(refusal) => refusal == HostRefusal::CommandsSpent,
+    }
+}
+
+/// The hint of a script of one process.
+fn plain_hint(script: &Script, line: &[u8]) -> Option<HostHint> {
+    let core = script.core()?;
+    match hint_of(core.space(), line) {
+        Some(otherwise) => Some(HostHint {
+            process: None,
+            otherwise,
+        }),
+        None => None,
+    }
+}
+
+/// What a kernel would do differently with the next line of a script.
+fn hint_of_next(script: &HostScript, line: &[u8]) -> Result<Option<HostHint>, RunFault> {
+    if let Some(host) = script.host() {
+        return match hint_in(host, line) {
+            Ok(hint) => Ok(hint),
+            Err(_) => Err(RunFault::Memory),
+        };
+    }
+    match script.script() {
+        Some(script) => Ok(plain_hint(script, line)),
+        None => Ok(None),
+    }
 }
 
 impl<W: Write> TakeLine<()> for Findings<W> {
@@ -231,10 +274,13 @@ impl<W: Write> TakeLine<()> for Findings<W> {
         if let Err(why) = self.follow(line) {
             return Err(why);
         }
-        let hint = self.hint(line);
+        let hint = match self.hint(line) {
+            Ok(hint) => hint,
+            Err(why) => return Err(why),
+        };
         match judge(self.alloc, &mut self.script, line) {
             None => self.tell_hint(name, place, hint),
-            Some(finding) if lacks_memory(finding.fault) => Err(RunFault::Memory),
+            Some(finding) if finding.fault.lacks_memory() => Err(RunFault::Memory),
             Some(
                 Finding {
                     detail: Detail::NoMachine,

@@ -1,9 +1,9 @@
 //! What is wrong with lines, as lines of JSON.
 ghost use Rattle.std.specs.Prelude.{◌≤◌, length};
 
-use numa_diagnose::{Detail, Finding, say_finding};
+use numa_diagnose::{Finding, HostHint, say_finding};
 use numa_reports::Object;
-use numa_rules::{Otherwise, say_otherwise};
+use numa_rules::say_otherwise;
 use std::alloc::{AllocError, Global};
 
 /// The number of bytes before the first `: `, or all.
@@ -25,6 +25,13 @@ fn object_of(alloc: Global, kind: &str, name: &str, place: u64) -> Object {
     object.put_text("file", name);
     object.put_number("line", place);
     object
+}
+
+/// Adds the process of a host, if there is one.
+fn put_process(object: &mut Object, process: Option<u32>) {
+    if let Some(process) = process {
+        object.put_number("process", u64::from(process));
+    }
 }
 
 /// Adds an answer, and its cause, which follows behind `: `.
@@ -50,9 +57,10 @@ pub(crate) fn put_finding(
         return Err(fault);
     }
     let mut object = object_of(alloc, "fault", name, place);
-    if let Detail::Malformed(malformed) = finding.detail {
-        object.put_number("column", malformed.column as u64);
+    if let Some(column) = finding.detail.column() {
+        object.put_number("column", column as u64);
     }
+    put_process(&mut object, finding.process);
     put_parts(&mut object, said.as_slice());
     object.say_line(text)
 }
@@ -66,13 +74,14 @@ pub(crate) fn put_hint(
     text: &mut Vec<u8>,
     name: &str,
     place: u64,
-    otherwise: &Otherwise,
+    hint: &HostHint,
 ) -> Result<(), AllocError> {
     let mut said = Vec::new(alloc);
-    if let Err(fault) = say_otherwise(&mut said, otherwise) {
+    if let Err(fault) = say_otherwise(&mut said, &hint.otherwise) {
         return Err(fault);
     }
     let mut object = object_of(alloc, "hint", name, place);
+    put_process(&mut object, hint.process);
     object.put_bytes("cause", said.as_slice());
     object.say_line(text)
 }

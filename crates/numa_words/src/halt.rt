@@ -26,6 +26,12 @@ pub enum Halt {
     Unmapped,
     /// A line of the trace, from 1, can't be replayed.
     BadAccess(u64, ReplayError),
+    /// A process is asked for, and the scripts are of one process.
+    NoHost,
+    /// The host has no process of this number.
+    NoProcess(u32),
+    /// The answer is about one process, and none of the host's is named.
+    ManyProcesses,
 }
 
 impl From<RunFault> for Halt {

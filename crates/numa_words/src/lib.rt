@@ -1,6 +1,9 @@
 //! The work behind the program's subcommands: playing scripts to their end, and answering questions
 //! about the state to which they lead.
 //!
+//! Scripts may be a host's (`numa_host_script`): then an answer is about one process, or about each
+//! and all together.
+//!
 //! Malformed and refused lines are skipped, and what is wrong with each is reported. [`check`] does
 //! only that; [`predict`], [`diff`], [`explain`] and [`replay`] answer by the accepted lines, and
 //! return in [`Ended`] whether there were others. [`tells_fault`] recognizes the answers of such
@@ -8,6 +11,8 @@
 #![tactic(auto)]
 
 mod asking;
+mod differing;
+mod each;
 mod explaining;
 mod faults;
 mod findings;
@@ -17,7 +22,8 @@ mod playing;
 mod question;
 mod replaying;
 
-pub use asking::{diff, predict, predicted};
+pub use asking::{predict, predicted};
+pub use differing::diff;
 pub use explaining::{AskedPages, explain, explained};
 pub use faults::tells_fault;
 pub use findings::{Ended, Findings, Look};

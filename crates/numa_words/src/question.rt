@@ -3,23 +3,58 @@ ghost use Rattle.std.specs.Prelude.{◌≡◌, IfOk};
 
 use crate::findings::{Ended, Findings};
 use crate::halt::Halt;
+use numa_host::Host;
+use numa_host_script::HostScript;
 use numa_lines::RunFault;
-use numa_run::Script;
 use numa_space::Space;
 use std::io::Write;
 
-/// The space that a script has led to.
-pub(crate) fn space_of(script: &Script) -> Result<&Space, Halt> {
+/// What an answer is about.
+#[derive(Clone, Copy)]
+pub(crate) enum Subject<'a> {
+    /// The space of the script, or of the chosen process of a host.
+    One(&'a Space),
+    /// All processes of a host.
+    Each(&'a Host),
+}
+
+/// What an answer is about after a script, if this process is asked for.
+pub(crate) fn subject_of(script: &HostScript, process: Option<u32>) -> Result<Subject<'_>, Halt> {
+    if let Some(host) = script.host() {
+        let Some(process) = process else {
+            return Ok(Subject::Each(host));
+        };
+        return match host.process(process) {
+            Some(space) => Ok(Subject::One(space)),
+            None => Err(Halt::NoProcess(process)),
+        };
+    }
+    let Some(script) = script.script() else {
+        return Err(Halt::NoMachine);
+    };
     match script.core() {
-        Some(core) => Ok(core.space()),
         None => Err(Halt::NoMachine),
+        Some(_) if process.is_some() => Err(Halt::NoHost),
+        Some(core) => Ok(Subject::One(core.space())),
     }
 }
 
-/// Finishes the messages, and returns the space to which the scripts led.
-pub(crate) fn space_after<T: Write>(findings: &mut Findings<T>) -> Result<&Space, Halt> {
+/// The one space that an answer is about after a script.
+pub(crate) fn space_of(script: &HostScript, process: Option<u32>) -> Result<&Space, Halt> {
+    match subject_of(script, process) {
+        Ok(Subject::One(space)) => Ok(space),
+        Ok(Subject::Each(_)) => Err(Halt::ManyProcesses),
+        Err(halt) => Err(halt),
+    }
+}
+
+/// Finishes the messages, and returns what an answer is about.
+pub(crate) fn subject_after<T: Write>(
+    findings: &mut Findings<T>,
+    process: Option<u32>,
+) -> Result<Subject<'_>, Halt> {
     match findings.end() {
-        Ok(()) => space_of(findings.script()),
+        Ok(()) => subject_of(findings.script(), process),
         Err(why) => Err(Halt::Stopped(why)),
     }
 }

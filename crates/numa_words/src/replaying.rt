@@ -2,7 +2,7 @@
 use crate::findings::{Ended, Findings, PLAIN};
 use crate::halt::{Halt, halt_of};
 use crate::playing::{Scripts, play};
-use crate::question::{space_after, write};
+use crate::question::{space_of, write};
 use numa_answers::{Page, view_text};
 use numa_compile::compile;
 use numa_lines::RunFault;
@@ -95,15 +95,27 @@ fn replayed_by<S: Read + Drop>(
     }
 }
 
+/// Finishes the messages, and returns the space in which a trace is replayed.
+fn space_after<T: Write>(
+    findings: &mut Findings<T>,
+    process: Option<u32>,
+) -> Result<&Space, Halt> {
+    match findings.end() {
+        Ok(()) => space_of(findings.script(), process),
+        Err(why) => Err(Halt::Stopped(why)),
+    }
+}
+
 /// Finishes the messages, replays a trace by the plan of all accepted commands, and returns the
 /// report as a text.
 fn replayed<S: Read + Drop, T: Write>(
     alloc: Global,
     findings: &mut Findings<T>,
+    process: Option<u32>,
     trace: Vec<(String, S)>,
     format: Format,
 ) -> Result<Vec<u8>, Halt> {
-    let space = match space_after(findings) {
+    let space = match space_after(findings, process) {
         Ok(space) => space,
         Err(halt) => {
             drop(trace);
@@ -120,7 +132,7 @@ fn replayed<S: Read + Drop, T: Write>(
 }
 
 /// Plays the scripts, replays a trace on a machine where no page is placed, by the plan of all
-/// accepted commands, and writes the report. What is wrong with a line of the scripts is written to
+/// accepted commands, and writes the report. Of a host a process has to be named. What is wrong with a line of the scripts is written to
 /// `told`, and the line is skipped. The answer is complete before its first byte is written.
 ///
 /// # Errors
@@ -134,7 +146,11 @@ pub fn replay<R: Read + Drop, S: Read + Drop, W: Write, T: Write + Drop>(
     output: &mut W,
     told: T,
 ) -> Result<Ended, Halt> {
-    let Scripts { texts, rules } = scripts;
+    let Scripts {
+        texts,
+        rules,
+        process,
+    } = scripts;
     let mut findings = match play(alloc, texts, Findings::new(alloc, rules, PLAIN, told)) {
         Ok(findings) => findings,
         Err(why) => {
@@ -142,7 +158,7 @@ pub fn replay<R: Read + Drop, S: Read + Drop, W: Write, T: Write + Drop>(
             return Err(Halt::Stopped(why));
         }
     };
-    let text = replayed(alloc, &mut findings, trace, format);
+    let text = replayed(alloc, &mut findings, process, trace, format);
     let ended = findings.ended();
     drop(findings);
     write(text, ended, output)

@@ -17,6 +17,13 @@ const NO_MACHINE: &str = "error: no machine is ready after the scripts";
 /// The message if the page in question isn't mapped.
 const NO_PAGE: &str = "error: the page of '<ADDRESS>' isn't mapped after the scripts";
 
+/// The message if a process is asked for, and the scripts are of one process.
+const NO_HOST: &str = "error: '--process <P>': no line of the scripts is 'host'";
+
+/// The message if an answer is about one process, and none of a host's is named.
+const MANY_PROCESSES: &str = "error: a host may have many processes, and this answer is about one; \
+name it by '--process <P>'";
+
 /// Standard error, as a writer of UTF-8.
 #[derive(Drop)]
 pub struct StandardError<'a, R> {
@@ -88,6 +95,12 @@ fn lack_node(rt: &impl Eprint, words: &str, node: u32, behind: &str, nodes: u32)
     ExitCode::from(2)
 }
 
+/// Ends because the host has no process of this number.
+fn lack_process(rt: &impl Eprint, process: u32) -> ExitCode {
+    let _ = eprintln!(rt; "error: '--process {process}': there is no such process after the scripts");
+    ExitCode::from(2)
+}
+
 /// Ends because a line of this trace can't be replayed.
 fn end_trace(rt: &impl Eprint, trace: &str, place: u64, why: &str) -> ExitCode {
     let _ = eprintln!(rt; "{trace}:{place}: {why}");
@@ -135,5 +148,8 @@ pub fn ended(
         }
         Err(Halt::Unmapped) => end_with(rt, 2, NO_PAGE),
         Err(Halt::BadAccess(place, fault)) => end_trace(rt, trace, place, fault.text()),
+        Err(Halt::NoHost) => end_with(rt, 2, NO_HOST),
+        Err(Halt::NoProcess(process)) => lack_process(rt, process),
+        Err(Halt::ManyProcesses) => end_with(rt, 2, MANY_PROCESSES),
     }
 }

@@ -80,8 +80,7 @@ where
     S: Read + Drop,
 {
     if has_prompt {
-        let Scripts { texts, rules } = scripts;
-        return Ok(terminal::answer(rt, texts, rules, false));
+        return Ok(terminal::answer(rt, scripts, false));
     }
     match work {
         ScriptJob::Run { echo, format } => Ok(run::answer(rt, scripts, *echo, *format)),
@@ -108,10 +107,7 @@ where
             format,
             lenient,
         } => replay::answer(rt, scripts, trace, *format, *lenient, tells),
-        ScriptJob::Shell => {
-            let Scripts { texts, rules } = scripts;
-            Ok(terminal::answer(rt, texts, rules, true))
-        }
+        ScriptJob::Shell => Ok(terminal::answer(rt, scripts, true)),
     }
 }
 
@@ -144,8 +140,13 @@ where
     R::Reader: IsTerminal,
     requires { CanBeDone job.now }
 {
-    let (files, rules, work) = match job {
-        Job::Scripts { files, rules, work } => (files, *rules, work),
+    let (files, rules, process, work) = match job {
+        Job::Scripts {
+            files,
+            rules,
+            process,
+            work,
+        } => (files, *rules, *process, work),
         Job::Storm(workers) => return Ok(storm::show(rt, *workers)),
     };
     let has_prompt = terminals.output && is_typed(rt, files, work);
@@ -159,7 +160,11 @@ where
     };
     match texts {
         Ok(texts) => {
-            let scripts = Scripts { texts, rules };
+            let scripts = Scripts {
+                texts,
+                rules,
+                process,
+            };
             work_done(rt, scripts, work, has_prompt, terminals.error)
         }
         Err(fault) => Err(fault),

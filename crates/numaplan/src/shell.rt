@@ -1,8 +1,9 @@
 //! Questions of a shell, beside those of scripts.
+use numa_host_script::HostScript;
 use numa_reports::Touch;
-use numa_run::Script;
-use numa_script::number::number;
+use numa_script::number::{number, small};
 use numa_script::parts::words;
+use numa_mask::parts::first_place;
 use numa_words::{Halt, explained, predicted};
 use std::alloc::Global;
 
@@ -10,6 +11,8 @@ use std::alloc::Global;
 pub const SHELL_LINES: &str = "\
 predict TASK NODE              where all mapped pages would go
 explain TASK ADDR NODE         why a page goes where it goes
+in P predict TASK NODE         the same of one process of a host
+in P explain TASK ADDR NODE    the same of one process of a host
 help, quit                     this help; the end
 ";
 
@@ -45,8 +48,38 @@ fn number_of(word: Option<&[u8]>) -> Option<u64> {
     }
 }
 
+/// A question, and the process of a host that is asked, if one is named.
+#[derive(Clone, Copy)]
+pub struct AskedProcess {
+    pub process: Option<u32>,
+    pub question: ShellQuestion,
+}
+
+/// The line behind `in P `, and P; `None` if the line begins otherwise.
+fn handed(line: &[u8]) -> Option<(u32, &[u8])> {
+    let rest = line.strip_prefix(b"in ")?;
+    let end = first_place(rest, b' ')?;
+    match small(&rest[..end]) {
+        Some(process) => Some((process, &rest[end + 1..])),
+        None => None,
+    }
+}
+
+/// The question of a line, which may stand behind `in P`; `None` if it begins with another word.
+/// Else this process is asked, if one is given.
+pub fn asked_of(line: &[u8], process: Option<u32>) -> Option<AskedProcess> {
+    let (process, line) = match handed(line) {
+        Some((process, line)) => (Some(process), line),
+        None => (process, line),
+    };
+    match question_of(line) {
+        Some(question) => Some(AskedProcess { process, question }),
+        None => None,
+    }
+}
+
 /// The question of a line; `None` if it begins with another word.
-pub fn question_of(line: &[u8]) -> Option<ShellQuestion> {
+fn question_of(line: &[u8]) -> Option<ShellQuestion> {
     let mut words = words(line);
     let Some(first) = words.next() else {
         return None;
@@ -76,12 +109,13 @@ pub fn question_of(line: &[u8]) -> Option<ShellQuestion> {
 /// The message why there is none; `None` if memory ran out.
 pub fn answer_to(
     alloc: Global,
-    script: &Script,
-    question: ShellQuestion,
+    script: &HostScript,
+    asked: AskedProcess,
 ) -> Result<Vec<u8>, Option<&'static str>> {
+    let AskedProcess { process, question } = asked;
     let answer = match question {
-        ShellQuestion::Predict(touch) => predicted(alloc, script, touch),
-        ShellQuestion::Explain(touch, page) => explained(alloc, script, touch, page),
+        ShellQuestion::Predict(touch) => predicted(alloc, script, process, touch),
+        ShellQuestion::Explain(touch, page) => explained(alloc, script, process, touch, page),
         ShellQuestion::Malformed(message) => return Err(Some(message)),
     };
     match answer {
@@ -89,6 +123,8 @@ pub fn answer_to(
         Err(Halt::NoMachine) => Err(Some("no machine is ready; limits and machine come first")),
         Err(Halt::NoNode(_)) => Err(Some("the machine lacks the node")),
         Err(Halt::Unmapped) => Err(Some("the page of ADDR isn't mapped")),
+        Err(Halt::NoHost) => Err(Some("no process can be named before a line host")),
+        Err(Halt::NoProcess(_)) => Err(Some("the host has no such process")),
         Err(_) => Err(None),
     }
 }

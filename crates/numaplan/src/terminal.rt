@@ -1,11 +1,11 @@
 //! Scripts that are typed at a terminal.
 use crate::answering::Answering;
 use crate::endings::{StandardError, fail};
-use crate::shell::{SHELL_LINES, answer_to, question_of};
+use crate::shell::{SHELL_LINES, answer_to, asked_of};
 use numa_diagnose::{judge, say_line};
+use numa_host_script::HostScript;
 use numa_lines::{Lines, Respond, RunFault, TakeLine, read_all};
-use numa_machine::Rules;
-use numa_run::Script;
+use numa_words::Scripts;
 use std::alloc::Global;
 use std::io;
 use std::io::{Read, Write};
@@ -51,11 +51,6 @@ or 0x and hexadecimal; START, LENGTH and ADDR count bytes, OFFSET and PAGES page
 is the node of a CPU. Words stand between single spaces. A line that begins with # says nothing.
 ";
 
-/// What a question of a shell about a host is told.
-const OF_A_HOST: &str = "\
-predict and explain ask scripts of one process; ask a host by in P place TASK ADDR CPU
-";
-
 /// A typed script.
 #[derive(Drop)]
 struct Typed<W, T> {
@@ -63,11 +58,11 @@ struct Typed<W, T> {
     // Whether questions of a shell are answered, and whether the shell was ended.
     is_shell: bool,
     has_quit: bool,
-    // Whether the script is a host's, whose lines aren't judged.
-    is_host: bool,
+    // The process of a host that questions of a shell ask, if they name none.
+    process: Option<u32>,
     answering: Answering,
     // The same script, for finding what is wrong with a line.
-    judged: Script,
+    judged: HostScript,
     // The texts for standard output and standard error.
     text: Vec<u8>,
     output: W,
@@ -85,7 +80,7 @@ fn put<W: Write>(output: &mut W, bytes: &[u8]) -> Result<(), RunFault> {
 /// Appends what is wrong with a line, if anything.
 fn find(
     alloc: Global,
-    script: &mut Script,
+    script: &mut HostScript,
     name: &str,
     place: u64,
     line: &[u8],
@@ -101,14 +96,8 @@ fn find(
 }
 
 impl<W: Write, T: Write> Typed<W, T> {
-    /// Writes what is wrong with a line whose answer is in `text`, unless the script is a host's.
+    /// Writes what is wrong with a line.
     fn tell(&mut self, name: &str, place: u64, line: &[u8]) -> Result<(), RunFault> {
-        if self.text.as_slice() == b"host ok\n".as_slice() {
-            self.is_host = true;
-        }
-        if self.is_host {
-            return Ok(());
-        }
         self.text.clear();
         let script = &mut self.judged;
         find(self.alloc, script, name, place, line, &mut self.text)?;
@@ -136,14 +125,10 @@ impl<W: Write, T: Write> Typed<W, T> {
 
     /// Answers a question of a shell, and returns whether the line is one.
     fn ask(&mut self, line: &[u8]) -> Result<bool, RunFault> {
-        let Some(question) = question_of(line) else {
+        let Some(asked) = asked_of(line, self.process) else {
             return Ok(false);
         };
-        if self.is_host {
-            put(&mut self.told, OF_A_HOST.as_bytes())?;
-            return Ok(true);
-        }
-        match answer_to(self.alloc, &self.judged, question) {
+        match answer_to(self.alloc, &self.judged, asked) {
             Ok(text) => put(&mut self.output, text.as_slice())?,
             Err(Some(message)) => {
                 put(&mut self.told, message.as_bytes())?;
@@ -202,8 +187,7 @@ impl<W: Write, T: Write> TakeLine<()> for Typed<W, T> {
 /// Answers a typed script, with a prompt before each line.
 fn answer_all<R, S>(
     rt: &R,
-    texts: Vec<(String, S)>,
-    rules: Rules,
+    scripts: Scripts<S>,
     is_shell: bool,
 ) -> Result<(), RunFault>
 where
@@ -212,14 +196,19 @@ where
 {
     let mut output = io::writer(rt);
     put(&mut output, PROMPT.as_bytes())?;
+    let Scripts {
+        texts,
+        rules,
+        process,
+    } = scripts;
     let alloc = rt.alloc();
     let typed = Typed {
         alloc,
         is_shell,
         has_quit: false,
-        is_host: false,
+        process,
         answering: Answering::new(alloc, rules),
-        judged: Script::by(rules),
+        judged: HostScript::by(rules),
         text: Vec::new(alloc),
         output,
         told: StandardError { rt },
@@ -237,12 +226,12 @@ where
 /// Answers a script that is typed at a terminal, with a prompt before each line, and reports what
 /// is wrong with a line on standard error, as `check` does. A line `help` shows help. In a shell
 /// questions about pages are answered too, lines of files aren't, and a line `quit` ends it.
-pub fn answer<R, S>(rt: &R, texts: Vec<(String, S)>, rules: Rules, is_shell: bool) -> ExitCode
+pub fn answer<R, S>(rt: &R, scripts: Scripts<S>, is_shell: bool) -> ExitCode
 where
     R: Print + Eprint + AllocGlobal,
     S: Read + Drop,
 {
-    match answer_all(rt, texts, rules, is_shell) {
+    match answer_all(rt, scripts, is_shell) {
         Ok(()) => {
             let _ = println!(rt; "");
             ExitCode::SUCCESS

@@ -12,6 +12,7 @@
 --     60 to 63   a list of nodes is faulty
 --     70 to 76   a policy word is faulty, says no policy, or no node is allowed
 --     80, 81     a script makes no machine; a line of a trace can't be replayed
+--     82         a script is a host's, and the answer is about one process
 use Rattle.std.specs.Prelude.{ℕ, Option, Some, None, Result, Ok, Err}
 use Rattle.numa_mask.specs.declared.list.ListFault.{ListFault}
 use Rattle.numa_mask.specs.declared.list.ListFault.TheVariants as list

@@ -64,7 +64,8 @@ fault_names =
     ∷ named 72 (codes "NodesForbidden") ∷ named 73 (codes "FlagsForbidden")
     ∷ named 74 (codes "NodesMissing") ∷ named 75 (codes "NoPolicy")
     ∷ named 76 (codes "NoNodeAllowed")
-    ∷ named 80 (codes "NoMachine") ∷ named 81 (codes "BadAccess") ∷ []
+    ∷ named 80 (codes "NoMachine") ∷ named 81 (codes "BadAccess")
+    ∷ named 82 (codes "ManyProcesses") ∷ []
 
 -- the name of a number, without a byte where it has none
 abbrev pub name_in : List Named → ℕ → List ℕ

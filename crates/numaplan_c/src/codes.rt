@@ -69,6 +69,8 @@ pub(crate) enum Code {
     NoMachine = 80,
     /// A line of the trace can't be replayed.
     BadAccess = 81,
+    /// The script is a host's, and the answer is about one process.
+    ManyProcesses = 82,
 }
 
 /// The code of a command's refusal: most are in order from 10; a later one has a later number.

@@ -79,6 +79,7 @@ static FAULT_NAMES: [(u32, &[u8]); 22] = [
     (76, b"NoNodeAllowed"),
     (80, b"NoMachine"),
     (81, b"BadAccess"),
+    (82, b"ManyProcesses"),
 ];
 
 /// The name of a code in a table, empty if it has none.

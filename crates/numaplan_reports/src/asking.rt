@@ -16,10 +16,7 @@ use std::alloc::{AllocError, Global};
 pub fn check(alloc: Global, script: ScriptText<'_>, format: Format) -> Result<Report, AllocError> {
     let scripts = scripts_of(alloc, script)?;
     let mut answer = Vec::new(alloc);
-    let ended = match numa_words::check(alloc, scripts, format, &mut answer) {
-        Ok(ended) => Ok(ended),
-        Err(why) => Err(Halt::Stopped(why)),
-    };
+    let ended = numa_words::check(alloc, scripts, format, &mut answer);
     report_of(answer, Vec::new(alloc), ended)
 }
 

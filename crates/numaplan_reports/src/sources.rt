@@ -67,6 +67,7 @@ pub(crate) fn scripts_of<'a>(
         Ok(texts) => Ok(Scripts {
             texts,
             rules: script.rules,
+            process: None,
         }),
         Err(fault) => Err(fault),
     }
@@ -81,6 +82,7 @@ pub(crate) fn first_of<'a>(
         Ok(texts) => Ok(Scripts {
             texts,
             rules: script.rules,
+            process: None,
         }),
         Err(fault) => Err(fault),
     }

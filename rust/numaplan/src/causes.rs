@@ -126,6 +126,8 @@ causes! {
         "no line of the script makes a machine; begin with one, as machine 2 0-1 8 flat";
     81 BAD_ACCESS "BadAccess"
         "a line of the trace can't be replayed; the last message tells which, and why";
+    82 MANY_PROCESSES "ManyProcesses"
+        "the script is a host's, and the answer is about one process";
 }
 
 impl Refused {

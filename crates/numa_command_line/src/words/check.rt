@@ -5,6 +5,7 @@ ghost use Rattle.numa_command_line.specs.Usage.{Names};
 
 use crate::usage::{FILES, SubcommandHelp};
 use crate::words::format::PLAIN;
+use crate::words::process::PROCESS;
 
 /// The help of the subcommand.
 static WORD: SubcommandHelp = SubcommandHelp {
@@ -13,11 +14,12 @@ static WORD: SubcommandHelp = SubcommandHelp {
     about: "Tells what is wrong with scripts, and writes no answers. For each line that `run` \
 answers by a fault or a refusal there is one line on standard output: the file, the line, for bad \
 words the column in bytes, the answer, and its cause with what to do. Lines that need a machine \
-while none is ready are counted at the end. The status is 3 where anything was told, and else 0.",
+while none is ready are counted at the end. Of a host's script the process of a line is told too, \
+and with --process only what is wrong with the lines of process P. The status is 3 where anything was told, and else 0.",
     more: "Example, from the top of the repository:\n  ./numaplan check \
 examples/why-refused.numaplan",
     reads_lines: true,
-    arguments: &[PLAIN, FILES],
+    arguments: &[PLAIN, PROCESS, FILES],
 };
 
 /// The subcommand.

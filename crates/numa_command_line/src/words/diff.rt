@@ -14,6 +14,7 @@ use crate::words::asked;
 use crate::words::asked::{NODE, TASK};
 use crate::words::format::{LARGEST, format_in};
 use crate::words::lenient::LENIENT;
+use crate::words::process::PROCESS;
 use clap::ArgMatches;
 use std::alloc::Global;
 
@@ -42,13 +43,14 @@ static WORD: SubcommandHelp = SubcommandHelp {
     about: "Tells which pages would go to another node if script lines were added to the scripts, \
 and a task touched each of them on a CPU of one node: for each span of pages of which some do, \
 how many from which node to which, and in all. Pages that are mapped only before or only after \
-are left out. Lines that are faulty or refused are told on standard error as by `check`, and \
+are left out. Of a host it tells that by process and in all, or with --process of process P alone. \
+Lines that are faulty or refused are told on standard error as by `check`, and \
 passed over. The status is 3 where some are, unless --lenient is given, and where no machine is \
 ready after the scripts.",
     more: "Example, from the top of the repository:\n  ./numaplan diff --task 1 --node 0 --then \
 'mems 0' examples/interleaved-range.numaplan",
     reads_lines: true,
-    arguments: &[TASK, NODE, THEN, FORMAT, LARGEST, LENIENT, FILES],
+    arguments: &[TASK, NODE, THEN, PROCESS, FORMAT, LARGEST, LENIENT, FILES],
 };
 
 /// The subcommand.

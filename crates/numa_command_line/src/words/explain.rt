@@ -15,6 +15,7 @@ use crate::words::asked;
 use crate::words::asked::{NODE, TASK};
 use crate::words::format::{PLAIN, format_in};
 use crate::words::lenient::LENIENT;
+use crate::words::process::PROCESS;
 use clap::ArgMatches;
 use numa_script::number::number;
 use std::alloc::Global;
@@ -52,11 +53,12 @@ policy counts and why the other doesn't, the sets of nodes, the rule that chose 
 with its arithmetic, and the order of the others with their distances. Lines that are faulty or \
 refused are told on standard error as by `check`, and passed over. The status is 3 where some \
 are, unless --lenient is given, and where no machine is ready after the scripts. With --pages it \
-tells for each stretch of so many pages from there on which policy counts, and its rule.",
+tells for each stretch of so many pages from there on which policy counts, and its rule. Of a host \
+it tells that for each process that has mapped the page, or with --process for process P alone.",
     more: "Example, from the top of the repository:\n  ./numaplan explain --task 1 --node 3 \
 0x32000 examples/interleaved-range.numaplan",
     reads_lines: true,
-    arguments: &[TASK, NODE, PAGES, PLAIN, LENIENT, ADDRESS, FILES],
+    arguments: &[TASK, NODE, PAGES, PROCESS, PLAIN, LENIENT, ADDRESS, FILES],
 };
 
 /// The subcommand.

@@ -15,6 +15,7 @@ use crate::words::asked::{NODE, TASK};
 use crate::words::format::{LARGEST, format_in};
 use crate::words::free::FREE;
 use crate::words::lenient::LENIENT;
+use crate::words::process::PROCESS;
 use crate::words::{asked, free};
 use clap::ArgMatches;
 use std::alloc::Global;
@@ -36,13 +37,16 @@ static WORD: SubcommandHelp = SubcommandHelp {
 them now on a CPU of one node: the first node of each page's list, range by range and in all. \
 With --free the named nodes have so many free pages, and the others never run out: each page, the \
 lowest first, goes to the first node of its list that has one left; the answer tells how many \
-pages find none (exhausted=) and what is left on the named nodes. Lines that are faulty or \
+pages find none (exhausted=) and what is left on the named nodes. Of a host it tells that by \
+process, in the order in which they were made, and in all: the free pages are those of the whole \
+host, and each process takes of what those before it have left. With --process it tells of process \
+P alone. Lines that are faulty or \
 refused are told on standard error as by `check`, and passed over. The status is 3 where some \
 are, unless --lenient is given, and where no machine is ready after the scripts.",
     more: "Example, from the top of the repository:\n  ./numaplan predict --task 1 --node 0 \
 examples/interleaved-range.numaplan",
     reads_lines: true,
-    arguments: &[TASK, NODE, FORMAT, LARGEST, FREE, LENIENT, FILES],
+    arguments: &[TASK, NODE, PROCESS, FORMAT, LARGEST, FREE, LENIENT, FILES],
 };
 
 /// The subcommand.

@@ -13,6 +13,7 @@ use crate::jobs::{JobFault, ScriptJob};
 use crate::usage::{Argument, FILES, SubcommandHelp, Takes};
 use crate::words::format::{LARGEST, format_in};
 use crate::words::lenient::LENIENT;
+use crate::words::process::PROCESS;
 use clap::ArgMatches;
 use std::alloc::Global;
 
@@ -43,14 +44,15 @@ no page is placed yet: the first touch of a page places it on the first node of 
 a frame left, and later accesses go to where it lies. Tells, by task and in all, how many \
 accesses went to which node (N0=) and over which distance (D10=), how many faults placed a page \
 and how many found no frame, and how many accesses those made. A line of the trace is TASK \
-ADDRESS CPU [COUNT], in decimal or 0x; an empty line or one that begins with # says nothing. \
+ADDRESS CPU [COUNT], in decimal or 0x; an empty line or one that begins with # says nothing. Of a \
+host --process names the process that makes the accesses. \
 Script lines that are faulty or refused are told on standard error as by `check`, and passed \
 over. The status is 3 where some are, unless --lenient is given, where no machine is ready after \
 the scripts, and where a line of the trace can't be replayed.",
     more: "Example, from the top of the repository:\n  ./numaplan replay --trace \
 examples/replayed.trace examples/interleaved-range.numaplan",
     reads_lines: true,
-    arguments: &[TRACE, FORMAT, LARGEST, LENIENT, FILES],
+    arguments: &[TRACE, PROCESS, FORMAT, LARGEST, LENIENT, FILES],
 };
 
 /// The subcommand.

@@ -3,6 +3,7 @@ ghost use Rattle.std.specs.Prelude.{codes, true};
 ghost use Rattle.numa_command_line.specs.Grammar.{IsWord, shell_arguments};
 
 use crate::usage::{FILES, SubcommandHelp};
+use crate::words::process::PROCESS;
 
 /// The help of the subcommand.
 static WORD: SubcommandHelp = SubcommandHelp {
@@ -11,11 +12,12 @@ static WORD: SubcommandHelp = SubcommandHelp {
     about: "Plays the scripts of the files, and then answers the lines of standard input, each \
 behind a prompt. What is wrong with a line is told on standard error as by `check`. Beside the \
 lines of scripts it takes `predict TASK NODE`, `explain TASK ADDR NODE`, `help` and `quit`; so does the \
-end of the input. The status is 0.",
+end of the input. Of a host the first two ask all processes, behind `in P` or with --process P \
+process P alone. The status is 0.",
     more: "Example, from the top of the repository:\n  ./numaplan shell \
 examples/interleaved-range.numaplan",
     reads_lines: true,
-    arguments: &[FILES],
+    arguments: &[PROCESS, FILES],
 };
 
 /// The subcommand.

@@ -12,6 +12,7 @@ ghost use Rattle.numa_reports.specs.Moved.{HasRoomFor};
 use crate::fault::ReportError;
 use crate::moves::{BLOCK, ENTRIES, add_moves, empty_table, has_node};
 use crate::outlook::{Outlook, PageSpan, common_spans};
+use crate::sheet::by_process::MoveSum;
 use crate::sheet::fields::bytes;
 use crate::sheet::moved_parts::SpanTexts;
 use crate::sheet::scale::Scale;
@@ -67,7 +68,7 @@ pub(crate) fn moved(table: &[u64], told: &[u64], nodes: u32) -> u64 {
 
 /// Writes the end of a line: the number of pages that go to another node, and from each node to
 /// each other, where it isn't 0.
-fn put_moves(text: &mut Written, table: &[u64], told: &[u64], nodes: u32) {
+pub(crate) fn put_moves(text: &mut Written, table: &[u64], told: &[u64], nodes: u32) {
     text.put_form(b" moved=$", &[moved(table, told, nodes)]);
     for from in 0..nodes {
         put_from(text, table, told, nodes, from);
@@ -324,21 +325,18 @@ fn pages_of(spans: &[PageSpan]) -> u64 {
     sum
 }
 
-/// The pages that go to another node, if the task touched each of them on a CPU of node `cpu` after
-/// the change instead of before it: a line, or an object, for each span with such pages, with the
-/// number that go from which node to which, and a last one with the total. The time grows with the
-/// pages, and is watched.
+/// As [`difference_text`] of one of several processes: its pages are added to those of all.
 ///
 /// # Errors
-/// `Refused(BadCpu)`: the machine has no node `cpu`. `Refused(Unmapped)`: an outlook has a page
-/// that its plan lacks. `Memory`: there is no memory for the text.
-pub fn difference_text<W: Watch>(
+/// As [`difference_text`].
+pub fn difference_more<W: Watch>(
     alloc: Global,
     before: &Outlook,
     after: &Outlook,
     nodes: u32,
     touch: Touch,
     format: Format,
+    all: &mut MoveSum,
     watch: &mut W,
 ) -> Result<Vec<u8>, ReportError>
     ensures err { (machine : Hardware) (old new : List Command) → nodes ≡ machine.nodes
@@ -365,5 +363,41 @@ pub fn difference_text<W: Watch>(
         )?;
     }
     watch.end();
+    all.add(difference.total.as_slice());
     Ok(difference.end(nodes)?)
+}
+
+/// The pages that go to another node, if the task touched each of them on a CPU of node `cpu` after
+/// the change instead of before it: a line, or an object, for each span with such pages, with the
+/// number that go from which node to which, and a last one with the total. The time grows with the
+/// pages, and is watched.
+///
+/// # Errors
+/// `Refused(BadCpu)`: the machine has no node `cpu`. `Refused(Unmapped)`: an outlook has a page
+/// that its plan lacks. `Memory`: there is no memory for the text.
+pub fn difference_text<W: Watch>(
+    alloc: Global,
+    before: &Outlook,
+    after: &Outlook,
+    nodes: u32,
+    touch: Touch,
+    format: Format,
+    watch: &mut W,
+) -> Result<Vec<u8>, ReportError>
+    ensures err { (machine : Hardware) (old new : List Command) → nodes ≡ machine.nodes
+        → IsOutlook machine old before.now → IsOutlook machine new after.now
+        → IfErr result (MayFail nodes touch.cpu) }
+    ensures bad_cpu { nodes ≤ touch.cpu → result ≡ Err (Refused BadCpu) }
+{
+    let mut nothing = MoveSum::none(alloc);
+    difference_more(
+        alloc,
+        before,
+        after,
+        nodes,
+        touch,
+        format,
+        &mut nothing,
+        watch,
+    )
 }

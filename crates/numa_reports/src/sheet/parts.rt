@@ -24,7 +24,7 @@ use std::alloc::{AllocError, Global};
 
 /// A prediction that is written range by range.
 #[derive(Drop)]
-struct PredictionWriter {
+pub(crate) struct PredictionWriter {
     format: Format,
     // The number of nodes of the machine.
     nodes: usize,
@@ -97,9 +97,19 @@ impl PredictionWriter {
         }
     }
 
+    /// The number of pages of the ranges that were written.
+    pub(crate) fn pages(&self) -> u64 {
+        self.pages
+    }
+
+    /// Takes the whole text out.
+    pub(crate) fn take_text(&mut self) -> Result<Vec<u8>, AllocError> {
+        self.text.take()
+    }
+
     /// Writes the part after the last range: the total pages of each node, and the free pages left
     /// on named nodes.
-    fn put_total(&mut self, counts: &[u64; 256], left: &[NodePages]) {
+    pub(crate) fn put_total(&mut self, counts: &[u64; 256], left: &[NodePages]) {
         let rows = self.end_ranges();
         let counts = shown(counts, self.nodes);
         if let Err(_) = list_nodes(&mut self.listed, counts) {
@@ -146,11 +156,11 @@ impl TakeRange for PredictionWriter {
 /// A request: where the pages of a space go by a plan, if they are touched so and named nodes have
 /// these free pages.
 #[derive(Clone, Copy)]
-struct PredictionRequest<'a> {
-    space: &'a Space,
-    plan: &'a Plan,
-    touch: Touch,
-    free: &'a [FreePages],
+pub(crate) struct PredictionRequest<'a> {
+    pub(crate) space: &'a Space,
+    pub(crate) plan: &'a Plan,
+    pub(crate) touch: Touch,
+    pub(crate) free: &'a [FreePages],
 }
 
 /// The part before the first range.
@@ -179,7 +189,7 @@ fn drawing_of(alloc: Global, space: &Space, format: Format) -> Result<Drawing, A
 }
 
 /// Before the first range.
-fn begin(
+pub(crate) fn begin(
     alloc: Global,
     asked: PredictionRequest<'_>,
     format: Format,
@@ -207,7 +217,7 @@ fn begin(
 }
 
 /// The free pages left on named nodes.
-fn left_on(
+pub(crate) fn left_on(
     alloc: Global,
     named: &[FreePages],
     free: &[u64; 256],
@@ -224,9 +234,9 @@ fn left_on(
 
 /// A writer whose ranges are watched.
 #[derive(Drop)]
-struct WatchedWriter<'a, W> {
-    parts: &'a mut PredictionWriter,
-    watch: &'a mut W,
+pub(crate) struct WatchedWriter<'a, W> {
+    pub(crate) parts: &'a mut PredictionWriter,
+    pub(crate) watch: &'a mut W,
 }
 
 impl<W: Watch> TakeRange for WatchedWriter<'_, W> {
@@ -237,7 +247,7 @@ impl<W: Watch> TakeRange for WatchedWriter<'_, W> {
 }
 
 /// The pages of all ranges.
-fn sum_of(space: &Space) -> u64 {
+pub(crate) fn sum_of(space: &Space) -> u64 {
     let mut sum = 0u64;
     for range in space.range_iter() {
         sum = sum.saturating_add(range.pages);

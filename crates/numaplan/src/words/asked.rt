@@ -24,11 +24,19 @@ where
     R: Clock + Files + Print + Eprint + AllocGlobal,
     S: Read + Drop,
 {
-    let Scripts { texts, rules } = scripts;
+    let Scripts {
+        texts,
+        rules,
+        process,
+    } = scripts;
     match with_progress(rt, texts, tells) {
         Ok(texts) => answer_all(
             rt,
-            Scripts { texts, rules },
+            Scripts {
+                texts,
+                rules,
+                process,
+            },
             asked,
             question,
             lenient,

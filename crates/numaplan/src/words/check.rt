@@ -1,5 +1,5 @@
 //! Reports what is wrong with scripts.
-use crate::endings::{status_of, stop_quietly};
+use crate::endings::ended;
 use numa_command_line::Outlet;
 use numa_reports::Format;
 use numa_words::Scripts;
@@ -15,8 +15,6 @@ where
 {
     let outlet = Outlet::new();
     let output = outlet.writer(io::writer(rt));
-    match numa_words::check(rt.alloc(), scripts, format, output) {
-        Ok(ended) => status_of(ended, false),
-        Err(why) => stop_quietly(rt, why, &outlet),
-    }
+    let answer = numa_words::check(rt.alloc(), scripts, format, output);
+    ended(rt, "", answer, false, &outlet)
 }

@@ -32,7 +32,7 @@ where
     R: Print + AllocGlobal,
     S: Read + Drop,
 {
-    let Scripts { texts, rules } = scripts;
+    let Scripts { texts, rules, .. } = scripts;
     let lack = Lack::new();
     let answering = lack.noted_by(Answering::new(rt.alloc(), rules));
     let output = lack.heeded_by(outlet.writer(io::writer(rt)));
@@ -66,7 +66,7 @@ where
     R: Print + AllocGlobal,
     S: Read + Drop,
 {
-    let Scripts { texts, rules } = scripts;
+    let Scripts { texts, rules, .. } = scripts;
     let answering = Answering::new(rt.alloc(), rules);
     let output = outlet.writer(io::writer(rt));
     let mut comparing = Comparing::new(rt.alloc(), how, answering, output);

@@ -17,7 +17,7 @@ where
     R: Print + AllocGlobal,
     S: Read + Drop,
 {
-    let Scripts { texts, rules } = scripts;
+    let Scripts { texts, rules, .. } = scripts;
     let Ok(sources) = without_names(rt.alloc(), texts) else {
         return Err(RunFault::Memory);
     };
@@ -35,7 +35,7 @@ where
     R: Print + AllocGlobal,
     S: Read + Drop,
 {
-    let Scripts { texts, rules } = scripts;
+    let Scripts { texts, rules, .. } = scripts;
     let answering = Answering::new(rt.alloc(), rules);
     let echo = Echo::new(rt.alloc(), answering, io::writer(rt));
     let Ok(mut lines) = Lines::new(rt.alloc(), echo) else {
@@ -53,7 +53,7 @@ where
     R: Print + AllocGlobal,
     S: Read + Drop,
 {
-    let Scripts { texts, rules } = scripts;
+    let Scripts { texts, rules, .. } = scripts;
     let answering = Answering::new(rt.alloc(), rules);
     let answers = Answers::new(rt.alloc(), answering, io::writer(rt));
     let Ok(mut lines) = Lines::new(rt.alloc(), answers) else {

@@ -3,7 +3,7 @@ use Rattle.std.proofs.lemmas.Result.{err_from_is_err_and}
 use Rattle.numa_reports.specs.Failing.{MayFail}
 use Rattle.numa_reports.specs.declared.outlook.PageSpan.{PageSpan}
 use Rattle.numa_reports.proofs.Refusing.{common-mapped, moves-fail, shown-common}
-use Rattle.numa_reports.proofs.sheet.changes.difference_text.Goals as goal
+use Rattle.numa_reports.proofs.sheet.changes.difference_more.Goals as goal
 
 pub returns-in_err-push_span-clause-err : goal.returns-in_err-push_span-clause-err
 returns-in_err-push_span-clause-err g c machine old new same was is =

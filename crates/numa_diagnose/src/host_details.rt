@@ -1,0 +1,142 @@
+//! Details of an error or a refusal in a host's script.
+use crate::details::{
+    all_nodes, is_decimal_start, last_of, list_detail, refusal_detail,
+};
+use crate::finding::Detail;
+use crate::host_words::why_malformed_in;
+use numa_host::{Host, HostCommand, HostRefusal};
+use numa_host_script::{HostLine, LineFault, parse_host};
+use numa_script::{Line, Reply, WordError};
+use numa_space::{CoreRefusal, Refusal};
+
+/// The details of a line that has no place where it stands.
+fn state_detail(line: &[u8], said: &HostLine<'_>) -> Detail {
+    if line == b"host".as_slice() {
+        return Detail::HostReady;
+    }
+    match said {
+        HostLine::Plain(plain) => match plain {
+            Line::Limits { .. } | Line::Rules(_) | Line::Cpus(_) | Line::Machine(_) => {
+                Detail::MachineReady
+            }
+            Line::Work(_) => Detail::NoWorkers,
+            _ => Detail::NeedsProcess,
+        },
+        _ => Detail::NoWorkers,
+    }
+}
+
+/// The words behind `in P`.
+fn inner_of(line: &[u8]) -> &[u8] {
+    let mut spaces = 0u32;
+    for place in 0..line.len() {
+        if line[place] == b' ' {
+            spaces = spaces.saturating_add(1);
+            if spaces == 2 {
+                return &line[place..];
+            }
+        }
+    }
+    &[]
+}
+
+/// The details of a question's or a command's refusal by the space of a process.
+fn in_detail(host: &Host, line: &[u8], said: &HostLine<'_>, cause: CoreRefusal) -> Detail {
+    let HostLine::In { process, line: inner } = said else {
+        return Detail::None;
+    };
+    let is_unaligned = cause == CoreRefusal::Command(Refusal::Unaligned);
+    if is_unaligned && is_decimal_start(inner_of(line).strip_prefix(b" ").unwrap_or(&[])) {
+        return Detail::DecimalStart;
+    }
+    match host.process(*process) {
+        Some(space) => refusal_detail(space, inner, cause),
+        None => Detail::None,
+    }
+}
+
+/// The number of the process that a command names: the one that it makes, or else the one that it
+/// is about.
+fn made_or_named(command: &HostCommand, is_made: bool) -> Detail {
+    match *command {
+        HostCommand::NewProcess { process, .. }
+        | HostCommand::Exit { process }
+        | HostCommand::Attach { process, .. }
+        | HostCommand::In { process, .. } => Detail::Number(process),
+        HostCommand::Fork { child, .. } if is_made => Detail::Number(child),
+        HostCommand::Fork { parent, .. } => Detail::Number(parent),
+        _ => Detail::None,
+    }
+}
+
+/// The number of the group that a command names: the one that it makes, or else the one that it is
+/// about.
+fn group_named(command: &HostCommand, is_made: bool) -> Detail {
+    match *command {
+        HostCommand::NewGroup { group, .. } if is_made => Detail::Number(group),
+        HostCommand::NewGroup { parent, .. } => Detail::Number(parent),
+        HostCommand::SetGroupMems { group, .. }
+        | HostCommand::NewProcess { group, .. }
+        | HostCommand::Attach { group, .. } => Detail::Number(group),
+        _ => Detail::None,
+    }
+}
+
+/// The number of tasks with a policy of a process that forks.
+fn fork_detail(host: &Host, command: &HostCommand) -> Detail {
+    let HostCommand::Fork { parent, .. } = *command else {
+        return Detail::None;
+    };
+    match host.process(parent) {
+        Some(space) => Detail::Count(space.task_count() as u64),
+        None => Detail::None,
+    }
+}
+
+/// The details of a refusal of a command of the host.
+fn command_detail(host: &Host, command: &HostCommand, refusal: HostRefusal) -> Detail {
+    match refusal {
+        HostRefusal::GroupExists => group_named(command, true),
+        HostRefusal::NoSuchGroup => group_named(command, false),
+        HostRefusal::ProcessExists => made_or_named(command, true),
+        HostRefusal::NoSuchProcess => made_or_named(command, false),
+        HostRefusal::OfSpace(Refusal::NoSuchNode) => last_of(host.machine()),
+        HostRefusal::OfSpace(Refusal::TooManyTasks) => fork_detail(host, command),
+        _ => Detail::None,
+    }
+}
+
+/// The details of a refusal.
+fn refused_detail(host: &Host, line: &[u8], said: &HostLine<'_>, refusal: HostRefusal) -> Detail {
+    match (refusal, said) {
+        (HostRefusal::CommandsSpent, _) => Detail::Count(host.version()),
+        (HostRefusal::NoSuchNode, _) => last_of(host.machine()),
+        (HostRefusal::NoSuchProcess, HostLine::In { process, .. }) => Detail::Number(*process),
+        (HostRefusal::OfSpace(refusal), HostLine::In { .. }) => {
+            in_detail(host, line, said, CoreRefusal::Command(refusal))
+        }
+        (_, HostLine::Command(Ok(command))) => command_detail(host, command, refusal),
+        _ => Detail::None,
+    }
+}
+
+/// The details of an error in a list or a policy.
+fn word_detail(host: &Host, line: &[u8], fault: WordError) -> Detail {
+    list_detail(line, all_nodes(host.machine().nodes()), fault)
+}
+
+/// The details of a line's error or refusal, by the host after it.
+pub(crate) fn host_detail(host: &Host, line: &[u8], fault: LineFault) -> Detail {
+    let said = parse_host(line);
+    match fault {
+        LineFault::Refused(refusal) => refused_detail(host, line, &said, refusal),
+        LineFault::Reply(Reply::BadWords) => match why_malformed_in(line) {
+            Some(malformed) => Detail::HostMalformed(malformed),
+            None => Detail::None,
+        },
+        LineFault::Reply(Reply::BadState) => state_detail(line, &said),
+        LineFault::Reply(Reply::BadWord(fault)) => word_detail(host, line, fault),
+        LineFault::Reply(Reply::Refused(cause)) => in_detail(host, line, &said, cause),
+        LineFault::Reply(_) => Detail::None,
+    }
+}

@@ -1,0 +1,217 @@
+//! Answers about several processes as one text.
+
+use crate::account::Account;
+use crate::filling::FreePages;
+use crate::moves::{ENTRIES, empty_table};
+use crate::sheet::changes::put_moves;
+use crate::sheet::fields::{Placed, placed_of};
+use crate::sheet::nodes::{NodePages, list_nodes};
+use crate::sheet::parts::left_on;
+use crate::sheet::written::Written;
+use crate::sheet::{Format, lines, moved_objects, objects, records};
+use crate::touch::Touch;
+use itoa::Buffer;
+use numa_mask::Parts;
+use std::alloc::{AllocError, Global};
+
+/// The pages of several processes that go from each node to each.
+#[derive(Drop)]
+pub struct MoveSum {
+    // Without entries nothing is summed.
+    table: Vec<u64>,
+}
+
+impl MoveSum {
+    /// Sums nothing. It doesn't allocate.
+    pub fn none(alloc: Global) -> MoveSum {
+        MoveSum {
+            table: Vec::new(alloc),
+        }
+    }
+
+    /// No pages.
+    ///
+    /// # Errors
+    /// `AllocError`: out of memory.
+    pub fn new(alloc: Global) -> Result<MoveSum, AllocError> {
+        let table = empty_table(alloc, ENTRIES)?;
+        Ok(MoveSum { table })
+    }
+
+    /// Adds the pages of a process.
+    pub(crate) fn add(&mut self, table: &[u64]) {
+        for place in 0..self.table.len().min(table.len()) {
+            self.table[place] = self.table[place].saturating_add(table[place]);
+        }
+    }
+}
+
+/// The answers about several processes, one after the other.
+#[derive(Drop)]
+pub struct ByProcess {
+    format: Format,
+    // Whether the answers as JSON are members of one object, and not objects of a line each.
+    is_whole: bool,
+    text: Written,
+    processes: u64,
+}
+
+/// Writes a line.
+fn put_line(text: &mut Written, line: &[u8]) {
+    text.put(line);
+    text.put(b"\n");
+}
+
+/// The text without its last line feed.
+fn unended(part: &[u8]) -> &[u8] {
+    match part.split_last() {
+        Some((_, front)) => front,
+        None => part,
+    }
+}
+
+impl ByProcess {
+    /// Before the first process. Objects are written one a line.
+    pub fn new(alloc: Global, format: Format) -> ByProcess {
+        ByProcess {
+            format,
+            is_whole: false,
+            text: Written::new(alloc),
+            processes: 0,
+        }
+    }
+
+    /// Before the first process, if a task touches pages. Objects are members of a whole one.
+    pub fn of_touch(alloc: Global, format: Format, touch: Touch) -> ByProcess {
+        let mut text = Written::new(alloc);
+        if let Format::Json = format {
+            let asked = [u64::from(touch.task), u64::from(touch.cpu)];
+            text.put_form(
+                b"{\"task\":$,\"cpu\":$,\"kernelpagesize_kB\":4,\"processes\":[",
+                &asked,
+            );
+        }
+        ByProcess {
+            format,
+            is_whole: true,
+            text,
+            processes: 0,
+        }
+    }
+
+    /// Writes an object with the process as its first member.
+    fn put_object(&mut self, process: u32, part: &[u8]) {
+        if self.is_whole {
+            let before = if self.processes == 0 { "\n" } else { ",\n" };
+            self.text.put(before.as_bytes());
+        }
+        let part = if self.is_whole { unended(part) } else { part };
+        self.text
+            .put_form(b"{\"process\":$,", &[u64::from(process)]);
+        self.text.put(part.strip_prefix(b"{").unwrap_or(part));
+    }
+
+    /// Writes the header of records, unless it stands already, and each record of a text that has
+    /// its own header behind a first field.
+    fn put_records(&mut self, first: &[u8], part: &[u8]) {
+        let mut is_head = true;
+        for line in Parts::new(part, b'\n') {
+            if !is_head && !line.is_empty() {
+                self.text.put(first);
+                self.text.put(b",");
+                put_line(&mut self.text, line);
+            } else if is_head && self.text.len() == 0 {
+                self.text.put(b"process,");
+                put_line(&mut self.text, line);
+            }
+            is_head = false;
+        }
+    }
+
+    /// The records of all processes together, behind a header.
+    fn put_total_records(&mut self, placed: Placed<'_>, left: &[NodePages]) {
+        let mut part = Written::new(self.text.alloc());
+        records::put_head(&mut part);
+        records::put_total(&mut part, placed, left);
+        match part.take() {
+            Ok(part) => self.put_records(b"", part.as_slice()),
+            Err(_) => self.text.lack(),
+        }
+    }
+
+    /// Adds the answer about a process.
+    pub fn add(&mut self, process: u32, part: &[u8]) {
+        match self.format {
+            Format::Json => self.put_object(process, part),
+            Format::Csv => {
+                let mut first = Buffer::new();
+                self.put_records(first.format(process).as_bytes(), part);
+            }
+            _ => {
+                self.text.put_form(b"process $\n", &[u64::from(process)]);
+                self.text.put(part);
+            }
+        }
+        self.processes = self.processes.saturating_add(1);
+    }
+
+    /// Begins what all processes have together.
+    fn begin_all(&mut self) {
+        match self.format {
+            Format::Json => self.text.put(b"\n]"),
+            Format::Csv => (),
+            _ => self.text.put(b"all processes\n"),
+        }
+    }
+
+    /// Ends with the pages of all processes by node and, if nodes are named, the free pages left on
+    /// them.
+    ///
+    /// # Errors
+    /// `AllocError`: out of memory.
+    pub fn end_placed(
+        &mut self,
+        account: &Account,
+        free: &[FreePages],
+        nodes: u32,
+    ) -> Result<(), AllocError> {
+        self.begin_all();
+        let alloc = self.text.alloc();
+        let mut listed = Vec::new(alloc);
+        list_nodes(&mut listed, &account.taken[..(nodes as usize).min(256)])?;
+        let left = left_on(alloc, free, &account.free)?;
+        let placed = placed_of(&listed, account.pages, !free.is_empty());
+        match self.format {
+            Format::Json => objects::put_total(&mut self.text, placed, &left),
+            Format::Csv => self.put_total_records(placed, &left),
+            _ => lines::put_total(&mut self.text, placed, &left),
+        }
+        Ok(())
+    }
+
+    /// Ends with the pages of all processes that go from each node to each other.
+    pub fn end_moves(&mut self, sum: &MoveSum, nodes: u32) {
+        self.begin_all();
+        let table = sum.table.as_slice();
+        match self.format {
+            Format::Json => moved_objects::put_total(&mut self.text, table, nodes),
+            _ => {
+                self.text.put(b"total");
+                put_moves(&mut self.text, table, &[], nodes);
+            }
+        }
+    }
+
+    /// How many processes have an answer.
+    pub fn processes(&self) -> u64 {
+        self.processes
+    }
+
+    /// Takes the whole text out.
+    ///
+    /// # Errors
+    /// `AllocError`: out of memory, now or when the text was written.
+    pub fn take(&mut self) -> Result<Vec<u8>, AllocError> {
+        self.text.take()
+    }
+}

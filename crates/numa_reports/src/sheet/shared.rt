@@ -1,0 +1,117 @@
+//! Writing the predictions of several processes, which share the free pages.
+ghost use Rattle.std.specs.Prelude.{◌≡◌, ◌≢◌, ◌≤◌, ◌<◌, ◌^◌, [], List, Err, OnOk};
+ghost use Rattle.numa_compile.specs.Standing.{PlanStandsFor};
+ghost use Rattle.numa_space.specs.Standing.{StandsFor};
+ghost use Rattle.numa_space.specs.declared.command.Command.{Command};
+ghost use Rattle.numa_space.specs.declared.refusal.PlaceRefusal.TheVariants.{BadCpu};
+ghost use Rattle.numa_reports.specs.declared.fault.ReportError.TheVariants.{Refused};
+ghost use Rattle.numa_reports.specs.Failing.{FailsForNode};
+ghost use Rattle.numa_reports.specs.Filled.{free_behind, nodes_of};
+
+use crate::account::Account;
+use crate::fault::ReportError;
+use crate::filling::{FreePages, fill_ranges, taken};
+use crate::prediction::predict_ranges;
+use crate::sheet::Format;
+use crate::sheet::parts::{PredictionRequest, PredictionWriter, WatchedWriter, begin, sum_of};
+use crate::touch::{Touch, has_node};
+use crate::watch::Watch;
+use numa_plan::Plan;
+use numa_space::{PlaceRefusal, Space};
+use std::alloc::Global;
+
+/// Writes each range, whose pages take free ones of an account, and the total.
+fn write_shared<W: Watch>(
+    parts: &mut PredictionWriter,
+    asked: PredictionRequest<'_>,
+    account: &mut Account,
+    watch: &mut W,
+) -> Result<(), ReportError>
+    requires known { asked.touch.cpu < asked.space.now.machine.nodes }
+    ensures free { (history : List Command) → StandsFor asked.entry.space.now history
+        → PlanStandsFor asked.entry.space.now.machine asked.entry.plan.now history
+        → OnOk result (account.new.free ≡ free_behind (nodes_of asked.entry.space.now.machine
+        history asked.entry.touch.task asked.entry.touch.cpu) account.old.free 0 (2 ^ 35)) }
+    ensures err { FailsForNode asked.entry.space.now asked.entry.plan.now
+        asked.entry.touch.cpu result }
+{
+    let before = account.free;
+    watch.begin(sum_of(asked.space));
+    let mut watched = WatchedWriter { parts, watch };
+    fill_ranges(
+        asked.space,
+        asked.plan,
+        asked.touch,
+        &mut account.free,
+        &mut watched,
+    )?;
+    watch.end();
+    let counts = taken(&before, &account.free);
+    parts.put_total(&counts, &[]);
+    account.count(&counts, parts.pages());
+    Ok(())
+}
+
+/// Writes each range and the total, where nodes never run out.
+fn write_unshared(
+    parts: &mut PredictionWriter,
+    asked: PredictionRequest<'_>,
+    account: &mut Account,
+) -> Result<(), ReportError>
+    requires known { asked.touch.cpu < asked.space.now.machine.nodes }
+    ensures err { FailsForNode asked.entry.space.now asked.entry.plan.now
+        asked.entry.touch.cpu result }
+{
+    let counts = predict_ranges(asked.space, asked.plan, asked.touch, parts)?;
+    parts.put_total(&counts, &[]);
+    account.count(&counts, parts.pages());
+    Ok(())
+}
+
+/// The text of one of several predictions. If nodes are named in `free`, its pages take those that
+/// the ones before have left.
+///
+/// # Errors
+/// As [`crate::filling_text`].
+pub fn shared_text<W: Watch>(
+    alloc: Global,
+    space: &Space,
+    plan: &Plan,
+    touch: Touch,
+    format: Format,
+    free: &[FreePages],
+    account: &mut Account,
+    watch: &mut W,
+) -> Result<Vec<u8>, ReportError>
+    ensures free { (history : List Command) → StandsFor space.now history
+        → PlanStandsFor space.now.machine plan.now history → free.now ≢ [] → OnOk result
+        (account.new.free ≡ free_behind (nodes_of space.now.machine history touch.task touch.cpu)
+        account.old.free 0 (2 ^ 35)) }
+    ensures err { FailsForNode space.now plan.now touch.cpu result }
+    ensures bad_cpu { space.now.machine.nodes ≤ touch.cpu → result ≡ Err (Refused BadCpu) }
+{
+    if !has_node(space, touch.cpu) {
+        return Err(ReportError::Refused(PlaceRefusal::BadCpu));
+    }
+    let asked = PredictionRequest {
+        space,
+        plan,
+        touch,
+        free,
+    };
+    let mut parts = begin(alloc, asked, format)?;
+    let written = if free.is_empty() {
+        write_unshared(&mut parts, asked, account)
+    } else {
+        write_shared(&mut parts, asked, account, watch)
+    };
+    let text = match written {
+        Ok(()) => parts.take_text(),
+        Err(fault) => {
+            drop(parts);
+            return Err(fault);
+        }
+    };
+    drop(parts);
+    Ok(text?)
+}

@@ -1,0 +1,376 @@
+//! Differences after scripts.
+use crate::each::shows_one;
+use crate::findings::{Ended, Findings, PLAIN};
+use crate::halt::{Halt, halt_of};
+use crate::playing::{Scripts, play};
+use crate::question::{Subject, subject_of, write};
+use numa_answers::{Page, view_text};
+use numa_host::{Host, Process};
+use numa_lines::{RunFault, TakeLine};
+use numa_reports::{
+    ByProcess, Format, MoveSum, Outlook, Touch, Watch, difference_more, difference_text, outlook_of,
+};
+use numa_space::Space;
+use std::alloc::Global;
+use std::io::{Read, Write};
+
+/// The name of the added lines in messages.
+const ADDED: &str = "--then";
+
+/// The state of a space.
+fn outlook_in(alloc: Global, space: &Space) -> Result<Outlook, Halt> {
+    match outlook_of(alloc, space) {
+        Ok(outlook) => Ok(outlook),
+        Err(fault) => Err(halt_of(fault, space.machine().nodes())),
+    }
+}
+
+/// Plays the added lines, and finishes the messages.
+fn play_lines<T: Write>(findings: &mut Findings<T>, lines: &[String]) -> Result<(), RunFault> {
+    let mut place = 1u64;
+    for line in lines {
+        if let Err(why) = findings.take(ADDED, place, line.as_str().as_bytes(), &mut ()) {
+            return Err(why);
+        }
+        place = place.saturating_add(1);
+    }
+    findings.end()
+}
+
+/// The state of a process, or of the one space.
+#[derive(Drop)]
+struct ProcessOutlook {
+    process: u32,
+    outlook: Outlook,
+}
+
+/// What a difference is asked of: the states before, and in a page its object too.
+#[derive(Drop)]
+struct Before {
+    // Whether the states are those of all processes of a host.
+    is_each: bool,
+    outlooks: Vec<ProcessOutlook>,
+    view: Vec<u8>,
+}
+
+/// A difference that is asked for.
+#[derive(Clone, Copy)]
+struct Asked {
+    process: Option<u32>,
+    touch: Touch,
+    format: Format,
+}
+
+/// The object of a state, if a page is asked for.
+fn view_in(
+    alloc: Global,
+    space: &Space,
+    outlook: &Outlook,
+    asked: Asked,
+) -> Result<Vec<u8>, Halt> {
+    let Format::Html(number) = asked.format else {
+        return Ok(Vec::new(alloc));
+    };
+    match view_text(alloc, space, &outlook.plan, asked.touch, &[], number, &mut ()) {
+        Ok(view) => Ok(view),
+        Err(fault) => Err(halt_of(fault, space.machine().nodes())),
+    }
+}
+
+/// Adds the state of a space.
+fn add_outlook(
+    outlooks: &mut Vec<ProcessOutlook>,
+    process: u32,
+    outlook: Outlook,
+) -> Result<(), Halt> {
+    match outlooks.push(ProcessOutlook { process, outlook }) {
+        Ok(()) => Ok(()),
+        Err(_) => Err(Halt::Stopped(RunFault::Memory)),
+    }
+}
+
+/// The state of the one space.
+fn before_of_one(alloc: Global, space: &Space, asked: Asked) -> Result<Before, Halt> {
+    let outlook = outlook_in(alloc, space)?;
+    let view = match view_in(alloc, space, &outlook, asked) {
+        Ok(view) => view,
+        Err(halt) => {
+            drop(outlook);
+            return Err(halt);
+        }
+    };
+    let mut outlooks = Vec::new(alloc);
+    match add_outlook(&mut outlooks, 0, outlook) {
+        Ok(()) => Ok(Before {
+            is_each: false,
+            outlooks,
+            view,
+        }),
+        Err(halt) => {
+            drop(outlooks);
+            drop(view);
+            Err(halt)
+        }
+    }
+}
+
+/// Adds the states of processes.
+fn add_outlooks(
+    alloc: Global,
+    processes: &[Process],
+    outlooks: &mut Vec<ProcessOutlook>,
+) -> Result<(), Halt> {
+    for process in processes {
+        let outlook = outlook_in(alloc, &process.space)?;
+        add_outlook(outlooks, process.id, outlook)?;
+    }
+    Ok(())
+}
+
+/// The states of all processes.
+fn before_of_each(alloc: Global, host: &Host, asked: Asked) -> Result<Before, Halt> {
+    if shows_one(asked.format) {
+        return Err(Halt::ManyProcesses);
+    }
+    let mut outlooks = Vec::new(alloc);
+    match add_outlooks(alloc, host.processes(), &mut outlooks) {
+        Ok(()) => Ok(Before {
+            is_each: true,
+            outlooks,
+            view: Vec::new(alloc),
+        }),
+        Err(halt) => {
+            drop(outlooks);
+            Err(halt)
+        }
+    }
+}
+
+/// The difference to an outlook as a text, or as a page.
+fn difference_to<P: Watch>(
+    alloc: Global,
+    before: &Outlook,
+    view: &[u8],
+    space: &Space,
+    after: &Outlook,
+    asked: Asked,
+    watch: &mut P,
+) -> Result<Vec<u8>, Halt> {
+    let nodes = space.machine().nodes();
+    let Asked { touch, format, .. } = asked;
+    let text = match difference_text(alloc, before, after, nodes, touch, format, watch) {
+        Ok(text) => text,
+        Err(fault) => return Err(halt_of(fault, nodes)),
+    };
+    let Format::Html(_) = format else {
+        return Ok(text);
+    };
+    let view_after = view_in(alloc, space, after, asked)?;
+    let mut page = Page::new(alloc, "difference");
+    page.put("difference", text.as_slice());
+    page.put("before", view);
+    page.put("after", view_after.as_slice());
+    Ok(page.end()?)
+}
+
+/// The difference to the state of the one space.
+fn difference_of_one<P: Watch>(
+    alloc: Global,
+    before: &Before,
+    space: &Space,
+    asked: Asked,
+    watch: &mut P,
+) -> Result<Vec<u8>, Halt> {
+    let Some(one) = before.outlooks.first() else {
+        return Err(Halt::NoMachine);
+    };
+    let after = outlook_in(alloc, space)?;
+    let view = before.view.as_slice();
+    let text = difference_to(alloc, &one.outlook, view, space, &after, asked, watch);
+    drop(after);
+    text
+}
+
+/// Adds the difference of a process.
+fn add_difference<P: Watch>(
+    alloc: Global,
+    one: &ProcessOutlook,
+    space: &Space,
+    asked: Asked,
+    answers: &mut ByProcess,
+    sum: &mut MoveSum,
+    watch: &mut P,
+) -> Result<(), Halt> {
+    let nodes = space.machine().nodes();
+    let Asked { touch, format, .. } = asked;
+    let after = outlook_in(alloc, space)?;
+    let text = difference_more(alloc, &one.outlook, &after, nodes, touch, format, sum, watch);
+    drop(after);
+    match text {
+        Ok(text) => {
+            answers.add(one.process, text.as_slice());
+            drop(text);
+            Ok(())
+        }
+        Err(fault) => Err(halt_of(fault, nodes)),
+    }
+}
+
+/// Adds the differences of the processes that are there before and after.
+fn add_differences<P: Watch>(
+    alloc: Global,
+    before: &[ProcessOutlook],
+    host: &Host,
+    asked: Asked,
+    answers: &mut ByProcess,
+    sum: &mut MoveSum,
+    watch: &mut P,
+) -> Result<(), Halt> {
+    for one in before {
+        if let Some(space) = host.process(one.process) {
+            add_difference(alloc, one, space, asked, answers, sum, watch)?;
+        }
+    }
+    Ok(())
+}
+
+/// The differences by process, and of all.
+fn differences<P: Watch>(
+    alloc: Global,
+    before: &[ProcessOutlook],
+    host: &Host,
+    asked: Asked,
+    answers: &mut ByProcess,
+    watch: &mut P,
+) -> Result<Vec<u8>, Halt> {
+    let mut sum = MoveSum::new(alloc)?;
+    add_differences(alloc, before, host, asked, answers, &mut sum, watch)?;
+    answers.end_moves(&sum, host.machine().nodes());
+    Ok(answers.take()?)
+}
+
+/// The difference to the states of all processes, by process and in all.
+fn difference_of_each<P: Watch>(
+    alloc: Global,
+    before: &Before,
+    host: &Host,
+    asked: Asked,
+    watch: &mut P,
+) -> Result<Vec<u8>, Halt> {
+    let nodes = host.machine().nodes();
+    if shows_one(asked.format) {
+        return Err(Halt::ManyProcesses);
+    }
+    if asked.touch.cpu >= nodes {
+        return Err(Halt::NoNode(nodes));
+    }
+    let outlooks = if before.is_each {
+        before.outlooks.as_slice()
+    } else {
+        &[]
+    };
+    let mut answers = ByProcess::of_touch(alloc, asked.format, asked.touch);
+    let text = differences(alloc, outlooks, host, asked, &mut answers, watch);
+    drop(answers);
+    text
+}
+
+/// The states to which the script led.
+fn states_of<T: Write>(
+    alloc: Global,
+    findings: &Findings<T>,
+    asked: Asked,
+) -> Result<Before, Halt> {
+    match subject_of(findings.script(), asked.process) {
+        Ok(Subject::One(space)) => before_of_one(alloc, space, asked),
+        Ok(Subject::Each(host)) => before_of_each(alloc, host, asked),
+        Err(halt) => Err(halt),
+    }
+}
+
+/// The states to which the script led. If they can't be had, what is wrong with the script is
+/// written first.
+fn states_before<T: Write>(
+    alloc: Global,
+    findings: &mut Findings<T>,
+    asked: Asked,
+) -> Result<Before, Halt> {
+    match states_of(alloc, findings, asked) {
+        Ok(before) => Ok(before),
+        Err(halt) => match findings.end() {
+            Ok(()) => Err(halt),
+            Err(why) => Err(Halt::Stopped(why)),
+        },
+    }
+}
+
+/// Plays the lines, and returns which pages go elsewhere after them, as a text.
+fn difference_from<T: Write, P: Watch>(
+    alloc: Global,
+    before: &Before,
+    findings: &mut Findings<T>,
+    lines: &[String],
+    asked: Asked,
+    watch: &mut P,
+) -> Result<Vec<u8>, Halt> {
+    if let Err(why) = play_lines(findings, lines) {
+        return Err(Halt::Stopped(why));
+    }
+    match subject_of(findings.script(), asked.process) {
+        Ok(Subject::One(space)) => difference_of_one(alloc, before, space, asked, watch),
+        Ok(Subject::Each(host)) => difference_of_each(alloc, before, host, asked, watch),
+        Err(halt) => Err(halt),
+    }
+}
+
+/// Which pages go elsewhere after the lines, as a text.
+fn difference<T: Write, P: Watch>(
+    alloc: Global,
+    findings: &mut Findings<T>,
+    lines: &[String],
+    asked: Asked,
+    watch: &mut P,
+) -> Result<Vec<u8>, Halt> {
+    let before = match states_before(alloc, findings, asked) {
+        Ok(before) => before,
+        Err(halt) => return Err(halt),
+    };
+    let text = difference_from(alloc, &before, findings, lines, asked, watch);
+    drop(before);
+    text
+}
+
+/// Plays the scripts and then the lines, and writes which pages would go to another node after the
+/// lines than before, if they were touched; comparing is watched. Of a host without a process the
+/// answer is by process, of those that are there before and after, and of all together. What is
+/// wrong with a line is written to `told`, and the line is skipped; the added lines have the name
+/// `--then` and numbers from 1 on. The answer is complete before its first byte is written.
+///
+/// # Errors
+/// Why there is no answer. Text already written to `told` stays.
+pub fn diff<R: Read + Drop, W: Write, T: Write + Drop, P: Watch>(
+    alloc: Global,
+    scripts: Scripts<R>,
+    lines: &[String],
+    asked: Touch,
+    format: Format,
+    output: &mut W,
+    told: T,
+    watch: &mut P,
+) -> Result<Ended, Halt> {
+    let Scripts {
+        texts,
+        rules,
+        process,
+    } = scripts;
+    let asked = Asked {
+        process,
+        touch: asked,
+        format,
+    };
+    let mut findings = play(alloc, texts, Findings::new(alloc, rules, PLAIN, told))?;
+    let text = difference(alloc, &mut findings, lines, asked, watch);
+    let ended = findings.ended();
+    drop(findings);
+    write(text, ended, output)
+}
