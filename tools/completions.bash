@@ -10,8 +10,8 @@ _numaplan() {
     case ${COMP_WORDS[1]}:${COMP_WORDS[at - 1]} in
         run:--format | check:--format | explain:--format) words='text json' ;;
         run:--rules | check:--rules | expect:--rules | predict:--rules | diff:--rules | explain:--rules | replay:--rules | shell:--rules) words='document linux' ;;
+        check:--process | predict:--task | predict:--node | predict:--process | predict:--largest | predict:--free | diff:--task | diff:--node | diff:--then | diff:--process | diff:--largest | explain:--task | explain:--node | explain:--pages | explain:--process | replay:--process | replay:--largest | shell:--process | storm:--workers) : ;;
         expect:--format) words='text json tap' ;;
-        predict:--task | predict:--node | predict:--largest | predict:--free | diff:--task | diff:--node | diff:--then | diff:--largest | explain:--task | explain:--node | explain:--pages | replay:--largest | storm:--workers) : ;;
         predict:--format) words='text json csv svg html' ;;
         diff:--format) words='text json svg html' ;;
         replay:--trace) files=yes ;;
@@ -20,13 +20,13 @@ _numaplan() {
             [ "$COMP_CWORD" != 1 ] || words='run check expect predict diff explain replay shell storm help --help --version'$own
             [ "$COMP_CWORD" = 1 ] || case ${COMP_WORDS[1]} in
                 run) words='--echo --format --rules --help' files=yes ;;
-                check) words='--format --rules --help' files=yes ;;
+                check) words='--format --process --rules --help' files=yes ;;
                 expect) words='--format --ignore-versions --update --rules --help' files=yes ;;
-                predict) words='--task --node --format --largest --free --lenient --rules --help' files=yes ;;
-                diff) words='--task --node --then --format --largest --lenient --rules --help' files=yes ;;
-                explain) words='--task --node --pages --format --lenient --rules --help' files=yes ;;
-                replay) words='--trace --format --largest --lenient --rules --help' files=yes ;;
-                shell) words='--rules --help' files=yes ;;
+                predict) words='--task --node --process --format --largest --free --lenient --rules --help' files=yes ;;
+                diff) words='--task --node --then --process --format --largest --lenient --rules --help' files=yes ;;
+                explain) words='--task --node --pages --process --format --lenient --rules --help' files=yes ;;
+                replay) words='--trace --process --format --largest --lenient --rules --help' files=yes ;;
+                shell) words='--process --rules --help' files=yes ;;
                 storm) words='--workers --help' ;;
                 help) words='run check expect predict diff explain replay shell storm help' ;;
             esac

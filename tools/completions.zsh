@@ -34,6 +34,7 @@ _numaplan() {
         check)
             _arguments \
                 '(--format)--format[How the answer is written]:FORMAT:(text json)' \
+                '(--process)--process[Asks process P of a host alone; all of them where it is all, or isn'\''t given]:P: ' \
                 '(--rules)--rules[Whose rules count, where no line `rules` of the scripts says so]:RULES:(document linux)' \
                 '(-h --help)-h[Print help]' '(-h --help)--help[Print help]' \
                 '*:file:_files'
@@ -51,6 +52,7 @@ _numaplan() {
             _arguments \
                 '(--task)--task[The task that touches the pages]:T: ' \
                 '(--node)--node[The node of the CPU on which it does]:N: ' \
+                '(--process)--process[Asks process P of a host alone; all of them where it is all, or isn'\''t given]:P: ' \
                 '(--format)--format[How the answer is written]:FORMAT:(text json csv svg html)' \
                 '(--largest)--largest[Shows the N largest ranges by themselves, and sums the others\: 40 in a picture and 400 in a page, where it isn'\''t given]:N: ' \
                 '(--free)--free[So many free pages on these nodes; with K, M, G or T behind it a number is one of bytes]:NODE=PAGES,..: ' \
@@ -64,6 +66,7 @@ _numaplan() {
                 '(--task)--task[The task that touches the pages]:T: ' \
                 '(--node)--node[The node of the CPU on which it does]:N: ' \
                 '*--then[A script line that is added; several in turn]:LINE: ' \
+                '(--process)--process[Asks process P of a host alone; all of them where it is all, or isn'\''t given]:P: ' \
                 '(--format)--format[How the answer is written]:FORMAT:(text json svg html)' \
                 '(--largest)--largest[Shows the N largest ranges by themselves, and sums the others\: 40 in a picture and 400 in a page, where it isn'\''t given]:N: ' \
                 '(--lenient)--lenient[Ends with status 0 where lines were faulty or refused]' \
@@ -76,6 +79,7 @@ _numaplan() {
                 '(--task)--task[The task that touches the pages]:T: ' \
                 '(--node)--node[The node of the CPU on which it does]:N: ' \
                 '(--pages)--pages[Tells by which rules N pages go, from that of ADDRESS on]:N: ' \
+                '(--process)--process[Asks process P of a host alone; all of them where it is all, or isn'\''t given]:P: ' \
                 '(--format)--format[How the answer is written]:FORMAT:(text json)' \
                 '(--lenient)--lenient[Ends with status 0 where lines were faulty or refused]' \
                 '(--rules)--rules[Whose rules count, where no line `rules` of the scripts says so]:RULES:(document linux)' \
@@ -85,6 +89,7 @@ _numaplan() {
         replay)
             _arguments \
                 '(--trace)--trace[The file of the trace; - is standard input]:TRACE:_files' \
+                '(--process)--process[Asks process P of a host alone; all of them where it is all, or isn'\''t given]:P: ' \
                 '(--format)--format[How the answer is written]:FORMAT:(text json html)' \
                 '(--largest)--largest[Shows the N largest ranges by themselves, and sums the others\: 40 in a picture and 400 in a page, where it isn'\''t given]:N: ' \
                 '(--lenient)--lenient[Ends with status 0 where lines were faulty or refused]' \
@@ -94,6 +99,7 @@ _numaplan() {
             ;;
         shell)
             _arguments \
+                '(--process)--process[Asks process P of a host alone; all of them where it is all, or isn'\''t given]:P: ' \
                 '(--rules)--rules[Whose rules count, where no line `rules` of the scripts says so]:RULES:(document linux)' \
                 '(-h --help)-h[Print help]' '(-h --help)--help[Print help]' \
                 '*:file:_files'
