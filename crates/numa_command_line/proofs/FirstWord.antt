@@ -12,7 +12,8 @@ use Rattle.numa_command_line.specs.Asked.{job_named, name_of, rows_behind, scrip
 use Rattle.numa_command_line.specs.Asked.{word_named, work_asked}
 use Rattle.numa_command_line.specs.Jobs.{Asking, Doing, Doings, Text, ask, diff, doings_of, explain}
 use Rattle.numa_command_line.specs.Jobs.{predict, scripts, storm}
-use Rattle.numa_command_line.specs.Values.{format_in, frees_in, is_on, page_in, process_in, rules_in, small_at}
+use Rattle.numa_command_line.specs.Values.{format_in, frees_in, is_on, page_in, process_in}
+use Rattle.numa_command_line.specs.Values.{rules_in, small_at}
 use Rattle.numa_command_line.specs.Values.{texts_at, touch_in, workers_in}
 use Rattle.numa_command_line.specs.declared.command.Subcommand.{Subcommand}
 use Rattle.numa_command_line.specs.declared.command.Subcommand.TheVariants as word
@@ -110,7 +111,8 @@ word_name : (name : Text) (rows : List Row) (found : Option Subcommand) (d : Doi
     → option_and_then (scripts_asked rows) found ≡ Some d → name ≡ name_of d
 word_name name rows None d names e = cc
 word_name name rows (Some w) d names e = names w refl
-    ∙ sym (scripts_name (texts_at (codes "FILE") rows) rows (process_in rows) (work_asked w rows) d (label w)
+    ∙ sym (scripts_name (texts_at (codes "FILE") rows) rows (process_in rows) (work_asked w rows)
+    d (label w)
     (work_name w rows) e)
 
 job_name : (name : Text) (rows : List Row) (d : Doings) → job_named name rows ≡ Some d

@@ -1,7 +1,5 @@
 //! Details of an error or a refusal in a host's script.
-use crate::details::{
-    all_nodes, is_decimal_start, last_of, list_detail, refusal_detail,
-};
+use crate::details::{all_nodes, is_decimal_start, last_of, list_detail, refusal_detail};
 use crate::finding::Detail;
 use crate::host_words::why_malformed_in;
 use numa_host::{Host, HostCommand, HostRefusal};
@@ -42,7 +40,11 @@ fn inner_of(line: &[u8]) -> &[u8] {
 
 /// The details of a question's or a command's refusal by the space of a process.
 fn in_detail(host: &Host, line: &[u8], said: &HostLine<'_>, cause: CoreRefusal) -> Detail {
-    let HostLine::In { process, line: inner } = said else {
+    let HostLine::In {
+        process,
+        line: inner,
+    } = said
+    else {
         return Detail::None;
     };
     let is_unaligned = cause == CoreRefusal::Command(Refusal::Unaligned);

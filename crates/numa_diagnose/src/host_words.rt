@@ -22,7 +22,8 @@ pub enum HostCause {
     NotHanded,
 }
 
-/// What is wrong with a line of a host's script, and the column at which it begins, in bytes from 1.
+/// What is wrong with a line of a host's script, and the column at which it begins, in bytes from
+/// 1.
 #[derive(Clone, Copy)]
 pub struct HostMalformed {
     pub cause: HostCause,

@@ -28,7 +28,7 @@ use Rattle.numa_host_script.specs.Texts.{host_refused_text}
 use Rattle.numa_host_script.specs.declared.line.HostLine.{HostLine}
 use Rattle.numa_host_script.proofs.Bounds.{bounds-after}
 
-begins : (refused : Bool) (session : Session) (bytes : List ℕ) → is_begin bytes ≡ true
+pub begins : (refused : Bool) (session : Session) (bytes : List ℕ) → is_begin bytes ≡ true
     → served_by refused session bytes ≡ begun refused session
 unfolding served_by
 begins refused session bytes is = rw is refl

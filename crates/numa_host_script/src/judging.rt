@@ -108,12 +108,7 @@ fn give(host: &mut Host, process: u32, said: Result<Command, WordError>) -> Opti
 }
 
 /// Carries out an `mbind` of length 0 whose mode, flag and nodes are refused together.
-fn bind_nothing(
-    host: &mut Host,
-    process: u32,
-    start: u64,
-    fault: WordError,
-) -> Option<LineFault>
+fn bind_nothing(host: &mut Host, process: u32, start: u64, fault: WordError) -> Option<LineFault>
     ensures { Judges host.old result host.new
         (λ refused at. given_fault refused at process (bind_nothing at.machine.rules start fault))
         (λ refused at. given_outcome refused at process

@@ -3,8 +3,10 @@
 ghost use Rattle.std.specs.Prelude.{◌≡◌, ℕ, Bool, true, false, Some, [], List};
 ghost use Rattle.numa_host.specs.Processes.{commands_of, is_there, members_of};
 ghost use Rattle.numa_run.specs.Answers.{State, after_bytes, answer_of, answer_to};
+ghost use Rattle.numa_run.specs.Judged.{fault_of};
 ghost use Rattle.numa_script.specs.declared.line.Line.{Line};
 ghost use Rattle.numa_script.specs.declared.line.Question.{Question};
+ghost use Rattle.numa_host_script.specs.Judged.{in_fault, of_reply};
 ghost use Rattle.numa_host_script.specs.Sessions.{Hosting, Single, in_outcome, is_begin};
 ghost use Rattle.numa_host_script.specs.Sessions.{session_after, session_answer};
 
@@ -33,4 +35,14 @@ pub fn process_answers()
         → state.resident ≡ [] → is_there (members_of at.history) process ≡ true
         → (in_outcome refused at process (Line.Maps task)).text
         ≡ answer_of refused state (Line.Maps task) }
+{}
+
+/// A question of a process is judged as by a script that has accepted its commands.
+pub fn process_judged()
+    ensures { (refused : Bool) (at : Hosting) (process : ℕ) (state : State)
+        (question : Question) → state.machine ≡ Some at.machine
+        → state.world.history ≡ commands_of at.machine at.history process
+        → is_there (members_of at.history) process ≡ true
+        → in_fault refused at process (Line.Question question)
+        ≡ of_reply (fault_of refused state (Line.Question question)) }
 {}

@@ -181,8 +181,9 @@ impl HostScript {
         None
     }
 
-    /// Carries out a line, as `serve_line`, and returns what is wrong with it: `Some` exactly if its
-    /// answer is an error or a refusal, and then that one. A question is judged and not answered.
+    /// Carries out a line, as `serve_line`, and returns what is wrong with it: `Some` exactly if
+    /// its answer is an error or a refusal, and then that one. A question is judged and not
+    /// answered.
     pub fn judge(&mut self, alloc: Global, line: &[u8]) -> Option<LineFault>
         ensures { (session : Session) → StandsIn self.old.script self.old.limits self.old.host
             session → (refused : Bool)

@@ -70,8 +70,8 @@ fn prediction_of<P: Watch>(
     prediction_in(alloc, space, asked.touch, asked.format, asked.free, watch)
 }
 
-/// Where all mapped pages would go now, if they were touched, as lines: of a process, or of all of a
-/// host's if none is named.
+/// Where all mapped pages would go now, if they were touched, as lines: of a process, or of all of
+/// a host's if none is named.
 ///
 /// # Errors
 /// `NoMachine`, `NoNode`, `NoHost`, `NoProcess`, or `Stopped`: out of memory.
@@ -110,8 +110,8 @@ fn prediction<T: Write, P: Watch>(
 /// Plays the scripts, and writes where all mapped pages would go, if they were touched now. Nodes
 /// in `free` have that many free pages, and the text says how many are left; counting them is
 /// watched. Of a host without a process the answer is by process, one after the other, and of all
-/// together, from one account of the free pages. What is wrong with a line is written to `told`, and
-/// the line is skipped, which the result says too. The answer is complete before its first byte is
+/// together, from one account of the free pages. What is wrong with a line is written to `told`,
+/// and the line is skipped, which the result says too. The answer is complete before its first byte is
 /// written.
 ///
 /// # Errors

@@ -62,16 +62,19 @@ struct Asked {
 }
 
 /// The object of a state, if a page is asked for.
-fn view_in(
-    alloc: Global,
-    space: &Space,
-    outlook: &Outlook,
-    asked: Asked,
-) -> Result<Vec<u8>, Halt> {
+fn view_in(alloc: Global, space: &Space, outlook: &Outlook, asked: Asked) -> Result<Vec<u8>, Halt> {
     let Format::Html(number) = asked.format else {
         return Ok(Vec::new(alloc));
     };
-    match view_text(alloc, space, &outlook.plan, asked.touch, &[], number, &mut ()) {
+    match view_text(
+        alloc,
+        space,
+        &outlook.plan,
+        asked.touch,
+        &[],
+        number,
+        &mut (),
+    ) {
         Ok(view) => Ok(view),
         Err(fault) => Err(halt_of(fault, space.machine().nodes())),
     }
@@ -204,7 +207,16 @@ fn add_difference<P: Watch>(
     let nodes = space.machine().nodes();
     let Asked { touch, format, .. } = asked;
     let after = outlook_in(alloc, space)?;
-    let text = difference_more(alloc, &one.outlook, &after, nodes, touch, format, sum, watch);
+    let text = difference_more(
+        alloc,
+        &one.outlook,
+        &after,
+        nodes,
+        touch,
+        format,
+        sum,
+        watch,
+    );
     drop(after);
     match text {
         Ok(text) => {

@@ -194,8 +194,8 @@ fn reasons_after(
     }
 }
 
-/// Why a page goes where it goes now, as lines: of a process, or of each of a host's that has mapped
-/// it, if none is named.
+/// Why a page goes where it goes now, as lines: of a process, or of each of a host's that has
+/// mapped it, if none is named.
 ///
 /// # Errors
 /// `NoMachine`, `NoNode`, `NoHost`, `NoProcess`, `Unmapped`, or `Stopped`: out of memory.

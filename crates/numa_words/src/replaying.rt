@@ -96,10 +96,7 @@ fn replayed_by<S: Read + Drop>(
 }
 
 /// Finishes the messages, and returns the space in which a trace is replayed.
-fn space_after<T: Write>(
-    findings: &mut Findings<T>,
-    process: Option<u32>,
-) -> Result<&Space, Halt> {
+fn space_after<T: Write>(findings: &mut Findings<T>, process: Option<u32>) -> Result<&Space, Halt> {
     match findings.end() {
         Ok(()) => space_of(findings.script(), process),
         Err(why) => Err(Halt::Stopped(why)),
@@ -132,8 +129,9 @@ fn replayed<S: Read + Drop, T: Write>(
 }
 
 /// Plays the scripts, replays a trace on a machine where no page is placed, by the plan of all
-/// accepted commands, and writes the report. Of a host a process has to be named. What is wrong with a line of the scripts is written to
-/// `told`, and the line is skipped. The answer is complete before its first byte is written.
+/// accepted commands, and writes the report. Of a host a process has to be named. What is wrong
+/// with a line of the scripts is written to `told`, and the line is skipped. The answer is complete
+/// before its first byte is written.
 ///
 /// # Errors
 /// Why there is no answer; `BadAccess` is the first line of the trace that can't be replayed. Text

@@ -97,7 +97,9 @@ fn lack_node(rt: &impl Eprint, words: &str, node: u32, behind: &str, nodes: u32)
 
 /// Ends because the host has no process of this number.
 fn lack_process(rt: &impl Eprint, process: u32) -> ExitCode {
-    let _ = eprintln!(rt; "error: '--process {process}': there is no such process after the scripts");
+    let _ = eprintln!(rt;
+        "error: '--process {process}': there is no such process after the scripts"
+    );
     ExitCode::from(2)
 }
 

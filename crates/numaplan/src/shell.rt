@@ -1,9 +1,9 @@
 //! Questions of a shell, beside those of scripts.
 use numa_host_script::HostScript;
+use numa_mask::parts::first_place;
 use numa_reports::Touch;
 use numa_script::number::{number, small};
 use numa_script::parts::words;
-use numa_mask::parts::first_place;
 use numa_words::{Halt, explained, predicted};
 use std::alloc::Global;
 

@@ -185,11 +185,7 @@ impl<W: Write, T: Write> TakeLine<()> for Typed<W, T> {
 }
 
 /// Answers a typed script, with a prompt before each line.
-fn answer_all<R, S>(
-    rt: &R,
-    scripts: Scripts<S>,
-    is_shell: bool,
-) -> Result<(), RunFault>
+fn answer_all<R, S>(rt: &R, scripts: Scripts<S>, is_shell: bool) -> Result<(), RunFault>
 where
     R: Print + Eprint + AllocGlobal,
     S: Read + Drop,

@@ -15,7 +15,8 @@ static WORD: SubcommandHelp = SubcommandHelp {
 answers by a fault or a refusal there is one line on standard output: the file, the line, for bad \
 words the column in bytes, the answer, and its cause with what to do. Lines that need a machine \
 while none is ready are counted at the end. Of a host's script the process of a line is told too, \
-and with --process only what is wrong with the lines of process P. The status is 3 where anything was told, and else 0.",
+and with --process only what is wrong with the lines of process P. The status is 3 where anything \
+was told, and else 0.",
     more: "Example, from the top of the repository:\n  ./numaplan check \
 examples/why-refused.numaplan",
     reads_lines: true,

@@ -13,8 +13,8 @@ use std::alloc::Global;
 
 /// The message for an invalid process.
 const BAD_PROCESS: &str =
-    "error: '--process <P>' takes a number below 2^32, decimal or 0x and hexadecimal, or all\n\nFor \
-more information, try '--help'.\n";
+    "error: '--process <P>' takes a number below 2^32, decimal or 0x and hexadecimal, or all\n\n\
+For more information, try '--help'.\n";
 
 /// The option `--process P` of a subcommand that asks about the state after scripts.
 pub const PROCESS: Argument = Argument {
