@@ -1,3 +1,4 @@
+pub mod Differing
 pub mod Meeting
 pub mod Moving
 pub mod Periods

@@ -315,7 +315,7 @@ item-page (span ∷ spans) (suc k) d page lt low high =
     go true = refl
     go false = refl
 
-both-true : (a b : Bool) → (a && b) ≡ true → (a ≡ true) × (b ≡ true)
+pub both-true : (a b : Bool) → (a && b) ≡ true → (a ≡ true) × (b ≡ true)
 both-true true true e = (refl, refl)
 both-true true false e = absurd (let odd = e in cc)
 both-true false b e = absurd (let odd = e in cc)

@@ -1,4 +1,5 @@
 pub mod Common
+pub mod Differences
 pub mod Failing
 pub mod Filled
 pub mod Mapped

@@ -6,6 +6,7 @@
 #![tactic(auto)]
 
 mod account;
+mod differences;
 mod fault;
 mod filling;
 mod moves;
@@ -19,6 +20,7 @@ mod turns;
 mod watch;
 
 pub use account::{Account, fill_more};
+pub use differences::{SpanMove, all_moves};
 pub use fault::ReportError;
 pub use filling::{FreePages, fill_all};
 pub use moves::span_moves;

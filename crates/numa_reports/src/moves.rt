@@ -114,6 +114,8 @@ pub(crate) fn add_moves<W: Watch>(
         → PlanStandsFor machine before.now old → PlanStandsFor machine after.now new
         → touch.cpu < machine.nodes → OnOk result (AddsMoves table.old.items table.new.items
         (meant_moves machine old new touch.task span.first span.pages touch.cpu)) }
+    ensures planned { OnOk result (AddsMoves table.old.items table.new.items
+        (planned_moves before.now after.now touch.task span.first span.pages touch.cpu)) }
     ensures entries { length table.new.items ≡ 65536 }
     ensures left { (left : ℕ) → HasRoomFor table.old.items left → span.pages ≤ left
         → OnOk result (HasRoomFor table.new.items (left - span.pages)) }

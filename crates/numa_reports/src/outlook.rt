@@ -29,7 +29,7 @@ pub struct Outlook {
 }
 
 /// The pages of each range of a space, in ascending order.
-fn spans_of(alloc: Global, space: &Space) -> Result<Vec<PageSpan>, AllocError>
+pub(crate) fn spans_of(alloc: Global, space: &Space) -> Result<Vec<PageSpan>, AllocError>
     ensures spans { IfOk result (λ spans. spans.items ≡ map span_of space.now.ranges) }
     ensures rising { IfOk result (λ spans. AreRising 0 spans.items) }
 {

@@ -78,6 +78,20 @@ returns-clause-ok g c machine old new was is lt from to f t =
           c.args.touch.cpu c.args.span.first c.args.span.pages from to was is lt,
     )
 
+pub returns-clause-planned : goal.returns-clause-planned
+returns-clause-planned g c from to f t =
+    let test : ℕ → Bool =
+    λ page.
+    is_number from (planned_first c.args.before.now c.args.touch.task page c.args.touch.cpu)
+    && is_number to (planned_first c.args.after.now c.args.touch.task page c.args.touch.cpu) in
+    let all : c.loop-page.page - c.args.span.first ≡ c.args.span.pages =
+    omega (arith, c.loop-page.invariant.low, c.loop-page.invariant.high) in
+    omega (
+      arith,
+      c.loop-page.invariant.counted from to f t,
+      ap (λ (n : ℕ). count_pages test c.args.span.first n) all,
+    )
+
 pub returns-in_default-clause-err : goal.returns-in_default-clause-err
 returns-in_default-clause-err g c =
     inl (far-refused c.args.before.now c.args.span.first c.args.span.pages c.args.touch.cpu
