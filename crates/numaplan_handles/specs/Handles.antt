@@ -1,11 +1,13 @@
 -- What the handle of each kind keeps.
 use Rattle.std.specs.Prelude.{Option}
 use Rattle.numa_core.specs.Standing.{CoreState}
+use Rattle.numa_host.specs.Standing.{HostState}
 use Rattle.numa_plan.specs.Meaning.{PlanData}
 use Rattle.numa_pool.specs.Seated.{Seated}
-use Rattle.numaplan_handles.specs.Kinds.{core_of, plan_of, seat_of, dialog_of}
+use Rattle.numaplan_handles.specs.Kinds.{core_of, plan_of, seat_of, dialog_of, host_of}
 use Rattle.numaplan_handles.specs.declared.dialog.Dialog.{Dialog}
 use Rattle.numaplan_handles.specs.declared.core_handle.CoreHandle.{CoreHandle}
+use Rattle.numaplan_handles.specs.declared.host_handle.HostHandle.{HostHandle}
 use Rattle.numaplan_handles.specs.declared.plan_handle.PlanHandle.{PlanHandle}
 use Rattle.numaplan_handles.specs.declared.seat_handle.SeatHandle.{SeatHandle}
 use Rattle.numaplan_handles.specs.declared.script_handle.ScriptHandle.{ScriptHandle}
@@ -25,3 +27,7 @@ seat_in h = seat_of h.handle.held.kept
 -- the script that a handle keeps, with the answer to its last line
 abbrev pub dialog_in : ScriptHandle → Option Dialog
 dialog_in h = dialog_of h.handle.held.kept
+
+-- the host that a handle keeps
+abbrev pub host_in : HostHandle → Option HostState
+host_in h = host_of h.handle.held.kept

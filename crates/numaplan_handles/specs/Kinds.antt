@@ -2,6 +2,7 @@
 use Rattle.std.specs.Prelude.{◌≡◌, Bool, true, false, Option, Some, None}
 use Rattle.std.specs.Arc.{arc_value}
 use Rattle.numa_core.specs.Standing.{CoreState}
+use Rattle.numa_host.specs.Standing.{HostState}
 use Rattle.numa_plan.specs.Meaning.{PlanData}
 use Rattle.numa_pool.specs.Seated.{Seated}
 use Rattle.numaplan_handles.specs.declared.dialog.Dialog.{Dialog}
@@ -15,6 +16,7 @@ core_of (Some (kept.Core core)) = Some core
 core_of (Some (kept.Plan plan)) = None
 core_of (Some (kept.Seat seat)) = None
 core_of (Some (kept.Script dialog)) = None
+core_of (Some (kept.Host host)) = None
 
 -- the plan that is kept
 abbrev pub plan_of : Option Kept → Option PlanData
@@ -23,6 +25,7 @@ plan_of (Some (kept.Core core)) = None
 plan_of (Some (kept.Plan plan)) = Some (arc_value plan)
 plan_of (Some (kept.Seat seat)) = None
 plan_of (Some (kept.Script dialog)) = None
+plan_of (Some (kept.Host host)) = None
 
 -- the seat that is kept
 abbrev pub seat_of : Option Kept → Option Seated
@@ -31,6 +34,7 @@ seat_of (Some (kept.Core core)) = None
 seat_of (Some (kept.Plan plan)) = None
 seat_of (Some (kept.Seat seat)) = Some seat
 seat_of (Some (kept.Script dialog)) = None
+seat_of (Some (kept.Host host)) = None
 
 -- the script that is kept, with the answer to its last line
 abbrev pub dialog_of : Option Kept → Option Dialog
@@ -39,6 +43,16 @@ dialog_of (Some (kept.Core core)) = None
 dialog_of (Some (kept.Plan plan)) = None
 dialog_of (Some (kept.Seat seat)) = None
 dialog_of (Some (kept.Script dialog)) = Some dialog
+dialog_of (Some (kept.Host host)) = None
+
+-- the host that is kept
+abbrev pub host_of : Option Kept → Option HostState
+host_of None = None
+host_of (Some (kept.Core core)) = None
+host_of (Some (kept.Plan plan)) = None
+host_of (Some (kept.Seat seat)) = None
+host_of (Some (kept.Script dialog)) = None
+host_of (Some (kept.Host host)) = Some host
 
 -- nothing but a core is kept
 abbrev pub is_core : Option Kept → Bool
@@ -47,6 +61,7 @@ is_core (Some (kept.Core core)) = true
 is_core (Some (kept.Plan plan)) = false
 is_core (Some (kept.Seat seat)) = false
 is_core (Some (kept.Script dialog)) = false
+is_core (Some (kept.Host host)) = false
 
 -- nothing but a plan is kept
 abbrev pub is_plan : Option Kept → Bool
@@ -55,6 +70,7 @@ is_plan (Some (kept.Core core)) = false
 is_plan (Some (kept.Plan plan)) = true
 is_plan (Some (kept.Seat seat)) = false
 is_plan (Some (kept.Script dialog)) = false
+is_plan (Some (kept.Host host)) = false
 
 -- nothing but a seat is kept
 abbrev pub is_seat : Option Kept → Bool
@@ -63,6 +79,7 @@ is_seat (Some (kept.Core core)) = false
 is_seat (Some (kept.Plan plan)) = false
 is_seat (Some (kept.Seat seat)) = true
 is_seat (Some (kept.Script dialog)) = false
+is_seat (Some (kept.Host host)) = false
 
 -- nothing but a script is kept
 abbrev pub is_script : Option Kept → Bool
@@ -71,6 +88,16 @@ is_script (Some (kept.Core core)) = false
 is_script (Some (kept.Plan plan)) = false
 is_script (Some (kept.Seat seat)) = false
 is_script (Some (kept.Script dialog)) = true
+is_script (Some (kept.Host host)) = false
+
+-- nothing but a host is kept
+abbrev pub is_host : Option Kept → Bool
+is_host None = true
+is_host (Some (kept.Core core)) = false
+is_host (Some (kept.Plan plan)) = false
+is_host (Some (kept.Seat seat)) = false
+is_host (Some (kept.Script dialog)) = false
+is_host (Some (kept.Host host)) = true
 
 -- the same as `Calls` of a value that is kept, which stays of its kind: what `told` says is of the
 -- values of that kind

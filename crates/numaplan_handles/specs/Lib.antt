@@ -3,6 +3,7 @@ pub mod Calls
 pub mod Dialogs
 pub mod Handles
 pub mod Held
+pub mod Hosts
 pub mod Kinds
 pub mod Ownership
 pub mod Plans

@@ -37,7 +37,7 @@ pub fn core_kept(kept: &Kept) -> &Core
 }
 
 /// The range at a place, counted from 0 in ascending order.
-fn range_of(space: &Space, place: usize) -> Option<Run<RangeRecord>>
+pub(crate) fn range_of(space: &Space, place: usize) -> Option<Run<RangeRecord>>
     ensures range { result ≡ slice_get space.now.ranges place }
     ensures end { IfSome result (λ range. end_of range ≤ 2 ^ 35) }
     ensures meaning { (history : List Command) → StandsFor space.now history

@@ -3,6 +3,7 @@ ghost use Rattle.std.specs.Prelude.{◌≡◌, Some, None, MatchOption, is_some,
 ghost use Rattle.std.specs.Prelude.{Ok, Err, MatchResult, OnOk, OnErr};
 ghost use Rattle.numaplan_handles.specs.Calls.{IsShared};
 ghost use Rattle.numaplan_handles.specs.Kinds.{core_of, is_core, is_plan, plan_of};
+ghost use Rattle.numaplan_handles.specs.Kinds.{host_of, is_host};
 
 use crate::held::HeapSlot;
 use crate::kept::Kept;
@@ -109,7 +110,7 @@ impl Handle {
         self.put_made(kept.on_heap(alloc).ok_or(AllocError))
     }
 
-    /// Puts a copy of the core, or the same plan, into another, closed handle. `None` if this one
+    /// Puts a copy of the core or the host, or the same plan, into another, closed handle. `None` if this one
     /// is closed.
     pub(crate) fn share(
         &mut self,
@@ -124,6 +125,9 @@ impl Handle {
         ensures plan { is_plan self.old.held.kept ≡ true →
             (is_plan other.new.held.kept ≡ true)
             × IsShared (plan_of self.old.held.kept) result (plan_of other.new.held.kept) }
+        ensures host { is_host self.old.held.kept ≡ true →
+            (is_host other.new.held.kept ≡ true)
+            × IsShared (host_of self.old.held.kept) result (host_of other.new.held.kept) }
     {
         let kept = self.take(alloc)?;
         let again = kept.again(alloc);

@@ -3,6 +3,7 @@ ghost use Rattle.std.specs.Prelude.{◌≡◌, Some, IfSome, true};
 
 use crate::dialog::Dialog;
 use numa_core::Core;
+use numa_host::Host;
 use numa_plan::Plan;
 use numa_pool::OwnedSeat;
 use std::alloc::Global;
@@ -19,10 +20,13 @@ pub enum Kept {
     Seat(OwnedSeat),
     /// A script, with the answer to its last line.
     Script(Dialog),
+    /// A host, which belongs to the handle alone.
+    Host(Host),
 }
 
 impl Kept {
     ghost use Rattle.numaplan_handles.specs.Kinds.{core_of, is_core, is_plan, plan_of};
+    ghost use Rattle.numaplan_handles.specs.Kinds.{host_of, is_host};
 
     /// Moves the value to the heap, if there is memory for it; else it is dropped.
     pub(crate) fn on_heap(self, alloc: Global) -> Option<Box<Kept>>
@@ -31,7 +35,7 @@ impl Kept {
         Box::new(alloc, self).ok()
     }
 
-    /// A copy of the core, or the same plan shared, if there is memory for it.
+    /// A copy of the core or the host, or the same plan shared, if there is memory for it.
     pub(crate) fn again(&self, alloc: Global) -> Option<Box<Kept>>
         ensures core { is_core (Some self.now) ≡ true → IfSome result (λ other.
             (is_core (Some other.value) ≡ true)
@@ -39,6 +43,9 @@ impl Kept {
         ensures plan { is_plan (Some self.now) ≡ true → IfSome result (λ other.
             (is_plan (Some other.value) ≡ true)
             × (plan_of (Some other.value) ≡ plan_of (Some self.now))) }
+        ensures host { is_host (Some self.now) ≡ true → IfSome result (λ other.
+            (is_host (Some other.value) ≡ true)
+            × (host_of (Some other.value) ≡ host_of (Some self.now))) }
     {
         match self {
             Kept::Core(core) => {
@@ -52,6 +59,12 @@ impl Kept {
                     return None;
                 };
                 Kept::Plan(other).on_heap(alloc)
+            }
+            Kept::Host(host) => {
+                let Ok(other) = host.copy() else {
+                    return None;
+                };
+                Kept::Host(other).on_heap(alloc)
             }
             _ => None,
         }

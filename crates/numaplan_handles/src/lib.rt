@@ -1,7 +1,7 @@
-//! Handles for C callers: of a core, a plan, a seat at pools of frames, or a script. A handle is 16
-//! bytes, initially 0: a flag that says whether it is open, and a pointer to a value on the heap,
-//! which the handle owns. The calls that ask whether it is open and that close it are the same for
-//! all kinds: those of its `handle`.
+//! Handles for C callers: of a core, a plan, a seat at pools of frames, a script, or a host. A handle
+//! is 16 bytes, initially 0: a flag that says whether it is open, and a pointer to a value on the
+//! heap, which the handle owns. The calls that ask whether it is open and that close it are the same
+//! for all kinds: those of its `handle`.
 #![tactic(auto)]
 
 mod core_handle;
@@ -9,6 +9,8 @@ mod core_questions;
 mod dialog;
 mod handle;
 mod held;
+mod host_handle;
+mod host_questions;
 mod kept;
 mod place;
 mod plan_handle;
@@ -22,6 +24,7 @@ pub use core_questions::core_kept;
 pub use dialog::{Dialog, LineRefusal};
 pub use handle::Handle;
 pub use held::HeapSlot;
+pub use host_handle::HostHandle;
 pub use kept::Kept;
 pub use plan_handle::{ChoiceRefusal, PlanHandle};
 pub use room::copy_bytes;

@@ -1,0 +1,106 @@
+-- What a handle of a host keeps, what a command does to it, and what it answers.
+use Rattle.std.specs.Prelude.{◌≡◌, ℕ, true, false, Option, Some, Result, Ok, Err, List, length, map}
+use Rattle.std.specs.Prelude.{take, drop, slice_get, IfOk, MatchOption}
+use Rattle.std.specs.Option.{option_map}
+use Rattle.numa_compile.specs.Standing.{PlanStandsFor}
+use Rattle.numa_host.specs.Groups.{effective_mems, groups_of, is_group}
+use Rattle.numa_host.specs.Processes.{Member, commands_of, is_there, members_of}
+use Rattle.numa_host.specs.Standing.{HostState, HostStandsFor, IsHostApplied, member_of}
+use Rattle.numa_host.specs.declared.command.HostCommand.{HostCommand}
+use Rattle.numa_host.specs.declared.group.Group.{Group}
+use Rattle.numa_host.specs.declared.refusal.HostRefusal.{HostRefusal}
+use Rattle.numa_machine.specs.Machine.{Hardware}
+use Rattle.numa_machine.specs.declared.no_memory.NoMemory.{NoMemory}
+use Rattle.numa_maps.specs.Listing.{AreRangesOf}
+use Rattle.numa_mode.specs.Policy.{PolicyRecord}
+use Rattle.numa_plan.specs.Meaning.{PlanData}
+use Rattle.numa_ranges.specs.declared.run.Run.{Run}
+use Rattle.numa_space.specs.Lists.{node_list}
+use Rattle.numa_space.specs.Policies.{task_record}
+use Rattle.numa_space.specs.Refusals.{range_count_of}
+use Rattle.numa_space.specs.Standing.{place_refusal_of}
+use Rattle.numa_space.specs.declared.command.Command.{Command}
+use Rattle.numa_space.specs.declared.refusal.PlaceRefusal.{PlaceRefusal}
+use Rattle.numaplan_handles.specs.declared.plan_handle.ChoiceRefusal.{ChoiceRefusal}
+use Rattle.numaplan_handles.specs.declared.plan_handle.ChoiceRefusal.TheVariants as refused
+
+-- the command took the host that is kept from one state to another with this answer
+abbrev pub Obeys : HostCommand → Option HostState → Option HostState
+    → Result (Unit {0}) HostRefusal → Type 0
+Obeys command old new answer =
+    (before : HostState) → old ≡ Some before →
+    (after : HostState) × (new ≡ Some after) × IsHostApplied before command answer after
+
+-- what is told of a host and each history that it stands for
+abbrev pub OfHost : Option HostState → (HostState → List HostCommand → Type 0) → Type 0
+OfHost kept told =
+    (host : HostState) → kept ≡ Some host →
+    (history : List HostCommand) → HostStandsFor host history → told host history
+
+-- ---- the host, its groups and its processes
+
+-- this many commands are accepted
+abbrev pub HasHostVersion : ℕ → HostState → List HostCommand → Type 0
+HasHostVersion version host history = (version ≡ host.version) × (version ≡ length history)
+
+-- there are this many groups below the root
+abbrev pub HasGroups : ℕ → HostState → List HostCommand → Type 0
+HasGroups count host history = count ≡ length (groups_of history)
+
+-- this is the group at a place, the newest being at 0
+abbrev pub HasGroupAt : ℕ → Option Group → HostState → List HostCommand → Type 0
+HasGroupAt place found host history = found ≡ slice_get (groups_of history) place
+
+-- these are the effective nodes of a group, if it is there
+abbrev pub HasGroupNodes : ℕ → Option ℕ → HostState → List HostCommand → Type 0
+HasGroupNodes name found host history = MatchOption found (is_group (groups_of history) name ≡ false)
+    (λ nodes. (is_group (groups_of history) name ≡ true)
+    × (nodes ≡ effective_mems host.blank.machine.memory (groups_of history) name))
+
+-- there are this many processes
+abbrev pub HasProcesses : ℕ → HostState → List HostCommand → Type 0
+HasProcesses count host history = count ≡ length (members_of history)
+
+-- these are the process at a place, the first born being at 0, and its group
+abbrev pub HasProcessAt : ℕ → Option Member → HostState → List HostCommand → Type 0
+HasProcessAt place found host history = found ≡ slice_get (members_of history) place
+
+-- ---- one process
+
+-- what is told of the commands that a process has accepted, on the host's machine; no answer where
+-- the process isn't there
+abbrev pub OfProcess : {A : Type 0} → ℕ → (Hardware → List Command → A → Type 0) → Option A
+    → HostState → List HostCommand → Type 0
+OfProcess process told answer host history =
+    MatchOption answer (is_there (members_of history) process ≡ false)
+    (λ it. (is_there (members_of history) process ≡ true)
+    × told host.blank.machine (commands_of host.blank.machine history process) it)
+
+-- how many ranges of pages there are
+abbrev pub CountsRanges : Hardware → List Command → ℕ → Type 0
+CountsRanges machine commands count = count ≡ range_count_of machine commands
+
+-- the range at a place, the lowest being at 0
+abbrev pub FindsRange : ℕ → Hardware → List Command → Option (Run (Option PolicyRecord)) → Type 0
+FindsRange place machine commands found =
+    (ranges : List (Run (Option PolicyRecord))) × AreRangesOf machine commands ranges
+    × (found ≡ slice_get ranges place)
+
+-- the policy of a task
+abbrev pub FindsPolicy : ℕ → Hardware → List Command → Option PolicyRecord → Type 0
+FindsPolicy task machine commands found = found ≡ task_record machine commands task
+
+-- the plan
+abbrev pub IsPlanned : Hardware → List Command → Result PlanData NoMemory → Type 0
+IsPlanned machine commands answer = IfOk answer (λ plan. PlanStandsFor machine plan commands)
+
+-- the list of a page, and what the room for it held before and after: the list is at the beginning,
+-- or there is no room, or no list
+abbrev pub ChoosesBy : ℕ → ℕ → ℕ → List ℕ → List ℕ → Hardware → List Command
+    → Result ℕ ChoiceRefusal → Type 0
+ChoosesBy task page cpu old new machine commands (Ok count) =
+    (take count new ≡ node_list machine commands task page cpu) × (drop count new ≡ drop count old)
+ChoosesBy task page cpu old new machine commands (Err (refused.TooShort count)) =
+    (count ≡ length (node_list machine commands task page cpu)) × (new ≡ old)
+ChoosesBy task page cpu old new machine commands (Err (refused.Place cause)) =
+    (place_refusal_of machine commands page cpu ≡ Some cause) × (new ≡ old)
