@@ -7,7 +7,7 @@ use Rattle.numa_host.specs.Groups.{effective_mems, groups_of, is_group}
 use Rattle.numa_host.specs.Processes.{Member, commands_of, is_there, members_of}
 use Rattle.numa_host.specs.Standing.{HostState, HostStandsFor, IsHostApplied, member_of}
 use Rattle.numa_host.specs.declared.command.HostCommand.{HostCommand}
-use Rattle.numa_host.specs.declared.group.Group.{Group}
+use Rattle.numa_host.specs.declared.group.ControlGroup.{ControlGroup}
 use Rattle.numa_host.specs.declared.refusal.HostRefusal.{HostRefusal}
 use Rattle.numa_machine.specs.Machine.{Hardware}
 use Rattle.numa_machine.specs.declared.no_memory.NoMemory.{NoMemory}
@@ -48,7 +48,7 @@ abbrev pub HasGroups : ℕ → HostState → List HostCommand → Type 0
 HasGroups count host history = count ≡ length (groups_of history)
 
 -- this is the group at a place, the newest being at 0
-abbrev pub HasGroupAt : ℕ → Option Group → HostState → List HostCommand → Type 0
+abbrev pub HasGroupAt : ℕ → Option ControlGroup → HostState → List HostCommand → Type 0
 HasGroupAt place found host history = found ≡ slice_get (groups_of history) place
 
 -- these are the effective nodes of a group, if it is there

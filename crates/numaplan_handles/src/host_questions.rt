@@ -19,7 +19,7 @@ use crate::host_handle::{HostHandle, host_kept};
 use crate::plan_handle::ChoiceRefusal;
 use crate::room::copy_bytes;
 use numa_compile::compile;
-use numa_host::{Group, Host};
+use numa_host::{ControlGroup, Host};
 use numa_machine::NoMemory;
 use numa_mask::NodeMask;
 use numa_mode::Record;
@@ -29,7 +29,7 @@ use numa_space::{RangeRecord, Space};
 use std::alloc::Global;
 
 /// The group at a place, the newest being at 0.
-fn group_at(host: &Host, place: usize) -> Option<Group>
+fn group_at(host: &Host, place: usize) -> Option<ControlGroup>
     ensures { (history : List HostCommand) → HostStandsFor host.now history
         → HasGroupAt place result host.now history }
 {
@@ -139,7 +139,7 @@ impl HostHandle {
     }
 
     /// The group at a place, the newest being at 0, or no group. `None` if the handle is closed.
-    pub fn group(&mut self, alloc: Global, place: usize) -> Option<Option<Group>>
+    pub fn group(&mut self, alloc: Global, place: usize) -> Option<Option<ControlGroup>>
         ensures { Asks (λ found. OfHost (host_in self.old) (HasGroupAt place found))
             (host_in self.old) result (host_in self.new) }
     {
