@@ -8,4 +8,5 @@ pub mod RowLemmas
 pub mod RuleLemmas
 pub mod Searching
 pub mod SlotLemmas
+pub mod TaskPlaces
 pub mod UseLemmas

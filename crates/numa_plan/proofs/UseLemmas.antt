@@ -3,18 +3,19 @@ use Rattle.std.proofs.Common.{◌≡◌, ◌≢◌, ℕ, zero, suc, ◌+◌, ◌
 use Rattle.std.proofs.Common.{None, List, [], ◌∷◌, ◌++◌, length, get_or, take, refl, sym, ap, ◌∙◌}
 use Rattle.std.proofs.Common.{arith}
 use Rattle.std.specs.Prelude.{All, ◌↔◌, ◌==◌, count_by, slice_get}
-use Rattle.std.specs.Map.{values_of}
+use Rattle.std.specs.Map.{keys_of, values_of}
 use Rattle.std.specs.Ordering.{nat_cmp}
-use Rattle.std.specs.BTreeMap.{BTreeMap, IsOrdered}
 use Rattle.std.proofs.lemmas.Bool.{ne_eqb}
-use Rattle.std.proofs.lemmas.Cmp.{nat_cmp_total}
+use Rattle.std.proofs.lemmas.Cmp.{eq_by_cmp_equiv, nat_cmp_total}
 use Rattle.std.proofs.lemmas.List.{take_more}
 use Rattle.std.proofs.lemmas.List.Sums.{sum_by-append, sum_by-cons}
-use Rattle.std.proofs.lemmas.Map.Entries.{btree_map_get_place}
+use Rattle.std.proofs.lemmas.Map.Entries.{lookup_from_place}
+use Rattle.std.proofs.lemmas.Map.Keys.{IsDistinct-from_sorted}
 use Rattle.numa_ranges.specs.declared.run.Run.{Run}
 use Rattle.numa_plan.specs.Editing.{IsUnnamed}
 use Rattle.numa_plan.specs.Meaning.{PlanData, is_number, number_of}
 use Rattle.numa_plan.specs.Sound.{uses_of}
+use Rattle.numa_plan.specs.TaskTable.{AreSorted}
 use Rattle.numa_plan.proofs.BuildLemmas.{task-uses}
 use Rattle.numa_plan.proofs.EditLemmas.{names, names-cons}
 
@@ -72,10 +73,10 @@ unnamed-tasks number (entry ∷ tasks) all =
     )
 
 -- a number that counts no use is that of no run and no task
-pub unnamed-unused : (plan : PlanData) (tasks : BTreeMap ℕ ℕ) (number uses : ℕ)
-    → plan.tasks ≡ tasks.entries → IsOrdered nat_cmp tasks
+pub unnamed-unused : (plan : PlanData) (tasks : List (ℕ × ℕ)) (number uses : ℕ)
+    → plan.tasks ≡ tasks → AreSorted tasks
     → uses ≡ uses_of plan.runs plan.tasks number → (uses ≡ 0) ↔ IsUnnamed plan number
-unnamed-unused plan tasks number uses is ordered counted = (
+unnamed-unused plan tasks number uses is sorted counted = (
   λ none. record {
     runs = runs-unnamed number plan.runs (omega (arith, counted, none));
     tasks = λ task named.
@@ -92,8 +93,10 @@ unnamed-unused plan tasks number uses is ordered counted = (
     counted,
     unnamed-runs number plan.runs unnamed.runs,
     unnamed-tasks number plan.tasks (λ i task other at same. unnamed.tasks task
-        (ap (λ (l : List (ℕ × ℕ)). number_of l task) is ∙ btree_map_get_place nat_cmp_total tasks i
-        task other ordered (sym (ap (λ (l : List (ℕ × ℕ)). slice_get l i) is) ∙ at)
+        (ap (λ (l : List (ℕ × ℕ)). number_of l task) is
+        ∙ lookup_from_place (eq_by_cmp_equiv nat_cmp_total) tasks i task other
+        (IsDistinct-from_sorted nat_cmp (keys_of tasks) sorted)
+        (sym (ap (λ (l : List (ℕ × ℕ)). slice_get l i) is) ∙ at)
         ∙ ap (λ (n : ℕ). Some n) same)),
   ),
 )

@@ -8,3 +8,4 @@ pub mod Rules
 pub mod Slots
 pub mod Sound
 pub mod Tally
+pub mod TaskTable

@@ -25,6 +25,7 @@ mod shared_rule;
 mod slots;
 mod steps;
 mod tally;
+mod task_numbers;
 
 pub use plan::Plan;
 pub use rule::Rule;

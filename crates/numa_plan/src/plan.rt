@@ -21,10 +21,10 @@ use crate::runs::{Found, PlanRuns};
 use crate::slots::{Slot, copies};
 use crate::steps::Steps;
 use crate::tally::Tally;
+use crate::task_numbers::TaskNumbers;
 use numa_machine::NoMemory;
 use numa_space::PlaceRefusal;
 use std::alloc::Global;
-use std::collections::BTreeMap;
 use std::marker::Model;
 
 /// The fallback lists of a space's pages: runs of pages, each with the number of its rule or none,
@@ -42,7 +42,7 @@ pub struct Plan {
     runs: PlanRuns,
     slots: Vec<Slot>,
     lowest_free: usize,
-    tasks: BTreeMap<u32, u32>,
+    tasks: TaskNumbers,
     local: Rule,
     numbers: Numbers,
 }
@@ -57,34 +57,22 @@ impl Model for Plan {
       nodes = a.nodes;
       runs = a.runs;
       slots = a.slots.items;
-      tasks = a.tasks.entries;
+      tasks = a.tasks;
       local = a.local;
     } };
 
     ghost use Rattle.numa_plan.specs.Sound.{IsPlan};
 
     ghost invariant = { λ a.
-        IsPlan a.nodes a.runs a.slots.items a.lowest_free a.tasks.entries a.local };
-}
-
-/// A copy of the tasks.
-fn tasks_copied(tasks: &BTreeMap<u32, u32>) -> Result<BTreeMap<u32, u32>, NoMemory>
-    ensures { IfOk result (λ copy. copy.entries ≡ tasks.now.entries) }
-{
-    let copy = tasks.clone()?;
-    Ok(copy)
+        IsPlan a.nodes a.runs a.slots.items a.lowest_free a.tasks a.local };
 }
 
 /// Copies of the tasks and the local rule.
-fn copied(
-    alloc: Global,
-    tasks: &BTreeMap<u32, u32>,
-    local: &Rule,
-) -> Result<(BTreeMap<u32, u32>, Rule), NoMemory>
-    ensures tasks { IfOk result (λ copy. copy.0.entries ≡ tasks.now.entries) }
+fn copied(alloc: Global, tasks: &TaskNumbers, local: &Rule) -> Result<(TaskNumbers, Rule), NoMemory>
+    ensures tasks { IfOk result (λ copy. copy.0 ≡ tasks.now) }
     ensures local { IfOk result (λ copy. copy.1 ≡ local.now) }
 {
-    let tasks = tasks_copied(tasks)?;
+    let tasks = tasks.copy(alloc)?;
     let Ok(local) = local.copy(alloc) else {
         drop(tasks);
         return Err(NoMemory);
@@ -314,7 +302,7 @@ impl Plan {
     {
         match number {
             Some(number) => Some(number),
-            None => self.tasks.get(&task).copied(),
+            None => self.tasks.get(task),
         }
     }
 

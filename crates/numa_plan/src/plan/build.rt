@@ -15,11 +15,11 @@ use crate::rule::Rule;
 use crate::runs::PlanRuns;
 use crate::slots::{leave_named, put_lowest, use_named, use_rule, uses_at};
 use crate::steps::Steps;
+use crate::task_numbers::TaskNumbers;
 use numa_machine::NoMemory;
 use numa_mode::Record;
 use numa_ranges::Run;
 use std::alloc::Global;
-use std::collections::BTreeMap;
 
 impl Plan {
     /// A plan of version 0 for a machine with `nodes` nodes, without runs, rules in slots and
@@ -35,7 +35,7 @@ impl Plan {
             runs: PlanRuns::new(alloc),
             slots: Vec::new(alloc),
             lowest_free: 0,
-            tasks: BTreeMap::new(alloc),
+            tasks: TaskNumbers::new(alloc),
             local,
             numbers: Numbers::new(alloc),
         }
@@ -151,7 +151,7 @@ impl Plan {
             → number_of self.new.tasks other ≡ number_of self.old.tasks other }
         ensures sized { length self.new.tasks ≤ length self.old.tasks + 1 }
     {
-        let had = self.tasks.remove(&task);
+        let had = self.tasks.remove(task);
         leave_named(&mut self.slots, had);
     }
 

@@ -52,7 +52,7 @@ impl Plan {
     pub fn task_number(&self, task: u32) -> Option<u32>
         ensures { result ≡ number_of self.now.tasks task }
     {
-        self.tasks.get(&task).copied()
+        self.tasks.get(task)
     }
 
     /// The run at a place, in ascending order.

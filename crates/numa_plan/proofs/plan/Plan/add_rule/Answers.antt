@@ -26,7 +26,7 @@ pub invariant_of-self-2 : goal.invariant_of-self-2
 invariant_of-self-2 c =
     rw c.in_ok-number.ensures.put
     (keeps_with_rule c.self.inside.nodes c.self.inside.runs c.self.inside.slots.items
-    c.self.inside.lowest_free c.self.inside.tasks.entries c.self.inside.local
+    c.self.inside.lowest_free c.self.inside.tasks c.self.inside.local
     c.in_ok-number.number (record { policy = c.args.policy; rule = c.args.rule })
     c.self.invariant c.in_ok-number.ensures.lowest
     (rw (ap (λ (p : PlanData). p.nodes) c.self.view_is) c.requires.rows))
@@ -49,7 +49,7 @@ returns-clause-lists c task page cpu =
       runs = c.self.inside.runs;
       slots = c.self.inside.slots.items;
       tasks =
-          c.self.inside.tasks.entries;
+          c.self.inside.tasks;
       local = c.self.inside.local;
     } in
     ap (λ (slots : List Slot). planned_list (record plan { slots = slots }) task page cpu)
@@ -80,7 +80,7 @@ returns-clause-ok c =
       runs = c.self.inside.runs;
       slots = c.self.inside.slots.items;
       tasks =
-          c.self.inside.tasks.entries;
+          c.self.inside.tasks;
       local = c.self.inside.local;
     } in (
       subst (λ (slots : List Slot). IsLowestFree slots c.in_ok-number.number)

@@ -14,7 +14,7 @@ invariant_of-self c =
     ap (λ (p : PlanData). p.slots) c.self.view_is in
     rw (c.free_slot.ensures, c.min-self-inside.ensures)
     (keeps_without c.self.inside.nodes c.self.inside.runs c.self.inside.slots.items
-    c.self.inside.lowest_free c.self.inside.tasks.entries c.self.inside.local c.args.number
+    c.self.inside.lowest_free c.self.inside.tasks c.self.inside.local c.args.number
     c.self.invariant
     (subst (λ (l : List Slot). IsSome (rule_in l c.args.number)) (sym slots) c.requires.there)
     (ap (λ l. uses_in l c.args.number) slots ∙ c.requires.unused))
@@ -29,7 +29,7 @@ returns-clause-lists c task page cpu =
       runs = c.self.inside.runs;
       slots = c.self.inside.slots.items;
       tasks =
-          c.self.inside.tasks.entries;
+          c.self.inside.tasks;
       local = c.self.inside.local;
     } in
     ap (λ (slots : List Slot). planned_list (record plan { slots = slots }) task page cpu)
@@ -46,7 +46,7 @@ returns-clause-undone c before kept lowest ends is =
       runs = c.self.inside.runs;
       slots = c.self.inside.slots.items;
       tasks =
-          c.self.inside.tasks.entries;
+          c.self.inside.tasks;
       local = c.self.inside.local;
     } in
     ap (λ (slots : List Slot). record plan { slots = slots }) c.free_slot.ensures

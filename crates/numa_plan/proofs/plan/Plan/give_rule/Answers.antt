@@ -19,7 +19,7 @@ leave_named-requires c =
       arith,
       uses_in-used c.self.inside.slots.items c.args.number had named,
       c.self.invariant.counted had,
-      task-uses c.self.inside.runs c.self.inside.tasks.entries
+      task-uses c.self.inside.runs c.self.inside.tasks
           c.args.task had (sym is ∙ c.in_ok-had.ensures.old),
     ))
 
@@ -30,8 +30,8 @@ invariant_of-self-2 c =
     (sym (ap (λ (p : PlanData). p.slots) c.self.view_is)) c.requires.named in
     rw (c.leave_named.ensures, c.use_rule.ensures, c.in_ok-had.ensures.entries)
     (keeps_given c.self.inside.nodes c.self.inside.runs c.self.inside.slots.items
-    c.self.inside.lowest_free c.self.inside.tasks.entries c.self.inside.local c.args.task
-    c.args.number c.in_ok-had.had c.self.invariant c.insert.ensures.was_ordered
+    c.self.inside.lowest_free c.self.inside.tasks c.self.inside.local c.args.task
+    c.args.number c.in_ok-had.had c.self.invariant c.insert.ensures.was_sorted
     c.in_ok-had.ensures.old named)
 
 pub use_rule-requires-clause-there : goal.use_rule-requires-clause-there
@@ -47,7 +47,7 @@ returns-clause-ok c =
       runs = c.self.inside.runs;
       slots = c.self.inside.slots.items;
       tasks =
-          c.self.inside.tasks.entries;
+          c.self.inside.tasks;
       local = c.self.inside.local;
     } in
     let slots : c.leave_named.new.slots.items

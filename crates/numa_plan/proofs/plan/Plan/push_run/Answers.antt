@@ -19,7 +19,7 @@ invariant_of-self-2 c =
     (sym (ap (λ (p : PlanData). p.slots) c.self.view_is)) c.requires.named in
     rw (c.use_named.ensures, c.in_ok-push.ensures.ok.0)
     (keeps_with_run c.self.inside.nodes c.self.inside.runs c.self.inside.slots.items
-    c.self.inside.lowest_free c.self.inside.tasks.entries c.self.inside.local c.args.run
+    c.self.inside.lowest_free c.self.inside.tasks c.self.inside.local c.args.run
     c.self.invariant named)
 
 pub push-requires : goal.push-requires
@@ -40,7 +40,7 @@ returns-clause-ok c =
       runs = c.self.inside.runs;
       slots = c.self.inside.slots.items;
       tasks =
-          c.self.inside.tasks.entries;
+          c.self.inside.tasks;
       local = c.self.inside.local;
     } in (
       ap (λ (runs : List (Run (Option ℕ))).

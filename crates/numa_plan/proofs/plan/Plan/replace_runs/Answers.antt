@@ -16,7 +16,7 @@ leave_all-requires c =
     (sym (ap (λ (p : PlanData). p.slots) c.self.view_is)) c.requires.named in
     rw c.use_all.ensures
     (window-used c.self.inside.nodes c.self.inside.runs c.args.runs.now c.deref.result.now
-    c.self.inside.slots.items c.self.inside.lowest_free c.self.inside.tasks.entries
+    c.self.inside.slots.items c.self.inside.lowest_free c.self.inside.tasks
     c.self.inside.local c.args.from c.args.to c.self.invariant c.requires.rises
     (c.deref.ensures.value ∙ c.in_ok-gone.ensures.ok.0) there)
 
@@ -27,7 +27,7 @@ invariant_of-self-2 c =
     (sym (ap (λ (p : PlanData). p.slots) c.self.view_is)) c.requires.named in
     rw (c.leave_all.ensures, c.use_all.ensures, c.in_ok-gone.ensures.ok.1)
     (keeps_spliced c.self.inside.nodes c.self.inside.runs c.args.runs.now c.deref.result.now
-    c.self.inside.slots.items c.self.inside.lowest_free c.self.inside.tasks.entries
+    c.self.inside.slots.items c.self.inside.lowest_free c.self.inside.tasks
     c.self.inside.local c.args.from c.args.to c.self.invariant c.requires.rises
     (c.deref.ensures.value ∙ c.in_ok-gone.ensures.ok.0) there)
 
@@ -68,7 +68,7 @@ returns-clause-ok c =
       runs = c.self.inside.runs;
       slots = c.self.inside.slots.items;
       tasks =
-          c.self.inside.tasks.entries;
+          c.self.inside.tasks;
       local = c.self.inside.local;
     } in
     let slots : c.leave_all.new.slots.items ≡ with_uses_less (with_uses plan.slots c.args.runs.now)

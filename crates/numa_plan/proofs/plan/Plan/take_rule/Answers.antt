@@ -7,7 +7,7 @@ leave_named-requires c = λ had is.
     omega (
       arith,
       c.self.invariant.counted had,
-      task-uses c.self.inside.runs c.self.inside.tasks.entries c.args.task had
+      task-uses c.self.inside.runs c.self.inside.tasks c.args.task had
           (sym is ∙ c.remove-had.ensures.value),
     )
 
@@ -15,5 +15,5 @@ pub invariant_of-self : goal.invariant_of-self
 invariant_of-self c =
     rw (c.leave_named.ensures, c.remove-had.ensures.entries)
     (keeps_taken c.self.inside.nodes c.self.inside.runs c.self.inside.slots.items
-    c.self.inside.lowest_free c.self.inside.tasks.entries c.self.inside.local c.args.task
+    c.self.inside.lowest_free c.self.inside.tasks c.self.inside.local c.args.task
     c.remove-had.result c.self.invariant c.remove-had.ensures.value)

@@ -9,7 +9,7 @@ use Rattle.numa_plan.proofs.plan.Plan.uses.Goals as goal
 pub returns-clause-named : goal.returns-clause-named
 returns-clause-named c =
     unnamed-unused c.args.self.now c.self.inside.tasks c.args.number c.uses_at.result
-    (sym (ap (λ (p : PlanData). p.tasks) c.self.view_is)) c.len.ensures.ordered
+    (sym (ap (λ (p : PlanData). p.tasks) c.self.view_is)) c.len.ensures.sorted
     (c.uses_at.ensures
     ∙ ap (λ (l : List Slot). uses_in l c.args.number) c.deref.ensures.value
     ∙ c.self.invariant.counted c.args.number

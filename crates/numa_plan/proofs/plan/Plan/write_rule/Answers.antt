@@ -20,7 +20,7 @@ invariant_of-self c =
     ap (λ (p : PlanData). policy_in p.slots c.args.number) c.self.view_is ∙ c.requires.there in
     rw c.write_other.ensures
     (keeps_written c.self.inside.nodes c.self.inside.runs c.self.inside.slots.items
-    c.self.inside.lowest_free c.self.inside.tasks.entries c.self.inside.local c.args.number
+    c.self.inside.lowest_free c.self.inside.tasks c.self.inside.local c.args.number
     c.args.shared c.self.invariant
     (rule-there c.self.inside.slots.items c.args.number c.args.shared.policy there)
     (rw (ap (λ (p : PlanData). p.nodes) c.self.view_is) c.requires.rows))
