@@ -5,8 +5,8 @@
  * unit of any size. Nodes are numbered from 0 to 255, tasks by any number of 32 bits, workers
  * from 0.
  *
- * Handles. A core, a plan, a seat and a script are kept by handles of 16 bytes that begin as
- * zero bytes, as in `np_core core = {0};`. A handle owns what it keeps until it is closed. It
+ * Handles. A core, a plan, a seat, a script and a host are kept by handles of 16 bytes that begin
+ * as zero bytes, as in `np_core core = {0};`. A handle owns what it keeps until it is closed. It
  * is not to be copied, and its fields are the library's: C neither reads nor writes them.
  * Closing a closed handle does nothing. No call takes a `const` handle: a question, too, takes
  * what is kept out of its handle, and puts it back before it answers.
@@ -122,7 +122,19 @@ enum np_answer {
     /* a question about a script has no answer */
     NP_NO_MACHINE = 80, /* no line of the script makes a machine */
     NP_BAD_ACCESS = 81, /* a line of the trace can't be replayed */
-    NP_MANY_PROCESSES = 82 /* the script is a host's, and the answer is about one process */
+    NP_MANY_PROCESSES = 82, /* the script is a host's, and the answer is about one process */
+
+    /* a command of a host is refused, or a question names what the host hasn't */
+    NP_GROUP_EXISTS = 90,       /* EEXIST: there is a group of this number */
+    NP_NO_SUCH_GROUP = 91,      /* ENOENT: there is no group of this number, or not so many */
+    NP_TOO_MANY_GROUPS = 92,    /* ENOSPC: there are 1,024 groups below the root */
+    NP_ROOT_GROUP = 93,         /* EACCES: the root has no list of its own */
+    NP_POPULATED = 94,          /* ENOSPC: a process is in the group or below it */
+    NP_PROCESS_EXISTS = 95,     /* EEXIST: there is a process of this number */
+    NP_NO_SUCH_PROCESS = 96,    /* ESRCH: there is no process of this number, or not so many */
+    NP_TOO_MANY_PROCESSES = 97, /* EAGAIN: there are 4,096 processes */
+    NP_GROUP_MEMS = 98          /* EPERM: a process's allowed nodes are its group's; no call asks
+                                   for others */
 };
 
 /* ---- types */
@@ -447,8 +459,8 @@ uint32_t np_answer_name(uint32_t code, uint8_t *name, size_t room, size_t *lengt
 
 /* Writes the error number that Linux gives for the cause of an answer (errno(3)): EINVAL,
  * ENOMEM, EEXIST, EFAULT, ENOSPC, EOPNOTSUPP or ENOENT for what mmap(2), mbind(2),
- * set_mempolicy(2) and set_mempolicy_home_node(2) refuse, else 0. NP_UNKNOWN where no answer has
- * this number. */
+ * set_mempolicy(2) and set_mempolicy_home_node(2) refuse, EACCES, ESRCH, EAGAIN or EPERM too for
+ * what a host refuses, else 0. NP_UNKNOWN where no answer has this number. */
 uint32_t np_answer_errno(uint32_t code, uint32_t *number);
 
 #ifdef __cplusplus
@@ -457,4 +469,5 @@ uint32_t np_answer_errno(uint32_t code, uint32_t *number);
 
 #include "numaplan_pools.h"
 #include "numaplan_reports.h"
+#include "numaplan_hosts.h"
 #endif

@@ -1,10 +1,14 @@
 -- The names and numbers of refusals are those that a script's answers have, but for one.
 use Rattle.std.proofs.Common.{◌≡◌, ℕ, List, Some, codes, refl}
+use Rattle.numa_host.specs.Answers.{host_errno_of}
+use Rattle.numa_host.specs.declared.refusal.HostRefusal.{HostRefusal}
+use Rattle.numa_host.specs.declared.refusal.HostRefusal.TheVariants as host
 use Rattle.numa_script.specs.Texts.{refusal_name}
 use Rattle.numa_space.specs.declared.refusal.Refusal.{Refusal}
 use Rattle.numa_space.specs.declared.refusal.Refusal.TheVariants as refusal
 use Rattle.numaplan_c.specs.Codes.{refusal_code}
-use Rattle.numaplan_c.specs.Names.{answer_name, refusal_numbered}
+use Rattle.numaplan_c.specs.Hosts.{host_cause_code}
+use Rattle.numaplan_c.specs.Names.{answer_errno, answer_name, host_errno_number, refusal_numbered}
 
 pub numbered-same : (cause : Refusal) → refusal_numbered (refusal_code cause) ≡ Some cause
 numbered-same refusal.CommandsSpent = refl
@@ -45,3 +49,34 @@ name-same refusal.TooManyTasks = refl
 name-same refusal.TooManyRanges = refl
 name-same refusal.NoPolicy = refl
 name-same refusal.NoMemory = refl
+
+-- the error number of what a host refuses is that of the host's cause
+pub host-errno-same : (cause : HostRefusal)
+    → answer_errno (host_cause_code cause) ≡ host_errno_number (host_errno_of cause)
+host-errno-same host.CommandsSpent = refl
+host-errno-same host.GroupExists = refl
+host-errno-same host.NoSuchGroup = refl
+host-errno-same host.TooManyGroups = refl
+host-errno-same host.RootGroup = refl
+host-errno-same host.NoSuchNode = refl
+host-errno-same host.Populated = refl
+host-errno-same host.ProcessExists = refl
+host-errno-same host.NoSuchProcess = refl
+host-errno-same host.TooManyProcesses = refl
+host-errno-same host.GroupMems = refl
+host-errno-same (host.OfSpace refusal.CommandsSpent) = refl
+host-errno-same (host.OfSpace refusal.Unaligned) = refl
+host-errno-same (host.OfSpace refusal.OutOfSpace) = refl
+host-errno-same (host.OfSpace refusal.EmptyLength) = refl
+host-errno-same (host.OfSpace refusal.BadOffset) = refl
+host-errno-same (host.OfSpace refusal.Overlap) = refl
+host-errno-same (host.OfSpace refusal.Hole) = refl
+host-errno-same (host.OfSpace refusal.NoSuchNode) = refl
+host-errno-same (host.OfSpace refusal.BadWeight) = refl
+host-errno-same (host.OfSpace refusal.NodesNotAllowed) = refl
+host-errno-same (host.OfSpace refusal.NotSupported) = refl
+host-errno-same (host.OfSpace refusal.TooManyTasks) = refl
+host-errno-same (host.OfSpace refusal.TooManyRanges) = refl
+host-errno-same (host.OfSpace refusal.NoPolicy) = refl
+host-errno-same (host.OfSpace refusal.NoMemory) = refl
+host-errno-same host.NoMemory = refl

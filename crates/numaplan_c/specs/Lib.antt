@@ -1,6 +1,7 @@
 pub mod Codes
 pub mod Explanations
 pub mod Border
+pub mod Hosts
 pub mod Options
 pub mod Questions
 pub mod Names

@@ -2,6 +2,11 @@
 use Rattle.std.specs.Prelude.{ℕ, ◌-◌, ◌==◌, ◌&&◌, nat_le, nat_lt, List, [], ◌∷◌, codes, slice_get}
 use Rattle.std.specs.Prelude.{Option, Some, None, if◌then◌else◌}
 use Rattle.std.specs.Borrow.{Bor}
+use Rattle.numa_host.specs.Answers.{host_errno_of}
+use Rattle.numa_host.specs.declared.refusal.HostErrno.{HostErrno}
+use Rattle.numa_host.specs.declared.refusal.HostErrno.TheVariants as host_errno
+use Rattle.numa_host.specs.declared.refusal.HostRefusal.{HostRefusal}
+use Rattle.numa_host.specs.declared.refusal.HostRefusal.TheVariants as host
 use Rattle.numa_script.specs.Texts.{refusal_name}
 use Rattle.numa_space.specs.Errors.{errno_of}
 use Rattle.numa_space.specs.declared.refusal.Errno.{Errno}
@@ -25,6 +30,16 @@ refusal_numbered code =
     if code == 3 then Some refusal.NoMemory
     else if nat_lt code 10 then None
     else slice_get refusals (code - 10)
+
+-- the causes that only a host has, from 90 on
+abbrev pub host_causes : List HostRefusal
+host_causes =
+    host.GroupExists ∷ host.NoSuchGroup ∷ host.TooManyGroups ∷ host.RootGroup ∷ host.Populated
+    ∷ host.ProcessExists ∷ host.NoSuchProcess ∷ host.TooManyProcesses ∷ host.GroupMems ∷ []
+
+-- the cause of a host that has this number
+abbrev pub host_numbered : ℕ → Option HostRefusal
+host_numbered code = if nat_lt code 90 then None else slice_get host_causes (code - 90)
 
 -- ---- names
 
@@ -67,6 +82,15 @@ fault_names =
     ∷ named 80 (codes "NoMachine") ∷ named 81 (codes "BadAccess")
     ∷ named 82 (codes "ManyProcesses") ∷ []
 
+-- causes that only a host has
+abbrev pub host_names : List Named
+host_names =
+    named 90 (codes "GroupExists") ∷ named 91 (codes "NoSuchGroup")
+    ∷ named 92 (codes "TooManyGroups") ∷ named 93 (codes "RootGroup")
+    ∷ named 94 (codes "Populated") ∷ named 95 (codes "ProcessExists")
+    ∷ named 96 (codes "NoSuchProcess") ∷ named 97 (codes "TooManyProcesses")
+    ∷ named 98 (codes "GroupMems") ∷ []
+
 -- the name of a number, without a byte where it has none
 abbrev pub name_in : List Named → ℕ → List ℕ
 name_in [] code = []
@@ -82,7 +106,9 @@ unfoldable pub answer_name : ℕ → List ℕ
 answer_name code =
     if code == 23 then codes "NoPolicyThere"
     else name_or (refusal_numbered code)
-    (if nat_lt code 50 then name_in call_names code else name_in fault_names code)
+    (if nat_lt code 50 then name_in call_names code
+    else if nat_lt code 90 then name_in fault_names code
+    else name_in host_names code)
 
 -- ---- error numbers
 
@@ -100,8 +126,23 @@ abbrev pub errno_or : Option Refusal → ℕ → ℕ
 errno_or (Some cause) other = errno_number (errno_of cause)
 errno_or None other = other
 
+abbrev pub host_errno_number : HostErrno → ℕ
+host_errno_number (host_errno.OfSpace errno) = errno_number errno
+host_errno_number host_errno.ESrch = 3
+host_errno_number host_errno.EAcces = 13
+host_errno_number host_errno.EPerm = 1
+host_errno_number host_errno.EAgain = 11
+
+abbrev pub host_errno_or : Option HostRefusal → ℕ → ℕ
+host_errno_or (Some cause) other = host_errno_number (host_errno_of cause)
+host_errno_or None other = other
+
+-- that of an answer that refuses no command of a core
+abbrev pub other_errno : ℕ → ℕ
+other_errno code =
+    host_errno_or (host_numbered code) (if nat_le 70 code && nat_le code 74 then 22 else 0)
+
 -- the error number of an answer: a faulty policy word is set_mempolicy(2)'s EINVAL; 0 where there
 -- is none
 abbrev pub answer_errno : ℕ → ℕ
-answer_errno code =
-    errno_or (refusal_numbered code) (if nat_le 70 code && nat_le code 74 then 22 else 0)
+answer_errno code = errno_or (refusal_numbered code) (other_errno code)

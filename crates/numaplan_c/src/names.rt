@@ -2,10 +2,12 @@
 ghost use Rattle.std.specs.Prelude.{◌≡◌, ◌≢◌, [], map};
 ghost use Rattle.numaplan_c.specs.Names.{answer_name, answer_errno, errno_number};
 ghost use Rattle.numaplan_c.specs.Names.{name_in, refusal_numbered, row_of};
+ghost use Rattle.numaplan_c.specs.Names.{host_errno_number, host_numbered, other_errno};
 ghost use Rattle.numaplan_c.specs.Texts.{IsWritten};
 
 use crate::codes::Code;
 use crate::texts::write;
+use numa_host::{HostErrno, HostRefusal};
 use numa_script::names::Named;
 use numa_space::{Errno, Refusal};
 
@@ -82,6 +84,19 @@ static FAULT_NAMES: [(u32, &[u8]); 22] = [
     (82, b"ManyProcesses"),
 ];
 
+/// The names of the codes of causes that only a host has.
+static HOST_NAMES: [(u32, &[u8]); 9] = [
+    (90, b"GroupExists"),
+    (91, b"NoSuchGroup"),
+    (92, b"TooManyGroups"),
+    (93, b"RootGroup"),
+    (94, b"Populated"),
+    (95, b"ProcessExists"),
+    (96, b"NoSuchProcess"),
+    (97, b"TooManyProcesses"),
+    (98, b"GroupMems"),
+];
+
 /// The name of a code in a table, empty if it has none.
 fn name_in(names: &[(u32, &'static [u8])], code: u32) -> &'static [u8]
     ensures { result.now ≡ name_in (map row_of names.now) code }
@@ -108,7 +123,10 @@ fn answer_name(code: u32) -> &'static [u8]
     if code < 50 {
         return name_in(&CALL_NAMES, code);
     }
-    name_in(&FAULT_NAMES, code)
+    if code < 90 {
+        return name_in(&FAULT_NAMES, code);
+    }
+    name_in(&HOST_NAMES, code)
 }
 
 /// Writes the name of a result code.
@@ -141,18 +159,59 @@ fn errno_number(errno: Errno) -> u32
     }
 }
 
-/// The error number of a result code, 0 if there is none.
-fn answer_errno(code: u32) -> u32
-    ensures { result ≡ answer_errno code }
+/// The host's cause with this code.
+fn host_numbered(code: u32) -> Option<HostRefusal>
+    ensures { result ≡ host_numbered code }
 {
-    match refusal_numbered(code) {
-        Some(cause) => errno_number(cause.errno()),
+    match code {
+        90 => Some(HostRefusal::GroupExists),
+        91 => Some(HostRefusal::NoSuchGroup),
+        92 => Some(HostRefusal::TooManyGroups),
+        93 => Some(HostRefusal::RootGroup),
+        94 => Some(HostRefusal::Populated),
+        95 => Some(HostRefusal::ProcessExists),
+        96 => Some(HostRefusal::NoSuchProcess),
+        97 => Some(HostRefusal::TooManyProcesses),
+        98 => Some(HostRefusal::GroupMems),
+        _ => None,
+    }
+}
+
+/// The number of an error of a host.
+fn host_errno_number(errno: HostErrno) -> u32
+    ensures { result ≡ host_errno_number errno }
+{
+    match errno {
+        HostErrno::OfSpace(errno) => errno_number(errno),
+        HostErrno::ESrch => 3,
+        HostErrno::EAcces => 13,
+        HostErrno::EPerm => 1,
+        HostErrno::EAgain => 11,
+    }
+}
+
+/// The error number of a code that isn't that of a command's refusal, 0 if there is none.
+fn other_errno(code: u32) -> u32
+    ensures { result ≡ other_errno code }
+{
+    match host_numbered(code) {
+        Some(cause) => host_errno_number(cause.errno()),
         None => {
             if 70 <= code && code <= 74 {
                 return 22;
             }
             0
         }
+    }
+}
+
+/// The error number of a result code, 0 if there is none.
+fn answer_errno(code: u32) -> u32
+    ensures { result ≡ answer_errno code }
+{
+    match refusal_numbered(code) {
+        Some(cause) => errno_number(cause.errno()),
+        None => other_errno(code),
     }
 }
 

@@ -30,7 +30,7 @@ pub struct NpLimits {
 const _: () = prove!(size_of::<NpLimits>() == 12);
 
 /// Why limits or a number of workers are refused.
-fn limits_cause(limits: NpLimits, workers: u32) -> Option<u32>
+pub(crate) fn limits_cause(limits: NpLimits, workers: u32) -> Option<u32>
     ensures cause { result ≡ limits_cause (bounds_of limits) workers }
     ensures workers { result ≡ None → (1 ≤ workers) × (workers ≤ 16) }
     ensures limits { result ≡ None → (limits.max_ranges ≤ 65536) × (limits.max_tasks ≤ 1024) }

@@ -123,7 +123,7 @@ pub extern "C" fn np_plan_version(alloc: Global, plan: &mut PlanHandle, version:
 }
 
 /// The code of the result of a question for a list.
-fn choice_code(answer: Result<usize, ChoiceRefusal>) -> u32
+pub(crate) fn choice_code(answer: Result<usize, ChoiceRefusal>) -> u32
     ensures { result ≡ choice_code answer }
 {
     match answer {
@@ -134,7 +134,7 @@ fn choice_code(answer: Result<usize, ChoiceRefusal>) -> u32
 }
 
 /// The number of nodes of a list, if there is one.
-fn told(answer: Result<usize, ChoiceRefusal>, count: usize) -> usize
+pub(crate) fn told(answer: Result<usize, ChoiceRefusal>, count: usize) -> usize
     ensures { AreTold answer count result }
 {
     match answer {

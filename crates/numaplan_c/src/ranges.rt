@@ -57,7 +57,7 @@ fn tell_word(policy: Option<Record>, room: &mut [u8], length: &mut usize) -> u32
 }
 
 /// Writes a range, and its own policy as a word.
-fn tell_range(
+pub(crate) fn tell_range(
     found: &Run<RangeRecord>,
     range: &mut NpRange,
     policy: &mut [u8],

@@ -34,7 +34,7 @@ pub struct NpPolicy {
 const _: () = prove!(size_of::<NpPolicy>() == 72);
 
 /// The C struct of a set.
-fn nodes_of(set: &NodeMask) -> NpNodes
+pub(crate) fn nodes_of(set: &NodeMask) -> NpNodes
     ensures { number_of result.words ≡ set.now }
 {
     NpNodes { words: set.words() }

@@ -1,0 +1,174 @@
+/* numaplan_hosts.h: hosts of processes in control groups, for C99 and C++. numaplan.h includes this
+ * file, and its first page counts here too.
+ *
+ * A host is a machine with a tree of control groups and with processes in them. A process has
+ * pages, and policies of ranges and tasks, as a core has; the nodes that it is allowed are the
+ * effective ones of its group (cpuset.mems of cgroups(7)), and its policies follow each change of
+ * them. A process answers as a core does that is given the commands which the process has accepted:
+ * its own, its parent's up to the fork, each weight of the host, and a change of the allowed nodes
+ * whenever those of its group have changed.
+ *
+ * Groups and processes have any numbers of 32 bits; group 0 is the root, which has all nodes with
+ * memory. There are at most 1,024 groups below it, and 4,096 processes. A change that concerns
+ * several processes happens in all of them or in none.
+ *
+ * This is the language's part `host` (docs/SCRIPT.md), call by call. */
+#ifndef NUMAPLAN_HOSTS_H
+#define NUMAPLAN_HOSTS_H
+
+#include "numaplan.h"
+
+#ifdef __cplusplus
+extern "C" {
+#endif
+
+/* ---- types */
+
+/* A host: kept by a handle, as a core is. */
+typedef struct np_host {
+    bool is_open_;
+    void *at_;
+} np_host;
+
+/* A group below the root: its number, its parent's, 1 where it has a list of its own and else 0,
+ * and the nodes of that list. */
+typedef struct np_group {
+    uint32_t group, parent;
+    uint64_t has_mems;
+    np_nodes mems;
+} np_group;
+
+/* A process: its number, and its group's. */
+typedef struct np_process {
+    uint32_t process, group;
+} np_process;
+
+#if defined(__cplusplus) && __cplusplus >= 201103L
+static_assert(sizeof(np_host) == 16, "a handle");
+static_assert(sizeof(np_group) == 48 && sizeof(np_process) == 8, "a struct");
+#elif defined(__STDC_VERSION__) && __STDC_VERSION__ >= 201112L
+_Static_assert(sizeof(np_host) == 16, "a handle");
+_Static_assert(sizeof(np_group) == 48 && sizeof(np_process) == 8, "a struct");
+#endif
+
+/* ---- opening and closing */
+
+/* Opens a host of a machine, described as for np_core_open_by, without a group below the root and
+ * without a process. The ranges and tasks of `limits` are those of each process, its commands those
+ * of the host. In this order: NP_OPEN; NP_BAD_RULES, NP_BAD_ORDERS; 60 to 63; 50 to 54;
+ * NP_NO_MEMORY. */
+uint32_t np_host_open(np_host *host, const uint8_t *memory, size_t memory_length,
+                      const uint32_t *frames, size_t nodes, const uint8_t *distances,
+                      size_t distances_count, const np_limits *limits, const np_options *options);
+
+/* Frees the host, where one is kept. */
+void np_host_close(np_host *host);
+
+/* Keeps a copy of the host in `copy`, to be asked "what if": what is then done to one of the two
+ * doesn't change the other. NP_OPEN where `copy` keeps a host, NP_CLOSED where `host` keeps none,
+ * NP_NO_MEMORY. */
+uint32_t np_host_copy(np_host *host, np_host *copy);
+
+/* How many commands are accepted. NP_CLOSED. */
+uint32_t np_host_version(np_host *host, uint64_t *version);
+
+/* ---- groups and processes: each command that is accepted adds one to the version. NP_CLOSED;
+ * NP_COMMANDS_SPENT; then what is named, in this order, and NP_NO_MEMORY last */
+
+/* Makes a group below `parent`, without a list of its own. NP_GROUP_EXISTS, NP_NO_SUCH_GROUP,
+ * NP_TOO_MANY_GROUPS. */
+uint32_t np_host_new_group(np_host *host, uint32_t group, uint32_t parent);
+
+/* Gives a group a list of its own, as "0-1". Its effective nodes are those of its list that its
+ * parent has effectively; the parent's, where none of these is left. A faulty list is told first,
+ * also by a closed handle: 60 to 63. NP_NO_SUCH_GROUP, NP_ROOT_GROUP, NP_NO_SUCH_NODE. Needs no
+ * memory. */
+uint32_t np_host_set_group_mems(np_host *host, uint32_t group, const uint8_t *nodes,
+                                size_t nodes_length);
+
+/* Takes a group's own list away. NP_NO_SUCH_GROUP, NP_ROOT_GROUP, NP_POPULATED where it has a list
+ * and a process is in it or below it. Needs no memory. */
+uint32_t np_host_unset_group_mems(np_host *host, uint32_t group);
+
+/* Makes a process in a group: nothing is mapped, no task has a policy. NP_PROCESS_EXISTS,
+ * NP_NO_SUCH_GROUP, NP_TOO_MANY_PROCESSES. */
+uint32_t np_host_new_process(np_host *host, uint32_t process, uint32_t group);
+
+/* Makes the process `child` a copy of `parent`, in its group; then its task `task` has the policy
+ * that the task `from` has in the parent (fork(2)). It keeps the policies of all tasks, where Linux
+ * keeps one thread's. NP_PROCESS_EXISTS, NP_NO_SUCH_PROCESS, NP_TOO_MANY_PROCESSES,
+ * NP_TOO_MANY_TASKS. */
+uint32_t np_host_fork(np_host *host, uint32_t parent, uint32_t child, uint32_t from,
+                      uint32_t task);
+
+/* Moves a process to another group (cgroup.procs). NP_NO_SUCH_PROCESS, NP_NO_SUCH_GROUP. Needs no
+ * memory. */
+uint32_t np_host_attach(np_host *host, uint32_t process, uint32_t group);
+
+/* Ends a process; its number is free. NP_NO_SUCH_PROCESS. Needs no memory. */
+uint32_t np_host_exit(np_host *host, uint32_t process);
+
+/* Gives a node its weight for weighted interleaving, for every process, also those to come.
+ * NP_NO_SUCH_NODE, NP_BAD_WEIGHT. Needs no memory. */
+uint32_t np_host_set_weight(np_host *host, uint32_t node, uint32_t weight);
+
+/* ---- commands of one process: as those of a core (np_core_map and so on), with a number of a
+ * process. NP_CLOSED; NP_COMMANDS_SPENT; NP_NO_SUCH_PROCESS; then 11 to 23; NP_NO_MEMORY. A faulty
+ * policy word is told first: 60 to 63, 70 to 74 */
+
+uint32_t np_host_map(np_host *host, uint32_t process, uint64_t start, uint64_t length,
+                     uint64_t offset);
+uint32_t np_host_unmap(np_host *host, uint32_t process, uint64_t start, uint64_t length);
+uint32_t np_host_mbind(np_host *host, uint32_t process, uint64_t start, uint64_t length,
+                       const uint8_t *policy, size_t policy_length);
+uint32_t np_host_set_task(np_host *host, uint32_t process, uint32_t task, const uint8_t *policy,
+                          size_t policy_length);
+uint32_t np_host_inherit(np_host *host, uint32_t process, uint32_t task, uint32_t from);
+uint32_t np_host_set_home(np_host *host, uint32_t process, uint64_t start, uint64_t length,
+                          uint32_t node);
+
+/* ---- questions about groups and processes */
+
+/* How many groups there are below the root. NP_CLOSED. */
+uint32_t np_host_groups(np_host *host, size_t *count);
+
+/* Writes the group at a place, from 0, the newest first; so the parent of each is the root or comes
+ * later. NP_CLOSED, NP_NO_SUCH_GROUP where there are not so many. */
+uint32_t np_host_group(np_host *host, size_t index, np_group *group);
+
+/* Writes the effective nodes of a group, or of the root (cpuset.mems.effective). NP_CLOSED,
+ * NP_NO_SUCH_GROUP. */
+uint32_t np_host_group_nodes(np_host *host, uint32_t group, np_nodes *nodes);
+
+/* How many processes there are. NP_CLOSED. */
+uint32_t np_host_processes(np_host *host, size_t *count);
+
+/* Writes the process at a place, from 0, the first born first. NP_CLOSED, NP_NO_SUCH_PROCESS where
+ * there are not so many. */
+uint32_t np_host_process(np_host *host, size_t index, np_process *process);
+
+/* ---- questions to one process: NP_CLOSED, NP_NO_SUCH_PROCESS, and what is named */
+
+/* Writes the list of nodes of a page of the process, without a plan; as np_plan_choice. NP_NO_ROOM,
+ * NP_BAD_CPU, NP_UNMAPPED. */
+uint32_t np_host_choice(np_host *host, uint32_t process, uint32_t task, uint64_t page, uint32_t cpu,
+                        uint8_t *nodes, size_t room, size_t *count);
+
+/* Compiles all that the process has accepted into a plan, which answers as a core's does
+ * (np_plan_choice, np_plan_fill, np_plan_counts). Its version counts what the process has accepted.
+ * First NP_OPEN where `plan` keeps one; NP_NO_MEMORY. */
+uint32_t np_host_compile(np_host *host, uint32_t process, np_plan *plan);
+
+/* How many ranges of pages the process has; and the range at a place, as np_core_range:
+ * NP_NO_RANGE, NP_NO_ROOM. */
+uint32_t np_host_ranges(np_host *host, uint32_t process, size_t *count);
+uint32_t np_host_range(np_host *host, uint32_t process, size_t index, np_range *range,
+                       uint8_t *policy, size_t room, size_t *policy_length);
+
+/* Writes the policy of a task of the process, as np_core_task_policy. */
+uint32_t np_host_task_policy(np_host *host, uint32_t process, uint32_t task, np_policy *policy);
+
+#ifdef __cplusplus
+}
+#endif
+#endif

@@ -1,0 +1,273 @@
+//! Commands of hosts: of groups, of processes, and what one process does.
+ghost use Rattle.std.specs.Prelude.{None, Some};
+ghost use Rattle.numa_host.specs.declared.command.HostCommand.{HostCommand};
+ghost use Rattle.numa_mask.specs.Lists.{list_of};
+ghost use Rattle.numa_script.specs.Policies.{policy_of};
+ghost use Rattle.numa_space.specs.declared.command.Command.{Command};
+ghost use Rattle.numaplan_c.specs.Codes.{list_code, word_code};
+ghost use Rattle.numaplan_c.specs.Hosts.{HostAnswers, HostAnswersRead};
+ghost use Rattle.numaplan_handles.specs.Handles.{host_in};
+
+use crate::codes::{Code, list_code, word_code};
+use crate::host_codes::host_code;
+use numa_host::HostCommand;
+use numa_mask::read_list;
+use numa_script::policy::read_policy;
+use numa_space::Command;
+use numaplan_handles::HostHandle;
+use std::alloc::Global;
+
+/// Carries out a command of the host in a handle, and returns the code of its result.
+fn obey(alloc: Global, host: &mut HostHandle, command: HostCommand) -> u32
+    ensures { HostAnswers (host_in host.old) command result (host_in host.new) }
+{
+    match host.apply(alloc, &command) {
+        None => Code::Closed as u32,
+        Some(answer) => host_code(answer),
+    }
+}
+
+/// Carries out a command of one process.
+fn tell(alloc: Global, host: &mut HostHandle, process: u32, command: Command) -> u32
+    ensures { HostAnswers (host_in host.old) (HostCommand.In process command) result
+        (host_in host.new) }
+{
+    obey(alloc, host, HostCommand::In { process, command })
+}
+
+/// Makes a group below another.
+#[unsafe(no_mangle)]
+pub extern "C" fn np_host_new_group(
+    alloc: Global,
+    host: &mut HostHandle,
+    group: u32,
+    parent: u32,
+) -> u32
+    ensures { HostAnswers (host_in host.old) (HostCommand.NewGroup group parent) result
+        (host_in host.new) }
+{
+    obey(alloc, host, HostCommand::NewGroup { group, parent })
+}
+
+/// Gives a group its own list of nodes.
+#[unsafe(no_mangle)]
+pub extern "C" fn np_host_set_group_mems(
+    alloc: Global,
+    host: &mut HostHandle,
+    group: u32,
+    nodes: &[u8],
+) -> u32
+    ensures { HostAnswersRead (list_of nodes.now) list_code
+        (λ mask. HostCommand.SetGroupMems group (Some mask)) (host_in host.old) result
+        (host_in host.new) }
+{
+    let mask = match read_list(nodes) {
+        Ok(mask) => mask,
+        Err(fault) => return list_code(fault),
+    };
+    let command = HostCommand::SetGroupMems {
+        group,
+        mems: Some(mask),
+    };
+    obey(alloc, host, command)
+}
+
+/// Takes away a group's own list of nodes.
+#[unsafe(no_mangle)]
+pub extern "C" fn np_host_unset_group_mems(alloc: Global, host: &mut HostHandle, group: u32) -> u32
+    ensures { HostAnswers (host_in host.old) (HostCommand.SetGroupMems group None) result
+        (host_in host.new) }
+{
+    let command = HostCommand::SetGroupMems { group, mems: None };
+    obey(alloc, host, command)
+}
+
+/// Makes an empty process in a group.
+#[unsafe(no_mangle)]
+pub extern "C" fn np_host_new_process(
+    alloc: Global,
+    host: &mut HostHandle,
+    process: u32,
+    group: u32,
+) -> u32
+    ensures { HostAnswers (host_in host.old) (HostCommand.NewProcess process group) result
+        (host_in host.new) }
+{
+    obey(alloc, host, HostCommand::NewProcess { process, group })
+}
+
+/// Makes a process as a copy of another, whose task `task` has the policy of the other's `from`.
+#[unsafe(no_mangle)]
+pub extern "C" fn np_host_fork(
+    alloc: Global,
+    host: &mut HostHandle,
+    parent: u32,
+    child: u32,
+    from: u32,
+    task: u32,
+) -> u32
+    ensures { HostAnswers (host_in host.old) (HostCommand.Fork parent child from task) result
+        (host_in host.new) }
+{
+    let command = HostCommand::Fork {
+        parent,
+        child,
+        from,
+        task,
+    };
+    obey(alloc, host, command)
+}
+
+/// Moves a process to another group.
+#[unsafe(no_mangle)]
+pub extern "C" fn np_host_attach(
+    alloc: Global,
+    host: &mut HostHandle,
+    process: u32,
+    group: u32,
+) -> u32
+    ensures { HostAnswers (host_in host.old) (HostCommand.Attach process group) result
+        (host_in host.new) }
+{
+    obey(alloc, host, HostCommand::Attach { process, group })
+}
+
+/// Ends a process.
+#[unsafe(no_mangle)]
+pub extern "C" fn np_host_exit(alloc: Global, host: &mut HostHandle, process: u32) -> u32
+    ensures { HostAnswers (host_in host.old) (HostCommand.Exit process) result (host_in host.new) }
+{
+    obey(alloc, host, HostCommand::Exit { process })
+}
+
+/// Sets the weight of a node, for every process.
+#[unsafe(no_mangle)]
+pub extern "C" fn np_host_set_weight(
+    alloc: Global,
+    host: &mut HostHandle,
+    node: u32,
+    weight: u32,
+) -> u32
+    ensures { HostAnswers (host_in host.old) (HostCommand.SetWeight node weight) result
+        (host_in host.new) }
+{
+    obey(alloc, host, HostCommand::SetWeight { node, weight })
+}
+
+/// Maps a span of a process.
+#[unsafe(no_mangle)]
+pub extern "C" fn np_host_map(
+    alloc: Global,
+    host: &mut HostHandle,
+    process: u32,
+    start: u64,
+    length: u64,
+    offset: u64,
+) -> u32
+    ensures { HostAnswers (host_in host.old)
+        (HostCommand.In process (Command.Map start length offset)) result (host_in host.new) }
+{
+    let command = Command::Map {
+        start,
+        length,
+        offset,
+    };
+    tell(alloc, host, process, command)
+}
+
+/// Unmaps the pages of a process's span.
+#[unsafe(no_mangle)]
+pub extern "C" fn np_host_unmap(
+    alloc: Global,
+    host: &mut HostHandle,
+    process: u32,
+    start: u64,
+    length: u64,
+) -> u32
+    ensures { HostAnswers (host_in host.old)
+        (HostCommand.In process (Command.Unmap start length)) result (host_in host.new) }
+{
+    tell(alloc, host, process, Command::Unmap { start, length })
+}
+
+/// Sets the policy of the pages of a process's span.
+#[unsafe(no_mangle)]
+pub extern "C" fn np_host_mbind(
+    alloc: Global,
+    host: &mut HostHandle,
+    process: u32,
+    start: u64,
+    length: u64,
+    policy: &[u8],
+) -> u32
+    ensures { HostAnswersRead (policy_of policy.now) word_code
+        (λ spec. HostCommand.In process (Command.Mbind start length spec)) (host_in host.old)
+        result (host_in host.new) }
+{
+    let spec = match read_policy(policy) {
+        Ok(spec) => spec,
+        Err(fault) => return word_code(fault),
+    };
+    let command = Command::Mbind {
+        start,
+        length,
+        spec,
+    };
+    tell(alloc, host, process, command)
+}
+
+/// Sets the policy of a process's task.
+#[unsafe(no_mangle)]
+pub extern "C" fn np_host_set_task(
+    alloc: Global,
+    host: &mut HostHandle,
+    process: u32,
+    task: u32,
+    policy: &[u8],
+) -> u32
+    ensures { HostAnswersRead (policy_of policy.now) word_code
+        (λ spec. HostCommand.In process (Command.SetTask task spec)) (host_in host.old) result
+        (host_in host.new) }
+{
+    let spec = match read_policy(policy) {
+        Ok(spec) => spec,
+        Err(fault) => return word_code(fault),
+    };
+    tell(alloc, host, process, Command::SetTask { task, spec })
+}
+
+/// Gives a task of a process the policy of another, or removes its policy if the other has none.
+#[unsafe(no_mangle)]
+pub extern "C" fn np_host_inherit(
+    alloc: Global,
+    host: &mut HostHandle,
+    process: u32,
+    task: u32,
+    from: u32,
+) -> u32
+    ensures { HostAnswers (host_in host.old)
+        (HostCommand.In process (Command.Inherit task from)) result (host_in host.new) }
+{
+    tell(alloc, host, process, Command::Inherit { task, from })
+}
+
+/// Sets the home node of the policies of the pages of a process's span.
+#[unsafe(no_mangle)]
+pub extern "C" fn np_host_set_home(
+    alloc: Global,
+    host: &mut HostHandle,
+    process: u32,
+    start: u64,
+    length: u64,
+    node: u32,
+) -> u32
+    ensures { HostAnswers (host_in host.old)
+        (HostCommand.In process (Command.SetHome start length node)) result (host_in host.new) }
+{
+    let command = Command::SetHome {
+        start,
+        length,
+        node,
+    };
+    tell(alloc, host, process, command)
+}
