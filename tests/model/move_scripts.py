@@ -69,6 +69,18 @@ class MoveScript(scripts.Script):
     def moved(self):
         self.say("moved")
 
+    def squeeze(self):
+        """Pages on some nodes, little room on others, and a move of all from these to those."""
+        nodes = sorted(self.state.space.allowed)
+        self.dice.shuffle(nodes)
+        full = nodes[: max(1, len(nodes) // 2)]
+        for node in nodes[len(full) :]:
+            self.say("at", *self.bytes(*self.span()), node)
+        for node in full[:2]:
+            self.say("room", node, self.dice.choice([0, 1, 2, 4]))
+        self.say("migrate", self.list_text(nodes[len(full) :] or nodes), self.list_text(full))
+        self.moved()
+
     def write(self):
         """The script as bytes."""
         length = self.dice.randint(25, 70)
@@ -76,6 +88,7 @@ class MoveScript(scripts.Script):
         self.follows()
         told = [self.at] * 8 + [self.room] * 3 + [self.follows] * self.likely(0.2)
         moves = [self.mems] * 4 + [self.migrate] * 6 + [self.move] * 4 + [self.mbind_with] * 7
+        moves += [self.squeeze] * 3
         commands = [self.map] * 4 + [self.mbind] * 3 + [self.task] * 2 + [self.unmap, self.weight]
         asked = [self.maps] * 5 + [self.moved] * 4 + [self.place, self.publish]
         work = [self.touch] * 3 + [self.release]
