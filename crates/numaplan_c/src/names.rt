@@ -58,7 +58,7 @@ static CALL_NAMES: [(u32, &[u8]); 18] = [
 ];
 
 /// The names of the codes of errors in machines, lists, policy words and questions about scripts.
-static FAULT_NAMES: [(u32, &[u8]); 22] = [
+static FAULT_NAMES: [(u32, &[u8]); 23] = [
     (50, b"BadNodeCount"),
     (51, b"NoMemoryNode"),
     (52, b"BadDistance"),
