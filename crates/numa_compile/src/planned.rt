@@ -22,11 +22,14 @@ use std::mem;
 /// the plan in place, so that later requests cost nothing. Contracts see only the space.
 ///
 /// After two kinds of commands the plan is dropped until the next request: one for whose edit there
-/// was no memory, and a change of the allowed nodes, which changes every list.
+/// was no memory, and a change of the allowed nodes, which changes every list. While there is none,
+/// the first questions about single pages cost less if the space answers them
+/// ([`PlannedSpace::answers_without_plan`]).
 #[derive(Drop)]
 pub struct PlannedSpace {
     space: Space,
     plan: Option<Plan>,
+    asked: usize,
 }
 
 impl Model for PlannedSpace {
@@ -89,6 +92,21 @@ fn follow(alloc: Global, plan: &mut Option<Plan>, space: &Space, command: &Comma
     keep_if(plan, space, follows);
 }
 
+/// The number of questions that were answered without a plan, after a command: a change of the
+/// allowed nodes begins the count again.
+fn asked_after(asked: usize, command: &Command) -> usize {
+    match command {
+        Command::SetMems { .. } => 0,
+        _ => asked,
+    }
+}
+
+/// Whether one question more is better answered by the space than by a new plan. A plan costs a
+/// step for each range and task, an answer of the space some sixteen steps more than one of a plan.
+fn is_worth_asking(space: &Space, asked: usize) -> bool {
+    asked < space.ranges().saturating_add(space.task_count()) / 16
+}
+
 /// Makes the plan of a space, if there is none.
 ///
 /// # Errors
@@ -149,6 +167,7 @@ impl PlannedSpace {
         PlannedSpace {
             space: Space::new(alloc, machine, limits),
             plan: None,
+            asked: 0,
         }
     }
 
@@ -164,7 +183,11 @@ impl PlannedSpace {
             drop(space);
             return Err(NoMemory);
         };
-        Ok(PlannedSpace { space, plan })
+        Ok(PlannedSpace {
+            space,
+            plan,
+            asked: self.asked,
+        })
     }
 
     /// The space of all accepted commands.
@@ -185,8 +208,23 @@ impl PlannedSpace {
         if let Err(refusal) = self.space.apply(command) {
             return Err(refusal);
         }
+        self.asked = asked_after(self.asked, command);
         follow(alloc, &mut self.plan, &self.space, command);
         Ok(())
+    }
+
+    /// Whether a question about one page is best answered by the space (`Space::list_at`), whose
+    /// list is the same as the plan's: there is no plan, and since it was dropped, fewer questions
+    /// than a sixteenth of the ranges and tasks were answered so. Each call that returns `true`
+    /// counts as one. Nothing else depends on the count. It doesn't allocate.
+    pub fn answers_without_plan(&mut self) -> bool
+        ensures { self.new ≡ self.old }
+    {
+        if self.plan.is_some() || !is_worth_asking(&self.space, self.asked) {
+            return false;
+        }
+        self.asked = self.asked.saturating_add(1);
+        true
     }
 
     /// Makes the plan of the space, if there is none.
