@@ -20,6 +20,8 @@ from ._causes import CAUSES as CAUSES
 from ._causes import AllTaken, AnswerLost, BadAccess, BadCpu, BadDistance, BadFormat, BadLimits
 from ._causes import BadNodeCount, BadOffset
 from ._causes import BadOrders, BadRules, BadTry, BadWeight, BadWorkers, BothFlags, Busy, Closed
+from ._causes import GroupExists, GroupMems, NoSuchGroup, NoSuchProcess, Populated, ProcessExists
+from ._causes import RootGroup, TooManyGroups, TooManyProcesses
 from ._causes import CommandsSpent, EmptyLength, Exhausted, FlagsForbidden, Hole, Idle
 from ._causes import ListBackwards, ListBadDigit, ListEmpty, ListTooHigh, ManyProcesses, NoMachine
 from ._causes import NoMemory, NoMemoryNode
@@ -29,6 +31,7 @@ from ._causes import NodesMissing, NodesNotAllowed, NotOwned, NotSupported, Open
 from ._causes import Overlap, PlacedTwice, Refused, TooManyFrames, TooManyRanges, TooManyTasks
 from ._causes import Unaligned, Unknown, UnknownMode, Unmapped
 from ._cores import Core, Explanation, Placement, Policy, Prediction, Range
+from ._hosts import Group, Host, Process
 from ._library import LIBRARY
 from ._plans import Plan
 from ._scripts import Script
@@ -37,14 +40,16 @@ from ._values import effective, nodes, nodes_text, policy_text, rebind
 
 __version__ = "0.10.0"
 __all__ = [
-    "Answer", "Core", "Explanation", "Frame", "Placement", "Plan", "Policy", "Prediction",
-    "Question", "Range", "Report", "Script", "Seat",
+    "Answer", "Core", "Explanation", "Frame", "Group", "Host", "Placement", "Plan", "Policy",
+    "Prediction", "Process", "Question", "Range", "Report", "Script", "Seat",
     "check", "diff", "effective", "explain", "nodes", "nodes_text", "policy_text", "predict",
     "progress", "rebind", "replay", "sweep", "write_table",
     "AllTaken", "AnswerLost", "BadAccess", "BadCpu", "BadDistance", "BadFormat", "BadLimits",
     "BadNodeCount", "BadOffset",
     "BadOrders", "BadRules", "BadTry", "BadWeight", "BadWorkers", "BothFlags", "Busy", "CAUSES",
     "Closed", "CommandsSpent", "EmptyLength", "Exhausted", "FlagsForbidden", "Hole", "Idle",
+    "GroupExists", "GroupMems", "NoSuchGroup", "NoSuchProcess", "Populated", "ProcessExists",
+    "RootGroup", "TooManyGroups", "TooManyProcesses",
     "ListBackwards", "ListBadDigit", "ListEmpty", "ListTooHigh", "ManyProcesses", "NoMachine",
     "NoMemory",
     "NoMemoryNode", "NoNodeAllowed", "NoPolicy",
@@ -54,7 +59,8 @@ __all__ = [
     "Unknown", "UnknownMode", "Unmapped",
 ]
 # (as users name them, also where they are pickled)
-for _one in (Core, Explanation, Frame, Placement, Plan, Policy, Prediction, Range, Script, Seat):
+for _one in (Core, Explanation, Frame, Group, Host, Placement, Plan, Policy, Prediction, Process,
+             Range, Script, Seat):
     _one.__module__ = __name__
 
 if TYPE_CHECKING:

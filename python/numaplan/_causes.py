@@ -301,6 +301,51 @@ class ManyProcesses(Refused):
     words = "the script is a host's, and the answer is about one process"
 
 
+# ---- hosts
+
+
+class GroupExists(Refused):
+    number, words = 90, "there is a group of this number; choose another"
+
+
+class NoSuchGroup(Refused):
+    number, words = 91, "there is no group of this number, or not so many; make it by new_group"
+
+
+class TooManyGroups(Refused):
+    number, words = 92, "there are 1024 groups below the root, as many as a host may have"
+
+
+class RootGroup(Refused):
+    number = 93
+    words = "the root has no list of its own; make a group below it, and attach processes to that"
+
+
+class Populated(Refused):
+    number = 94
+    words = ("a process is in the group or below it, so its list can't be taken away; give it"
+             " another list, or attach the process to another group first")
+
+
+class ProcessExists(Refused):
+    number, words = 95, "there is a process of this number; choose another"
+
+
+class NoSuchProcess(Refused):
+    number = 96
+    words = "there is no process of this number, or not so many; make it by new_process or fork"
+
+
+class TooManyProcesses(Refused):
+    number, words = 97, "there are 4096 processes, as many as a host may have; let one exit first"
+
+
+class GroupMems(Refused):
+    number = 98
+    words = ("the nodes that a process is allowed are those of its group; give the group a list, or"
+             " attach the process to another")
+
+
 CAUSES: dict[int, type[Refused]] = {cause.number: cause for cause in Refused.__subclasses__()}
 
 

@@ -225,13 +225,13 @@ class Core(Owner):
         policy, place = StandingPolicy(), self._place_of(address)
         if any(self._ranges(place, address + 1)):
             call("core_range_policy", self._at, place, byref(policy))
-        return _policy(policy)
+        return policy_of(policy)
 
     def task_policy(self, task: int) -> "Policy | None":
         """The policy of a task; None where it has none."""
         policy = StandingPolicy()
         call("core_task_policy", self._at, u32("task", task), byref(policy))
-        return _policy(policy)
+        return policy_of(policy)
 
     def predict(self, task: int, cpu: int,
                 free: "Mapping[int, int] | None" = None) -> Prediction:
@@ -259,7 +259,7 @@ class Core(Owner):
         call("core_explain", self._at, u32("task", task), u64("page", page), u32("cpu", cpu),
              byref(told))
         turn = (told.place, told.places) if told.places else None
-        return Explanation(SCOPES[told.scope], _policy(told.policy), RULES[told.rule], told.node,
+        return Explanation(SCOPES[told.scope], policy_of(told.policy), RULES[told.rule], told.node,
                            told.index, turn)
 
     def maps(self, task: int, placements: Sequence[Placement] = ()) -> str:
@@ -312,7 +312,7 @@ class Core(Owner):
         return plan
 
 
-def _policy(told: StandingPolicy) -> "Policy | None":
+def policy_of(told: StandingPolicy) -> "Policy | None":
     """A policy as the library tells it."""
     if told.mode == 0:
         return None

@@ -12,7 +12,7 @@ NAME = "libnumaplan.so.0"
 
 
 class Handle(ctypes.Structure):
-    """What a core, a plan, a seat or a script is kept by."""
+    """What a core, a plan, a seat, a script or a host is kept by."""
 
     _fields_ = [("is_open", c_bool), ("at", c_void_p)]
 
@@ -85,6 +85,19 @@ class ToldExplanation(ctypes.Structure):
                 ("places", c_uint64), ("scope", c_uint32), ("rule", c_uint32), ("node", c_uint32)]
 
 
+class ToldGroup(ctypes.Structure):
+    """np_group."""
+
+    _fields_ = [("group", c_uint32), ("parent", c_uint32), ("has_mems", c_uint64),
+                ("mems", NodeSet)]
+
+
+class ToldProcess(ctypes.Structure):
+    """np_process."""
+
+    _fields_ = [("process", c_uint32), ("group", c_uint32)]
+
+
 _HANDLE, _TEXT, _U32, _U64 = POINTER(Handle), c_char_p, c_uint32, c_uint64
 _ROOM = [POINTER(c_uint8), c_size_t, POINTER(c_size_t)]
 _ASKED, _TOLD = POINTER(AskedReport), [c_void_p, c_size_t, POINTER(ToldReport)]
@@ -142,6 +155,33 @@ _SIGNATURES = {
     "core_predict": [_HANDLE, _U32, _U32, POINTER(_U64 * 256)],
     "core_fill": [_HANDLE, _U32, _U32, POINTER(_U64 * 256)],
     "core_explain": [_HANDLE, _U32, _U64, _U32, POINTER(ToldExplanation)],
+    "host_open": [_HANDLE, *_OPENED_BY[:-1], POINTER(Options)],
+    "host_copy": [_HANDLE, _HANDLE],
+    "host_version": [_HANDLE, POINTER(_U64)],
+    "host_new_group": [_HANDLE, _U32, _U32],
+    "host_set_group_mems": [_HANDLE, _U32, _TEXT, c_size_t],
+    "host_unset_group_mems": [_HANDLE, _U32],
+    "host_group_nodes": [_HANDLE, _U32, POINTER(NodeSet)],
+    "host_groups": [_HANDLE, POINTER(c_size_t)],
+    "host_group": [_HANDLE, c_size_t, POINTER(ToldGroup)],
+    "host_new_process": [_HANDLE, _U32, _U32],
+    "host_fork": [_HANDLE, _U32, _U32, _U32, _U32],
+    "host_attach": [_HANDLE, _U32, _U32],
+    "host_exit": [_HANDLE, _U32],
+    "host_processes": [_HANDLE, POINTER(c_size_t)],
+    "host_process": [_HANDLE, c_size_t, POINTER(ToldProcess)],
+    "host_set_weight": [_HANDLE, _U32, _U32],
+    "host_map": [_HANDLE, _U32, _U64, _U64, _U64],
+    "host_unmap": [_HANDLE, _U32, _U64, _U64],
+    "host_mbind": [_HANDLE, _U32, _U64, _U64, _TEXT, c_size_t],
+    "host_set_task": [_HANDLE, _U32, _U32, _TEXT, c_size_t],
+    "host_inherit": [_HANDLE, _U32, _U32, _U32],
+    "host_set_home": [_HANDLE, _U32, _U64, _U64, _U32],
+    "host_choice": [_HANDLE, _U32, _U32, _U64, _U32, *_ROOM],
+    "host_compile": [_HANDLE, _U32, _HANDLE],
+    "host_ranges": [_HANDLE, _U32, POINTER(c_size_t)],
+    "host_range": [_HANDLE, _U32, c_size_t, POINTER(Span), *_ROOM],
+    "host_task_policy": [_HANDLE, _U32, _U32, POINTER(StandingPolicy)],
     "version": [],
 }
 
@@ -168,7 +208,7 @@ def _load() -> ctypes.CDLL:
         if function is None:
             raise ImportError(f"{library._name} lacks np_{name}: it is of another version")
         function.argtypes, function.restype = types, c_uint32
-    for name in ("core_close", "plan_close", "script_close", "seat_close"):
+    for name in ("core_close", "host_close", "plan_close", "script_close", "seat_close"):
         function = getattr(library, "np_" + name)
         function.argtypes, function.restype = [_HANDLE], None
     return library

@@ -10,7 +10,7 @@ import sys
 from types import FunctionType
 
 import numaplan
-from numaplan import Core, Plan, Refused, Script, Seat
+from numaplan import Core, Host, Plan, Refused, Script, Seat
 
 NO_FAILURES = {0, 40}  # NP_OK and NP_STILL
 FAR = [[10, 20], [20, 10]]
@@ -77,11 +77,12 @@ for call, text, number in [
         want((str(cause), cause.errno), (text, number), type(cause).__name__)
 
 # as they are shown
-plan, seat, script = core.compile(), Seat([8, 8], FAR), Script()
+plan, seat, script, host = core.compile(), Seat([8, 8], FAR), Script(), Host([8, 8], FAR)
 want(repr(core), "<numaplan.Core of version 1, published 0>", "a core")
 want(repr(plan), "<numaplan.Plan of version 1>", "a plan")
 want([repr(seat), repr(script)], ["<numaplan.Seat>", "<numaplan.Script>"], "a seat, a script")
-for one in (core, plan, seat, script):
+want(repr(host), "<numaplan.Host of version 0, 0 processes>", "a host")
+for one in (core, plan, seat, script, host):
     one.close()
     want(repr(one), f"<numaplan.{type(one).__name__}, closed>", "a closed one")
 want(repr(Plan()), "<numaplan.Plan, closed>", "a plan of nothing")
@@ -94,8 +95,9 @@ ran = subprocess.run(
      "print('sweep' in dir(numaplan), numaplan.sweep.__module__, numaplan.Answer.__module__)\n"
      "print(hasattr(numaplan, 'sweeps'))"], capture_output=True, text=True, check=True)
 want(ran.stdout.splitlines(), [
-    "numaplan._calls numaplan._causes numaplan._cores numaplan._judged numaplan._library"
-    " numaplan._machines numaplan._plans numaplan._scripts numaplan._seats numaplan._values",
+    "numaplan._calls numaplan._causes numaplan._cores numaplan._hosts numaplan._judged"
+    " numaplan._library numaplan._machines numaplan._plans numaplan._scripts numaplan._seats"
+    " numaplan._values",
     "True numaplan._sweeps numaplan", "False"], "modules")
 
 # what a checker and `import *` see
