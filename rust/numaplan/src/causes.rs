@@ -128,6 +128,24 @@ causes! {
         "a line of the trace can't be replayed; the last message tells which, and why";
     82 MANY_PROCESSES "ManyProcesses"
         "the script is a host's, and the answer is about one process";
+    90 GROUP_EXISTS "GroupExists"
+        "there is a group of this number; choose another";
+    91 NO_SUCH_GROUP "NoSuchGroup"
+        "there is no group of this number, or not so many; make it by new_group";
+    92 TOO_MANY_GROUPS "TooManyGroups"
+        "there are 1024 groups below the root, as many as a host may have";
+    93 ROOT_GROUP "RootGroup"
+        "the root has no list of its own; make a group below it, and attach processes to that";
+    94 POPULATED "Populated"
+        "a process is in the group or below it, so its list can't be taken away; give it another list, or attach the process to another group first";
+    95 PROCESS_EXISTS "ProcessExists"
+        "there is a process of this number; choose another";
+    96 NO_SUCH_PROCESS "NoSuchProcess"
+        "there is no process of this number, or not so many; make it by new_process or fork";
+    97 TOO_MANY_PROCESSES "TooManyProcesses"
+        "there are 4096 processes, as many as a host may have; let one exit first";
+    98 GROUP_MEMS "GroupMems"
+        "the nodes that a process is allowed are those of its group; give the group a list, or attach the process to another";
 }
 
 impl Refused {

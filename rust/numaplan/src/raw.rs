@@ -100,6 +100,22 @@ pub(crate) struct ToldExplanation {
     pub node: u32,
 }
 
+#[repr(C)]
+pub(crate) struct ToldGroup {
+    pub group: u32,
+    pub parent: u32,
+    pub has_mems: u64,
+    pub mems: Nodes,
+}
+
+/// A process: its number, and its group's.
+#[repr(C)]
+#[derive(Clone, Copy, Debug, Default, PartialEq, Eq, Hash)]
+pub struct Process {
+    pub process: u32,
+    pub group: u32,
+}
+
 /// Where a page was placed: by this version, on this frame of this node, at this rank of its list.
 #[repr(C)]
 #[derive(Clone, Copy, Debug, Default, PartialEq, Eq)]
@@ -120,6 +136,8 @@ const _: () = assert!(size_of::<Nodes>() == 32);
 const _: () = assert!(size_of::<Options>() == 40 && size_of::<StandingPolicy>() == 72);
 const _: () = assert!(size_of::<AskedReport>() == 16 && size_of::<FreePages>() == 16);
 const _: () = assert!(size_of::<ToldReport>() == 24 && size_of::<ToldExplanation>() == 112);
+
+const _: () = assert!(size_of::<ToldGroup>() == 48 && size_of::<Process>() == 8);
 
 #[rustfmt::skip]
 #[link(name = "numaplan", kind = "static")]
@@ -180,5 +198,33 @@ extern "C" {
     pub(crate) fn np_core_predict(core: &mut Handle, task: u32, cpu: u32, counts: &mut Counts) -> u32;
     pub(crate) fn np_core_fill(core: &mut Handle, task: u32, cpu: u32, free_pages: &mut Counts) -> u32;
     pub(crate) fn np_core_explain(core: &mut Handle, task: u32, page: u64, cpu: u32, explanation: &mut ToldExplanation) -> u32;
+    pub(crate) fn np_host_open(host: &mut Handle, memory: *const u8, memory_length: usize, frames: *const u32, nodes: usize, distances: *const u8, distances_count: usize, limits: &Limits, options: &Options) -> u32;
+    pub(crate) fn np_host_close(host: &mut Handle);
+    pub(crate) fn np_host_copy(host: &mut Handle, copy: &mut Handle) -> u32;
+    pub(crate) fn np_host_version(host: &mut Handle, version: &mut u64) -> u32;
+    pub(crate) fn np_host_new_group(host: &mut Handle, group: u32, parent: u32) -> u32;
+    pub(crate) fn np_host_set_group_mems(host: &mut Handle, group: u32, nodes: *const u8, nodes_length: usize) -> u32;
+    pub(crate) fn np_host_unset_group_mems(host: &mut Handle, group: u32) -> u32;
+    pub(crate) fn np_host_group_nodes(host: &mut Handle, group: u32, nodes: &mut Nodes) -> u32;
+    pub(crate) fn np_host_groups(host: &mut Handle, count: &mut usize) -> u32;
+    pub(crate) fn np_host_group(host: &mut Handle, index: usize, group: &mut ToldGroup) -> u32;
+    pub(crate) fn np_host_new_process(host: &mut Handle, process: u32, group: u32) -> u32;
+    pub(crate) fn np_host_fork(host: &mut Handle, parent: u32, child: u32, from: u32, task: u32) -> u32;
+    pub(crate) fn np_host_attach(host: &mut Handle, process: u32, group: u32) -> u32;
+    pub(crate) fn np_host_exit(host: &mut Handle, process: u32) -> u32;
+    pub(crate) fn np_host_processes(host: &mut Handle, count: &mut usize) -> u32;
+    pub(crate) fn np_host_process(host: &mut Handle, index: usize, process: &mut Process) -> u32;
+    pub(crate) fn np_host_set_weight(host: &mut Handle, node: u32, weight: u32) -> u32;
+    pub(crate) fn np_host_map(host: &mut Handle, process: u32, start: u64, length: u64, offset: u64) -> u32;
+    pub(crate) fn np_host_unmap(host: &mut Handle, process: u32, start: u64, length: u64) -> u32;
+    pub(crate) fn np_host_mbind(host: &mut Handle, process: u32, start: u64, length: u64, policy: *const u8, policy_length: usize) -> u32;
+    pub(crate) fn np_host_set_task(host: &mut Handle, process: u32, task: u32, policy: *const u8, policy_length: usize) -> u32;
+    pub(crate) fn np_host_inherit(host: &mut Handle, process: u32, task: u32, from: u32) -> u32;
+    pub(crate) fn np_host_set_home(host: &mut Handle, process: u32, start: u64, length: u64, node: u32) -> u32;
+    pub(crate) fn np_host_choice(host: &mut Handle, process: u32, task: u32, page: u64, cpu: u32, nodes: *mut u8, room: usize, count: &mut usize) -> u32;
+    pub(crate) fn np_host_compile(host: &mut Handle, process: u32, plan: &mut Handle) -> u32;
+    pub(crate) fn np_host_ranges(host: &mut Handle, process: u32, count: &mut usize) -> u32;
+    pub(crate) fn np_host_range(host: &mut Handle, process: u32, index: usize, range: &mut Span, policy: *mut u8, room: usize, policy_length: &mut usize) -> u32;
+    pub(crate) fn np_host_task_policy(host: &mut Handle, process: u32, task: u32, policy: &mut StandingPolicy) -> u32;
     pub(crate) fn np_version() -> u32;
 }

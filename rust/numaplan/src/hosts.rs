@@ -1,0 +1,323 @@
+//! Hosts: processes in control groups. Each call of the library is as `calls` says.
+
+use crate::calls::{done, text_of};
+use crate::cores::untold;
+use crate::raw::{self, Handle, Limits, Nodes, Process, Span, ToldGroup};
+use crate::values::members;
+use crate::{Options, Plan, Policy, Range, Refused};
+
+/// A control group below the root: its number, its parent's (the root is 0), and the nodes of a list of
+/// its own, if it has one.
+#[derive(Clone, Debug, PartialEq, Eq)]
+pub struct Group {
+    pub group: u32,
+    pub parent: u32,
+    pub mems: Option<Vec<u8>>,
+}
+
+/// The processes of a host, the first born first, each as it is asked for.
+#[derive(Debug)]
+#[must_use]
+pub struct Processes<'a> {
+    host: &'a mut Host,
+    place: usize,
+}
+
+impl Iterator for Processes<'_> {
+    type Item = Process;
+
+    fn next(&mut self) -> Option<Process> {
+        // (a host is open, so it is refused where there is no process at the place alone)
+        let mut found = Process::default();
+        done(unsafe { raw::np_host_process(&mut self.host.0, self.place, &mut found) }).ok()?;
+        self.place += 1;
+        Some(found)
+    }
+}
+
+/// A host: processes in a tree of control groups, on one machine. A process answers as a core does that is
+/// given the commands which the process has accepted: its own, its parent's up to the fork, each weight,
+/// and a change of the allowed nodes whenever those of its group have changed.
+///
+/// ```
+/// use numaplan::{Host, Options, Refused};
+///
+/// let mut host = Host::open("0-3", &[8; 4], &[10, 20, 20, 20, 20, 10, 20, 20, 20, 20, 10, 20, 20,
+///     20, 20, 10], Options::default())?;
+/// host.new_group(5, 0)?;
+/// host.set_group_mems(5, "1-2")?;
+/// host.new_process(1, 5)?;
+/// host.map(1, 0x10000, 0x1000, 0x10)?;
+/// host.set_task(1, 7, "bind:2")?;
+/// host.fork(1, 2, 7, 9)?;
+/// host.set_group_mems(5, "2-3")?;
+/// assert_eq!(host.choice(1, 7, 0x10, 0)?, [3]); // the second of 1 to 2, now of 2 to 3
+/// assert_eq!(host.new_process(1, 0), Err(Refused::PROCESS_EXISTS));
+/// # Ok::<(), Refused>(())
+/// ```
+#[derive(Debug)]
+#[must_use]
+pub struct Host(pub(crate) Handle);
+
+// SAFETY: as for a core.
+unsafe impl Send for Host {}
+
+impl Host {
+    /// A host of a machine, described as for a core by options, without a group below the root and without
+    /// a process.
+    pub fn open(
+        memory: &str,
+        frames: &[u32],
+        distances: &[u8],
+        options: Options<'_>,
+    ) -> Result<Host, Refused> {
+        let options = options.raw()?;
+        let limits = Limits {
+            max_ranges: 65_536,
+            max_tasks: 1_024,
+            max_commands: u32::MAX,
+        };
+        let mut host = Host(Handle::closed());
+        done(unsafe {
+            raw::np_host_open(
+                &mut host.0,
+                memory.as_ptr(),
+                memory.len(),
+                frames.as_ptr(),
+                frames.len(),
+                distances.as_ptr(),
+                distances.len(),
+                &limits,
+                &options,
+            )
+        })?;
+        Ok(host)
+    }
+
+    /// A host that stands as this one does, to be asked "what if": what is done to one of the two doesn't
+    /// change the other.
+    pub fn copy(&mut self) -> Result<Host, Refused> {
+        let mut other = Host(Handle::closed());
+        done(unsafe { raw::np_host_copy(&mut self.0, &mut other.0) })?;
+        Ok(other)
+    }
+
+    /// How many commands are accepted.
+    #[must_use]
+    pub fn version(&mut self) -> u64 {
+        let mut version = 0;
+        unsafe { raw::np_host_version(&mut self.0, &mut version) };
+        version
+    }
+
+    /// Makes a group below another, without a list of its own; the root is 0.
+    pub fn new_group(&mut self, group: u32, parent: u32) -> Result<(), Refused> {
+        done(unsafe { raw::np_host_new_group(&mut self.0, group, parent) })
+    }
+
+    /// Gives a group a list of its own, as "0-1" (cpuset.mems). The policies of each process whose
+    /// allowed nodes change follow, in all of them or in none.
+    pub fn set_group_mems(&mut self, group: u32, nodes: &str) -> Result<(), Refused> {
+        done(unsafe {
+            raw::np_host_set_group_mems(&mut self.0, group, nodes.as_ptr(), nodes.len())
+        })
+    }
+
+    /// Takes a group's own list away.
+    pub fn unset_group_mems(&mut self, group: u32) -> Result<(), Refused> {
+        done(unsafe { raw::np_host_unset_group_mems(&mut self.0, group) })
+    }
+
+    /// The effective nodes of a group (cpuset.mems.effective), which its processes are allowed.
+    pub fn group_nodes(&mut self, group: u32) -> Result<Vec<u8>, Refused> {
+        let mut nodes = Nodes { words: [0; 4] };
+        done(unsafe { raw::np_host_group_nodes(&mut self.0, group, &mut nodes) })?;
+        Ok(members(&nodes))
+    }
+
+    /// The groups below the root, the newest first.
+    pub fn groups(&mut self) -> Result<Vec<Group>, Refused> {
+        let mut count = 0;
+        done(unsafe { raw::np_host_groups(&mut self.0, &mut count) })?;
+        (0..count).map(|place| self.group(place)).collect()
+    }
+
+    fn group(&mut self, place: usize) -> Result<Group, Refused> {
+        let mems = Nodes { words: [0; 4] };
+        let mut told = ToldGroup { group: 0, parent: 0, has_mems: 0, mems };
+        done(unsafe { raw::np_host_group(&mut self.0, place, &mut told) })?;
+        Ok(Group {
+            group: told.group,
+            parent: told.parent,
+            mems: (told.has_mems != 0).then(|| members(&told.mems)),
+        })
+    }
+
+    /// Makes a process in a group: nothing is mapped, no task has a policy.
+    pub fn new_process(&mut self, process: u32, group: u32) -> Result<(), Refused> {
+        done(unsafe { raw::np_host_new_process(&mut self.0, process, group) })
+    }
+
+    /// Makes a copy of a process, in its group, whose task `task` has the policy that `from` has in the
+    /// parent (fork(2)). It keeps the policies of all tasks.
+    pub fn fork(&mut self, parent: u32, child: u32, from: u32, task: u32) -> Result<(), Refused> {
+        done(unsafe { raw::np_host_fork(&mut self.0, parent, child, from, task) })
+    }
+
+    /// Moves a process to another group (cgroup.procs); its policies follow.
+    pub fn attach(&mut self, process: u32, group: u32) -> Result<(), Refused> {
+        done(unsafe { raw::np_host_attach(&mut self.0, process, group) })
+    }
+
+    /// Ends a process; its number is free.
+    pub fn exit(&mut self, process: u32) -> Result<(), Refused> {
+        done(unsafe { raw::np_host_exit(&mut self.0, process) })
+    }
+
+    /// The processes, the first born first.
+    pub fn processes(&mut self) -> Processes<'_> {
+        Processes { host: self, place: 0 }
+    }
+
+    /// How many processes there are.
+    #[must_use]
+    pub fn process_count(&mut self) -> usize {
+        let mut count = 0;
+        unsafe { raw::np_host_processes(&mut self.0, &mut count) };
+        count
+    }
+
+    /// Gives a node its weight for weighted interleaving, for every process.
+    pub fn set_weight(&mut self, node: u32, weight: u32) -> Result<(), Refused> {
+        done(unsafe { raw::np_host_set_weight(&mut self.0, node, weight) })
+    }
+
+    /// Maps a span of unmapped pages of a process; the first has the index `offset`.
+    pub fn map(
+        &mut self,
+        process: u32,
+        start: u64,
+        length: u64,
+        offset: u64,
+    ) -> Result<(), Refused> {
+        done(unsafe { raw::np_host_map(&mut self.0, process, start, length, offset) })
+    }
+
+    /// Unmaps the pages of a process's span.
+    pub fn unmap(&mut self, process: u32, start: u64, length: u64) -> Result<(), Refused> {
+        done(unsafe { raw::np_host_unmap(&mut self.0, process, start, length) })
+    }
+
+    /// Gives the pages of a process's span a policy of their own, as "bind:0-1".
+    pub fn mbind(
+        &mut self,
+        process: u32,
+        start: u64,
+        length: u64,
+        policy: &str,
+    ) -> Result<(), Refused> {
+        let text = policy.as_bytes();
+        done(unsafe {
+            raw::np_host_mbind(&mut self.0, process, start, length, text.as_ptr(), text.len())
+        })
+    }
+
+    /// Gives a task of a process its policy.
+    pub fn set_task(&mut self, process: u32, task: u32, policy: &str) -> Result<(), Refused> {
+        let text = policy.as_bytes();
+        done(unsafe {
+            raw::np_host_set_task(&mut self.0, process, task, text.as_ptr(), text.len())
+        })
+    }
+
+    /// Gives a task of a process the policy that another has, or none, as a new thread has its maker's.
+    pub fn inherit(&mut self, process: u32, task: u32, from: u32) -> Result<(), Refused> {
+        done(unsafe { raw::np_host_inherit(&mut self.0, process, task, from) })
+    }
+
+    /// Gives the policies of the pages of a process's span a home node.
+    pub fn set_home(
+        &mut self,
+        process: u32,
+        start: u64,
+        length: u64,
+        node: u32,
+    ) -> Result<(), Refused> {
+        done(unsafe { raw::np_host_set_home(&mut self.0, process, start, length, node) })
+    }
+
+    /// The nodes on which memory for a page of a process is looked for, the first first.
+    pub fn choice(
+        &mut self,
+        process: u32,
+        task: u32,
+        page: u64,
+        cpu: u32,
+    ) -> Result<Vec<u8>, Refused> {
+        let (mut nodes, mut count) = ([0; 256], 0);
+        let room = nodes.len();
+        done(unsafe {
+            raw::np_host_choice(
+                &mut self.0,
+                process,
+                task,
+                page,
+                cpu,
+                nodes.as_mut_ptr(),
+                room,
+                &mut count,
+            )
+        })?;
+        Ok(nodes[..count].to_vec())
+    }
+
+    /// The plan of all that a process has accepted, which answers as a core's does.
+    pub fn compile(&mut self, process: u32) -> Result<Plan, Refused> {
+        let mut plan = Plan(Handle::closed());
+        done(unsafe { raw::np_host_compile(&mut self.0, process, &mut plan.0) })?;
+        Ok(plan)
+    }
+
+    /// The ranges of pages of a process, in order of address.
+    pub fn ranges(&mut self, process: u32) -> Result<Vec<Range>, Refused> {
+        let mut count = 0;
+        done(unsafe { raw::np_host_ranges(&mut self.0, process, &mut count) })?;
+        (0..count).map(|place| self.range(process, place)).collect()
+    }
+
+    /// The range of a process at a place, from 0, in order of address.
+    fn range(&mut self, process: u32, place: usize) -> Result<Range, Refused> {
+        let (mut policy, mut length) = ([0; 1024], 0);
+        let mut found = Span::default();
+        done(unsafe {
+            raw::np_host_range(
+                &mut self.0,
+                process,
+                place,
+                &mut found,
+                policy.as_mut_ptr(),
+                policy.len(),
+                &mut length,
+            )
+        })?;
+        Ok(Range {
+            start: found.start,
+            length: found.length,
+            offset: found.offset,
+            policy: (length > 0).then(|| text_of(&policy[..length])),
+        })
+    }
+
+    /// The policy of a task of a process, if it has one.
+    pub fn task_policy(&mut self, process: u32, task: u32) -> Result<Option<Policy>, Refused> {
+        let mut policy = untold();
+        done(unsafe { raw::np_host_task_policy(&mut self.0, process, task, &mut policy) })?;
+        Ok(policy.told())
+    }
+}
+
+impl Drop for Host {
+    fn drop(&mut self) {
+        unsafe { raw::np_host_close(&mut self.0) }
+    }
+}
