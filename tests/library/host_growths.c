@@ -1,0 +1,166 @@
+/* Each growth of a host's calls refused in turn, through the library's three functions of memory:
+ * the call answers NP_NO_MEMORY and the host is as it was, or what it answers with memory; calls of
+ * which the header says that they need none are never refused so; and no block is held at the end.
+ * Not proved. */
+#include "numaplan_hosts.h"
+
+#include <stdio.h>
+#include <stdlib.h>
+#include <string.h>
+
+struct tried {
+    bool ok;
+    void *at;
+};
+static long left = -1; /* how many growths are still let through; -1: all */
+static long blocks;    /* how many are held */
+static char nothing[16];
+
+static struct tried tried(void *at) {
+    struct tried got = {at != NULL, at ? at : nothing};
+    return got;
+}
+
+static bool refused(void) { return left >= 0 && left-- == 0; }
+
+struct tried rattle_alloc(size_t length, size_t align) {
+    void *at = refused() ? NULL : malloc(length ? length : align);
+    blocks += at != NULL;
+    return tried(at);
+}
+
+struct tried rattle_realloc(void *at, size_t kept, size_t length, size_t align) {
+    (void)kept;
+    return tried(refused() ? NULL : realloc(at, length ? length : align));
+}
+
+void rattle_dealloc(void *at) {
+    blocks--;
+    free(at);
+}
+
+#define TEXT(words) (const uint8_t *)(words), strlen(words)
+
+/* What all handles keep. */
+static np_host host, copy;
+static np_plan plan;
+
+enum { GROUPS = 4, PROCESSES = 4, RANGES = 6 };
+
+/* What is seen of a host. */
+struct seen {
+    uint64_t version;
+    size_t groups, processes, ranges[PROCESSES];
+    np_group group[GROUPS];
+    np_process process[PROCESSES];
+    np_nodes nodes[GROUPS];
+    struct {
+        np_range range;
+        uint8_t word[32], list[4];
+        size_t length, count;
+    } each[PROCESSES][RANGES];
+    np_policy policy[PROCESSES];
+};
+
+static void see(np_host *one, struct seen *seen) {
+    long before = left;
+    left = -1;
+    memset(seen, 0, sizeof *seen);
+    np_host_version(one, &seen->version);
+    np_host_groups(one, &seen->groups);
+    for (size_t k = 0; k < seen->groups && k < GROUPS; k++) {
+        np_host_group(one, k, &seen->group[k]);
+        np_host_group_nodes(one, seen->group[k].group, &seen->nodes[k]);
+    }
+    np_host_processes(one, &seen->processes);
+    for (size_t k = 0; k < seen->processes && k < PROCESSES; k++) {
+        np_host_process(one, k, &seen->process[k]);
+        uint32_t number = seen->process[k].process;
+        np_host_ranges(one, number, &seen->ranges[k]);
+        np_host_task_policy(one, number, 7, &seen->policy[k]);
+        for (size_t r = 0; r < seen->ranges[k] && r < RANGES; r++) {
+            np_host_range(one, number, r, &seen->each[k][r].range, seen->each[k][r].word, 32,
+                          &seen->each[k][r].length);
+            np_host_choice(one, number, 7, seen->each[k][r].range.start / 4096, 0,
+                           seen->each[k][r].list, 4, &seen->each[k][r].count);
+        }
+    }
+    left = before;
+}
+
+/* The calls of a round, one after the other. */
+static uint32_t call(int which) {
+    static const uint32_t frames[4] = {0, 0, 0, 0};
+    static const uint8_t far[16] = {10, 20, 20, 20, 20, 10, 20, 20, 20, 20, 10, 20, 20, 20, 20, 10};
+    static const np_limits limits = {64, 8, 1000};
+    static const np_options options = {NP_RULES_DOCUMENT, NP_ORDERS_KERNEL, {{0, 0, 0, 0}}};
+    switch (which) {
+    case 0: return np_host_open(&host, TEXT("0-3"), frames, 4, far, 16, &limits, &options);
+    case 1: return np_host_new_group(&host, 5, 0);
+    case 2: return np_host_new_group(&host, 6, 5);
+    case 3: return np_host_set_group_mems(&host, 5, TEXT("1-2"));
+    case 4: return np_host_new_process(&host, 1, 6);
+    case 5: return np_host_map(&host, 1, 0x10000, 0x4000, 0x10);
+    case 6: return np_host_mbind(&host, 1, 0x11000, 0x2000, TEXT("bind:1-2"));
+    case 7: return np_host_set_task(&host, 1, 7, TEXT("weighted:1-2"));
+    case 8: return np_host_set_home(&host, 1, 0x12000, 0x1000, 3);
+    case 9: return np_host_inherit(&host, 1, 8, 7);
+    case 10: return np_host_set_weight(&host, 1, 3);
+    case 11: return np_host_fork(&host, 1, 2, 8, 7);
+    case 12: return np_host_unmap(&host, 2, 0x12000, 0x1000);
+    case 13: return np_host_copy(&host, &copy);
+    case 14: return np_host_compile(&host, 2, &plan);
+    case 15: return np_host_set_group_mems(&host, 6, TEXT("2-3"));
+    case 16: return np_host_attach(&host, 2, 0);
+    case 17: return np_host_exit(&host, 1);
+    case 18: return np_host_unset_group_mems(&host, 6);
+    default: return NP_UNKNOWN;
+    }
+}
+enum { CALLS = 19 };
+
+/* Whether the header says that a call needs no memory. */
+static bool is_free(int which) {
+    return which == 3 || which == 10 || which >= 15;
+}
+
+/* Makes the calls of a round; each is first refused each of its growths. How many were refused, -1
+ * where something is wrong. */
+static long play(void) {
+    static struct seen before, after, of_copy, then;
+    long growths = 0;
+    for (int which = 0; which < CALLS; which++) {
+        uint32_t code = NP_NO_MEMORY;
+        for (long growth = 0; code == NP_NO_MEMORY; growth++) {
+            see(&host, &before);
+            see(&copy, &of_copy);
+            long held = blocks;
+            left = growth;
+            code = call(which);
+            left = -1;
+            see(&host, &after);
+            see(&copy, &then);
+            bool same = memcmp(&before, &after, sizeof before) == 0 &&
+                        memcmp(&of_copy, &then, sizeof then) == 0 && blocks == held;
+            bool well = code == NP_NO_MEMORY ? same && !is_free(which) : code == NP_OK;
+            if (!well) {
+                printf("call %d, growth %ld: %u, %s\n", which, growth, code,
+                       same ? "as it was" : "changed");
+                return -1;
+            }
+            growths += code == NP_NO_MEMORY;
+        }
+    }
+    np_host_close(&host);
+    np_host_close(&copy);
+    np_plan_close(&plan);
+    return growths;
+}
+
+int main(void) {
+    long growths = play();
+    if (blocks != 0)
+        printf("%ld blocks are held\n", blocks);
+    printf("%ld growths\n", growths);
+    return growths < 20 || blocks != 0;
+}

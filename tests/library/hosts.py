@@ -1,0 +1,163 @@
+#!/usr/bin/env python3
+"""Hosts by the Python module: the lines of docs/SCRIPT.md, and then the module against the program:
+seeded commands of groups and processes, refused ones among them, and questions, each asked of both. The
+program's path is the argument. Not proved."""
+
+import random
+import subprocess
+import sys
+from itertools import zip_longest
+
+import numaplan
+from numaplan import Group, Host, Process, Range
+
+SEED, ROUNDS, STEPS, NODES = 11, 8, 150, 4
+FLAT = [[10 if a == b else 20 for b in range(NODES)] for a in range(NODES)]
+MODES = ["prefer", "bind", "interleave", "many", "weighted"]
+
+
+def worked():
+    """The lines of docs/SCRIPT.md, and what is told of groups and processes."""
+    with Host([0] * 4, FLAT, memory="0-3") as host:
+        host.new_group(5)
+        host.set_group_mems(5, "1-2")
+        host.new_process(1, 5)
+        host.map(1, 0x10000, 0x1000)
+        host.set_task(1, 7, "bind:2")
+        host.fork(1, 2, 7, 9)
+        host.set_group_mems(5, [2, 3])
+        assert host.choice(1, 7, 16, 0) == [3]
+        host.attach(2, 0)
+        assert host.choice(2, 9, 16, 0) == [1]
+        assert host.groups() == [Group(5, 0, [2, 3])] and host.group_nodes(0) == [0, 1, 2, 3]
+        assert host.processes() == list(host) == [Process(1, 5), Process(2, 0)]
+        assert repr(host) == "<numaplan.Host of version 8, 2 processes>"
+        assert host.ranges(1) == [Range(0x10000, 0x1000, 16, None)]
+        policy = host.task_policy(1, 7)
+        assert (policy.asked, policy.nodes, host.task_policy(1, 9)) == ([2], [3], None)
+        with host.copy() as copy, copy.compile(2) as plan:
+            assert (plan.version, plan.choice(9, 16, 0)) == (6, [1])
+            copy.exit(1)
+            copy.set_group_mems(5, None)
+            assert (copy.version, host.version, len(copy), len(host)) == (10, 8, 1, 2)
+        try:
+            host.set_group_mems(5, None)
+        except numaplan.Populated as cause:
+            assert cause.errno == 28
+        else:
+            raise AssertionError("a group with a process in it had its list taken away")
+        host.exit(1)
+        host.exit(2)
+        assert host and list(host) == []
+
+
+def policy(dice):
+    """A policy word, sometimes none."""
+    first = dice.randrange(NODES)
+    flag = dice.choice(["", "", "=static", "=relative"])
+    word = f"{dice.choice(MODES)}{flag}:{first}-{dice.randrange(first, NODES)}"
+    return "default" if dice.random() < 0.1 else word
+
+
+def of_the_host(dice):
+    """A line about groups and processes, and the same call."""
+    a, b, c = dice.randrange(6), dice.randrange(6), dice.randrange(3)
+    kind = dice.randrange(7)
+    if kind == 0:
+        return f"cgroup {a} {b}", lambda host: host.new_group(a, b)
+    if kind == 1:
+        first = dice.randrange(NODES)
+        nodes = f"{first}-{dice.randrange(first, NODES + (dice.random() < 0.1))}"
+        return f"cgroup-mems {a} {nodes}", lambda host: host.set_group_mems(a, nodes)
+    if kind == 2:
+        return f"cgroup-mems {a} -", lambda host: host.set_group_mems(a, None)
+    if kind == 3:
+        return f"process {a} {b}", lambda host: host.new_process(a, b)
+    if kind == 4:
+        return f"fork {a} {b} {c} {c + 1}", lambda host: host.fork(a, b, c, c + 1)
+    if kind == 5:
+        return f"attach {a} {b}", lambda host: host.attach(a, b)
+    if dice.random() < 0.5:
+        return f"exit {a}", lambda host: host.exit(a)
+    return f"weight {a} {b}", lambda host: host.set_weight(a, b)
+
+
+def of_a_process(dice):
+    """A line of one process, and the same call."""
+    process, task, node = dice.randrange(6), dice.randrange(3), dice.randrange(NODES + 1)
+    start, length, word = 4096 * dice.randrange(24), 4096 * dice.randrange(9), policy(dice)
+    kind = dice.randrange(6)
+    if kind == 0:
+        return f"map {start} {length} 7", lambda host: host.map(process, start, length, 7), process
+    if kind == 1:
+        return f"unmap {start} {length}", lambda host: host.unmap(process, start, length), process
+    if kind == 2:
+        return (f"mbind {start} {length} {word}",
+                lambda host: host.mbind(process, start, length, word), process)
+    if kind == 3:
+        return f"task {task} {word}", lambda host: host.set_task(process, task, word), process
+    if kind == 4:
+        return (f"home {start} {length} {node}",
+                lambda host: host.set_home(process, start, length, node), process)
+    return f"inherit {task} 1", lambda host: host.inherit(process, task, 1), process
+
+
+def answer_of(host, call):
+    """What the program says of the same command."""
+    try:
+        call(host)
+    except numaplan.Refused as cause:
+        return f"refused {type(cause).__name__}"
+    return f"ok {host.version}"
+
+
+def place(host, process, task, page, cpu):
+    """What the program says of the same question."""
+    try:
+        nodes = host.choice(process, task, page, cpu)
+        with host.compile(process) as plan:
+            assert plan.choice(task, page, cpu) == nodes
+            return f"v{plan.version}: {' '.join(map(str, nodes))}"
+    except numaplan.Refused as cause:
+        return f"refused {type(cause).__name__}"
+
+
+def play(dice):
+    """A round: the lines of a script, and what the module answers to them."""
+    lines, answers = ["limits 64 2 1000", "machine 4 0-3 0 flat", "host"], []
+    with Host([0] * 4, FLAT, memory="0-3", max_ranges=64, max_tasks=2, max_commands=1000) as host:
+        for _ in range(STEPS):
+            if dice.random() < 0.4:
+                line, call = of_the_host(dice)
+            else:
+                line, call, process = of_a_process(dice)
+                line = f"in {process} {line}"
+            lines.append(line)
+            answers.append(answer_of(host, call))
+            asked = [dice.randrange(6), dice.randrange(3), dice.randrange(24), dice.randrange(5)]
+            lines.append("in {} place {} {} {}".format(*asked[:2], asked[2] * 4096, asked[3]))
+            answers.append(place(host, *asked))
+    return lines, answers
+
+
+def said(program, lines):
+    """What the program answers, but for the error numbers and the first three lines."""
+    ran = subprocess.run([program, "run", "-"], input="\n".join(lines) + "\n", text=True,
+                         capture_output=True)
+    found = [line.split() for line in ran.stdout.splitlines()[3:]]
+    return [" ".join(words[:2]) if words[0] == "refused" else " ".join(words) for words in found]
+
+
+worked()
+dice = random.Random(SEED)
+refused = placed = 0
+for number in range(ROUNDS):
+    lines, answers = play(dice)
+    of_program = said(sys.argv[1], lines)
+    for line, ours, theirs in zip_longest(lines[3:], answers, of_program):
+        if ours != theirs:
+            sys.exit(f"round {number}: {line}: {ours}, and the program: {theirs}")
+    refused += sum(answer.startswith("refused") for answer in answers)
+    placed += sum(answer.startswith("v") for answer in answers)
+# (so that the seed asks something)
+assert refused > 200 and placed > 200, (refused, placed)
