@@ -1,12 +1,12 @@
 #!/usr/bin/env python3
 """Random scripts of hosts for one machine: host_scripts.py MACHINE FIRST COUNT [--without-weights]
 
-As scripts.py, whose lines of one process stand here behind `in P`. Each script has groups, some within
-others, with lists and without; processes that fork while their pages are placed in part, and threads that
-are made between policies; processes that move and end; and changes of every group's list. A task speaks
-once it is there alone: task 0 of a new process, the one child of a fork, and those that inherit. A page is
-placed where a write makes a kernel look for memory: for the first time, and where a fork left the page to
-more than one. Not proved."""
+As scripts.py, whose lines of one process stand here behind `in P`. Each script has groups, some
+within others, with lists and without; processes that fork while their pages are placed in part, and
+threads that are made between policies; processes that move and end; and changes of every group's
+list. A task speaks once it is there alone: task 0 of a new process, the one child of a fork, and
+those that inherit. A page is placed where a write makes a kernel look for memory: for the first
+time, and where a fork left the page to more than one. Not proved."""
 
 import sys
 
@@ -61,7 +61,7 @@ class HostScript(Script):
             self.say("cgroup", group, parent)
 
     def group_mems(self):
-        """Nodes with memory mostly, as in Script.mems; at times none, or of a group without a list."""
+        """Nodes with memory mostly, as in Script.mems; at times none."""
         some = sorted(self.memory)
         if self.likely(0.3):
             some = range(self.nodes + (1 if self.likely(0.1) else 0))
@@ -175,7 +175,8 @@ class HostScript(Script):
         self.say("process", 1, 2)
         self.processes[1] = Process(2, 0, {})
         self.inside(self.policies, self.place)
-        for line in self.random.sample([self.group_mems, self.fork, self.attach, self.new_group], 4):
+        lines = [self.group_mems, self.fork, self.attach, self.new_group]
+        for line in self.random.sample(lines, 4):
             line()
         lines = [self.of_process] * 6 + [self.group_mems] * 5 + [self.fork, self.attach] * 2
         lines += [self.new_group, self.new_process, self.leave] + [self.weight] * self.weights

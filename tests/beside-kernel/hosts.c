@@ -1,11 +1,11 @@
-/* Plays scripts of hosts on the kernel that it was booted by, as player.c does scripts of one process,
- * and writes the same to the console.
+/* Plays scripts of hosts on the kernel that it was booted by, as player.c does scripts of one
+ * process, and writes the same to the console.
  *
  * Groups are cgroups (v2) below the root, processes are processes, and tasks threads of them: a new
- * process has task 0 alone. `in P inherit T FROM` has the thread FROM make the thread T, in place of
- * the one that is there; `fork P Q TASK CHILD` has P's thread TASK fork, and CHILD is the only thread
- * of Q. Every other script keeps its processes in a leaf of each group, as systemd does; the others
- * have threaded groups, in which processes may stand beside groups. Not proved. */
+ * process has task 0 alone. `in P inherit T FROM` has the thread FROM make the thread T, in place
+ * of the one that is there; `fork P Q TASK CHILD` has P's thread TASK fork, and CHILD is the only
+ * thread of Q. Every other script keeps its processes in a leaf of each group, as systemd does; the
+ * others have threaded groups, in which processes may stand beside groups. Not proved. */
 #include "calls.h"
 #include <semaphore.h>
 #include <signal.h>
@@ -102,7 +102,8 @@ static int has_leaves;
 
 static const char *folder_of(int group)
 {
-	return group >= 0 && group < GROUPS && folders[group][0] ? folders[group] : "/cgroup/absent";
+	int is_there = group >= 0 && group < GROUPS && folders[group][0];
+	return is_there ? folders[group] : "/cgroup/absent";
 }
 
 static int write_in(const char *folder, const char *name, const char *text)

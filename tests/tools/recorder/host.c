@@ -1,9 +1,9 @@
-/* Two services and a job in control groups (v2), on the kernel that it was booted by: it prints what the
- * kernel shows of them, file by file, for samples/host of tests/tools.
+/* Two services and a job in control groups (v2), on the kernel that it was booted by: it prints
+ * what the kernel shows of them, file by file, for samples/host of tests/tools.
  *
- * It is the first program of a machine of four nodes that `record` starts under qemu. db.service has the
- * nodes 0-1, interleaves and shares a file with nobody; web.service has 2-3, and its worker is a child;
- * backup.service has no list. Not proved. */
+ * It is the first program of a machine of four nodes that `record` starts under qemu. db.service
+ * has the nodes 0-1 and interleaves; web.service has 2-3, and its worker is a child; backup.service
+ * has no list. Not proved. */
 #define _GNU_SOURCE
 #include <dirent.h>
 #include <fcntl.h>
@@ -128,12 +128,14 @@ static void show(const char *folder, const char *name)
 
 static void show_group(const char *folder)
 {
-	show(folder, "cpuset.mems"), show(folder, "cpuset.mems.effective"), show(folder, "cgroup.procs");
+	show(folder, "cpuset.mems"), show(folder, "cpuset.mems.effective");
+	show(folder, "cgroup.procs");
 }
 
 static void show_processes(void)
 {
-	static const char *const names[] = {"numa_maps", "maps", "status", "mountinfo", "cgroup", "comm"};
+	static const char *const names[] = {"numa_maps", "maps",   "status",
+					    "mountinfo", "cgroup", "comm"};
 	struct dirent *found;
 	DIR *proc = opendir("/proc");
 	char path[300], text[16];
@@ -143,8 +145,9 @@ static void show_processes(void)
 		snprintf(path, sizeof path, "/proc/%s/maps", found->d_name);
 		file = open(path, O_RDONLY);
 		snprintf(path, sizeof path, "/proc/%s", found->d_name);
-		for (each = 0; atoi(found->d_name) > 1 && read(file, text, sizeof text) > 0 && each < 6; each++)
-			show(path, names[each]);
+		if (atoi(found->d_name) > 1 && read(file, text, sizeof text) > 0)
+			for (each = 0; each < 6; each++)
+				show(path, names[each]);
 		close(file);
 	}
 }
