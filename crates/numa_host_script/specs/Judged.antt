@@ -1,10 +1,9 @@
 -- Which lines are answered by a fault or a refusal, where a script may become a host's. `refused`
 -- says whether a growth was refused while the line was judged.
-use Rattle.std.specs.Prelude.{◌≡◌, ◌×◌, ℕ, Bool, true, false, Option, Some, None, List}
-use Rattle.std.specs.Prelude.{if◌then◌else◌, Result, Ok, Err, Unit}
+use Rattle.std.specs.Prelude.{◌≡◌, ℕ, Bool, true, false, Option, Some, None, List}
+use Rattle.std.specs.Prelude.{if◌then◌else◌, Result, Ok, Err}
 use Rattle.std.specs.Option.{option_map}
 use Rattle.numa_machine.specs.Machine.{Hardware}
-use Rattle.numa_space.specs.Limited.{Bounds}
 use Rattle.numa_space.specs.declared.command.Command.{Command}
 use Rattle.numa_space.specs.declared.event.CoreRefusal.{CoreRefusal}
 use Rattle.numa_host.specs.Processes.{commands_of, is_there, members_of}
@@ -27,8 +26,8 @@ use Rattle.numa_run.specs.declared.script.Script.{Script}
 use Rattle.numa_host_script.specs.Lines.{host_line_of}
 use Rattle.numa_host_script.specs.Sessions.{Hosting, Outcome, Session, Single, Hosted}
 use Rattle.numa_host_script.specs.Sessions.{cause_by, is_begin, is_fresh, plain_reply}
-use Rattle.numa_host_script.specs.Sessions.{host_outcome, session_after}
-use Rattle.numa_host_script.specs.Standing.{RunsAs, StandsIn}
+use Rattle.numa_host_script.specs.Sessions.{host_outcome}
+use Rattle.numa_host_script.specs.Standing.{RunsAs}
 use Rattle.numa_host_script.specs.declared.fault.LineFault.{LineFault}
 use Rattle.numa_host_script.specs.declared.fault.LineFault.TheVariants as fault
 use Rattle.numa_host_script.specs.declared.line.HostLine.{HostLine}
