@@ -410,6 +410,18 @@ drop_none : (history : List Command) → first_commands (length history) history
 drop_none history = let none : length history - length history ≡ 0 = omega arith in
     ap (λ n. drop n history) none
 
+-- where as many commands are published as accepted, the published plan is that of all
+pub published-all : (space : SpaceState) (plan : PlanData) (seats : List WorkerSeat)
+    (owners : List (Option ℕ)) (world : World)
+    → CoreStandsFor (core_of space plan seats owners) world → plan.version ≡ space.version
+    → PlanStandsFor space.machine plan world.history
+published-all space plan seats owners world stands same =
+    let all : newest_published world ≡ length world.history =
+    sym (version-newest (core_of space plan seats owners) world stands) ∙ same
+    ∙ stands.space.version in
+    subst (λ h. PlanStandsFor space.machine plan h)
+    (ap (λ n. first_commands n world.history) all ∙ drop_none world.history) stands.plan
+
 pub publish-follows : (space : SpaceState) (old plan : PlanData) (seats : List WorkerSeat)
     (owners : List (Option ℕ)) (world : World) (version : ℕ)
     → CoreStandsFor (core_of space old seats owners) world

@@ -184,6 +184,16 @@ impl Core {
         self.state.space.space()
     }
 
+    /// Whether a question about one page is best answered by [`Core::space`], since the plan of all
+    /// accepted commands would have to be made, which only costs less from some number of questions
+    /// on (`PlannedSpace::answers_without_plan`). Each call that returns `true` counts as one. The
+    /// list is the same (`Space::list_at`).
+    pub fn answers_without_plan(&mut self) -> bool
+        ensures { self.new ≡ self.old }
+    {
+        self.state.space.answers_without_plan()
+    }
+
     /// Makes the plan of all accepted commands, which [`Core::accepted_plan`] lends, if there is
     /// none.
     ///

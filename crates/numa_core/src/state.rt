@@ -1,5 +1,6 @@
 //! The state of a core, and its steps.
 ghost use Rattle.std.specs.Prelude.{◌≡◌, ℕ, ◌<◌, ◌≤◌, IfOk, OnErr, None, Some, slice_get, vec_len};
+ghost use Rattle.std.specs.Prelude.{true};
 ghost use Rattle.std.specs.List.{AllZip};
 ghost use Rattle.numa_core.specs.World.{World, opening};
 ghost use Rattle.numa_core.specs.Steps.{put_frame};
@@ -61,6 +62,13 @@ fn seat_copies(alloc: Global, seats: &[WorkerSeat]) -> Result<Vec<WorkerSeat>, N
     Ok(others)
 }
 
+/// Whether a plan is that of all accepted commands: no plan of fewer has as many.
+fn is_newest(plan: &Plan, space: &PlannedSpace) -> bool
+    ensures { result ≡ true → plan.now.version ≡ space.now.version }
+{
+    plan.version() == space.space().version()
+}
+
 impl State {
     /// A core with nothing mapped, version 0 published, each worker idle and no frame owned.
     pub(crate) fn new(
@@ -114,6 +122,9 @@ impl State {
         requires kept { IsKept self.old }
         ensures { Performs self.old Event.Publish result self.new }
     {
+        if is_newest(&self.plan, &self.space) {
+            return Ok(CoreReply::Published(self.plan.version()));
+        }
         match self.space.plan_copy(self.alloc) {
             Ok(plan) => self.plan = plan,
             Err(_) => return Err(CoreRefusal::NoMemory),

@@ -1,8 +1,9 @@
-//! Answering questions about pages by a plan.
+//! Answering questions about pages by a plan, or by the space.
 ghost use Rattle.std.specs.Prelude.{◌≡◌, ℕ, List, length};
 ghost use Rattle.numa_compile.specs.Standing.{PlanStandsFor};
 ghost use Rattle.numa_machine.specs.Machine.{Hardware};
 ghost use Rattle.numa_space.specs.History.{page_of};
+ghost use Rattle.numa_space.specs.Standing.{StandsFor};
 ghost use Rattle.numa_space.specs.declared.command.Command.{Command};
 ghost use Rattle.numa_lines.specs.Written.{Said};
 ghost use Rattle.numa_run.specs.Questions.{count_text, place_text, span_text, unless_starved};
@@ -10,7 +11,7 @@ ghost use Rattle.numa_run.specs.Questions.{count_text, place_text, span_text, un
 use numa_lines::Watched;
 use numa_plan::Plan;
 use numa_script::tell::{say_counts, say_nodes, say_place_refusal, say_starved};
-use numa_space::{PAGE_BYTES, Request};
+use numa_space::{PAGE_BYTES, Request, Space};
 use std::alloc::Global;
 use std::io::Write;
 
@@ -30,6 +31,18 @@ pub fn say_place<W: Write>(plan: &Plan, fault: Request, output: &mut Watched<W>)
 {
     match plan.fallback_list(fault.task, fault.page, fault.cpu) {
         Ok(nodes) => say_nodes(output, plan.version(), nodes),
+        Err(refusal) => say_place_refusal(output, refusal),
+    }
+}
+
+/// The same, by the space in place of its plan.
+pub fn say_place_in<W: Write>(space: &Space, fault: Request, output: &mut Watched<W>)
+    ensures { (history : List Command) → StandsFor space.now history
+        → Said W.contents output.old output.new
+        (place_text space.now.machine history fault.task fault.page fault.cpu) }
+{
+    match space.list_at(fault.task, fault.page, fault.cpu) {
+        Ok(nodes) => say_nodes(output, space.version(), &nodes),
         Err(refusal) => say_place_refusal(output, refusal),
     }
 }

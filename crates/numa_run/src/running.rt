@@ -1,8 +1,10 @@
 //! Running machines.
-ghost use Rattle.std.specs.Prelude.{◌≡◌, Bool, [], None, Some, false, MatchResult};
+ghost use Rattle.std.specs.Prelude.{◌≡◌, Bool, List, [], None, Some, true, false, MatchResult};
 ghost use Rattle.numa_lines.specs.Written.{Said};
 ghost use Rattle.numa_core.specs.Standing.{setup_of};
 ghost use Rattle.numa_core.specs.Steps.{accept_answer};
+ghost use Rattle.numa_space.specs.Standing.{StandsFor};
+ghost use Rattle.numa_space.specs.declared.command.Command.{Command};
 ghost use Rattle.numa_run.specs.Answers.{State};
 ghost use Rattle.numa_run.specs.Judged.{question_cause};
 ghost use Rattle.numa_run.specs.Questions.{question_text};
@@ -13,7 +15,7 @@ ghost use Rattle.numa_run.specs.Work.{won_by};
 ghost use Rattle.numa_script.specs.Replies.{reply_to};
 
 use crate::judging::refusal_by_plan;
-use crate::questions::{fault_at, say_pages, say_place, say_span};
+use crate::questions::{fault_at, say_pages, say_place, say_place_in, say_span};
 use numa_core::Core;
 use numa_lines::Watched;
 use numa_machine::Frame;
@@ -58,6 +60,24 @@ fn prepare(core: &mut Core)
     if core.accepted_plan().is_none() {
         make_plan(core);
     }
+}
+
+/// Answers `place` by the space, if that costs less than making the plan. Returns whether it did.
+fn answered_by_space<W: Write>(core: &mut Core, question: Question, output: &mut Watched<W>) -> bool
+    ensures same { core.new ≡ core.old }
+    ensures answer { result ≡ true → (history : List Command) → StandsFor core.old.space history
+        → Said W.contents output.old output.new
+        (question_text false core.old.space.machine history question) }
+    ensures unsaid { result ≡ false → output.new ≡ output.old }
+{
+    let Question::Place { task, address, cpu } = question else {
+        return false;
+    };
+    if !core.answers_without_plan() {
+        return false;
+    }
+    say_place_in(core.space(), fault_at(task, address, cpu), output);
+    true
 }
 
 /// The reply to a command, from the core's answer.
@@ -169,6 +189,24 @@ impl Running {
 
     /// Answers a question. Returns whether memory ran out; then the answer says so.
     pub fn answer<W: Write>(
+        &mut self,
+        alloc: Global,
+        question: Question,
+        output: &mut Watched<W>,
+    ) -> bool
+        ensures answer { (state : State) → RunsAs self.old state → RunsAs self.new state
+            × Said W.contents output.old output.new (question_text result
+            self.old.core.space.machine state.world.history question) }
+        ensures ranges { question ≡ Question.Ranges → result ≡ false }
+    {
+        if answered_by_space(&mut self.core, question, output) {
+            return false;
+        }
+        self.answer_by_plan(alloc, question, output)
+    }
+
+    /// Answers a question by the plan. Returns whether memory ran out; then the answer says so.
+    fn answer_by_plan<W: Write>(
         &mut self,
         alloc: Global,
         question: Question,

@@ -1,14 +1,27 @@
 use Rattle.std.proofs.Common.{rules}
-use Rattle.numa_core.proofs.CoreSteps.{publish-follows}
+use Rattle.numa_core.proofs.CoreSteps.{publish-follows, published-all}
 use Rattle.numa_core.proofs.state.State.publish.Goals as goal
+
+pub returns-then-is_newest : goal.returns-then-is_newest
+returns-then-is_newest c = record {
+  kept = search rules;
+  follows = λ world stands.
+      publish-follows c.args.self.now.space c.args.self.now.plan c.args.self.now.plan
+      c.args.self.now.seats.items c.args.self.now.owners.items world c.version.result stands
+      (published-all c.args.self.now.space c.args.self.now.plan c.args.self.now.seats.items
+      c.args.self.now.owners.items world stands (c.is_newest.ensures c.if-is_newest.true))
+      c.version.ensures;
+  unchanged = search rules;
+  setup = search rules;
+}
 
 pub returns : goal.returns
 returns c = record {
   kept = search rules;
   follows = λ world stands. rw c.plan_copy.ensures.same
       (publish-follows c.args.self.now.space c.args.self.now.plan c.in-Ok.plan
-      c.args.self.now.seats.items c.args.self.now.owners.items world c.version.result stands
-      (c.in-Ok.ensures.stands world.history stands.space) c.version.ensures);
+      c.args.self.now.seats.items c.args.self.now.owners.items world c.version-2.result stands
+      (c.in-Ok.ensures.stands world.history stands.space) c.version-2.ensures);
   unchanged = search rules;
   setup = search rules;
 }

@@ -7,7 +7,7 @@ use Rattle.numa_space.specs.declared.request.Request.{Request}
 use Rattle.numa_core.specs.Standing.{CoreState}
 use Rattle.numa_run.specs.Questions.{count_text, place_text, span_text, unless_starved}
 use Rattle.numa_run.proofs.Doing.{same-core}
-use Rattle.numa_run.proofs.running.Running.answer.Goals as goal
+use Rattle.numa_run.proofs.running.Running.answer_by_plan.Goals as goal
 
 pub returns-in-Ranges-clause-answer : goal.returns-in-Ranges-clause-answer
 returns-in-Ranges-clause-answer g c =
