@@ -19,6 +19,6 @@ pub mod view;
 
 pub use along::take_along;
 pub use closed::Closed;
-pub use owned_seat::OwnedSeat;
+pub use owned_seat::{ExchangeRefusal, OwnedSeat};
 pub use pools::Pools;
 pub use seat::PoolSeat;

@@ -1,7 +1,7 @@
 //! Seats that carry their pools.
 ghost use Rattle.std.specs.Prelude.{◌≡◌, IfOk, OnOk, OnErr};
 ghost use Rattle.numa_pool.specs.Seated.{at_first, newcomer, seat_after_split, seat_after_join};
-ghost use Rattle.numa_pool.specs.Seated.{Gives, TakesAlong};
+ghost use Rattle.numa_pool.specs.Seated.{Exchanges, Gives, TakesAlong};
 
 use crate::along::take_along;
 use crate::{PoolSeat, Pools};
@@ -9,6 +9,15 @@ use numa_machine::{Frame, Machine, NoMemory};
 use std::alloc::Global;
 use std::marker::Model;
 use std::sync::Arc;
+
+/// Why a frame wasn't exchanged: the first of these that applies.
+#[derive(Clone, Copy, PartialEq, Eq, Debug, Drop)]
+pub enum ExchangeRefusal {
+    /// The seat doesn't hold the frame.
+    NotOwned,
+    /// Each frame of the node was found taken.
+    Exhausted,
+}
 
 /// Shared ownership of some pools of frames, and a seat at them: what one thread needs to take
 /// frames and give them back. Contracts see the number of frames of each node, and the seat. The
@@ -80,6 +89,27 @@ impl OwnedSeat {
             return true;
         }
         false
+    }
+
+    /// Exchanges a frame that the seat holds for one of a node, as for a page that moves there:
+    /// takes a free frame of the node, and then gives the old one back. A frame of the node itself
+    /// is exchanged for another one. It doesn't allocate.
+    ///
+    /// # Errors
+    /// The first that applies; the seat holds what it held: `NotOwned`, it doesn't hold the frame,
+    /// and has made no step; `Exhausted`, each frame of the node was found taken at a step of this
+    /// call, also where it has none.
+    pub fn exchange(&mut self, old: Frame, node: u8) -> Result<Frame, ExchangeRefusal>
+        ensures exchanges { Exchanges old node self.old self.new result }
+    {
+        if !self.seat.holds(&old) {
+            return Err(ExchangeRefusal::NotOwned);
+        }
+        let Some(found) = self.pools.take(&mut self.seat, node) else {
+            return Err(ExchangeRefusal::Exhausted);
+        };
+        self.pools.give(&mut self.seat, old);
+        Ok(found)
     }
 
     /// Takes over the frames of another seat at the same pools, which is consumed. It doesn't
