@@ -24,13 +24,13 @@ use numa_space::Space;
 
 /// A task, and the node on which it runs.
 #[derive(Clone, Copy)]
-pub(crate) struct Touch {
+pub(crate) struct FaultingTask {
     pub(crate) task: u32,
     pub(crate) cpu: u32,
 }
 
 /// The first node of a page's list.
-fn first_node(space: &Space, page: u64, touch: Touch) -> Option<u8>
+fn first_node(space: &Space, page: u64, touch: FaultingTask) -> Option<u8>
     ensures { result ≡ first_in space.now touch.task touch.cpu page }
 {
     let Ok(nodes) = space.list_at(touch.task, page, touch.cpu) else {
@@ -67,7 +67,7 @@ fn send_page(
     space: &Space,
     page: u64,
     spot: Spot,
-    touch: Touch,
+    touch: FaultingTask,
     told: &mut Bound,
 ) -> Result<(), NoMemory>
     requires span { IsSpan page 1 }
@@ -97,7 +97,7 @@ fn send_pages(
     from: u64,
     to: u64,
     spot: Spot,
-    touch: Touch,
+    touch: FaultingTask,
     told: &mut Bound,
 ) -> Result<(), NoMemory>
     requires rises { from < to }
@@ -150,7 +150,7 @@ fn bind_run(
     first: u64,
     pages: u64,
     list: &NodeMask,
-    touch: Touch,
+    touch: FaultingTask,
     told: &mut Bound,
 ) -> Result<(), NoMemory>
     requires within { first + pages ≤ 2 ^ 35 }
@@ -195,7 +195,7 @@ fn bind_runs(
     first: u64,
     pages: u64,
     list: &NodeMask,
-    touch: Touch,
+    touch: FaultingTask,
 ) -> Result<Bound, NoMemory>
     requires within { first + pages ≤ 2 ^ 35 }
     requires whole { AreWhole map.old.runs }
@@ -223,7 +223,7 @@ pub(crate) fn bind_span(
     first: u64,
     pages: u64,
     list: &NodeMask,
-    touch: Touch,
+    touch: FaultingTask,
 ) -> Result<Bound, PlacedRefusal>
     requires within { first + pages ≤ 2 ^ 35 }
     requires kept { IsKept map.old }

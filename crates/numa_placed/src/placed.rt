@@ -19,7 +19,7 @@ ghost use Rattle.numa_placed.specs.Wholes.{AreWhole};
 ghost use Rattle.numa_placed.specs.declared.spot.Spot.TheVariants.{Nowhere, Held};
 
 use crate::astray::has_astray;
-use crate::bind::{Touch, bind_span};
+use crate::bind::{FaultingTask, bind_span};
 use crate::bound::Bound;
 use crate::change::Change;
 use crate::edit::{edit, placed_runs};
@@ -285,7 +285,7 @@ impl Placed {
             first,
             pages,
             list,
-            Touch { task, cpu },
+            FaultingTask { task, cpu },
         )
     }
 

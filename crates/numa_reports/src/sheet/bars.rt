@@ -1,7 +1,7 @@
 //! The bars of pictures: pages one by one, or by node.
 
 use crate::sheet::colours::{fill_of, ink_of};
-use crate::sheet::fields::{Placed, bytes};
+use crate::sheet::fields::{PlacedPages, bytes};
 use crate::sheet::nodes::NodePages;
 use crate::sheet::scale::share;
 use crate::sheet::written::Written;
@@ -11,7 +11,7 @@ pub(crate) const CELL: u64 = 12;
 
 /// Where a part of a bar is drawn: its first column and its row of pixels, and its size.
 #[derive(Clone, Copy)]
-pub(crate) struct Place {
+pub(crate) struct Rectangle {
     pub(crate) left: u64,
     pub(crate) top: u64,
     pub(crate) width: u64,
@@ -19,7 +19,7 @@ pub(crate) struct Place {
 }
 
 /// Draws a rectangle.
-pub(crate) fn put_rectangle(text: &mut Written, place: Place, fill: &str) {
+pub(crate) fn put_rectangle(text: &mut Written, place: Rectangle, fill: &str) {
     let numbers = [place.left, place.top, place.width, place.height];
     text.put_form(
         b"<rect x=\"$\" y=\"$\" width=\"$\" height=\"$\" stroke=\"#333333\" \
@@ -31,7 +31,7 @@ pub(crate) fn put_rectangle(text: &mut Written, place: Place, fill: &str) {
 }
 
 /// Writes the number of a node in the middle of a place, if there is room for it.
-fn put_number(text: &mut Written, place: Place, node: u64) {
+fn put_number(text: &mut Written, place: Rectangle, node: u64) {
     if place.width < CELL {
         return;
     }
@@ -54,14 +54,14 @@ fn put_number(text: &mut Written, place: Place, node: u64) {
 
 /// Draws a part of a bar in the colour of a node, with its number. Its title, which tells more
 /// where the mouse points, was written before it.
-pub(crate) fn put_part(text: &mut Written, place: Place, node: u64) {
+pub(crate) fn put_part(text: &mut Written, place: Rectangle, node: u64) {
     put_rectangle(text, place, fill_of(node));
     put_number(text, place, node);
     text.put(b"</g>");
 }
 
 /// Draws the page of an address.
-fn put_page(text: &mut Written, place: Place, address: u64, node: u64) {
+fn put_page(text: &mut Written, place: Rectangle, address: u64, node: u64) {
     text.put(b"<g><title>");
     text.put_address(address);
     text.put_form(b": node $</title>", &[node]);
@@ -69,13 +69,13 @@ fn put_page(text: &mut Written, place: Place, address: u64, node: u64) {
 }
 
 /// Draws a cell for each page, from the address of the first on.
-pub(crate) fn put_pages(text: &mut Written, whole: Place, start: u64, nodes: &[u8]) {
+pub(crate) fn put_pages(text: &mut Written, whole: Rectangle, start: u64, nodes: &[u8]) {
     let count = nodes.len() as u64;
     let mut page = 0u64;
     for node in nodes {
         let left = share(whole.width, page, count);
         let behind = share(whole.width, page.saturating_add(1), count);
-        let place = Place {
+        let place = Rectangle {
             left: whole.left.saturating_add(left),
             width: behind.saturating_sub(left),
             ..whole
@@ -86,10 +86,10 @@ pub(crate) fn put_pages(text: &mut Written, whole: Place, start: u64, nodes: &[u
 }
 
 /// Draws the pages of a node, of a bar with `all` pages of which `before` are drawn.
-fn put_node(text: &mut Written, whole: Place, before: u64, all: u64, one: NodePages) {
+fn put_node(text: &mut Written, whole: Rectangle, before: u64, all: u64, one: NodePages) {
     let left = share(whole.width, before, all);
     let behind = share(whole.width, before.saturating_add(one.pages), all);
-    let place = Place {
+    let place = Rectangle {
         left: whole.left.saturating_add(left),
         width: behind.saturating_sub(left),
         ..whole
@@ -101,7 +101,7 @@ fn put_node(text: &mut Written, whole: Place, before: u64, all: u64, one: NodePa
 }
 
 /// Draws the pages by node, and behind them those that find no free page.
-pub(crate) fn put_nodes(text: &mut Written, whole: Place, placed: Placed<'_>) {
+pub(crate) fn put_nodes(text: &mut Written, whole: Rectangle, placed: PlacedPages<'_>) {
     let lacking = placed.lacking().unwrap_or(0);
     let all = placed.pages.saturating_add(lacking);
     let mut before = 0u64;
@@ -113,7 +113,7 @@ pub(crate) fn put_nodes(text: &mut Written, whole: Place, placed: Placed<'_>) {
         return;
     }
     let left = share(whole.width, before, all);
-    let place = Place {
+    let place = Rectangle {
         left: whole.left.saturating_add(left),
         width: whole.width.saturating_sub(left),
         ..whole

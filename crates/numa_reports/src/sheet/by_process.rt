@@ -4,7 +4,7 @@ use crate::account::Account;
 use crate::filling::FreePages;
 use crate::moves::{ENTRIES, empty_table};
 use crate::sheet::changes::put_moves;
-use crate::sheet::fields::{Placed, placed_of};
+use crate::sheet::fields::{PlacedPages, placed_of};
 use crate::sheet::nodes::{NodePages, list_nodes};
 use crate::sheet::parts::left_on;
 use crate::sheet::written::Written;
@@ -129,7 +129,7 @@ impl ByProcess {
     }
 
     /// The records of all processes together, behind a header.
-    fn put_total_records(&mut self, placed: Placed<'_>, left: &[NodePages]) {
+    fn put_total_records(&mut self, placed: PlacedPages<'_>, left: &[NodePages]) {
         let mut part = Written::new(self.text.alloc());
         records::put_head(&mut part);
         records::put_total(&mut part, placed, left);

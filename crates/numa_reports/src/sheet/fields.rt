@@ -11,7 +11,7 @@ pub(crate) fn bytes(pages: u64) -> u64 {
 
 /// Pages by node.
 #[derive(Clone, Copy)]
-pub(crate) struct Placed<'a> {
+pub(crate) struct PlacedPages<'a> {
     /// Each node that gets pages, in ascending order.
     pub(crate) nodes: &'a [NodePages],
     /// The number of pages of all nodes.
@@ -31,23 +31,23 @@ fn sum(nodes: &[NodePages]) -> u64 {
 
 /// `pages` mapped pages, of which these nodes get some; `fills` says whether those that find no
 /// free page are counted.
-pub(crate) fn placed_of(nodes: &[NodePages], pages: u64, fills: bool) -> Placed<'_> {
+pub(crate) fn placed_of(nodes: &[NodePages], pages: u64, fills: bool) -> PlacedPages<'_> {
     if !fills {
-        return Placed {
+        return PlacedPages {
             nodes,
             pages,
             exhausted: None,
         };
     }
     let found = sum(nodes);
-    Placed {
+    PlacedPages {
         nodes,
         pages: found,
         exhausted: Some(pages.saturating_sub(found)),
     }
 }
 
-impl Placed<'_> {
+impl PlacedPages<'_> {
     /// The number of pages that find no free page; `None` if it is 0.
     pub(crate) fn lacking(&self) -> Option<u64> {
         match self.exhausted {
@@ -66,5 +66,5 @@ pub(crate) struct RangeRow<'a> {
     pub(crate) end: u64,
     /// The policy as numa_maps shows it.
     pub(crate) policy: &'a str,
-    pub(crate) placed: Placed<'a>,
+    pub(crate) placed: PlacedPages<'a>,
 }

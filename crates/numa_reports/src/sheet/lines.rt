@@ -1,18 +1,18 @@
 //! Reports as lines in the form of numa_maps.
 
-use crate::sheet::fields::{Placed, RangeRow};
+use crate::sheet::fields::{PlacedPages, RangeRow};
 use crate::sheet::nodes::{NodePages, put_nodes};
 use crate::sheet::written::Written;
 
 /// Writes the number of pages that find no free page, if there are any.
-pub(crate) fn put_lacking(text: &mut Written, placed: Placed<'_>) {
+pub(crate) fn put_lacking(text: &mut Written, placed: PlacedPages<'_>) {
     if let Some(pages) = placed.lacking() {
         text.put_form(b" exhausted=$", &[pages]);
     }
 }
 
 /// Writes the number of pages, and each node that has some.
-fn put_pages(text: &mut Written, placed: Placed<'_>) {
+fn put_pages(text: &mut Written, placed: PlacedPages<'_>) {
     text.put(b" anon=");
     text.put_number(placed.pages);
     put_nodes(text, placed.nodes);
@@ -40,7 +40,7 @@ fn put_left(text: &mut Written, left: &[NodePages]) {
 }
 
 /// Writes the line of all pages by node, and that of the free pages left.
-pub(crate) fn put_total(text: &mut Written, placed: Placed<'_>, left: &[NodePages]) {
+pub(crate) fn put_total(text: &mut Written, placed: PlacedPages<'_>, left: &[NodePages]) {
     text.put(b"total");
     put_pages(text, placed);
     put_left(text, left);

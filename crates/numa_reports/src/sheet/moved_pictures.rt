@@ -5,7 +5,7 @@
 //! move have a thick frame.
 
 use crate::outlook::PageSpan;
-use crate::sheet::bars::{Place, put_part};
+use crate::sheet::bars::{Rectangle, put_part};
 use crate::sheet::changes::{entry, moved};
 use crate::sheet::fields::bytes;
 use crate::sheet::moved_parts::ShownSpans;
@@ -43,7 +43,7 @@ pub(crate) fn put_head(text: &mut Written, touch: Touch, spans: u64, scale: &Sca
 }
 
 /// Draws the pages that go from a node to another, in a bar.
-fn put_pages(text: &mut Written, place: Place, from: u64, to: u64, node: u64, pages: u64) {
+fn put_pages(text: &mut Written, place: Rectangle, from: u64, to: u64, node: u64, pages: u64) {
     text.put_form(b"<g><title>node $ to node $: ", &[from, to]);
     text.put_pages(pages);
     text.put(b"</title>");
@@ -77,7 +77,7 @@ fn put_from(
         if pages > 0 {
             let left = share(width, done, all);
             done = done.saturating_add(pages);
-            let upper = Place {
+            let upper = Rectangle {
                 left,
                 top: 16,
                 width: share(width, done, all).saturating_sub(left),
@@ -85,7 +85,14 @@ fn put_from(
             };
             let (one, other) = (u64::from(from), u64::from(to));
             put_pages(text, upper, one, other, one, pages);
-            put_pages(text, Place { top: 35, ..upper }, one, other, other, pages);
+            put_pages(
+                text,
+                Rectangle { top: 35, ..upper },
+                one,
+                other,
+                other,
+                pages,
+            );
         }
     }
     done

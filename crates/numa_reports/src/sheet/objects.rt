@@ -1,7 +1,7 @@
 //! Reports as JSON. Objects are serde_json's, with their members in the order of their names; the
 //! number of pages that find no free page comes after them.
 
-use crate::sheet::fields::{Placed, RangeRow};
+use crate::sheet::fields::{PlacedPages, RangeRow};
 use crate::sheet::nodes::NodePages;
 use crate::sheet::object::Object;
 use crate::sheet::written::Written;
@@ -34,7 +34,7 @@ fn list(alloc: Global, nodes: &[NodePages]) -> Result<Value, AllocError> {
 }
 
 /// Adds the number of pages, and each node that has some.
-fn put_placed(object: &mut Object, placed: Placed<'_>) {
+fn put_placed(object: &mut Object, placed: PlacedPages<'_>) {
     object.put_number("anon", placed.pages);
     object.put("nodes", list(object.alloc(), placed.nodes));
 }
@@ -73,7 +73,7 @@ fn range_object(alloc: Global, row: RangeRow<'_>) -> Result<Value, AllocError> {
 }
 
 /// The object of all pages by node, without the number of those that find no free page.
-fn total_object(alloc: Global, placed: Placed<'_>) -> Result<Value, AllocError> {
+fn total_object(alloc: Global, placed: PlacedPages<'_>) -> Result<Value, AllocError> {
     let mut object = Object::new(alloc);
     put_placed(&mut object, placed);
     object.made()
@@ -100,7 +100,7 @@ pub(crate) fn end_ranges(text: &mut Written) {
 }
 
 /// Writes the number of ranges that aren't in the list, and their pages by node.
-pub(crate) fn put_others(text: &mut Written, ranges: u64, placed: Placed<'_>) {
+pub(crate) fn put_others(text: &mut Written, ranges: u64, placed: PlacedPages<'_>) {
     text.put(b",\"others\":");
     let mut object = Object::new(text.alloc());
     object.put_number("ranges", ranges);
@@ -109,7 +109,7 @@ pub(crate) fn put_others(text: &mut Written, ranges: u64, placed: Placed<'_>) {
 }
 
 /// Ends the object, with all pages by node and, if nodes are named, the free pages left.
-pub(crate) fn put_total(text: &mut Written, placed: Placed<'_>, left: &[NodePages]) {
+pub(crate) fn put_total(text: &mut Written, placed: PlacedPages<'_>, left: &[NodePages]) {
     text.put(b",\"total\":");
     put_made(text, total_object(text.alloc(), placed), placed.exhausted);
     put_left(text, left);

@@ -4,9 +4,11 @@
 //! a bar. Parts of bars have the colour and the number of their node, so nothing depends on
 //! colours.
 
-use crate::sheet::bars::{CELL, Place, put_nodes as put_bar, put_pages, put_part, put_rectangle};
+use crate::sheet::bars::{
+    CELL, Rectangle, put_nodes as put_bar, put_pages, put_part, put_rectangle,
+};
 use crate::sheet::colours::fill_of;
-use crate::sheet::fields::{Placed, RangeRow, bytes};
+use crate::sheet::fields::{PlacedPages, RangeRow, bytes};
 use crate::sheet::lines::put_lacking;
 use crate::sheet::nodes::{NodePages, put_nodes};
 use crate::sheet::scale::{Scale, share};
@@ -105,7 +107,7 @@ pub(crate) fn put_range(
     text.put(row.policy.as_bytes());
     text.put(b"</text>");
     let count = cells.len() as u64;
-    let place = Place {
+    let place = Rectangle {
         left: 0,
         top: 16,
         width,
@@ -125,7 +127,7 @@ pub(crate) fn put_rest(
     text: &mut Written,
     before: u64,
     ranges: u64,
-    placed: Placed<'_>,
+    placed: PlacedPages<'_>,
     width: u64,
 ) {
     begin_row(text, b"rest", before);
@@ -139,7 +141,7 @@ pub(crate) fn put_rest(
     put_counts(text, placed.nodes);
     put_lacking(text, placed);
     text.put(b"</text>");
-    let place = Place {
+    let place = Rectangle {
         left: 0,
         top: 16,
         width,
@@ -162,7 +164,7 @@ fn put_left(text: &mut Written, node: usize, left: &[NodePages]) {
 
 /// Draws the number of a node in its colour and, if it gets pages, a bar behind it.
 fn put_node_bar(text: &mut Written, node: u64, bar: u64, top: u64) {
-    let mark = Place {
+    let mark = Rectangle {
         left: 0,
         top,
         width: NODE_MARK,
@@ -171,7 +173,7 @@ fn put_node_bar(text: &mut Written, node: u64, bar: u64, top: u64) {
     text.put_form(b"<g><title>node $</title>", &[node]);
     put_part(text, mark, node);
     if bar > 0 {
-        let place = Place {
+        let place = Rectangle {
             left: NODE_MARK,
             width: bar,
             ..mark
@@ -211,7 +213,7 @@ fn most_of(counts: &[u64]) -> u64 {
 /// Ends the picture, behind this many rows of ranges, with the total pages of each node.
 pub(crate) fn put_total(
     text: &mut Written,
-    placed: Placed<'_>,
+    placed: PlacedPages<'_>,
     counts: &[u64],
     left: &[NodePages],
     rows: u64,

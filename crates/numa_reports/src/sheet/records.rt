@@ -1,7 +1,7 @@
 //! Reports as CSV: one record for each node of each range, and one for each node's total. Pages
 //! that find no free page have a record without a node.
 
-use crate::sheet::fields::{Placed, RangeRow, placed_of};
+use crate::sheet::fields::{PlacedPages, RangeRow, placed_of};
 use crate::sheet::nodes::NodePages;
 use crate::sheet::written::Written;
 use csv::{Writer, WriterBuilder};
@@ -67,7 +67,7 @@ impl Records {
     }
 
     /// Writes the records of pages.
-    fn put_placed(&mut self, front: &RowPrefix<'_>, placed: Placed<'_>) {
+    fn put_placed(&mut self, front: &RowPrefix<'_>, placed: PlacedPages<'_>) {
         self.put_nodes(front, placed.nodes);
         if let Some(pages) = placed.lacking() {
             self.put(front, "", pages);
@@ -84,7 +84,7 @@ impl Records {
 }
 
 /// Writes the records of pages.
-fn put_all(text: &mut Written, front: &RowPrefix<'_>, placed: Placed<'_>) {
+fn put_all(text: &mut Written, front: &RowPrefix<'_>, placed: PlacedPages<'_>) {
     let mut records = Records::new(text.alloc());
     records.put_placed(front, placed);
     records.end(text);
@@ -105,7 +105,7 @@ pub(crate) fn put_range(text: &mut Written, row: RangeRow<'_>) {
 }
 
 /// Writes records that belong to no range: a word instead of their policy, and no addresses.
-fn put_apart(text: &mut Written, policy: &str, placed: Placed<'_>) {
+fn put_apart(text: &mut Written, policy: &str, placed: PlacedPages<'_>) {
     let mut all = Buffer::new();
     let front = RowPrefix {
         start: "",
@@ -118,7 +118,7 @@ fn put_apart(text: &mut Written, policy: &str, placed: Placed<'_>) {
 
 /// Writes the records of all pages, `total`, and after them those of the free pages left, `left`,
 /// if nodes are named.
-pub(crate) fn put_total(text: &mut Written, placed: Placed<'_>, left: &[NodePages]) {
+pub(crate) fn put_total(text: &mut Written, placed: PlacedPages<'_>, left: &[NodePages]) {
     put_apart(text, "total", placed);
     for one in left {
         put_apart(text, "left", placed_of(&[*one], one.pages, false));
