@@ -1,3 +1,4 @@
 pub mod Counted
 pub mod Freed
 pub mod Replays
+pub mod Reversed

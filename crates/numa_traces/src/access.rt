@@ -9,6 +9,7 @@ use numa_script::number::{page, small};
 use numa_script::parts::words;
 
 /// Consecutive accesses of a task to a page, from a CPU of a node.
+#[repr(C)]
 #[derive(Clone, Copy)]
 pub struct Access {
     pub task: u32,
@@ -19,6 +20,8 @@ pub struct Access {
     /// The number of accesses.
     pub count: u32,
 }
+
+const _: () = prove!(size_of::<Access>() == 24);
 
 /// The access of four words.
 ///

@@ -14,8 +14,10 @@ mod placed;
 mod reading;
 mod replay;
 mod report;
+mod routes;
 mod summary;
 mod tallies;
+mod whole;
 
 pub use access::{Access, read_access};
 pub use fault::{AccessError, ReplayError};
@@ -24,4 +26,6 @@ pub use placed::placed_text;
 pub use reading::{Replaying, replay_lines};
 pub use replay::Replay;
 pub use report::report_text;
+pub use routes::{RouteCounts, routes_of};
 pub use tallies::{AccessCounts, Route, Tallies};
+pub use whole::replay_all;
