@@ -1,13 +1,4 @@
 //! Predictions and explanations of all processes of a host, by process and in all.
-ghost use Rattle.std.specs.Prelude.{◌≡◌, ◌≢◌, ◌^◌, ℕ, [], All, List, OnOk, map};
-ghost use Rattle.numa_host.specs.Standing.{IsSpaceOf};
-ghost use Rattle.numa_host.specs.declared.process.Process.{Process};
-ghost use Rattle.numa_machine.specs.Machine.{Hardware};
-ghost use Rattle.numa_space.specs.Limited.{Bounds};
-ghost use Rattle.numa_space.specs.Standing.{StandsFor};
-ghost use Rattle.numa_space.specs.declared.command.Command.{Command};
-ghost use Rattle.numa_reports.specs.Filled.{free_behind, nodes_of};
-ghost use Rattle.numa_words.specs.Accounts.{free_behind_each};
 
 use crate::halt::{Halt, halt_of};
 use numa_compile::compile;
@@ -37,11 +28,7 @@ fn prediction_of<P: Watch>(
     asked: EachAsked<'_>,
     account: &mut Account,
     watch: &mut P,
-) -> Result<Vec<u8>, Halt>
-    ensures { (history : List Command) → StandsFor space.now history → asked.entry.free.now ≢ []
-        → OnOk result (account.new.free ≡ free_behind (nodes_of space.now.machine history
-        asked.entry.touch.task asked.entry.touch.cpu) account.old.free 0 (2 ^ 35)) }
-{
+) -> Result<Vec<u8>, Halt> {
     let Ok(plan) = compile(alloc, space) else {
         return Err(Halt::Stopped(RunFault::Memory));
     };
@@ -66,12 +53,7 @@ fn predict_one<P: Watch>(
     account: &mut Account,
     answers: &mut ByProcess,
     watch: &mut P,
-) -> Result<(), Halt>
-    ensures { (history : List Command) → StandsFor process.now.space history
-        → asked.entry.free.now ≢ [] → OnOk result (account.new.free
-        ≡ free_behind (nodes_of process.now.space.machine history asked.entry.touch.task
-        asked.entry.touch.cpu) account.old.free 0 (2 ^ 35)) }
-{
+) -> Result<(), Halt> {
     match prediction_of(alloc, &process.space, asked, account, watch) {
         Ok(text) => {
             answers.add(process.id, text.as_slice());
@@ -84,27 +66,18 @@ fn predict_one<P: Watch>(
 
 /// Adds where the pages of processes would go, one process after the other: the pages of each take
 /// what those before it have left.
-fn predict_rest<P: Watch>(
+fn predict_all<P: Watch>(
     alloc: Global,
     processes: &[Process],
     asked: EachAsked<'_>,
     account: &mut Account,
     answers: &mut ByProcess,
     watch: &mut P,
-) -> Result<(), Halt>
-    ensures { (machine : Hardware) (limits : Bounds) (commands : ℕ → List Command)
-        → All (λ (p : Process). IsSpaceOf machine limits (commands p.id) p.space) processes.now
-        → asked.entry.free.now ≢ [] → OnOk result (account.new.free
-        ≡ free_behind_each machine asked.entry.touch.task asked.entry.touch.cpu account.old.free
-        (map (λ (p : Process). commands p.id) processes.now)) }
-{
-    let Some((process, rest)) = processes.split_first() else {
-        return Ok(());
-    };
-    if let Err(halt) = predict_one(alloc, process, asked, account, answers, watch) {
-        return Err(halt);
+) -> Result<(), Halt> {
+    for process in processes {
+        predict_one(alloc, process, asked, account, answers, watch)?;
     }
-    predict_rest(alloc, rest, asked, account, answers, watch)
+    Ok(())
 }
 
 /// The first node of `free` that a machine with `nodes` nodes lacks.
@@ -152,7 +125,7 @@ pub(crate) fn predict_each<P: Watch>(
     let mut account = Account::new(asked.free);
     let mut answers = ByProcess::of_touch(alloc, asked.format, asked.touch);
     let processes = host.processes();
-    let done = predict_rest(alloc, processes, asked, &mut account, &mut answers, watch);
+    let done = predict_all(alloc, processes, asked, &mut account, &mut answers, watch);
     let text = match done {
         Ok(()) => ended(&mut answers, &account, asked.free, nodes),
         Err(halt) => Err(halt),

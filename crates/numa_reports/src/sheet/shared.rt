@@ -68,6 +68,28 @@ fn write_unshared(
     Ok(())
 }
 
+/// Writes each range and the total; if nodes are named, the pages take free ones of the account.
+fn write_by<W: Watch>(
+    parts: &mut PredictionWriter,
+    asked: PredictionRequest<'_>,
+    account: &mut Account,
+    watch: &mut W,
+) -> Result<(), ReportError>
+    requires known { asked.touch.cpu < asked.space.now.machine.nodes }
+    ensures free { (history : List Command) → StandsFor asked.entry.space.now history
+        → PlanStandsFor asked.entry.space.now.machine asked.entry.plan.now history
+        → asked.entry.free.now ≢ [] → OnOk result (account.new.free
+        ≡ free_behind (nodes_of asked.entry.space.now.machine history asked.entry.touch.task
+        asked.entry.touch.cpu) account.old.free 0 (2 ^ 35)) }
+    ensures err { FailsForNode asked.entry.space.now asked.entry.plan.now
+        asked.entry.touch.cpu result }
+{
+    if asked.free.is_empty() {
+        return write_unshared(parts, asked, account);
+    }
+    write_shared(parts, asked, account, watch)
+}
+
 /// The text of one of several predictions. If nodes are named in `free`, its pages take those that
 /// the ones before have left.
 ///
@@ -100,18 +122,12 @@ pub fn shared_text<W: Watch>(
         free,
     };
     let mut parts = begin(alloc, asked, format)?;
-    let written = if free.is_empty() {
-        write_unshared(&mut parts, asked, account)
-    } else {
-        write_shared(&mut parts, asked, account, watch)
-    };
-    let text = match written {
-        Ok(()) => parts.take_text(),
-        Err(fault) => {
-            drop(parts);
-            return Err(fault);
-        }
-    };
+    let written = write_by(&mut parts, asked, account, watch);
+    if let Err(fault) = written {
+        drop(parts);
+        return Err(fault);
+    }
+    let text = parts.take_text();
     drop(parts);
     Ok(text?)
 }
