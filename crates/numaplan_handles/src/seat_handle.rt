@@ -3,13 +3,13 @@ ghost use Rattle.std.specs.Prelude.{◌≡◌, ◌&&◌, Some, None, MatchOption
 ghost use Rattle.std.specs.Prelude.{true, false};
 ghost use Rattle.numaplan_handles.specs.Calls.{Calls, Keeps};
 ghost use Rattle.numaplan_handles.specs.Kinds.{CallsKept, seat_of, is_seat};
-ghost use Rattle.numaplan_handles.specs.Seats.{Takes, Returns, Splits, Stays, Joins};
+ghost use Rattle.numaplan_handles.specs.Seats.{Takes, Returns, Migrates, Splits, Stays, Joins};
 ghost use Rattle.numaplan_handles.specs.Seats.{AreTogether};
 
 use crate::handle::Handle;
 use crate::kept::Kept;
 use numa_machine::{Frame, NoMemory};
-use numa_pool::OwnedSeat;
+use numa_pool::{ExchangeRefusal, OwnedSeat};
 use std::alloc::{AllocError, Global};
 
 /// Handles of seats at pools of frames.
@@ -37,6 +37,17 @@ fn give_kept(kept: &mut Kept, frame: Frame) -> bool
 {
     match kept {
         Kept::Seat(seat) => seat.give(frame),
+        _ => unreachable!(),
+    }
+}
+
+/// Exchanges a frame that the seat holds for one of the node.
+fn migrate_kept(kept: &mut Kept, frame: Frame, node: u8) -> Result<Frame, ExchangeRefusal>
+    requires seat { is_seat (Some kept.old) ≡ true }
+    ensures { CallsKept is_seat seat_of (Migrates frame node) kept.old result kept.new }
+{
+    match kept {
+        Kept::Seat(seat) => seat.exchange(frame, node),
         _ => unreachable!(),
     }
 }
@@ -112,6 +123,25 @@ impl SeatHandle {
         let held = give_kept(&mut kept, frame);
         self.handle.put(kept);
         Some(held)
+    }
+
+    /// Exchanges a frame that the seat holds for one of a node, as [`OwnedSeat::exchange`]. `None`
+    /// if the handle is closed.
+    ///
+    /// # Errors
+    /// As there: `NotOwned`, `Exhausted`.
+    pub fn migrate(
+        &mut self,
+        alloc: Global,
+        frame: Frame,
+        node: u8,
+    ) -> Option<Result<Frame, ExchangeRefusal>>
+        ensures { Calls (Migrates frame node) (seat_in self.old) result (seat_in self.new) }
+    {
+        let mut kept = self.handle.take(alloc)?;
+        let answer = migrate_kept(&mut kept, frame, node);
+        self.handle.put(kept);
+        Some(answer)
     }
 
     /// Puts a new seat at the same pools into another, closed handle. `None` if this one is closed.
