@@ -54,6 +54,16 @@ uint32_t np_seat_take(np_seat *seat, const uint8_t *nodes, size_t count, np_fram
  * free, or another seat's, or no frame of the machine. Needs no memory. NP_CLOSED. */
 uint32_t np_seat_give(np_seat *seat, uint8_t node, uint16_t number);
 
+/* Exchanges a frame that the seat holds for one of the node `to`, as for a page that moves there:
+ * takes a free frame of that node, copied to `frame`, and then gives back the old one. Another
+ * thread may take that as soon as it is given back: where contents have to be copied, call
+ * np_seat_take, copy, and call np_seat_give. NP_NOT_OWNED where the seat doesn't hold the frame; NP_ALL_TAKEN where each frame of `to` was found
+ * taken at some time during this call, also where it has none. Then the seat holds what it held,
+ * and `frame` is as it was. A frame of `to` itself is exchanged for another. Needs no memory.
+ * NP_CLOSED. */
+uint32_t np_seat_migrate(np_seat *seat, uint8_t node, uint16_t number, uint8_t to,
+                         np_frame *frame);
+
 /* Gives all frames that `other` holds to `seat`, and closes `other`. Both have to be seats at
  * the same pools, from one np_seat_open by np_seat_split: this is for the caller to see to, as
  * no call can tell. Needs no memory. NP_CLOSED where either keeps none, and then both are as

@@ -51,6 +51,16 @@ class Seat(Owner):
         """Gives back a frame; raises NotOwned where the seat doesn't hold it."""
         call("seat_give", self._at, u8("node", node), u16("number", number))
 
+    def migrate(self, node: int, number: int, to: int) -> Frame:
+        """Exchanges a frame that the seat holds for one of the node `to`, as for a page that moves
+        there: takes the new one, at rank 0, and then gives back the old one. Raises NotOwned where the
+        seat doesn't hold the frame, AllTaken where each frame of the node was found taken; the seat
+        then holds what it held."""
+        frame = TakenFrame()
+        call("seat_migrate", self._at, u8("node", node), u16("number", number), u8("to", to),
+             byref(frame))
+        return Frame(frame.node, frame.number, 0)
+
     def join(self, other: Seat) -> None:
         """Gets the frames that another seat at the same pools holds, which is closed."""
         if other is self or other._pools is not self._pools:

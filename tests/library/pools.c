@@ -100,6 +100,42 @@ static void takes(void) {
     WANT(np_seat_take(&seat, nodes, 2, &frame, &rank), NP_CLOSED);
 }
 
+/* 2 frames of node 0 and 2 of node 1: a frame moves to node 1, where then one is free, and is given back
+ * on node 0, so that it can be taken there; a node that is full, has no frames or isn't there keeps the
+ * frame where it is, as does one that the seat doesn't hold. */
+static void migrates(void) {
+    np_seat seat = {0}, other = {0};
+    const uint8_t nodes[2] = {0, 1};
+    np_frame first = {9, 9}, second = {9, 9}, frame = {9, 9};
+    size_t rank = 9;
+    WANT(np_seat_migrate(&seat, 0, 0, 1, &frame), NP_CLOSED);
+    WANT(open_seat(&seat, 2, 2), NP_OK);
+    WANT(np_seat_split(&seat, &other), NP_OK);
+    WANT(np_seat_migrate(&seat, 0, 0, 1, &frame), NP_NOT_OWNED);
+    WANT(np_seat_take(&seat, nodes, 1, &first, &rank), NP_OK);
+    WANT(np_seat_take(&other, nodes, 1, &second, &rank), NP_OK);
+    WANT(np_seat_migrate(&seat, second.node, second.number, 1, &frame), NP_NOT_OWNED);
+    WANT(np_seat_migrate(&seat, first.node, first.number, 0, &frame), NP_ALL_TAKEN);
+    WANT(np_seat_migrate(&seat, first.node, first.number, 2, &frame), NP_ALL_TAKEN);
+    WANT(np_seat_migrate(&seat, first.node, first.number, 255, &frame), NP_ALL_TAKEN);
+    WANT(frame.node, 9);
+    WANT(np_seat_migrate(&seat, first.node, first.number, 1, &frame), NP_OK);
+    WANT(frame.node, 1);
+    WANT(frame.number < 2, 1);
+    WANT(np_seat_give(&seat, first.node, first.number), NP_NOT_OWNED);
+    WANT(np_seat_take(&other, nodes, 2, &first, &rank), NP_OK);
+    WANT(first.node, 0);
+    WANT(first.number != second.number, 1);
+    second = frame;
+    WANT(np_seat_migrate(&seat, second.node, second.number, 1, &frame), NP_OK);
+    WANT(frame.node, 1);
+    WANT(frame.number != second.number, 1);
+    WANT(np_seat_give(&seat, second.node, second.number), NP_NOT_OWNED);
+    WANT(np_seat_give(&seat, frame.node, frame.number), NP_OK);
+    np_seat_close(&seat);
+    np_seat_close(&other);
+}
+
 /* As many frames as end before, at and behind a word of 64, and as many as a node may have: one thread
  * takes them in rising order, and again each that it gives back while no other is free. */
 static void borders(void) {
@@ -213,6 +249,7 @@ int main(void) {
     closed();
     machines();
     takes();
+    migrates();
     borders();
     seats();
     threads();

@@ -44,6 +44,11 @@ with Seat([3, 5], DISTANCES) as seat:
     want(refusal(lambda: seat.give(2, 0)), "NotOwned", "a node that isn't there")
     seat.give(0, 2)
     want(seat.take([1, 0]), (0, 2, 1), "the frame that was given back")
+    want(refusal(lambda: seat.migrate(0, 2, 1)), "AllTaken", "a move to a full node")
+    seat.give(1, 4)
+    want(seat.migrate(0, 2, 1), (1, 4, 0), "a move")
+    want(refusal(lambda: seat.migrate(0, 2, 1)), "NotOwned", "a frame that was moved")
+    want(seat.take([1, 0]), (0, 2, 1), "the frame that it left")
     with Seat([3, 5], DISTANCES) as other:
         want(refusal(lambda: seat.join(other)), "ValueError", "a seat at other pools")
 want(refusal(lambda: seat.take([1])), "Closed", "a closed seat")

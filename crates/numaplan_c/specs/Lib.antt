@@ -4,6 +4,7 @@ pub mod Border
 pub mod Hosts
 pub mod Options
 pub mod Questions
+pub mod Migrations
 pub mod Names
 pub mod Policies
 pub mod Scripts

@@ -15,6 +15,7 @@ mod hosts;
 mod keeping;
 mod listings;
 mod machines;
+mod migrations;
 mod names;
 mod nodes;
 mod opening;

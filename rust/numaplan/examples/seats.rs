@@ -47,5 +47,8 @@ fn main() -> Result<(), Refused> {
         first.give(frame)?;
     }
     println!("{}", first.give(Frame { node: 1, number: 0 }).unwrap_err());
+    let (frame, _) = first.take(&[0])?;
+    let moved = first.migrate(frame, 1)?;
+    println!("moved from node {} to node {}", frame.node, moved.node);
     Ok(())
 }

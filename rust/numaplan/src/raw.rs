@@ -178,6 +178,7 @@ extern "C" {
     pub(crate) fn np_seat_split(seat: &mut Handle, other: &mut Handle) -> u32;
     pub(crate) fn np_seat_take(seat: &mut Handle, nodes: *const u8, count: usize, frame: &mut Frame, rank: &mut usize) -> u32;
     pub(crate) fn np_seat_give(seat: &mut Handle, node: u8, number: u16) -> u32;
+    pub(crate) fn np_seat_migrate(seat: &mut Handle, node: u8, number: u16, to: u8, frame: &mut Frame) -> u32;
     pub(crate) fn np_seat_join(seat: &mut Handle, other: &mut Handle) -> u32;
     pub(crate) fn np_seat_close(seat: &mut Handle);
     pub(crate) fn np_nodes_read(text: *const u8, length: usize, nodes: &mut Nodes) -> u32;

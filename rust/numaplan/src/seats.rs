@@ -70,6 +70,17 @@ impl Seat {
         done(unsafe { raw::np_seat_give(&mut self.handle, frame.node, frame.number) })
     }
 
+    /// Exchanges a frame that the seat holds for one of a node, as for a page that moves there: takes
+    /// the new one, and then gives back the old one. `NOT_OWNED` where the seat doesn't hold the
+    /// frame; `ALL_TAKEN` where each frame of the node was found taken. It then holds what it held.
+    pub fn migrate(&mut self, frame: Frame, to: u8) -> Result<Frame, Refused> {
+        let mut found = Frame::default();
+        done(unsafe {
+            raw::np_seat_migrate(&mut self.handle, frame.node, frame.number, to, &mut found)
+        })?;
+        Ok(found)
+    }
+
     /// Gets the frames that another seat at the same pools holds. A seat at other pools is handed
     /// back.
     pub fn join(&mut self, mut other: Seat) -> Result<(), Seat> {

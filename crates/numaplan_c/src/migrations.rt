@@ -1,0 +1,47 @@
+//! Pages that move to frames of other nodes.
+ghost use Rattle.std.specs.Prelude.{◌≡◌, Some, None, Result};
+ghost use Rattle.numa_machine.specs.declared.frame.Frame.{Frame};
+ghost use Rattle.numa_pool.specs.Seated.{Seated};
+ghost use Rattle.numa_pool.specs.declared.owned_seat.ExchangeRefusal.{ExchangeRefusal};
+ghost use Rattle.numaplan_handles.specs.Handles.{seat_in};
+ghost use Rattle.numaplan_handles.specs.Seats.{Migrates};
+ghost use Rattle.numaplan_c.specs.Migrations.{exchange_code, TellsFrame};
+
+use crate::codes::Code;
+use crate::pools::NpFrame;
+use numa_machine::Frame;
+use numa_pool::ExchangeRefusal;
+use numaplan_handles::SeatHandle;
+use std::alloc::Global;
+
+/// Exchanges a frame that a seat holds for one of a node.
+#[unsafe(no_mangle)]
+pub extern "C" fn np_seat_migrate(
+    alloc: Global,
+    seat: &mut SeatHandle,
+    node: u8,
+    number: u16,
+    to: u8,
+    frame: &mut NpFrame,
+) -> u32
+    ensures closed { seat_in seat.old ≡ None → (result ≡ 1) × (seat_in seat.new ≡ None)
+        × (frame.new ≡ frame.old) }
+    ensures migrates { (kept : Seated) → seat_in seat.old ≡ Some kept →
+        (answer : Result Frame ExchangeRefusal) × (result ≡ exchange_code answer)
+        × Migrates (record { node = node; number = number }) to (seat_in seat.old)
+        (seat_in seat.new) answer
+        × TellsFrame answer frame.old frame.new }
+{
+    match seat.migrate(alloc, Frame { node, number }, to) {
+        None => Code::Closed as u32,
+        Some(Ok(found)) => {
+            *frame = NpFrame {
+                node: found.node,
+                number: found.number,
+            };
+            0
+        }
+        Some(Err(ExchangeRefusal::NotOwned)) => Code::NotOwned as u32,
+        Some(Err(ExchangeRefusal::Exhausted)) => Code::AllTaken as u32,
+    }
+}
