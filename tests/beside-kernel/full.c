@@ -97,6 +97,7 @@ static void give_all(void)
 static void serve_fills(int from, int to)
 {
 	int node;
+	write_file("/proc/self/oom_score_adj", "-1000"); /* (so that it isn't ended in another's place) */
 	while (read(from, &node, sizeof node) == sizeof node) {
 		if (node < 0)
 			give_all();

@@ -6,9 +6,10 @@
  *
  *     lie => PAGE NODE PAGES, PAGE NODE PAGES, ..      runs of pages on one node, rising
  *
- * and before such a line, where a node is full, `own => LIST`: on which nodes pages of this program
- * itself lie, as its code and stack; a kernel moves these too. The process has one thread, since a
- * kernel moves pages once for each. Not proved. */
+ * and before such a line, where a node is full, `own => NODES`: on which nodes pages of this program
+ * itself lie, as its code and stack; a kernel moves these too. A script that was played whole has
+ * `end => ok` behind it. The process has one thread, since a kernel moves pages once for each. Not
+ * proved. */
 #include "calls.h"
 #include "full.c"
 
@@ -197,6 +198,7 @@ static void play(FILE *lines, const char *all)
 		if (moves(line))
 			tell_pages();
 	}
+	printf("end => ok\n");
 }
 
 static void clean_up(const char *all)

@@ -2,9 +2,9 @@
 """Compares where pages lie on a kernel with where the model and the program say: placed_compare.py SEEN..
 
 SEEN is what boot.py printed of scripts by placed_scripts.py. The model (tests/model) gets each script,
-by `rules linux`, and its answers and the node of each page are compared. With --program PROGRAM so does
-that, where its language has the lines; its pages are compared by range, as `maps` counts them. A
-difference falls under a row of docs/KERNEL.md, or is told; the last line counts. Not proved."""
+by `rules linux`, and its answers and the node of each page are compared. A difference falls under a row
+of docs/KERNEL.md, or is told; the last line counts. With --program=PROGRAM in front, PROGRAM has to
+answer the same scripts as the model does. Not proved."""
 
 import collections
 import os
@@ -17,7 +17,7 @@ from compare import opening, read_seen, run, short
 
 ROWS = {
     "untouched": "move of a page that was never touched (6.1)",
-    "own": "lines that moved pages out of a full node and others into it, and what follows",
+    "unknown": "lines by which pages left a full node and others came there; none behind is compared",
     "hole": "mbind with strict, pages astray before a hole",
 }
 
@@ -70,7 +70,7 @@ class Follower:
         return self.state.placed.stated
 
 
-def cause(line, mine, seen, kernel):
+def cause(line, mine, seen):
     """The row that a difference of answers falls under, or None."""
     if line.startswith("move ") and mine == "refused NotPlaced ENOENT" and seen == "EFAULT":
         return "untouched"
@@ -79,106 +79,80 @@ def cause(line, mine, seen, kernel):
     return None
 
 
-def compare(machine, script, counts, print_all):
-    """One script: the model beside the kernel."""
+def compare(machine, script, counts):
+    """One script: the model beside the kernel, up to the first difference."""
     name, lines = script
-    follower, own = Follower(machine), []
+    follower, own, before = Follower(machine), [], None
+    if lines.pop()[0] != "end":
+        counts["new"] += 1
+        print(f"{name}: not played to its end")
     for line, seen in lines:
         if line == "own":
             own = [int(word) for word in seen.split()]
         elif line == "lie":
             counts["read-backs"] += 1
-            wanted, got = follower.nodes(), pages_of(seen)
-            counts["pages"] += len(got)
-            if wanted != got:
+            counts["pages"] += len(pages_of(seen))
+            if tell_pages(f"{name}: behind {before}", follower.nodes(), pages_of(seen)):
                 counts["new"] += 1
-                others = {it for it in wanted.keys() | got.keys() if wanted.get(it) != got.get(it)}
-                print(f"{name}: behind {before}: " + " ".join(
-                    f"{it:x}:{wanted.get(it)},{got.get(it)}" for it in sorted(others)))
                 return
         else:
             counts["lines"] += 1
-            before, mine = line, follower.play(line, own)
-            own = []
+            before, mine, own = line, follower.play(line, own), []
             if mine is None:
-                counts["own"] += 1
+                counts["unknown"] += 1
                 return
             if short_of_move(mine) != seen:
-                row = cause(line, mine, seen, name)
+                row = cause(line, mine, seen)
                 counts[row or "new"] += 1
                 if row is None:
                     print(f"{name}: {line}: the model {mine}, the kernel {seen}")
                     return
 
 
-def ask_program(program, machine, lines):
-    """The program's answers, with the listing behind each line that may have moved pages."""
-    script = ["rules linux"] + opening(machine)
-    first = len(script)
-    for line, _ in lines:
-        if line == "lie":
-            script += ["maps 1", "ranges"]
-        elif line != "own":
-            script.append(line)
-    return run(program, script)[first:]
+def tell_pages(where, wanted, got):
+    """Whether pages lie otherwise than they should; which ones, with both nodes, is told."""
+    pages = sorted(it for it in wanted.keys() | got.keys() if wanted.get(it) != got.get(it))
+    if pages:
+        print(f"{where}:" + "".join(f" {it:x}:{wanted.get(it)},{got.get(it)}" for it in pages))
+    return bool(pages)
 
 
 def compare_program(program, machine, script, counts):
-    """One script: the program's answers beside the model's, and its listing beside the kernel's pages.
-    What the player's own pages bring about isn't the program's, so that these aren't looked at."""
+    """One script, without what happens to pages of the player: the program beside the model, with the
+    listing behind each line that may have moved pages."""
     name, lines = script
-    said = iter(ask_program(program, machine, lines))
-    follower, own = Follower(machine), []
-    for line, seen in lines:
-        if line == "own":
-            own = [int(word) for word in seen.split()]
-        elif line == "lie":
-            listed = []
-            for entry in said:
-                if entry.startswith("ranges "):
-                    break
-                listed.append(entry)
-            counts["listings"] += 1
-            if listed != model.answer(follower.state, "maps 1").splitlines():
+    asked = [it for line, _ in lines for it in (["maps 1"] if line == "lie" else [line]) if it != "own"]
+    lines = ["rules linux", *opening(machine), *asked]
+    said, state = iter(run(program, lines)), model.State()
+    for line in lines:
+        counts["asked"] += 1
+        for wanted in model.answer(state, line).splitlines():
+            if (answer := next(said, "nothing")) != wanted:
                 counts["new"] += 1
-                print(f"{name}: behind {before}: the listing of the program")
+                print(f"{name}: {line}: the program {answer}, the model {wanted}")
                 return
-        else:
-            answer, before = next(said), line
-            if own and follower_differs(follower, line, own):
-                counts["program, not compared"] += 1
-                return
-            mine = model.answer(follower.state, line)
-            own = []
-            counts['asked'] += 1
-            if mine != answer:
-                counts["new"] += 1
-                print(f"{name}: {line}: the program {answer}, the model {mine}")
-                return
-
-
-def follower_differs(follower, line, own):
-    return line.startswith(("mems ", "migrate "))
 
 
 def main():
-    arguments = sys.argv[1:]
-    program = arguments.pop(0)[len("--program=") :] if arguments[0].startswith("--program=") else None
+    paths = sys.argv[1:]
+    program = None
+    if paths[0].startswith("--program="):
+        program = paths.pop(0).removeprefix("--program=")
     counts, scripts = collections.Counter(), 0
-    for path in arguments:
+    for path in paths:
         machine, _, seen = read_seen(path)
         scripts += len(seen)
         for script in seen:
-            compare(machine, script, counts, True)
+            compare(machine, script, counts)
             if program:
                 compare_program(program, machine, script, counts)
     for row, what in ROWS.items():
         if counts[row]:
             print(f"{counts[row]} {what}")
+    if program:
+        print(f"{counts['asked']} lines asked of the program")
     print(f"{scripts} scripts, {counts['lines']} lines, {counts['read-backs']} times all pages read back"
           f" ({counts['pages']} pages): {counts['new']} differences under no row")
-    if program:
-        print(f"program: {counts['asked']} lines, {counts['listings']} listings")
     sys.exit(1 if counts["new"] else 0)
 
 

@@ -3,9 +3,10 @@
 
 Each script states where pages lie, and then moves them: by the allowed nodes, by migrate_pages(2) and
 move_pages(2), and by mbind(2) with MPOL_MF_STRICT and MPOL_MF_MOVE; between these come commands of
-every kind. In a third of them nodes are full from some line on. There is one task, number 1, since a
+every kind. In half of them nodes are full from some line on. There is one task, number 1, since a
 kernel moves pages once for each thread. Pages are stated on allowed nodes alone, as a kernel puts
-them nowhere else. Not proved."""
+them nowhere else. Where nodes are full, neither the task's policy nor the allowed nodes leave it no
+other node: a kernel would end it. Not proved."""
 
 import sys
 
@@ -19,6 +20,7 @@ class PlacedScript(Script):
         self.turn = seed
         self.allowed = set(self.memory)
         self.full = []
+        self.fills = self.random.randint(3, 9) if self.random.random() < 0.5 else None
 
     def node(self):
         """A node of the machine mostly, often an allowed one."""
@@ -27,22 +29,28 @@ class PlacedScript(Script):
         return self.random.randrange(self.nodes + (self.random.random() < 0.1))
 
     def at(self):
-        """No page is stated where nodes are full: a kernel would end a process that is bound there."""
+        """No page is stated where nodes are full, as one that is bound there couldn't be touched."""
         if not self.full:
             node = self.random.choice(sorted(self.allowed))
             self.say("at", *self.bytes(*self.span()), node)
 
     def task(self):
-        self.say("task", 1, self.policy())
+        policy = self.policy()
+        while self.fills and policy.startswith("bind"):
+            policy = self.policy()
+        self.say("task", 1, policy)
 
     def mems(self):
-        super().mems()
-        nodes = set()
-        for item in self.lines[-1].split()[1].split(","):
-            first, *last = map(int, item.split("-"))
-            nodes.update(range(first, (last or [first])[0] + 1))
-        if max(nodes) < self.nodes:
-            self.allowed = nodes & self.memory or set(self.memory)
+        """Nodes with memory mostly; one that isn't full."""
+        most = range(self.nodes + (self.random.random() < 0.03))
+        if self.random.random() < 0.7:
+            most = sorted(self.memory)
+        chosen = set(self.random.sample(most, self.random.randint(1, len(most))))
+        if self.full:
+            chosen.add(self.random.choice(sorted(self.memory - set(self.full))))
+        self.say("mems", list_text(chosen))
+        if max(chosen) < self.nodes:
+            self.allowed = chosen & self.memory or set(self.memory)
 
     def migrate(self):
         """Lists of any nodes; at times of as many, so that pages keep their places."""
@@ -51,6 +59,8 @@ class PlacedScript(Script):
             most = sorted(self.memory)
             count = self.random.randint(1, len(most))
             some = [self.random.sample(most, count) for _ in range(2)]
+        if self.full and self.random.random() < 0.6:
+            some[1] = {*some[1], self.random.choice(self.full)}
         self.say("migrate", *map(list_text, some))
 
     def move(self):
@@ -69,9 +79,12 @@ class PlacedScript(Script):
 
     def fill(self):
         """Nodes are full from here on; again behind each line that may have moved pages."""
-        if len(self.memory) > 1:
-            some = sorted(self.memory)
-            self.full = sorted(self.random.sample(some, self.random.randint(1, len(some) // 2)))
+        some = sorted(self.memory)
+        chosen = self.random.sample(some, self.random.randint(1, len(some) // 2))
+        if self.allowed - set(chosen):
+            self.full = sorted(chosen)
+            for node in self.full:
+                self.say("room", node, 0)
 
     def say(self, *words):
         super().say(*words)
@@ -88,13 +101,11 @@ class PlacedScript(Script):
             self.map()
         for _ in range(self.random.randint(3, 6)):
             self.at()
-        fills = self.random.randint(4, 14) if self.random.random() < 0.33 else None
         for turn in range(self.random.randint(14, 24)):
-            if turn == fills:
+            if turn == self.fills:
                 self.fill()
-                for node in self.full:
-                    self.say("room", node, 0)
-            self.random.choice(changes * 2 + moves * 2 + [self.at] * 5)()
+            kinds = changes * 2 + moves * 2 + [self.at] * 5 + [self.migrate] * 10 * bool(self.full)
+            self.random.choice(kinds)()
         return self.lines
 
 
