@@ -1,4 +1,4 @@
-use Rattle.std.proofs.Common.{◌≡◌, ℕ, Option, List, length, ap, sym, ◌∙◌}
+use Rattle.std.proofs.Common.{ℕ, Option, List, length, ap, sym, ◌∙◌}
 use Rattle.numa_lines.proofs.Adding.{said_same}
 use Rattle.numa_script.specs.Texts.{nodes_answer}
 use Rattle.numa_space.specs.Lists.{node_list}
@@ -13,10 +13,10 @@ returns-in-Ok g c =
     let nodes = node_list machine history c.args.fault.task c.args.fault.page c.args.fault.cpu in
     let listed = c.in-Ok.ensures.meaning history stands in
     said_same g.W.Write.contents c.args.output.now c.say_nodes.new.output _ _
-    (ap (λ (v : ℕ). nodes_answer v c.deref.result.now) (c.version.ensures ∙ stands.version)
-    ∙ ap (λ (l : List ℕ). nodes_answer (length history) l) (c.deref.ensures.value ∙ listed.1)
-    ∙ sym (ap (λ (r : Option PlaceRefusal). unless_refused r (nodes_answer (length history) nodes))
-    listed.0)) c.say_nodes.ensures
+    (ap (λ (v : ℕ). nodes_answer v c.deref.result.now) (c.version.ensures.meaning history stands)
+    ∙ ap (λ (l : List ℕ). nodes_answer (length history) l) (c.deref.ensures.0 ∙ listed.1)
+    ∙ sym (ap (λ (r : Option PlaceRefusal).
+    unless_refused r (nodes_answer (length history) nodes)) listed.0)) c.say_nodes.ensures
 
 pub returns-in-Err : goal.returns-in-Err
 returns-in-Err g c =

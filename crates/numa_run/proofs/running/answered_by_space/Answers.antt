@@ -11,10 +11,11 @@ pub returns-clause-answer : goal.returns-clause-answer
 returns-clause-answer g c =
     λ yes history stands.
     let same : c.space.result.now ≡ c.args.core.now.space =
-    c.space.ensures.space ∙ ap (λ (core : CoreState). core.space) c.answers_without_plan.ensures in
+    c.space.ensures.space
+    ∙ ap (λ (core : CoreState). core.space) c.answers_without_plan.ensures in
     let there = subst (λ (s : SpaceState). StandsFor s history) (sym same) stands in
-    let text = ap (λ (f : Request). place_text c.space.result.now.machine history f.task f.page f.cpu)
-    c.fault_at.ensures
+    let text = ap (λ (f : Request).
+    place_text c.space.result.now.machine history f.task f.page f.cpu) c.fault_at.ensures
     ∙ ap (λ (s : SpaceState). place_text s.machine history c.in-Place.task
     (page_of c.in-Place.address) c.in-Place.cpu) same in
     rw c.in-Place.is (said_same g.W.Write.contents c.args.output.now c.say_place_in.new.output _ _
