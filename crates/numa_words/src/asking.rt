@@ -32,7 +32,7 @@ fn prediction_by<P: Watch>(
 }
 
 /// Where all mapped pages of a space would go, if they were touched now, as a text.
-fn prediction_in<P: Watch>(
+pub(crate) fn prediction_in<P: Watch>(
     alloc: Global,
     space: &Space,
     asked: Touch,

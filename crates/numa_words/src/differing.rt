@@ -18,7 +18,7 @@ use std::io::{Read, Write};
 const ADDED: &str = "--then";
 
 /// The state of a space.
-fn outlook_in(alloc: Global, space: &Space) -> Result<Outlook, Halt> {
+pub(crate) fn outlook_in(alloc: Global, space: &Space) -> Result<Outlook, Halt> {
     match outlook_of(alloc, space) {
         Ok(outlook) => Ok(outlook),
         Err(fault) => Err(halt_of(fault, space.machine().nodes())),
@@ -55,14 +55,19 @@ struct Before {
 
 /// A difference that is asked for.
 #[derive(Clone, Copy)]
-struct Asked {
-    process: Option<u32>,
-    touch: Touch,
-    format: Format,
+pub(crate) struct Asked {
+    pub(crate) process: Option<u32>,
+    pub(crate) touch: Touch,
+    pub(crate) format: Format,
 }
 
 /// The object of a state, if a page is asked for.
-fn view_in(alloc: Global, space: &Space, outlook: &Outlook, asked: Asked) -> Result<Vec<u8>, Halt> {
+pub(crate) fn view_in(
+    alloc: Global,
+    space: &Space,
+    outlook: &Outlook,
+    asked: Asked,
+) -> Result<Vec<u8>, Halt> {
     let Format::Html(number) = asked.format else {
         return Ok(Vec::new(alloc));
     };
@@ -149,17 +154,17 @@ fn before_of_each(alloc: Global, host: &Host, asked: Asked) -> Result<Before, Ha
     }
 }
 
-/// The difference to an outlook as a text, or as a page.
-fn difference_to<P: Watch>(
+/// The difference to an outlook, on machines with up to so many nodes, as a text, or as a page.
+pub(crate) fn difference_to<P: Watch>(
     alloc: Global,
     before: &Outlook,
     view: &[u8],
     space: &Space,
     after: &Outlook,
+    nodes: u32,
     asked: Asked,
     watch: &mut P,
 ) -> Result<Vec<u8>, Halt> {
-    let nodes = space.machine().nodes();
     let Asked { touch, format, .. } = asked;
     let text = match difference_text(alloc, before, after, nodes, touch, format, watch) {
         Ok(text) => text,
@@ -189,7 +194,17 @@ fn difference_of_one<P: Watch>(
     };
     let after = outlook_in(alloc, space)?;
     let view = before.view.as_slice();
-    let text = difference_to(alloc, &one.outlook, view, space, &after, asked, watch);
+    let nodes = space.machine().nodes();
+    let text = difference_to(
+        alloc,
+        &one.outlook,
+        view,
+        space,
+        &after,
+        nodes,
+        asked,
+        watch,
+    );
     drop(after);
     text
 }

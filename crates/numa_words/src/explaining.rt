@@ -44,7 +44,7 @@ fn with_other(
 }
 
 /// Why a page would go where it goes, and by which rules, if that matters.
-fn reasons_in(
+pub(crate) fn reasons_in(
     alloc: Global,
     space: &Space,
     other: Option<&Space>,
@@ -65,7 +65,7 @@ fn reasons_in(
 /// # Errors
 /// `NoNode`: the machine lacks the faulting node. `Unmapped`: the page isn't mapped. `Stopped`: out
 /// of memory.
-fn explanation_of(
+pub(crate) fn explanation_of(
     alloc: Global,
     space: &Space,
     asked: Touch,

@@ -7,7 +7,8 @@
 //! Malformed and refused lines are skipped, and what is wrong with each is reported. [`check`] does
 //! only that; [`predict`], [`diff`], [`explain`] and [`replay`] answer by the accepted lines, and
 //! return in [`Ended`] whether there were others. [`tells_fault`] recognizes the answers of such
-//! lines.
+//! lines. [`predict_space`], [`diff_spaces`], [`explain_space`] and [`replay_space`] answer the same
+//! about spaces, without scripts.
 #![tactic(auto)]
 
 mod asking;
@@ -21,6 +22,7 @@ mod halt;
 mod playing;
 mod question;
 mod replaying;
+mod spaces;
 
 pub use asking::{predict, predicted};
 pub use differing::diff;
@@ -30,3 +32,4 @@ pub use findings::{Ended, Findings, Look};
 pub use halt::Halt;
 pub use playing::{Scripts, check, play};
 pub use replaying::replay;
+pub use spaces::{diff_spaces, explain_space, predict_space, replay_space};

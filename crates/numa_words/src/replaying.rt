@@ -74,7 +74,7 @@ fn met(
 }
 
 /// Replays a trace in a space by its plan, and returns the report as a text.
-fn replayed_by<S: Read + Drop>(
+pub(crate) fn replayed_by<S: Read + Drop>(
     alloc: Global,
     space: &Space,
     plan: &Plan,
