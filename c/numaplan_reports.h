@@ -13,7 +13,10 @@
  * there is no answer, and the messages stand in `text` all the same. After NP_NO_MEMORY,
  * NP_BAD_RULES and NP_BAD_FORMAT, which come first, nothing has changed.
  *
- * Cores. The other calls ask the same of a core, by all accepted commands, and answer structs. */
+ * Cores. The other calls ask the same of a core, by all accepted commands, and answer structs;
+ * those that end with `_text` answer in the formats of the words, as the calls for scripts do. A
+ * change is asked about with two cores: one as it stands, and a copy of it (np_core_copy) with more
+ * commands. */
 #ifndef NUMAPLAN_REPORTS_H
 #define NUMAPLAN_REPORTS_H
 
@@ -82,12 +85,40 @@ typedef struct np_explanation {
     uint32_t scope, rule, node;
 } np_explanation;
 
+/* How many pages of a span go to another node: of `pages` pages from number `first` on, `moved` go
+ * to node `to`, and would have gone to node `from`. */
+typedef struct np_move {
+    uint64_t first, pages, moved;
+    uint8_t from, to;
+} np_move;
+
+/* Accesses of a trace: `count` by a task, on a CPU of node `cpu`, to the page of a number (its
+ * address divided by 4,096). */
+typedef struct np_access {
+    uint32_t task;
+    uint64_t page;
+    uint32_t cpu, count;
+} np_access;
+
+/* How many accesses of a task on CPUs of node `cpu` went to pages on a node, and how many of them
+ * were faults, which placed the page. Where `node` is NP_NO_FRAME the pages found no frame. */
+typedef struct np_route {
+    uint64_t accesses, faults;
+    uint32_t task, cpu, node;
+} np_route;
+
+enum { NP_NO_FRAME = 256 };
+
 #if defined(__cplusplus) && __cplusplus >= 201103L
 static_assert(sizeof(np_question) == 16 && sizeof(np_free) == 16, "a struct");
 static_assert(sizeof(np_report) == 24 && sizeof(np_explanation) == 112, "a struct");
+static_assert(sizeof(np_move) == 32 && sizeof(np_access) == 24, "a struct");
+static_assert(sizeof(np_route) == 32, "a struct");
 #elif defined(__STDC_VERSION__) && __STDC_VERSION__ >= 201112L
 _Static_assert(sizeof(np_question) == 16 && sizeof(np_free) == 16, "a struct");
 _Static_assert(sizeof(np_report) == 24 && sizeof(np_explanation) == 112, "a struct");
+_Static_assert(sizeof(np_move) == 32 && sizeof(np_access) == 24, "a struct");
+_Static_assert(sizeof(np_route) == 32, "a struct");
 #endif
 
 /* ---- reports on scripts */
@@ -141,6 +172,45 @@ uint32_t np_core_fill(np_core *core, uint32_t task, uint32_t cpu, np_counts *fre
  * list of nodes is np_plan_choice's. NP_CLOSED, NP_BAD_CPU, NP_UNMAPPED, NP_NO_MEMORY. */
 uint32_t np_core_explain(np_core *core, uint32_t task, uint64_t page, uint32_t cpu,
                          np_explanation *explanation);
+
+/* Lists the pages that would go to another node in the core `after` than in `before`, if the task
+ * touched each of them now on a CPU of node `cpu`: for each span of pages that are mapped in both,
+ * how many go from which node to which other, in order of the span, of `from` and of `to`. They
+ * stand in front of `moves`, and how many they are in `count`. The time grows with the pages.
+ * NP_NO_ROOM where `room` is less: then `count` is what is needed, and `moves` is as it was.
+ * NP_CLOSED; NP_BAD_CPU where one of the machines lacks the node; NP_NO_MEMORY. */
+uint32_t np_core_diff(np_core *before, np_core *after, uint32_t task, uint32_t cpu, np_move *moves,
+                      size_t room, size_t *count);
+
+/* Counts what a trace meets if no page is placed before it: the first touch of a page places it on
+ * the first node of its list that has a frame left, and later accesses go there. The routes stand
+ * in front of `routes`, in order of task, of `cpu` and of the node, where pages that found no frame
+ * come first; how many they are is in `count`. NP_NO_ROOM as above. NP_BAD_ACCESS where an access
+ * can't be replayed, since the machine lacks the node, the page isn't mapped, or a number would
+ * pass 2^64 - 1: then `count` is its place in the trace, from 0. NP_CLOSED, NP_NO_MEMORY. */
+uint32_t np_core_replay(np_core *core, const np_access *trace, size_t length, np_route *routes,
+                        size_t room, size_t *count);
+
+/* ---- the same as texts: what the words of the program print of a script with these commands. The
+ * question's rules don't count, since a core has its own; np_core_explain_text doesn't tell by
+ * which other rules a page would go elsewhere. NP_CLOSED, then as the calls for scripts */
+
+/* As np_predict. NP_BAD_FORMAT; NP_NO_MEMORY; NP_NO_SUCH_NODE; NP_BAD_CPU. */
+uint32_t np_core_predict_text(np_core *core, const np_question *asked, const np_free *free_pages,
+                              size_t free_count, uint8_t *text, size_t room, np_report *report);
+
+/* As np_diff, from the core `before` to `after`. NP_BAD_FORMAT; NP_NO_MEMORY; NP_BAD_CPU. */
+uint32_t np_core_diff_text(np_core *before, np_core *after, const np_question *asked, uint8_t *text,
+                           size_t room, np_report *report);
+
+/* As np_explain. NP_BAD_FORMAT; NP_NO_MEMORY; NP_BAD_CPU; NP_UNMAPPED. */
+uint32_t np_core_explain_text(np_core *core, const np_question *asked, uint64_t page, uint8_t *text,
+                              size_t room, np_report *report);
+
+/* As np_replay, of a trace as a text. NP_BAD_FORMAT; NP_NO_MEMORY; NP_BAD_ACCESS. */
+uint32_t np_core_replay_text(np_core *core, const uint8_t *trace, size_t trace_length,
+                             const np_question *asked, uint8_t *text, size_t room,
+                             np_report *report);
 
 #ifdef __cplusplus
 }

@@ -48,7 +48,7 @@ pub extern "C" fn np_check(
 }
 
 /// The free pages of nodes, in the types of the crates below.
-fn free_pages(alloc: Global, free: &[NpFree]) -> Result<Vec<FreePages>, AllocError> {
+pub(crate) fn free_pages(alloc: Global, free: &[NpFree]) -> Result<Vec<FreePages>, AllocError> {
     let mut named = Vec::with_capacity(alloc, free.len())?;
     for one in free {
         named.push(FreePages {

@@ -7,6 +7,8 @@
 mod asking;
 mod codes;
 mod commands;
+mod core_texts;
+mod differences;
 mod explanations;
 mod host_codes;
 mod host_commands;
@@ -25,6 +27,7 @@ mod policies;
 mod pools;
 mod predictions;
 mod ranges;
+mod replays;
 mod reports;
 mod scripts;
 mod standing;

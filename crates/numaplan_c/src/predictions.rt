@@ -14,7 +14,7 @@ use numaplan_reports::{fill_core, predict_core};
 use std::alloc::Global;
 
 /// The code of a report that was refused.
-fn fault_code(why: ReportError) -> u32
+pub(crate) fn fault_code(why: ReportError) -> u32
     ensures { result ≡ fault_code why }
 {
     match why {

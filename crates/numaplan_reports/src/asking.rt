@@ -137,7 +137,7 @@ fn tell_access(
 }
 
 /// A replay's report, with a message about the line that ended it, if one did.
-fn replay_of(
+pub(crate) fn replay_of(
     alloc: Global,
     answer: Vec<u8>,
     told: Vec<u8>,
