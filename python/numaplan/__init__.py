@@ -30,6 +30,7 @@ from ._causes import NoSuchWorker, NodesForbidden
 from ._causes import NodesMissing, NodesNotAllowed, NotOwned, NotSupported, Open, OutOfSpace
 from ._causes import Overlap, PlacedTwice, Refused, TooManyFrames, TooManyRanges, TooManyTasks
 from ._causes import Unaligned, Unknown, UnknownMode, Unmapped
+from ._core_reports import Move, Route
 from ._cores import Core, Explanation, Placement, Policy, Prediction, Range
 from ._hosts import Group, Host, Process
 from ._library import LIBRARY
@@ -40,8 +41,8 @@ from ._values import effective, nodes, nodes_text, policy_text, rebind
 
 __version__ = "0.10.0"
 __all__ = [
-    "Answer", "Core", "Explanation", "Frame", "Group", "Host", "Placement", "Plan", "Policy",
-    "Prediction", "Process", "Question", "Range", "Report", "Script", "Seat",
+    "Answer", "Core", "Explanation", "Frame", "Group", "Host", "Move", "Placement", "Plan", "Policy",
+    "Prediction", "Process", "Question", "Range", "Report", "Route", "Script", "Seat",
     "check", "diff", "effective", "explain", "nodes", "nodes_text", "policy_text", "predict",
     "progress", "rebind", "replay", "sweep", "write_table",
     "AllTaken", "AnswerLost", "BadAccess", "BadCpu", "BadDistance", "BadFormat", "BadLimits",
@@ -59,8 +60,8 @@ __all__ = [
     "Unknown", "UnknownMode", "Unmapped",
 ]
 # (as users name them, also where they are pickled)
-for _one in (Core, Explanation, Frame, Group, Host, Placement, Plan, Policy, Prediction, Process,
-             Range, Script, Seat):
+for _one in (Core, Explanation, Frame, Group, Host, Move, Placement, Plan, Policy, Prediction, Process,
+             Range, Route, Script, Seat):
     _one.__module__ = __name__
 
 if TYPE_CHECKING:

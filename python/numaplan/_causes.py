@@ -294,6 +294,7 @@ class NoMachine(Refused):
 class BadAccess(Refused):
     number = 81
     words = "a line of the trace can't be replayed; the last message tells which, and why"
+    place: "int | None" = None  # (of an access that was given as a value, from 0)
 
 
 class ManyProcesses(Refused):

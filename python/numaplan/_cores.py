@@ -6,6 +6,7 @@ from ctypes import byref, c_size_t, c_uint8, c_uint64
 from typing import Iterable, Iterator, Mapping, NamedTuple, Sequence
 
 from ._calls import STILL, Owner, call, encoded, members, written
+from ._core_reports import CoreReports
 from ._judged import list_of, u8, u16, u32, u64
 from ._library import Limits, PlacedPage, Span, StandingPolicy, ToldExplanation
 from ._machines import description, options_of, read_hardware
@@ -80,7 +81,7 @@ RULES = ["local", "preferred", "bind", "preferred many", "interleave", "weighted
 ALL_PAGES = 2**35  # (as many as can be mapped)
 
 
-class Core(Owner):
+class Core(CoreReports):
     """A core: commands, published versions, and workers that look for frames."""
 
     _kind = "core"

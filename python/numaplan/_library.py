@@ -98,6 +98,26 @@ class ToldProcess(ctypes.Structure):
     _fields_ = [("process", c_uint32), ("group", c_uint32)]
 
 
+class SpanMove(ctypes.Structure):
+    """np_move."""
+
+    _fields_ = [("first", c_uint64), ("pages", c_uint64), ("moved", c_uint64), ("from", c_uint8),
+                ("to", c_uint8)]
+
+
+class Access(ctypes.Structure):
+    """np_access."""
+
+    _fields_ = [("task", c_uint32), ("page", c_uint64), ("cpu", c_uint32), ("count", c_uint32)]
+
+
+class ToldRoute(ctypes.Structure):
+    """np_route."""
+
+    _fields_ = [("accesses", c_uint64), ("faults", c_uint64), ("task", c_uint32), ("cpu", c_uint32),
+                ("node", c_uint32)]
+
+
 _HANDLE, _TEXT, _U32, _U64 = POINTER(Handle), c_char_p, c_uint32, c_uint64
 _ROOM = [POINTER(c_uint8), c_size_t, POINTER(c_size_t)]
 _ASKED, _TOLD = POINTER(AskedReport), [c_void_p, c_size_t, POINTER(ToldReport)]
@@ -182,6 +202,13 @@ _SIGNATURES = {
     "host_ranges": [_HANDLE, _U32, POINTER(c_size_t)],
     "host_range": [_HANDLE, _U32, c_size_t, POINTER(Span), *_ROOM],
     "host_task_policy": [_HANDLE, _U32, _U32, POINTER(StandingPolicy)],
+    "core_diff": [_HANDLE, _HANDLE, _U32, _U32, POINTER(SpanMove), c_size_t, POINTER(c_size_t)],
+    "core_replay": [_HANDLE, POINTER(Access), c_size_t, POINTER(ToldRoute), c_size_t,
+                    POINTER(c_size_t)],
+    "core_predict_text": [_HANDLE, _ASKED, c_void_p, c_size_t, *_TOLD],
+    "core_diff_text": [_HANDLE, _HANDLE, _ASKED, *_TOLD],
+    "core_explain_text": [_HANDLE, _ASKED, _U64, *_TOLD],
+    "core_replay_text": [_HANDLE, _TEXT, c_size_t, _ASKED, *_TOLD],
     "version": [],
 }
 

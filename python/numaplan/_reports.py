@@ -116,12 +116,17 @@ def joined(lines: Sequence[str]) -> bytes:
 
 
 def _asked(word: str, texts: Sequence[bytes], *asked: Any, names: Mapping[str, str]) -> Report:
-    """What a word answers of texts, in a room of its own; once more where it needs a larger one."""
+    """What a word answers of texts."""
     words = [part for text in texts for part in (text, c_size_t(len(text)))]
+    return answered(word, *words, *asked, names=names)
+
+
+def answered(word: str, *asked: Any, names: Mapping[str, str] = {}) -> Report:
+    """What a call writes into a room of its own; once more where it needs a larger one."""
     size, told, code = ROOM, ToldReport(), NoRoom.number
     while code == NoRoom.number:
         room = create_string_buffer(size)
-        code = code_of(word, *words, *asked, byref(room), c_size_t(size), byref(told))
+        code = code_of(word, *asked, byref(room), c_size_t(size), byref(told))
         size = told.answer + told.messages
     whole = string_at(room, size)
     answer, behind = (part.decode("utf-8", "surrogateescape")

@@ -50,13 +50,18 @@ static struct told {
     np_report report;
     np_counts counts;
     np_explanation explanation;
+    np_move moves[16];
+    np_route routes[16];
+    size_t count;
 } told, wanted, before;
 
-static np_core core;
+static np_core core, other;
 static np_question asked = {1, 1, NP_RULES_DOCUMENT, NP_FORMAT_TEXT};
 static const np_free two[2] = {{3, 1}, {1, 0}};
 
 #define ROOM told.text, sizeof told.text, &told.report
+
+static const np_access trace[] = {{1, 0x10, 0, 1}, {2, 0x10, 1, 3}, {1, 0x17, 3, 1}};
 
 static uint32_t call(int which) {
     switch (which) {
@@ -65,15 +70,21 @@ static uint32_t call(int which) {
     case 2: return np_diff(TEXT(HOST), TEXT(LINES), &asked, ROOM);
     case 3: return np_explain(TEXT(HOST), TEXT(LINES), &asked, 0x11, ROOM);
     case 4: return np_replay(TEXT(HOST), TEXT(LINES), TEXT(TRACE), &asked, ROOM);
-    case 5: return np_core_predict(&core, 1, 1, &told.counts);
-    case 6: return np_core_fill(&core, 1, 1, &told.counts);
-    case 7: return np_core_explain(&core, 1, 0x11, 1, &told.explanation);
+    case 5: return np_core_predict_text(&core, &asked, two, 2, ROOM);
+    case 6: return np_core_diff_text(&core, &other, &asked, ROOM);
+    case 7: return np_core_explain_text(&core, &asked, 0x11, ROOM);
+    case 8: return np_core_replay_text(&core, TEXT(TRACE), &asked, ROOM);
+    case 9: return np_core_predict(&core, 1, 1, &told.counts);
+    case 10: return np_core_fill(&core, 1, 1, &told.counts);
+    case 11: return np_core_explain(&core, 1, 0x11, 1, &told.explanation);
+    case 12: return np_core_diff(&core, &other, 1, 1, told.moves, 16, &told.count);
+    case 13: return np_core_replay(&core, trace, 3, told.routes, 16, &told.count);
     default: return NP_UNKNOWN;
     }
 }
-enum { CALLS = 8, WORDS = 5, FORMATS = 5 };
+enum { CALLS = 14, WORDS = 9, FORMATS = 5 };
 
-/* A core whose plan isn't made yet. */
+/* A core whose plan isn't made yet, and a copy with a command more. */
 static bool opens(void) {
     static const uint32_t frames[4] = {2, 2, 2, 2};
     uint8_t distances[16];
@@ -85,14 +96,24 @@ static bool opens(void) {
     codes |= np_core_set_weight(&core, 1, 3);
     codes |= np_core_mbind(&core, 0x10000, 0x4000, TEXT("weighted:0-2"));
     codes |= np_core_set_task(&core, 1, TEXT("interleave=static:0-3"));
+    codes |= np_core_copy(&core, &other);
+    codes |= np_core_set_mems(&other, TEXT("0-1"));
     return codes == NP_OK;
 }
 
-/* Whether the core has its four commands, none of them published. */
-static bool stands(void) {
-    uint64_t accepted = 0, published = 1;
-    return np_core_versions(&core, &accepted, &published) == NP_OK && accepted == 4 && published == 0;
+static void closes(void) {
+    np_core_close(&core);
+    np_core_close(&other);
 }
+
+/* Whether a core has so many commands, none of them published. */
+static bool has(np_core *one, uint64_t commands) {
+    uint64_t accepted = 0, published = 1;
+    return np_core_versions(one, &accepted, &published) == NP_OK && accepted == commands &&
+           published == 0;
+}
+
+static bool stands(void) { return has(&core, 4) && has(&other, 5); }
 
 static void begin(void) {
     memset(&told, 0, sizeof told);
@@ -114,13 +135,26 @@ static void tidy(void) {
     clean.explanation.scope = told.explanation.scope;
     clean.explanation.rule = told.explanation.rule;
     clean.explanation.node = told.explanation.node;
+    clean.count = told.count;
+    for (int k = 0; k < 16; k++) {
+        clean.moves[k].first = told.moves[k].first;
+        clean.moves[k].pages = told.moves[k].pages;
+        clean.moves[k].moved = told.moves[k].moved;
+        clean.moves[k].from = told.moves[k].from;
+        clean.moves[k].to = told.moves[k].to;
+        clean.routes[k].accesses = told.routes[k].accesses;
+        clean.routes[k].faults = told.routes[k].faults;
+        clean.routes[k].task = told.routes[k].task;
+        clean.routes[k].cpu = told.routes[k].cpu;
+        clean.routes[k].node = told.routes[k].node;
+    }
     memcpy(&told, &clean, sizeof told);
 }
 
 /* Makes a call of a script or of a new core with one growth refused; how many growths it let through
  * before, or -1 where it came to none that was refused, -2 where something is wrong. */
 static long tries(int which, long growth) {
-    core = (np_core){0};
+    core = other = (np_core){0};
     if (!opens())
         return -2;
     begin();
@@ -135,7 +169,7 @@ static long tries(int which, long growth) {
         well = well && !all && memcmp(&told, &before, sizeof told) == 0;
     else
         well = well && code == NP_OK && memcmp(&told, &wanted, sizeof told) == 0;
-    np_core_close(&core);
+    closes();
     return !well || blocks != 0 ? -2 : all ? -1 : growth;
 }
 
@@ -149,8 +183,8 @@ int main(void) {
             uint32_t code = call(which);
             tidy();
             memcpy(&wanted, &told, sizeof told);
-            np_core_close(&core);
-                    long growth = 0, got = 0;
+            closes();
+            long growth = 0, got = 0;
             while (code == NP_OK && got >= 0)
                 got = tries(which, growth++);
             if (code != NP_OK || got != -1) {

@@ -193,10 +193,133 @@ static void cores(void) {
     np_core_close(&core);
 }
 
+/* Opens a core of four pages, interleaved over two nodes for task 1, and a copy where node 0 alone is
+ * allowed. */
+static void open_two(np_core *core, np_core *after) {
+    const uint8_t distances[] = {10, 20, 20, 10};
+    const uint32_t frames[] = {1, 8};
+    const np_limits limits = {64, 8, 1000};
+    WANT(np_core_open(core, TEXT("0-1"), frames, 2, distances, 4, &limits, 1), NP_OK);
+    WANT(np_core_map(core, 0x10000, 0x4000, 0x10), NP_OK);
+    WANT(np_core_set_task(core, 1, TEXT("interleave:0-1")), NP_OK);
+    WANT(np_core_copy(core, after), NP_OK);
+    WANT(np_core_set_mems(after, TEXT("0")), NP_OK);
+}
+
+static void differences(void) {
+    np_core core = {0}, after = {0}, closed = {0};
+    np_move moves[3] = {{7, 7, 7, 7, 7}};
+    size_t count = 77;
+    open_two(&core, &after);
+    WANT(np_core_diff(&core, &closed, 1, 0, moves, 3, &count), NP_CLOSED);
+    WANT(np_core_diff(&closed, &core, 1, 0, moves, 3, &count), NP_CLOSED);
+    WANT(np_core_diff(&core, &after, 1, 2, moves, 3, &count), NP_BAD_CPU);
+    WANT(count == 77 && moves[0].first == 7, 1);
+    /* one span: the pages 0x11 and 0x13 leave node 1 */
+    WANT(np_core_diff(&core, &after, 1, 0, moves, 0, &count), NP_NO_ROOM);
+    WANT(count == 1 && moves[0].first == 7, 1);
+    WANT(np_core_diff(&core, &after, 1, 0, moves, 3, &count), NP_OK);
+    WANT(count, 1);
+    WANT(moves[0].first == 0x10 && moves[0].pages == 4 && moves[0].moved == 2, 1);
+    WANT(moves[0].from == 1 && moves[0].to == 0, 1);
+    /* pages that are mapped on one side alone aren't compared */
+    WANT(np_core_unmap(&after, 0x10000, 0x2000), NP_OK);
+    WANT(np_core_diff(&core, &after, 1, 0, moves, 3, &count), NP_OK);
+    WANT(count == 1 && moves[0].first == 0x12 && moves[0].pages == 2 && moves[0].moved == 1, 1);
+    WANT(np_core_diff(&after, &core, 1, 0, moves, 3, &count), NP_OK);
+    WANT(count == 1 && moves[0].moved == 1 && moves[0].from == 0 && moves[0].to == 1, 1);
+    np_core_close(&core);
+    np_core_close(&after);
+}
+
+static void replays(void) {
+    /* page 0x10 takes the one frame of node 0; 0x12, whose turn is node 0's, goes to node 1 */
+    static const np_access trace[] = {{1, 0x10, 0, 5}, {1, 0x12, 0, 2}, {2, 0x10, 1, 1}};
+    np_access bad[3];
+    np_core core = {0}, after = {0}, closed = {0};
+    np_route routes[4] = {{7, 7, 7, 7, 7}};
+    size_t count = 77;
+    open_two(&core, &after);
+    WANT(np_core_replay(&closed, trace, 3, routes, 4, &count), NP_CLOSED);
+    WANT(count, 77);
+    WANT(np_core_replay(&core, trace, 3, routes, 2, &count), NP_NO_ROOM);
+    WANT(count == 3 && routes[0].faults == 7, 1);
+    WANT(np_core_replay(&core, trace, 3, routes, 4, &count), NP_OK);
+    WANT(count, 3);
+    WANT(routes[0].task == 1 && routes[0].cpu == 0 && routes[0].node == 0, 1);
+    WANT(routes[0].accesses == 5 && routes[0].faults == 1, 1);
+    WANT(routes[1].node == 1 && routes[1].accesses == 2 && routes[1].faults == 1, 1);
+    WANT(routes[2].task == 2 && routes[2].cpu == 1 && routes[2].node == 0, 1);
+    WANT(routes[2].accesses == 1 && routes[2].faults == 0, 1);
+    /* by the nodes of mems 0 the second page finds no frame */
+    WANT(np_core_replay(&after, trace, 3, routes, 4, &count), NP_OK);
+    WANT(count == 3 && routes[0].node == NP_NO_FRAME && routes[0].accesses == 2, 1);
+    for (int way = 0; way < 2; way++) {
+        memcpy(bad, trace, sizeof trace);
+        if (way == 0)
+            bad[1].page = 9;
+        else
+            bad[1].cpu = 2;
+        WANT(np_core_replay(&core, bad, 3, routes, 4, &count), NP_BAD_ACCESS);
+        WANT(count, 1);
+    }
+    WANT(np_core_replay(&core, trace, 0, routes, 0, &count), NP_OK);
+    WANT(count, 0);
+    np_core_close(&core);
+    np_core_close(&after);
+}
+
+/* The texts of cores are those of the words, which reports.py compares; here their causes. */
+static void texts(void) {
+    np_core core = {0}, after = {0}, closed = {0};
+    np_question other = asked;
+    np_free lacking = {5, 2};
+    open_two(&core, &after);
+    forget();
+    WANT(np_core_predict_text(&closed, &asked, none, 0, room, sizeof room, &told), NP_CLOSED);
+    WANT(np_core_diff_text(&core, &closed, &asked, room, sizeof room, &told), NP_CLOSED);
+    WANT(np_core_diff_text(&closed, &core, &asked, room, sizeof room, &told), NP_CLOSED);
+    WANT(np_core_explain_text(&closed, &asked, 0x10, room, sizeof room, &told), NP_CLOSED);
+    WANT(np_core_replay_text(&closed, TEXT(""), &asked, room, sizeof room, &told), NP_CLOSED);
+    other.format = 9;
+    WANT(np_core_predict_text(&core, &other, none, 0, room, sizeof room, &told), NP_BAD_FORMAT);
+    WANT(np_core_diff_text(&core, &after, &other, room, sizeof room, &told), NP_BAD_FORMAT);
+    WANT(np_core_explain_text(&core, &other, 0x10, room, sizeof room, &told), NP_BAD_FORMAT);
+    WANT(np_core_replay_text(&core, TEXT(""), &other, room, sizeof room, &told), NP_BAD_FORMAT);
+    WANT(told.answer == 77 && told.faulty == 77 && is_untouched(), 1);
+    other = asked;
+    other.cpu = 2;
+    WANT(np_core_predict_text(&core, &other, none, 0, room, sizeof room, &told), NP_BAD_CPU);
+    WANT(np_core_diff_text(&core, &after, &other, room, sizeof room, &told), NP_BAD_CPU);
+    WANT(np_core_explain_text(&core, &other, 0x10, room, sizeof room, &told), NP_BAD_CPU);
+    WANT(np_core_explain_text(&core, &asked, 9, room, sizeof room, &told), NP_UNMAPPED);
+    WANT(np_core_predict_text(&core, &asked, &lacking, 1, room, sizeof room, &told),
+         NP_NO_SUCH_NODE);
+    WANT(told.answer + told.messages + told.faulty, 0);
+    other.cpu = 0;
+    other.rules = 99; /* which doesn't count */
+    forget();
+    WANT(np_core_diff_text(&core, &after, &other, room, sizeof room, &told), NP_OK);
+    WANT(is_told("00010000-00014000 moved=2 N1->N0=2\ntotal moved=2 N1->N0=2\n", ""), 1);
+    forget();
+    WANT(np_core_diff_text(&core, &after, &other, room, 4, &told), NP_NO_ROOM);
+    WANT(told.answer == 58 && is_untouched(), 1);
+    forget();
+    WANT(np_core_replay_text(&core, TEXT("1 0x10000 0\n\n1 2 3 4 5"), &asked, room, sizeof room,
+                             &told),
+         NP_BAD_ACCESS);
+    WANT(is_told("", "trace:3: bad words: a line of a trace is TASK ADDRESS CPU [COUNT]\n"), 1);
+    np_core_close(&core);
+    np_core_close(&after);
+}
+
 int main(void) {
     words();
     rooms();
     causes();
     cores();
+    differences();
+    replays();
+    texts();
     return wrong;
 }

@@ -21,6 +21,7 @@
 
 mod calls;
 mod causes;
+mod core_reports;
 mod cores;
 mod explanations;
 mod hosts;
@@ -33,12 +34,13 @@ mod seats;
 mod values;
 
 pub use causes::Refused;
+pub use core_reports::{Route, Unreplayed};
 pub use cores::{Core, Policy, Range, Ranges};
 pub use explanations::{Explanation, OrderRule, Scope};
 pub use hosts::{Group, Host, Processes};
 pub use options::{Options, Orders, Rules};
 pub use plans::Plan;
-pub use raw::{Frame, Placement, Process};
+pub use raw::{Access, Frame, Move, Placement, Process};
 pub use reports::{Format, Question, Report, Unanswered};
 pub use scripts::Script;
 pub use seats::Seat;

@@ -116,6 +116,39 @@ pub struct Process {
     pub group: u32,
 }
 
+/// How many pages of a span go to another node: of `pages` pages from number `first` on, `moved` go to
+/// node `to`, and would have gone to node `from`.
+#[repr(C)]
+#[derive(Clone, Copy, Debug, Default, PartialEq, Eq)]
+pub struct Move {
+    pub first: u64,
+    pub pages: u64,
+    pub moved: u64,
+    pub from: u8,
+    pub to: u8,
+}
+
+/// Accesses of a trace: `count` by a task, on a CPU of node `cpu`, to the page of a number (address /
+/// 4096).
+#[repr(C)]
+#[derive(Clone, Copy, Debug, Default, PartialEq, Eq)]
+pub struct Access {
+    pub task: u32,
+    pub page: u64,
+    pub cpu: u32,
+    pub count: u32,
+}
+
+#[repr(C)]
+#[derive(Clone, Copy, Default)]
+pub(crate) struct ToldRoute {
+    pub accesses: u64,
+    pub faults: u64,
+    pub task: u32,
+    pub cpu: u32,
+    pub node: u32,
+}
+
 /// Where a page was placed: by this version, on this frame of this node, at this rank of its list.
 #[repr(C)]
 #[derive(Clone, Copy, Debug, Default, PartialEq, Eq)]
@@ -135,6 +168,8 @@ const _: () = assert!(size_of::<Span>() == 24);
 const _: () = assert!(size_of::<Nodes>() == 32);
 const _: () = assert!(size_of::<Options>() == 40 && size_of::<StandingPolicy>() == 72);
 const _: () = assert!(size_of::<AskedReport>() == 16 && size_of::<FreePages>() == 16);
+const _: () = assert!(size_of::<Move>() == 32 && size_of::<Access>() == 24);
+const _: () = assert!(size_of::<ToldRoute>() == 32);
 const _: () = assert!(size_of::<ToldReport>() == 24 && size_of::<ToldExplanation>() == 112);
 
 const _: () = assert!(size_of::<ToldGroup>() == 48 && size_of::<Process>() == 8);
@@ -227,5 +262,11 @@ extern "C" {
     pub(crate) fn np_host_ranges(host: &mut Handle, process: u32, count: &mut usize) -> u32;
     pub(crate) fn np_host_range(host: &mut Handle, process: u32, index: usize, range: &mut Span, policy: *mut u8, room: usize, policy_length: &mut usize) -> u32;
     pub(crate) fn np_host_task_policy(host: &mut Handle, process: u32, task: u32, policy: &mut StandingPolicy) -> u32;
+    pub(crate) fn np_core_diff(before: &mut Handle, after: &mut Handle, task: u32, cpu: u32, moves: *mut Move, room: usize, count: &mut usize) -> u32;
+    pub(crate) fn np_core_replay(core: &mut Handle, trace: *const Access, length: usize, routes: *mut ToldRoute, room: usize, count: &mut usize) -> u32;
+    pub(crate) fn np_core_predict_text(core: &mut Handle, asked: &AskedReport, free_pages: *const FreePages, free_count: usize, text: *mut u8, room: usize, report: &mut ToldReport) -> u32;
+    pub(crate) fn np_core_diff_text(before: &mut Handle, after: &mut Handle, asked: &AskedReport, text: *mut u8, room: usize, report: &mut ToldReport) -> u32;
+    pub(crate) fn np_core_explain_text(core: &mut Handle, asked: &AskedReport, page: u64, text: *mut u8, room: usize, report: &mut ToldReport) -> u32;
+    pub(crate) fn np_core_replay_text(core: &mut Handle, trace: *const u8, trace_length: usize, asked: &AskedReport, text: *mut u8, room: usize, report: &mut ToldReport) -> u32;
     pub(crate) fn np_version() -> u32;
 }

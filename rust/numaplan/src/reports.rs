@@ -32,8 +32,9 @@ pub struct Question<'a> {
     pub rules: Rules,
 }
 
-/// The format of an answer: lines, JSON, records with a header, a picture, or a page for a browser. Each
-/// answer has some of them, as the word of the program has, and is text where it lacks the wanted one.
+/// The format of an answer: lines, JSON, records with a header, a picture, or a page for a browser.
+/// Each answer has some of them, as the word of the program has, and is text where it lacks the wanted
+/// one.
 #[derive(Clone, Copy, Debug, PartialEq, Eq)]
 pub enum Format {
     Text,
@@ -41,6 +42,19 @@ pub enum Format {
     Csv,
     Svg,
     Html,
+}
+
+impl Format {
+    /// Its number, of enum np_format.
+    pub(crate) fn number(self) -> u32 {
+        match self {
+            Format::Text => 0,
+            Format::Json => 1,
+            Format::Csv => 2,
+            Format::Svg => 3,
+            Format::Html => 4,
+        }
+    }
 }
 
 /// What was answered: the text that the word of the program prints, what is wrong with lines, which are
@@ -90,13 +104,7 @@ impl<'a> Question<'a> {
             task: self.task,
             cpu: self.node,
             rules: self.rules.number(),
-            format: match format {
-                Format::Text => 0,
-                Format::Json => 1,
-                Format::Csv => 2,
-                Format::Svg => 3,
-                Format::Html => 4,
-            },
+            format: format.number(),
         }
     }
 
@@ -195,7 +203,7 @@ impl<'a> Question<'a> {
 }
 
 /// The report that a call writes into a room of bytes: at first of 64 KiB, then of what it needs.
-fn told(mut call: impl FnMut(&mut [u8], &mut ToldReport) -> u32) -> Result<Report, Unanswered> {
+pub(crate) fn told(mut call: impl FnMut(&mut [u8], &mut ToldReport) -> u32) -> Result<Report, Unanswered> {
     let (mut room, mut told) = (vec![0; 65_536], ToldReport::default());
     let mut answer = done(call(&mut room, &mut told));
     if answer == Err(Refused::NO_ROOM) {

@@ -1,0 +1,133 @@
+"""What cores answer to questions for reports: differences and traces, as values and as texts. Not
+proved."""
+
+from __future__ import annotations
+
+from ctypes import Array, byref, c_size_t
+from typing import TYPE_CHECKING, Any, Callable, Iterable, Mapping, NamedTuple, Type, TypeVar
+
+from ._calls import Owner, code_of
+from ._causes import BadAccess, NoRoom, refusal
+from ._judged import format_number, u8, u32, u64
+from ._library import Access, AskedReport, FreePages, SpanMove, ToldRoute
+
+if TYPE_CHECKING:
+    from ._reports import Report, Text
+
+NO_FRAME = 256  # (NP_NO_FRAME)
+ROOM = 256  # structs, of which most answers have fewer
+
+_Struct = TypeVar("_Struct", SpanMove, ToldRoute)
+
+
+class Move(NamedTuple):
+    """Pages that go to another node: of `pages` pages from number `first` (address / 4096) on,
+    `moved` go to node `after`, and would have gone to node `before`."""
+
+    first: int
+    pages: int
+    moved: int
+    before: int
+    after: int
+
+
+class Route(NamedTuple):
+    """How many accesses of a task on CPUs of node `cpu` went to pages on `node`, None where these
+    found no frame, and how many of the accesses were faults, which placed the page."""
+
+    task: int
+    cpu: int
+    node: "int | None"
+    accesses: int
+    faults: int
+
+
+class CoreReports(Owner):
+    """The questions of a core."""
+
+    def diff(self, after: CoreReports, task: int, cpu: int) -> list[Move]:
+        """Which pages would go to another node in the core `after`, which may be a copy of this one
+        with more commands, than in this one, if a task touched each of them now on a CPU of node
+        `cpu`: for each span of pages that are mapped in both, how many go from which node to which
+        other. Pages that one of the two lacks aren't compared. The time grows with the pages."""
+        if after is self:
+            return []
+        touch = u32("task", task), u32("cpu", cpu)
+        return [Move(one.first, one.pages, one.moved, getattr(one, "from"), one.to)
+                for one in _listed(SpanMove, lambda room, size, count: code_of(
+                    "core_diff", self._at, after._at, *touch, room, size, count))]
+
+    def replay(self, trace: "Iterable[tuple[int, ...]]") -> list[Route]:
+        """What a trace meets if no page is placed before it: the routes of its accesses, in order of
+        task, of `cpu` and of node. An access is (task, page, cpu) or (task, page, cpu, count), with
+        the page by its number (address / 4096). Raises BadAccess, whose `place` is that of the first
+        access that can't be replayed, from 0."""
+        accesses = [_access(*one) for one in trace]
+        whole = (Access * max(len(accesses), 1))(*accesses)
+        return [Route(one.task, one.cpu, one.node if one.node < NO_FRAME else None, one.accesses,
+                      one.faults)
+                for one in _listed(ToldRoute, lambda room, size, count: code_of(
+                    "core_replay", self._at, whole, len(accesses), room, size, count))]
+
+    def predict_text(self, task: int = 1, cpu: int = 0, free: "Mapping[int, int] | None" = None, *,
+                     format: str = "json") -> Report:
+        """Where all mapped pages would go, as numaplan.predict tells it of a script. Raises BadCpu or
+        NoSuchNode."""
+        from ._reports import answered
+        named = [FreePages(u64("free pages", pages), u8("a node of free", node))
+                 for node, pages in (free or {}).items()]
+        room = (FreePages * max(len(named), 1))(*named)
+        return answered("core_predict_text", self._at, _question(task, cpu, format), byref(room),
+                        c_size_t(len(named)))
+
+    def diff_text(self, after: CoreReports, task: int = 1, cpu: int = 0, *,
+                  format: str = "text") -> Report:
+        """Which pages would go to another node in the core `after`, another than this one, than in
+        this one, as numaplan.diff tells it of a script. Raises BadCpu."""
+        from ._reports import answered
+        if after is self:
+            raise ValueError("the two cores are one")
+        return answered("core_diff_text", self._at, after._at, _question(task, cpu, format))
+
+    def explain_text(self, page: int, task: int = 1, cpu: int = 0, *,
+                     format: str = "text") -> Report:
+        """Why the page of a number (address / 4096) would go where it goes, as numaplan.explain tells
+        it of a script. Raises BadCpu or Unmapped."""
+        from ._reports import answered
+        return answered("core_explain_text", self._at, _question(task, cpu, format),
+                        u64("page", page))
+
+    def replay_text(self, trace: Text, *, format: str = "json") -> Report:
+        """What a trace meets if no page is placed before it, as numaplan.replay tells it of a script:
+        the name of a file, or its text as bytes. Raises BadAccess."""
+        from ._reports import answered, read
+        name, accesses = read(trace, "trace")
+        return answered("core_replay_text", self._at, accesses, c_size_t(len(accesses)),
+                        _question(0, 0, format), names={"trace": name})
+
+
+def _question(task: int, cpu: int, format: str) -> Any:
+    """A question about a core, which has rules of its own."""
+    return byref(AskedReport(u32("task", task), u32("cpu", cpu), 0, format_number(format)))
+
+
+def _access(task: int, page: int, cpu: int, count: int = 1) -> Access:
+    """An access as the library takes it."""
+    return Access(u32("task", task), u64("page", page), u32("cpu", cpu), u32("count", count))
+
+
+def _listed(kind: "Type[_Struct]", call: "Callable[[Any, int, Any], int]") -> "Array[_Struct]":
+    """The structs that a call writes into a room; once more where it needs a larger one."""
+    size, count = ROOM, c_size_t()
+    while True:
+        room = (kind * max(size, 1))()
+        code = call(room, size, byref(count))
+        if code == NoRoom.number:
+            size = count.value
+            continue
+        if code:
+            fault = refusal(code)
+            if isinstance(fault, BadAccess):
+                fault.place = count.value
+            raise fault
+        return (kind * count.value).from_buffer(room)
