@@ -148,14 +148,22 @@ fn rules_line(rules: Rules) -> &'static [u8]
     }
 }
 
+/// The line, or, if it chooses rules, the one that chooses the others.
+#[tactic(auto, using(crate::proofs::Turning::other_turned))]
+fn turned(line: &[u8]) -> &[u8]
+    ensures { result.now ≡ turned_bytes line.now }
+{
+    match parse(line) {
+        Line::Rules(rules) => rules_line(other_rules(rules)),
+        _ => line,
+    }
+}
+
 /// Carries out a line, without its line feed, but takes a line `rules` for one with the other
 /// rules, and returns what is wrong with it. So of two scripts that begin with different rules and
 /// are given the same lines, one by `judge` and one by this, each follows its own set of rules.
 pub fn judge_by_other(alloc: Global, script: &mut HostScript, line: &[u8]) -> Option<LineFault>
     ensures { Judged script.old (turned_bytes line.now) result script.new }
 {
-    if let Line::Rules(rules) = parse(line) {
-        return script.judge(alloc, rules_line(other_rules(rules)));
-    }
-    script.judge(alloc, line)
+    script.judge(alloc, turned(line))
 }
