@@ -1,1 +1,1 @@
-mod Turning
+pub mod Turning
