@@ -18,6 +18,7 @@ from compare import opening, read_seen, run, short
 ROWS = {
     "untouched": "move of a page that was never touched (6.1)",
     "unknown": "lines by which pages left a full node and others came there; none behind is compared",
+    "again": "lines by which a page found room on a filled node, where some was free again; none behind",
     "hole": "mbind with strict, pages astray before a hole",
 }
 
@@ -70,8 +71,11 @@ class Follower:
         return self.state.placed.stated
 
 
-def cause(line, mine, seen):
+def cause(line, mine, seen, is_full):
     """The row that a difference of answers falls under, or None."""
+    had_no_room = mine.startswith(("moved ", "ok ", "refused NoRoom "))
+    if is_full and had_no_room and seen.startswith(("ok", "node ")):
+        return "again"
     if line.startswith("move ") and mine == "refused NotPlaced ENOENT" and seen == "EFAULT":
         return "untouched"
     if line.startswith("mbind ") and seen == "EIO" and mine == "refused Hole EFAULT":
@@ -91,8 +95,12 @@ def compare(machine, script, counts):
             own = [int(word) for word in seen.split()]
         elif line == "lie":
             counts["read-backs"] += 1
-            counts["pages"] += len(pages_of(seen))
-            if tell_pages(f"{name}: behind {before}", follower.nodes(), pages_of(seen)):
+            wanted, got = follower.nodes(), pages_of(seen)
+            counts["pages"] += len(got)
+            if came_to_full(follower, wanted, got):
+                counts["again"] += 1
+                return
+            if tell_pages(f"{name}: behind {before}", wanted, got):
                 counts["new"] += 1
                 return
         else:
@@ -102,11 +110,18 @@ def compare(machine, script, counts):
                 counts["unknown"] += 1
                 return
             if short_of_move(mine) != seen:
-                row = cause(line, mine, seen)
+                row = cause(line, mine, seen, bool(follower.state.placed.rooms))
                 counts[row or "new"] += 1
                 if row is None:
                     print(f"{name}: {line}: the model {mine}, the kernel {seen}")
+                if row in (None, "again"):
                     return
+
+
+def came_to_full(follower, wanted, got):
+    """Whether all pages that lie otherwise than they should lie on nodes that were filled."""
+    others = {got.get(it) for it in wanted.keys() | got.keys() if wanted.get(it) != got.get(it)}
+    return bool(others) and others <= set(follower.state.placed.rooms)
 
 
 def tell_pages(where, wanted, got):
