@@ -9,7 +9,8 @@ ghost use Rattle.numa_host_script.specs.Sessions.{asked_where, command_outcome, 
 ghost use Rattle.numa_host_script.specs.Sessions.{in_outcome, listed_where, plain_reply};
 ghost use Rattle.numa_host_script.specs.Sessions.{with_reply};
 ghost use Rattle.numa_machine.specs.Machine.{Hardware};
-ghost use Rattle.numa_run.specs.Judged.{fault_in, question_cause, question_refusal};
+ghost use Rattle.numa_run.specs.Judged.{cause_at, fault_in, question_cause};
+ghost use Rattle.numa_run.specs.Judged.{question_refusal};
 ghost use Rattle.numa_run.specs.Questions.{span_refusal_of};
 ghost use Rattle.numa_run.specs.Replies.{bind_nothing};
 ghost use Rattle.numa_space.specs.Standing.{StandsFor};
@@ -65,6 +66,16 @@ fn refusal_by_plan(plan: &Plan, question: Question) -> Option<PlaceRefusal>
     }
 }
 
+/// A refusal by a plan of this version, as a cause of a script.
+fn cause_at(version: u64, refusal: PlaceRefusal) -> CoreRefusal
+    ensures { result ≡ cause_at version refusal }
+{
+    match refusal {
+        PlaceRefusal::BadCpu => CoreRefusal::BadCpu,
+        PlaceRefusal::Unmapped => CoreRefusal::Unmapped(version),
+    }
+}
+
 /// The first cause that refuses a question about a space.
 fn question_cause(alloc: Global, space: &Space, question: Question) -> Option<CoreRefusal>
     ensures { (history : List Command) → StandsFor space.now history → (refused : Bool)
@@ -80,8 +91,7 @@ fn question_cause(alloc: Global, space: &Space, question: Question) -> Option<Co
     drop(plan);
     match refusal {
         None => None,
-        Some(PlaceRefusal::BadCpu) => Some(CoreRefusal::BadCpu),
-        Some(PlaceRefusal::Unmapped) => Some(CoreRefusal::Unmapped(space.version())),
+        Some(why) => Some(cause_at(space.version(), why)),
     }
 }
 

@@ -1,6 +1,5 @@
-use Rattle.std.proofs.Common.{◌∙◌, sym, ap, false, Some, length}
+use Rattle.std.proofs.Common.{◌∙◌, sym, ap, false, Some, length, ℕ}
 use Rattle.std.specs.Option.{option_map}
-use Rattle.numa_space.specs.declared.event.CoreRefusal.TheVariants.{Unmapped}
 use Rattle.numa_run.specs.Judged.{cause_at}
 use Rattle.numa_run.proofs.JudgeLemmas.{plain-cause}
 use Rattle.numa_host_script.proofs.judging.question_cause.Goals as goal
@@ -15,25 +14,14 @@ returns-in-None c = λ history stands.
           ∙ sym (plain-cause machine history c.args.question),
     )
 
-pub returns-in-Some-BadCpu : goal.returns-in-Some-BadCpu
-returns-in-Some-BadCpu c = λ history stands.
+pub returns-in-Some : goal.returns-in-Some
+returns-in-Some c = λ history stands.
     let machine = c.args.space.now.machine in
     let why = c.refusal_by_plan-refusal.ensures machine history
-    (c.in-Ok.ensures.stands history stands) in
-    let is = c.in-Some-BadCpu.is ∙ ap Some c.in-Some-BadCpu.field-0-is in (
+    (c.in-Ok.ensures.stands history stands) in (
       false,
-      ap (option_map (cause_at (length history))) (sym is ∙ why)
-          ∙ sym (plain-cause machine history c.args.question),
-    )
-
-pub returns-in-Some-Unmapped : goal.returns-in-Some-Unmapped
-returns-in-Some-Unmapped c = λ history stands.
-    let machine = c.args.space.now.machine in
-    let why = c.refusal_by_plan-refusal.ensures machine history
-    (c.in-Ok.ensures.stands history stands) in
-    let is = c.in-Some-Unmapped.is ∙ ap Some c.in-Some-Unmapped.field-0-is in (
-      false,
-      ap (λ v. Some (Unmapped v)) (c.version.ensures.meaning history stands)
-          ∙ ap (option_map (cause_at (length history))) (sym is ∙ why)
+      ap Some (c.cause_at.ensures
+          ∙ ap (λ (v : ℕ). cause_at v c.in-Some.why) (c.version.ensures.meaning history stands))
+          ∙ ap (option_map (cause_at (length history))) (sym c.in-Some.is ∙ why)
           ∙ sym (plain-cause machine history c.args.question),
     )
