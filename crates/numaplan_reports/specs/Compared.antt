@@ -55,7 +55,7 @@ pub record RoutesOf (space : SpaceState) (trace : List Access) (routes : List Ro
     pub stands : IsPlanFor space plan
     pub met : Replayed
     pub replay : IsReplay space.machine plan (reverse trace) met
-    pub routes : routes ≡ map route_told met.tallies
+    pub told : routes ≡ map route_told met.tallies
 
 -- why the access at a place can't be replayed so, or there was no memory
 abbrev pub EndsOf : SpaceState → List Access → ℕ → ReplayError → Type 0

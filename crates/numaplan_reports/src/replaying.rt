@@ -1,5 +1,7 @@
 //! What a trace meets on a core.
-ghost use Rattle.std.specs.Prelude.{◌≡◌, Some, true};
+ghost use Rattle.std.specs.Prelude.{◌≡◌, MatchResult, Some, map, true};
+ghost use Rattle.numa_traces.specs.Routes.{route_told};
+ghost use Rattle.numa_traces.specs.declared.fault.ReplayError.TheVariants as fault;
 ghost use Rattle.numaplan_handles.specs.Calls.{Asks};
 ghost use Rattle.numaplan_handles.specs.Handles.{core_in};
 ghost use Rattle.numaplan_handles.specs.Kinds.{core_of, is_core};
@@ -8,9 +10,20 @@ ghost use Rattle.numaplan_reports.specs.Compared.{IsPlanFor, IsReplayed, Replays
 
 use numa_plan::Plan;
 use numa_space::Space;
-use numa_traces::{Access, ReplayError, RouteCounts, replay_all, routes_of};
+use numa_traces::{Access, Replay, ReplayError, RouteCounts, replay_all, routes_of};
 use numaplan_handles::{CoreHandle, Kept, compile_kept, core_kept};
 use std::alloc::Global;
+
+/// The routes of a replay, if there is memory for them.
+fn told_routes(alloc: Global, replay: &Replay) -> Result<Vec<RouteCounts>, (usize, ReplayError)>
+    ensures { MatchResult result (λ routes. routes.items ≡ map route_told replay.now.tallies)
+        (λ ended. ended.1 ≡ fault.NoMemory) }
+{
+    match routes_of(alloc, replay) {
+        Ok(routes) => Ok(routes),
+        Err(_) => Err((0, ReplayError::NoMemory)),
+    }
+}
 
 /// The routes of a trace by the plan of a space, or the place of the first access that can't be
 /// replayed.
@@ -27,12 +40,9 @@ fn replay_planned(
         Ok(replay) => replay,
         Err(ended) => return Err(ended),
     };
-    let routes = routes_of(alloc, &replay);
+    let routes = told_routes(alloc, &replay);
     drop(replay);
-    match routes {
-        Ok(routes) => Ok(routes),
-        Err(_) => Err((0, ReplayError::NoMemory)),
-    }
+    routes
 }
 
 /// The same for a core, by the plan of its accepted commands.
