@@ -17,7 +17,7 @@ from compare import opening, read_seen, run, short
 
 ROWS = {
     "untouched": "move of a page that was never touched (6.1)",
-    "unknown": "lines by which pages left a full node and others came there; none behind is compared",
+    "unknown": "lines by which pages left a full node and others came or stayed there; none behind",
     "again": "lines by which a page found room on a filled node, where some was free again; none behind",
     "hole": "mbind with strict, pages astray before a hole",
 }
@@ -65,6 +65,8 @@ class Follower:
             placed.stated.pop(-1 - node, None)
         left = {old for old, _ in placed.flows}
         came = {new for _, new in placed.flows}
+        if line.startswith("mbind "):
+            came |= set(placed.stated.values())  # (a page may find its own node first)
         return None if left & came & set(placed.rooms) else answer
 
     def nodes(self):
