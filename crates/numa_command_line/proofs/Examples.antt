@@ -6,6 +6,7 @@ use Rattle.clap.proofs.OnLiterals.{clap_on_literals}
 use Rattle.numa_machine.specs.declared.rules.Rules.TheVariants.{Document}
 use Rattle.numa_command_line.specs.Asked.{doings_asked}
 use Rattle.numa_reports.specs.declared.sheet.Format.TheVariants as format
+use Rattle.numa_script.specs.Numbers.{in_64_bits, number_of, numeral_of}
 use Rattle.numa_command_line.specs.Grammar.{AreChoices, Choices, diff_formats, plain_formats}
 use Rattle.numa_command_line.specs.Grammar.{predict_formats, program, replay_formats, rules_names}
 use Rattle.numa_command_line.specs.Grammar.{test_formats}
@@ -53,7 +54,7 @@ check_of_a_process : (c : Choices)
     → doings_asked (program c) (codes "numaplan" ∷ codes "check" ∷ codes "--process" ∷ codes "3"
     ∷ codes "a" ∷ [])
     ≡ Some (scripts (codes "a" ∷ []) Document (Some 3) (check format.Text))
-unfolding clap_on_literals
+unfolding clap_on_literals number_of numeral_of in_64_bits
 check_of_a_process c = refl
 
 storm_of_four : (c : Choices)
