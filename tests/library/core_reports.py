@@ -89,6 +89,8 @@ def core_of(path, rules):
             name, *words = line.rstrip("\n").split(" ")
             if name == "limits" and core is None and words[0] == "2":
                 return None  # (whose limits refuse commands)
+            if name == "host":
+                return None  # (which has processes, and no core)
             if name == "machine" and core is None and len(words) == 4:
                 try:
                     core = machine(words, rules)
@@ -115,10 +117,11 @@ def texts(path, core, after, rules):
         want(library(core.diff_text, after, 1, 0, format=form),
              program("diff", by, "--task=1", "--node=0", f"--format={form}", *then, path),
              f"diff {path} {form}")
-        for trace in TRACES:
-            want(library(core.replay_text, trace, format=form),
-                 program("replay", by, f"--format={form}", f"--trace={trace}", path),
-                 f"replay {path} {form}")
+    for trace in TRACES:
+        met = {form: program("replay", by, f"--format={form}", f"--trace={trace}", path) or None
+               for form in ("text", "json", "html")}
+        for form, answer in [*met.items(), ("svg", met["text"])]:  # (a replay has no picture)
+            want(library(core.replay_text, trace, format=form), answer, f"replay {path} {form}")
     for page in PAGES:
         mine = library(core.explain_text, page, 1, 0)
         theirs = program("explain", by, "--task=1", "--node=0", "--format=text", hex(page * 4096), path)
@@ -141,7 +144,7 @@ def values(path, core, after, rules):
         with open(trace, encoding="utf-8") as lines:
             accesses = [tuple(map(number, line.split())) for line in lines if line[0] not in "#\n"]
         accesses = [(task, address // 4096, *rest) for task, address, *rest in accesses]
-        said = program("replay", by, "--format=json", f"--trace={trace}", path)
+        said = program("replay", by, "--format=json", f"--trace={trace}", path) or None
         try:
             routes = core.replay(accesses)
         except BadAccess:

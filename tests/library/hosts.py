@@ -6,6 +6,7 @@ program's path is the argument. Not proved."""
 import random
 import subprocess
 import sys
+from functools import partial
 from itertools import zip_longest
 
 import numaplan
@@ -122,10 +123,24 @@ def place(host, process, task, page, cpu):
         return f"refused {type(cause).__name__}"
 
 
+def opening():
+    """Lines that make groups and processes with memory, and the same calls."""
+    for group in (1, 2, 3):
+        yield f"cgroup {group} {group - 1}", partial(Host.new_group, group=group, parent=group - 1)
+    for process in range(5):
+        yield f"process {process} {process % 4}", partial(Host.new_process, process=process,
+                                                          group=process % 4)
+        yield f"in {process} map 0 {24 * 4096} 7", partial(Host.map, process=process, start=0,
+                                                           length=24 * 4096, offset=7)
+
+
 def play(dice):
     """A round: the lines of a script, and what the module answers to them."""
     lines, answers = ["limits 64 2 1000", "machine 4 0-3 0 flat", "host"], []
     with Host([0] * 4, FLAT, memory="0-3", max_ranges=64, max_tasks=2, max_commands=1000) as host:
+        for line, call in opening():
+            lines.append(line)
+            answers.append(answer_of(host, call))
         for _ in range(STEPS):
             if dice.random() < 0.4:
                 line, call = of_the_host(dice)
