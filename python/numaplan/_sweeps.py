@@ -61,32 +61,34 @@ class _Workers:
         self.workers = workers or getattr(executor, "_max_workers", None) or 32
         self._executor = executor
 
-    def submit(self, some: list[Numbered]) -> Future[list[Answer]]:
+    def submit(self, some: list[Numbered]) -> Future[Any]:
         """Hands out questions."""
         return self._executor.submit(ask_all, some)
 
-    def done(self, future: Future[list[Answer]]) -> None:
-        """Their answers have come, or won't."""
+    def answers(self, future: Future[Any]) -> list[Answer]:
+        """Their answers; raises why there are none."""
+        answers: list[Answer] = future.result()
+        return answers
 
     def end(self) -> None:
         """No more will be asked."""
 
 
 class _Processes(_Workers):
-    """Processes of this machine, which are made anew where one is lost. Questions go to them by
-    files: where one is lost, some Pythons (3.11.2 is one) wait for ever to write long ones to its
-    pipe."""
+    """Processes of this machine, which are made anew where one is lost. Questions and answers go by
+    files: where one is lost, Python may wait for ever to write the rest of a long question to its
+    pipe, or for the rest of its answer."""
 
     def __init__(self, workers: "int | None") -> None:
         self.workers = workers or len(os.sched_getaffinity(0))
-        self._files: dict[Future[list[Answer]], str] = {}
+        self._files: dict[Future[Any], str] = {}
         self._folder = tempfile.TemporaryDirectory(prefix="numaplan-")
         self._executor = self._pool()
 
     def _pool(self) -> Executor:
         return ProcessPoolExecutor(self.workers, initializer=_begin_worker)
 
-    def submit(self, some: list[Numbered]) -> Future[list[Answer]]:
+    def submit(self, some: list[Numbered]) -> Future[Any]:
         path = os.path.join(self._folder.name, str(some[0][0]))
         with open(path, "wb") as file:
             pickle.dump(some, file)
@@ -99,11 +101,20 @@ class _Processes(_Workers):
         self._files[future] = path
         return future
 
-    def done(self, future: Future[list[Answer]]) -> None:
-        os.unlink(self._files.pop(future))
+    def answers(self, future: Future[Any]) -> list[Answer]:
+        path = self._files.pop(future)
+        future.result()
+        with open(path, "rb") as file:
+            answers: list[Answer] = pickle.load(file)
+        os.unlink(path)
+        return answers
 
     def end(self) -> None:
-        self._executor.shutdown()
+        # (they are ended and not asked to: one that was lost may have held the lock by which the
+        # others would hear of it, and then they and we would wait for ever)
+        for process in list((getattr(self._executor, "_processes", None) or {}).values()):
+            process.kill()
+        self._executor.shutdown(cancel_futures=True)
         self._folder.cleanup()
 
 
@@ -116,7 +127,7 @@ class _Asking:
         self._tries: dict[int, int] = {}  # how often each of these was asked
         self._workers = workers
         self._size = 1  # of what is handed out at a time
-        self._out: dict[Future[list[Answer]], list[Numbered]] = {}
+        self._out: dict[Future[Any], list[Numbered]] = {}
 
     # ---- what is handed out
 
@@ -136,9 +147,8 @@ class _Asking:
         done, _ = wait(self._out, timeout=0.2, return_when=FIRST_COMPLETED)
         for future in done:
             some = self._out.pop(future)
-            self._workers.done(future)
             try:
-                answers = future.result()
+                answers = self._workers.answers(future)
             except Exception as fault:
                 answers = self._lost(some, fault)
             else:
@@ -182,11 +192,13 @@ def _begin_worker() -> None:
     signal.signal(signal.SIGINT, lambda *_: None)
 
 
-def _ask_file(path: str) -> list[Answer]:
-    """The answers to the questions in a file."""
+def _ask_file(path: str) -> None:
+    """Puts answers in the place of the questions in a file."""
     with open(path, "rb") as file:
         some: list[Numbered] = pickle.load(file)
-    return ask_all(some)
+    answers = ask_all(some)
+    with open(path, "wb") as file:
+        pickle.dump(answers, file)
 
 
 def ask_all(some: list[Numbered]) -> list[Answer]:
