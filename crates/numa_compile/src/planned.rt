@@ -22,7 +22,7 @@ use std::mem;
 /// the plan in place, so that later requests cost nothing. Contracts see only the space.
 ///
 /// After two kinds of commands the plan is dropped until the next request: one for whose edit there
-/// was no memory, and a change of the allowed nodes, which changes every list. While there is none,
+/// was no memory, and a change of the allowed nodes, which changes every list. After such a change
 /// the first questions about single pages cost less if the space answers them
 /// ([`PlannedSpace::answers_without_plan`]).
 #[derive(Drop)]
@@ -93,7 +93,7 @@ fn follow(alloc: Global, plan: &mut Option<Plan>, space: &Space, command: &Comma
 }
 
 /// The number of questions that were answered without a plan, after a command: a change of the
-/// allowed nodes begins the count again.
+/// allowed nodes begins the count again. (Before the first one it is too large to answer so.)
 fn asked_after(asked: usize, command: &Command) -> usize {
     match command {
         Command::SetMems { .. } => 0,
@@ -167,7 +167,7 @@ impl PlannedSpace {
         PlannedSpace {
             space: Space::new(alloc, machine, limits),
             plan: None,
-            asked: 0,
+            asked: usize::MAX,
         }
     }
 
