@@ -7,7 +7,7 @@ use Rattle.std.specs.Prelude.{slice_get, slice_set}
 use Rattle.std.specs.BTreeMap.{insert_entry, is_at}
 use Rattle.std.specs.List.{AllByRecursion, insert, remove}
 use Rattle.std.specs.List.Sorted.{IsNonDecreasingBy, IsStrictlySortedBy}
-use Rattle.std.specs.Map.{keys_of, lookup, remove_entry}
+use Rattle.std.specs.Map.{keys_of, remove_entry}
 use Rattle.std.specs.Ordering.{nat_cmp, is_eq, match_ordering, eq_by_cmp}
 use Rattle.std.proofs.lemmas.Bool.Decides.{nat_tests}
 use Rattle.std.proofs.lemmas.Cmp.{nat_cmp_total, ranked, eq_by_cmp_equiv}
@@ -80,13 +80,15 @@ tasks-rise (entry ∷ entries) sorted (suc i) (suc j) d le lt =
 module _ (task : ℕ) where
   found-step : (entry : ℕ × ℕ) (entries : List (ℕ × ℕ)) (order : Ordering)
       → nat_cmp task entry.0 ≡ order
-      → number_of (entry ∷ entries) task ≡ cond (is_eq order) (Some entry.1) (number_of entries task)
+      → number_of (entry ∷ entries) task
+      ≡ cond (is_eq order) (Some entry.1) (number_of entries task)
   found-step entry entries order is =
       ap (λ o. cond (is_eq o) (Some entry.1) (number_of entries task)) is
 
   pub number-there : (entries : List (ℕ × ℕ)) (place number : ℕ) → IsPlaceOf task entries place
       → slice_get entries place ≡ Some (task, number) → number_of entries task ≡ Some number
-  number-there [] place number at is = absurd (let odd : ◌≡◌ {A = Option (ℕ × ℕ)} None (Some (task, number)) = is in cc)
+  number-there [] place number at is =
+      absurd (let odd : ◌≡◌ {A = Option (ℕ × ℕ)} None (Some (task, number)) = is in cc)
   number-there (entry ∷ entries) zero number at is =
       let key : entry ≡ (task, number) = cc in
       found-step entry entries Equal (same task entry.0 (sym (ap (λ (e : ℕ × ℕ). e.0) key)))
@@ -124,7 +126,8 @@ module _ (task : ℕ) where
     pub set-there : (entries : List (ℕ × ℕ)) (place had : ℕ) → IsPlaceOf task entries place
         → slice_get entries place ≡ Some (task, had)
         → slice_set entries place (task, number) ≡ insert_entry nat_cmp entries task number
-    set-there [] place had at is = absurd (let odd : ◌≡◌ {A = Option (ℕ × ℕ)} None (Some (task, had)) = is in cc)
+    set-there [] place had at is =
+        absurd (let odd : ◌≡◌ {A = Option (ℕ × ℕ)} None (Some (task, had)) = is in cc)
     set-there (entry ∷ entries) zero had at is =
         let key : entry ≡ (task, had) = cc in
         let here : entry.0 ≡ task = ap (λ (e : ℕ × ℕ). e.0) key in
@@ -171,7 +174,8 @@ module _ (task : ℕ) where
             → number_of (match_ordering order ((task, number) ∷ entry ∷ entries)
             ((entry.0, number) ∷ entries) (entry ∷ insert_entry nat_cmp entries task number)) task
             ≡ Some number
-        by Less is later = lookup-step task (task, number) (entry ∷ entries) Equal (same task task refl)
+        by Less is later =
+            lookup-step task (task, number) (entry ∷ entries) Equal (same task task refl)
         by Equal is later = lookup-step task (entry.0, number) entries Equal is
         by Greater is later =
             lookup-step task entry (insert_entry nat_cmp entries task number) Greater is ∙ later
@@ -284,7 +288,8 @@ module _ (task : ℕ) where
   pub remove-there : (entries : List (ℕ × ℕ)) (place had : ℕ) → IsPlaceOf task entries place
       → slice_get entries place ≡ Some (task, had)
       → remove entries place ≡ remove_entry (is_at (nat_cmp task)) entries
-  remove-there [] place had at is = absurd (let odd : ◌≡◌ {A = Option (ℕ × ℕ)} None (Some (task, had)) = is in cc)
+  remove-there [] place had at is =
+      absurd (let odd : ◌≡◌ {A = Option (ℕ × ℕ)} None (Some (task, had)) = is in cc)
   remove-there (entry ∷ entries) zero had at is =
       let key : entry ≡ (task, had) = cc in
       sym (drop-step entry entries Equal (same task entry.0 (sym (ap (λ (e : ℕ × ℕ). e.0) key))))

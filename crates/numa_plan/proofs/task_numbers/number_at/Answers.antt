@@ -1,5 +1,5 @@
 use Rattle.std.proofs.Common.{◌≡◌, ◌≢◌, ℕ, ◌<◌, Option, Some, slice_index_or, ap, sym, ◌∙◌, arith}
-use Rattle.std.proofs.Common.{slice_get, eqb→eq, length}
+use Rattle.std.proofs.Common.{length}
 use Rattle.std.proofs.lemmas.Bool.Decides.{nat_tests}
 use Rattle.numa_plan.proofs.TaskPlaces.{entry-there, entry-within, number-nowhere, number-there}
 use Rattle.numa_plan.proofs.task_numbers.number_at.Goals as goal

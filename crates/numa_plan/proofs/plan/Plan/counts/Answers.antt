@@ -27,8 +27,7 @@ found_next-requires c =
     let own : c.self.inside.runs ≡ c.args.self.now.runs =
     ap (λ (p : PlanData). p.runs) c.self.view_is in
     record {
-      part = subst (λ (runs : List (Run (Option ℕ))). IsChunkOf runs c.loop-todo.walk.part)
-          (sym own)
+      part = subst (λ (runs : List (Run (Option ℕ))). IsChunkOf runs c.loop-todo.walk.part) (sym own)
           c.loop-todo.invariant.part;
     }
 

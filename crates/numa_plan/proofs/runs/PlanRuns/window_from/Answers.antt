@@ -16,8 +16,7 @@ behind_ended-from-requires c =
 
 pub loop-to-preserved : goal.loop-to-preserved
 loop-to-preserved c = record {
-  looked = looked-on c.args.self.now c.args.first c.args.end c.args.start c.loop-to.from
-      c.loop-to.to
+  looked = looked-on c.args.self.now c.args.first c.args.end c.args.start c.loop-to.from c.loop-to.to
       c.behind_ended-from.result c.run_in-run.result (omega (arith, c.len.ensures.count))
       c.run_in-run.ensures (omega
       (arith, c.begins_behind.ensures.begun c.if-begins_behind.false))
@@ -33,8 +32,7 @@ returns-then-begins_behind c =
     c.loop-to.to c.len.ensures.apart found.ensures.from found.ensures.to found.ensures.seen
     (behind-run c.args.self.now c.args.first c.args.end c.loop-to.to c.run_in-run.result
     c.len.ensures.apart c.run_in-run.ensures
-    (omega (arith, c.begins_behind.ensures.behind c.if-begins_behind.true)))
-    c.loop-to.invariant.looked
+    (omega (arith, c.begins_behind.ensures.behind c.if-begins_behind.true))) c.loop-to.invariant.looked
 
 pub returns : goal.returns
 returns c =
