@@ -1,8 +1,8 @@
 # A part of ./numaplan: proves the program, or the C library, and all crates below it.
 #
 # It is proved by `rt ci`, in a room: a repository of copies of those crates alone, among the
-# temporary files. rt keeps beside the kit what passes, each crate as soon as it is proved, there
-# and where ./test runs `rt ci`: so neither proves again what the other proved, and a proof that was
+# temporary files. Where the kit's rt keeps what passes, beside the kit and each crate as soon as it
+# is proved, neither this nor ./test proves again what the other proved, and a proof that was
 # interrupted goes on from there. rt runs as many proofs side by side as there are processors and
 # memory, and gives one the processors that no other waits for, since a chain of crates bounds the
 # whole; NUMAPLAN_JOBS is how many run side by side instead, each with one job. Not proved.
@@ -81,11 +81,15 @@ tell_failure() {
 
 # ---- the proof
 
+# Whether the kit's rt keeps what passes, in a folder of that name (rattle-kit-13b's doesn't).
+keeps_proofs() { grep -qs 'rattle-kept\|class Kept' "$kit"/bin/rt "$kit"/bin/rtlib.py; }
+
 # Whether the chain of crates below numa_core, which bounds the whole, is proved by a run of its own
 # beside the other: `rt ci` fills its places with what is ready first, also with crates beside the
 # chain, and each run waits for what the other proves. On few processors it would gain nothing.
 goes_ahead() {
-    [ -z "${RT_JOBS:-}" ] && [ "$(nproc)" -ge 4 ] && [[ " ${needed[*]} " = *' numa_core '* ]]
+    keeps_proofs && [ -z "${RT_JOBS:-}" ] && [ "$(nproc)" -ge 4 ] &&
+        [[ " ${needed[*]} " = *' numa_core '* ]]
 }
 
 # Runs `rt ci`, with the one that goes ahead beside it.
@@ -149,9 +153,12 @@ take_library() {
 
 # Tells what is to be proved, how long that takes, and what an interrupt costs.
 announce() {
-    local beside=${kit%/*}
-    say "proving ${what[$1]} and the $((${#needed[@]} - 1)) crates below it: ${proof_takes[$1]}"
-    if [ -w "$beside" ] || [ -w "$beside/rattle-kept" ]; then
+    local beside=${kit%/*} takes=${proof_takes[$1]}
+    keeps_proofs || takes=${takes%, or 7 *}
+    say "proving ${what[$1]} and the $((${#needed[@]} - 1)) crates below it: $takes"
+    if ! keeps_proofs; then
+        say "this is not to be interrupted: this kit's rt doesn't keep what it proved"
+    elif [ -w "$beside" ] || [ -w "$beside/rattle-kept" ]; then
         say 'this can be interrupted, and then goes on from there'
     else
         say "this is not to be interrupted: rt can't keep what it proved in $beside"
