@@ -1,9 +1,8 @@
 -- Each row gets what a function makes of it.
-use Rattle.std.proofs.Common.{◌≡◌, ℕ, ◌+◌, ◌<◌, ◌≤◌, List, [], ◌∷◌, ◌++◌, length, take, drop, map}
-use Rattle.std.proofs.Common.{set, get_or, refl, sym, ap, ◌∙◌, append-nil}
-use Rattle.std.proofs.lemmas.List.{take_all, drop_all, map-append}
+use Rattle.std.proofs.Common.{◌≡◌, ℕ, ◌+◌, ◌<◌, ◌≤◌, List, ◌++◌, length, take, drop, map}
+use Rattle.std.proofs.Common.{set, get_or, ap, ◌∙◌, append-nil}
+use Rattle.std.proofs.lemmas.List.{take_all, drop_all}
 use Rattle.std.proofs.lemmas.List.Edits.{map_over_more}
-use Rattle.numa_rows.specs.Parts.{flat}
 
 -- one more element gets its change
 pub change-more : {X : Type 0} (change : X → X) (whole now : List X) (i : ℕ) (x made : X)
@@ -17,9 +16,3 @@ pub change-all : {X : Type 0} (change : X → X) (whole now : List X) (i : ℕ) 
 change-all change whole now i all is =
     is ∙ (ap (λ l. map change (take i whole) ++ l) (drop_all i whole all)
     ∙ (append-nil (map change (take i whole)) ∙ ap (map change) (take_all i whole all)))
-
-pub flat-changed : {T : Type 0} (change : T → T) (parts : List (List T))
-    → flat (map (map change) parts) ≡ map change (flat parts)
-flat-changed change [] = refl
-flat-changed change (part ∷ parts) = ap (λ l. map change part ++ l) (flat-changed change parts)
-    ∙ sym (map-append change part (flat parts))

@@ -1,8 +1,6 @@
 //! Rows that belong to one chunk alone.
-ghost use Rattle.std.specs.Prelude.{◌≡◌, ◌<◌, length, map, slice_set, take};
-ghost use Rattle.numa_rows.specs.Changes.{Makes};
+ghost use Rattle.std.specs.Prelude.{◌≡◌, ◌<◌, length, slice_set, take};
 
-use crate::items::update_items;
 use crate::keep::Keep;
 use crate::part::Part;
 use crate::put::{put_in, with_room};
@@ -70,15 +68,6 @@ impl<T: Copy + Drop> Keep<T> for Owned<T> {
 }
 
 impl<T: Copy + Drop> Owned<T> {
-    /// Replaces each row by what `f` returns for it.
-    pub(crate) fn update<F: Fn(&T) -> T>(&mut self, f: &F)
-        requires { F.IsAlwaysCallable f.now }
-        ensures size { length self.new ≡ length self.old }
-        ensures made { (change : T → T) → Makes F.Fn f.now change → self.new ≡ map change self.old }
-    {
-        update_items(&mut self.rows, f);
-    }
-
     /// Replaces a row.
     pub(crate) fn put(&mut self, place: usize, row: T)
         requires { place < length self.old }

@@ -1,30 +1,11 @@
 //! Changes of owned rows that don't allocate.
-ghost use Rattle.std.specs.Prelude.{◌≡◌, ◌+◌, ◌<◌, map, slice_set, take};
-ghost use Rattle.numa_rows.specs.Changes.{Makes};
+ghost use Rattle.std.specs.Prelude.{◌≡◌, ◌+◌, ◌<◌, slice_set, take};
 ghost use Rattle.numa_rows.specs.Parts.{HasRank, IsTable, flat};
 
 use crate::chunk::Chunk;
 use crate::owned::Owned;
 use crate::starts::guess_at;
 use crate::table::{Place, place_of};
-
-/// Replaces each row by what `f` returns for it.
-pub(crate) fn update_rows<T: Copy + Drop, F: Fn(&T) -> T>(
-    chunks: &mut Vec<Chunk<T, Owned<T>>>,
-    _starts: &[u32],
-    _len: usize,
-    f: &F,
-)
-    requires callable { F.IsAlwaysCallable f.now }
-    requires table { IsTable 6144 chunks.old.items _starts.now _len }
-    ensures table { IsTable 6144 chunks.new.items _starts.now _len }
-    ensures made { (change : T → T) → Makes F.Fn f.now change
-        → flat chunks.new.items ≡ map change (flat chunks.old.items) }
-{
-    for i in 0..chunks.len() {
-        chunks[i].update(f);
-    }
-}
 
 /// Replaces the row at a rank.
 pub(crate) fn put_row<T: Copy + Drop>(
