@@ -1,8 +1,9 @@
 //! By which rules the pages of a span go, stretch by stretch.
 use crate::reasons::put_fields;
+use numa_machine::PlaceRefusal;
 use numa_reports::{Format, Items, Largest, Object, Touch};
 use numa_rules::{Explanation, ReasonError, explain, say_stretch, say_unmapped};
-use numa_space::{PAGE_BYTES, PlaceRefusal, Space};
+use numa_space::{PAGE_BYTES, Space};
 use std::alloc::{AllocError, Global};
 
 /// Pages: the first, and the one after the last.

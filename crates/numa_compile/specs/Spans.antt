@@ -5,8 +5,8 @@ use Rattle.numa_ranges.specs.Counts.{count_pages}
 use Rattle.numa_space.specs.Lists.{node_list}
 use Rattle.numa_space.specs.Pages.{is_mapped}
 use Rattle.numa_space.specs.declared.command.Command.{Command}
-use Rattle.numa_space.specs.declared.refusal.PlaceRefusal.{PlaceRefusal}
-use Rattle.numa_space.specs.declared.refusal.PlaceRefusal.TheVariants.{BadCpu, Unmapped}
+use Rattle.numa_machine.specs.declared.refusal.PlaceRefusal.{PlaceRefusal}
+use Rattle.numa_machine.specs.declared.refusal.PlaceRefusal.TheVariants.{BadCpu, Unmapped}
 
 -- the first node of the fallback list
 abbrev pub first_node : Hardware → List Command → ℕ → ℕ → ℕ → ℕ

@@ -9,9 +9,9 @@ use Rattle.std.proofs.lemmas.List.{length-drop}
 use Rattle.std.proofs.lemmas.Option.{slice_get-map, slice_get_read, slice_get_within}
 use Rattle.numa_space.specs.Lists.{node_list}
 use Rattle.numa_space.specs.Pages.{is_mapped}
-use Rattle.numa_space.specs.declared.refusal.PlaceRefusal.{PlaceRefusal}
-use Rattle.numa_space.specs.declared.refusal.PlaceRefusal.TheVariants.{BadCpu as NoCpu}
-use Rattle.numa_space.specs.declared.refusal.PlaceRefusal.TheVariants.{Unmapped as NoPage}
+use Rattle.numa_machine.specs.declared.refusal.PlaceRefusal.{PlaceRefusal}
+use Rattle.numa_machine.specs.declared.refusal.PlaceRefusal.TheVariants.{BadCpu as NoCpu}
+use Rattle.numa_machine.specs.declared.refusal.PlaceRefusal.TheVariants.{Unmapped as NoPage}
 use Rattle.numa_plan.specs.Meaning.{PlanData, planned_list, place_refusal}
 use Rattle.numa_space.specs.declared.request.Request.{Request}
 use Rattle.numa_core.specs.declared.seat.OngoingSearch.{OngoingSearch}

@@ -10,9 +10,9 @@ use Rattle.numa_pool.specs.Seats.{SeatView}
 use Rattle.numa_pool.proofs.Winning.{all-found, win-earlier}
 use Rattle.numa_publish.specs.Batches.{Extends}
 use Rattle.numa_space.specs.declared.command.Command.{Command}
-use Rattle.numa_space.specs.declared.refusal.PlaceRefusal.{PlaceRefusal}
-use Rattle.numa_space.specs.declared.refusal.PlaceRefusal.TheVariants.{BadCpu as cpu_is_bad}
-use Rattle.numa_space.specs.declared.refusal.PlaceRefusal.TheVariants.{Unmapped as is_unmapped}
+use Rattle.numa_machine.specs.declared.refusal.PlaceRefusal.{PlaceRefusal}
+use Rattle.numa_machine.specs.declared.refusal.PlaceRefusal.TheVariants.{BadCpu as cpu_is_bad}
+use Rattle.numa_machine.specs.declared.refusal.PlaceRefusal.TheVariants.{Unmapped as is_unmapped}
 use Rattle.numa_fault.specs.Fault.{Faults, FindsNone, LetsIn, Places, list_of, refusal_of}
 use Rattle.numa_fault.specs.Span.{FaultsOnSpan, IsRefused, Stands}
 use Rattle.numa_fault.specs.Told.{FoundTaken, refusal_told, span_refusal_told, version_told}

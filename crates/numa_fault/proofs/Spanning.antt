@@ -8,8 +8,8 @@ use Rattle.numa_machine.specs.Machine.{Hardware}
 use Rattle.numa_pool.specs.Seats.{SeatView}
 use Rattle.numa_compile.specs.Spans.{SpanIsRefused}
 use Rattle.numa_publish.specs.Spans.{SpanStands}
-use Rattle.numa_space.specs.declared.refusal.PlaceRefusal.{PlaceRefusal}
-use Rattle.numa_space.specs.declared.refusal.PlaceRefusal.TheVariants.{BadCpu, Unmapped}
+use Rattle.numa_machine.specs.declared.refusal.PlaceRefusal.{PlaceRefusal}
+use Rattle.numa_machine.specs.declared.refusal.PlaceRefusal.TheVariants.{BadCpu, Unmapped}
 use Rattle.numa_space.specs.Pages.{is_mapped}
 use Rattle.numa_space.specs.declared.command.Command.{Command}
 use Rattle.numa_space.specs.declared.request.Request.{Request}

@@ -14,9 +14,9 @@ use Rattle.numa_publish.specs.Shown.{ReaderState}
 use Rattle.numa_space.specs.Lists.{node_list}
 use Rattle.numa_space.specs.Standing.{place_refusal_of}
 use Rattle.numa_space.specs.declared.command.Command.{Command}
-use Rattle.numa_space.specs.declared.refusal.PlaceRefusal.{PlaceRefusal}
-use Rattle.numa_space.specs.declared.refusal.PlaceRefusal.TheVariants.{BadCpu as cpu_is_bad}
-use Rattle.numa_space.specs.declared.refusal.PlaceRefusal.TheVariants.{Unmapped as is_unmapped}
+use Rattle.numa_machine.specs.declared.refusal.PlaceRefusal.{PlaceRefusal}
+use Rattle.numa_machine.specs.declared.refusal.PlaceRefusal.TheVariants.{BadCpu as cpu_is_bad}
+use Rattle.numa_machine.specs.declared.refusal.PlaceRefusal.TheVariants.{Unmapped as is_unmapped}
 use Rattle.numa_fault.specs.Worker.{Parts}
 use Rattle.numa_fault.specs.declared.refusal.FaultRefusal.{FaultRefusal}
 use Rattle.numa_fault.specs.declared.refusal.FaultRefusal.TheVariants.{NoView, BadCpu, Unmapped}

@@ -7,9 +7,9 @@ use Rattle.numa_machine.specs.Machine.{Hardware}
 use Rattle.numa_pool.specs.Seats.{SeatView}
 use Rattle.numa_publish.specs.Spans.{SpanStands}
 use Rattle.numa_space.specs.declared.command.Command.{Command}
-use Rattle.numa_space.specs.declared.refusal.PlaceRefusal.{PlaceRefusal}
-use Rattle.numa_space.specs.declared.refusal.PlaceRefusal.TheVariants.{BadCpu as cpu_is_bad}
-use Rattle.numa_space.specs.declared.refusal.PlaceRefusal.TheVariants.{Unmapped as is_unmapped}
+use Rattle.numa_machine.specs.declared.refusal.PlaceRefusal.{PlaceRefusal}
+use Rattle.numa_machine.specs.declared.refusal.PlaceRefusal.TheVariants.{BadCpu as cpu_is_bad}
+use Rattle.numa_machine.specs.declared.refusal.PlaceRefusal.TheVariants.{Unmapped as is_unmapped}
 use Rattle.numa_fault.specs.Fault.{FindsNone, LetsIn, Places, refused_once}
 use Rattle.numa_fault.specs.Worker.{Parts}
 use Rattle.numa_fault.specs.declared.refusal.SpanRefusal.{SpanRefusal}

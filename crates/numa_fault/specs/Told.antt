@@ -6,9 +6,9 @@ use Rattle.numa_space.specs.declared.placement.Placement.{Placement}
 use Rattle.numa_pool.specs.Seats.{SeatView}
 use Rattle.numa_pool.specs.Walk.{met}
 use Rattle.numa_pool.specs.declared.view.Entry.{Entry}
-use Rattle.numa_space.specs.declared.refusal.PlaceRefusal.{PlaceRefusal}
-use Rattle.numa_space.specs.declared.refusal.PlaceRefusal.TheVariants.{BadCpu as cpu_is_bad}
-use Rattle.numa_space.specs.declared.refusal.PlaceRefusal.TheVariants.{Unmapped as is_unmapped}
+use Rattle.numa_machine.specs.declared.refusal.PlaceRefusal.{PlaceRefusal}
+use Rattle.numa_machine.specs.declared.refusal.PlaceRefusal.TheVariants.{BadCpu as cpu_is_bad}
+use Rattle.numa_machine.specs.declared.refusal.PlaceRefusal.TheVariants.{Unmapped as is_unmapped}
 use Rattle.numa_fault.specs.Crew.{result_of}
 use Rattle.numa_fault.specs.declared.answer.Answer.{Answer}
 use Rattle.numa_fault.specs.declared.refusal.FaultRefusal.{FaultRefusal}

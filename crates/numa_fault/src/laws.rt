@@ -11,7 +11,7 @@ ghost use Rattle.numa_pool.specs.Frames.{Holds};
 ghost use Rattle.numa_pool.specs.Seats.{SeatView};
 ghost use Rattle.numa_publish.specs.Batches.{Extends};
 ghost use Rattle.numa_space.specs.declared.command.Command.{Command};
-ghost use Rattle.numa_space.specs.declared.refusal.PlaceRefusal.{PlaceRefusal};
+ghost use Rattle.numa_machine.specs.declared.refusal.PlaceRefusal.{PlaceRefusal};
 ghost use Rattle.numa_fault.specs.Crew.{column, HaveSeats, IsCrew, Serves, ServesEach};
 ghost use Rattle.numa_fault.specs.Fault.{Faults, FindsNone, Places, list_of, refusal_of};
 ghost use Rattle.numa_fault.specs.Migration.{Migrates};

@@ -11,9 +11,10 @@ ghost use Rattle.numa_fault.specs.Span.{StopsAt};
 
 use crate::page::place_page;
 use crate::refusal::SpanRefusal;
+use numa_machine::PlaceRefusal;
 use numa_pool::{PoolSeat, Pools};
 use numa_publish::{PlanReader, PlanView};
-use numa_space::{PlaceRefusal, Placement, Request};
+use numa_space::{Placement, Request};
 use std::alloc::Global;
 
 /// A span of pages that a task touches from CPUs of one node: the first page, and their number.

@@ -15,9 +15,9 @@ use crate::group::{ControlGroup, effective, is_group};
 use crate::process::{Process, copies_of, find};
 use crate::refusal::HostRefusal;
 use arrayvec::ArrayVec;
-use numa_machine::{Machine, NoMemory};
+use numa_machine::{Machine, NoMemory, PlaceRefusal};
 use numa_mask::NodeMask;
-use numa_space::{Limits, PlaceRefusal, Space};
+use numa_space::{Limits, Space};
 use std::alloc::Global;
 use std::marker::Model;
 

@@ -4,7 +4,7 @@ use Rattle.std.specs.Prelude.{None, List, slice_get, if◌then◌else◌}
 use Rattle.numa_ranges.specs.Counts.{count_pages}
 use Rattle.numa_ranges.specs.Runs.{in_pages, page_at}
 use Rattle.numa_space.specs.Standing.{SpaceState, list_in, place_refusal_in}
-use Rattle.numa_space.specs.declared.refusal.PlaceRefusal.{PlaceRefusal}
+use Rattle.numa_machine.specs.declared.refusal.PlaceRefusal.{PlaceRefusal}
 use Rattle.numa_placed.specs.Astray.{is_astray}
 use Rattle.numa_placed.specs.Spots.{stated_spot}
 use Rattle.numa_placed.specs.declared.bound.Bound.{Bound}

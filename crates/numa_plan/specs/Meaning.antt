@@ -8,8 +8,8 @@ use Rattle.std.specs.Option.{option_map}
 use Rattle.numa_ranges.specs.Runs.{page_at}
 use Rattle.numa_ranges.specs.Counts.{count_pages}
 use Rattle.numa_ranges.specs.declared.run.Run.{Run}
-use Rattle.numa_space.specs.declared.refusal.PlaceRefusal.{PlaceRefusal}
-use Rattle.numa_space.specs.declared.refusal.PlaceRefusal.TheVariants.{BadCpu, Unmapped}
+use Rattle.numa_machine.specs.declared.refusal.PlaceRefusal.{PlaceRefusal}
+use Rattle.numa_machine.specs.declared.refusal.PlaceRefusal.TheVariants.{BadCpu, Unmapped}
 use Rattle.numa_plan.specs.Found.{HasHole}
 use Rattle.numa_plan.specs.Rows.{RuleData, row_of}
 use Rattle.numa_plan.specs.Slots.{rule_in}

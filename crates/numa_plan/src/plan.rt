@@ -22,8 +22,7 @@ use crate::slots::{Slot, copies};
 use crate::steps::Steps;
 use crate::tally::Tally;
 use crate::task_numbers::TaskNumbers;
-use numa_machine::NoMemory;
-use numa_space::PlaceRefusal;
+use numa_machine::{NoMemory, PlaceRefusal};
 use std::alloc::Global;
 use std::marker::Model;
 

@@ -19,8 +19,9 @@ use crate::reader::PlanReader;
 use crate::receipt::Receipt;
 use crate::rule::ShownReading;
 use numa_compile::every_plan;
+use numa_machine::PlaceRefusal;
 use numa_plan::{Steps, Tally};
-use numa_space::{PlaceRefusal, Request};
+use numa_space::Request;
 use std::marker::Model;
 
 /// A reader with the published plan at which it looks, which doesn't change while the view is held.

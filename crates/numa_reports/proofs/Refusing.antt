@@ -12,8 +12,8 @@ use Rattle.numa_ranges.proofs.Apart.{apart-top, in_pages-above, in_pages-true}
 use Rattle.numa_space.specs.Pages.{index_of, is_mapped, range_record}
 use Rattle.numa_space.specs.Standing.{SpaceState, StandsFor}
 use Rattle.numa_space.specs.declared.command.Command.{Command}
-use Rattle.numa_space.specs.declared.refusal.PlaceRefusal.{PlaceRefusal}
-use Rattle.numa_space.specs.declared.refusal.PlaceRefusal.TheVariants.{BadCpu, Unmapped}
+use Rattle.numa_machine.specs.declared.refusal.PlaceRefusal.{PlaceRefusal}
+use Rattle.numa_machine.specs.declared.refusal.PlaceRefusal.TheVariants.{BadCpu, Unmapped}
 use Rattle.numa_plan.specs.Meaning.{PlanData, RefusesSpan, place_refusal}
 use Rattle.numa_compile.proofs.Replies.{run-mapped, span-meant}
 use Rattle.numa_compile.specs.Spans.{SpanIsRefused}

@@ -3,8 +3,8 @@ use Rattle.std.specs.Prelude.{ℕ, ◌≤◌, ◌⊎◌, List, Result, IfErr}
 use Rattle.numa_machine.specs.Machine.{Hardware}
 use Rattle.numa_space.specs.Standing.{SpaceState, StandsFor}
 use Rattle.numa_space.specs.declared.command.Command.{Command}
-use Rattle.numa_space.specs.declared.refusal.PlaceRefusal.{PlaceRefusal}
-use Rattle.numa_space.specs.declared.refusal.PlaceRefusal.TheVariants.{BadCpu, Unmapped}
+use Rattle.numa_machine.specs.declared.refusal.PlaceRefusal.{PlaceRefusal}
+use Rattle.numa_machine.specs.declared.refusal.PlaceRefusal.TheVariants.{BadCpu, Unmapped}
 use Rattle.numa_plan.specs.Meaning.{PlanData, RefusesSpan}
 use Rattle.numa_compile.specs.Spans.{SpanIsRefused}
 use Rattle.numa_compile.specs.Standing.{PlanStandsFor}

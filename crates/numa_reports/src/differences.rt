@@ -3,7 +3,7 @@ ghost use Rattle.std.specs.Prelude.{◌≡◌, ◌<◌, ◌≤◌, ◌++◌, Lis
 ghost use Rattle.numa_compile.specs.Standing.{PlanStandsFor};
 ghost use Rattle.numa_space.specs.Standing.{StandsFor};
 ghost use Rattle.numa_space.specs.declared.command.Command.{Command};
-ghost use Rattle.numa_space.specs.declared.refusal.PlaceRefusal.TheVariants.{BadCpu};
+ghost use Rattle.numa_machine.specs.declared.refusal.PlaceRefusal.TheVariants.{BadCpu};
 ghost use Rattle.numa_reports.specs.declared.fault.ReportError.TheVariants.{Refused};
 ghost use Rattle.numa_reports.specs.Differences.{AreAllMoves, EitherLacks, HasNone, RefusesSome};
 ghost use Rattle.numa_reports.specs.Differences.{move_by, moves_from, moves_over, moves_within};
@@ -15,8 +15,9 @@ use crate::fault::ReportError;
 use crate::moves::{self, ENTRIES, add_moves, empty_table};
 use crate::outlook::{PageSpan, common_spans, spans_of};
 use crate::touch::{Touch, has_node};
+use numa_machine::PlaceRefusal;
 use numa_plan::Plan;
-use numa_space::{PlaceRefusal, Space};
+use numa_space::Space;
 use std::alloc::{AllocError, Global};
 
 /// The pages of a span that go from one node to another.

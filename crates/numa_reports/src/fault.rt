@@ -2,8 +2,7 @@
 ghost use Rattle.std.specs.Prelude.{◌≡◌};
 ghost use Rattle.numa_reports.specs.declared.fault.ReportError.TheVariants as fault;
 
-use numa_machine::NoMemory;
-use numa_space::PlaceRefusal;
+use numa_machine::{NoMemory, PlaceRefusal};
 use std::alloc::AllocError;
 
 /// Why a report is refused.

@@ -7,7 +7,7 @@ ghost use Rattle.numa_plan.specs.Meaning.{RefusesSpan, place_refusal};
 ghost use Rattle.numa_ranges.specs.Runs.{page_at};
 ghost use Rattle.numa_space.specs.Standing.{StandsFor};
 ghost use Rattle.numa_space.specs.declared.command.Command.{Command};
-ghost use Rattle.numa_space.specs.declared.refusal.PlaceRefusal.TheVariants.{BadCpu};
+ghost use Rattle.numa_machine.specs.declared.refusal.PlaceRefusal.TheVariants.{BadCpu};
 ghost use Rattle.numa_reports.specs.declared.fault.ReportError.TheVariants.{Memory, Refused};
 ghost use Rattle.numa_reports.specs.Failing.{FailsBy, FailsForNode};
 ghost use Rattle.numa_reports.specs.Filled.{first_free, one_less, free_behind};
@@ -20,9 +20,10 @@ use crate::period::period_in;
 use crate::prediction::{RangePrediction, TakeRange, policy_of};
 use crate::touch::{Touch, has_node};
 use crate::turns::{all_left_behind, all_times_left};
+use numa_machine::PlaceRefusal;
 use numa_plan::Plan;
 use numa_ranges::Run;
-use numa_space::{PlaceRefusal, RangeRecord, Space};
+use numa_space::{RangeRecord, Space};
 
 /// A number of free pages of a node.
 #[derive(Clone, Copy)]

@@ -4,7 +4,7 @@ ghost use Rattle.std.specs.Prelude.{Err, IfErr, IfOk, OnOk, nat_lt, if◌then◌
 ghost use Rattle.numa_compile.specs.Standing.{PlanStandsFor};
 ghost use Rattle.numa_machine.specs.Machine.{Hardware};
 ghost use Rattle.numa_space.specs.declared.command.Command.{Command};
-ghost use Rattle.numa_space.specs.declared.refusal.PlaceRefusal.TheVariants.{BadCpu};
+ghost use Rattle.numa_machine.specs.declared.refusal.PlaceRefusal.TheVariants.{BadCpu};
 ghost use Rattle.numa_reports.specs.declared.fault.ReportError.TheVariants.{Refused};
 ghost use Rattle.numa_reports.specs.Failing.{MovesMayFail, RefusesEither};
 ghost use Rattle.numa_reports.specs.Moved.{AddsMoves, AreMoves, HasRoomFor};
@@ -14,8 +14,8 @@ use crate::fault::ReportError;
 use crate::outlook::PageSpan;
 use crate::touch::Touch;
 use crate::watch::Watch;
+use numa_machine::PlaceRefusal;
 use numa_plan::Plan;
-use numa_space::PlaceRefusal;
 use std::alloc::{AllocError, Global};
 
 /// The number of pages that are looked at together.

@@ -11,7 +11,7 @@ ghost use Rattle.numa_ranges.specs.declared.run.Run.{Run};
 ghost use Rattle.numa_space.specs.Pages.{resolved_policy};
 ghost use Rattle.numa_space.specs.Standing.{StandsFor};
 ghost use Rattle.numa_space.specs.declared.command.Command.{Command};
-ghost use Rattle.numa_space.specs.declared.refusal.PlaceRefusal.TheVariants.{BadCpu};
+ghost use Rattle.numa_machine.specs.declared.refusal.PlaceRefusal.TheVariants.{BadCpu};
 ghost use Rattle.numa_reports.specs.declared.fault.ReportError.TheVariants.{Memory, Refused};
 ghost use Rattle.numa_reports.specs.Failing.{FailsBy, FailsForNode};
 ghost use Rattle.numa_reports.specs.Predicted.{AddsSpan, AreFirsts, AreNone, IsPrediction};
@@ -20,10 +20,11 @@ ghost use Rattle.numa_reports.specs.Told.{LacksOne, ToldEach, ToldOne};
 use crate::fault::ReportError;
 use crate::tally::{count_range, move_counts};
 use crate::touch::{Touch, has_node};
+use numa_machine::PlaceRefusal;
 use numa_mode::Record;
 use numa_plan::Plan;
 use numa_ranges::Run;
-use numa_space::{PlaceRefusal, RangeRecord, Space};
+use numa_space::{RangeRecord, Space};
 use std::alloc::AllocError;
 
 /// Where the pages of a range would go, if a task touched each of them now.

@@ -6,9 +6,10 @@ ghost use Rattle.numa_reports.specs.Predicted.{AreNone};
 
 use crate::touch::Touch;
 use numa_lanes::tally;
+use numa_machine::PlaceRefusal;
 use numa_plan::Plan;
 use numa_ranges::Run;
-use numa_space::{PlaceRefusal, RangeRecord};
+use numa_space::RangeRecord;
 
 /// The most pages that are looked at one by one; more are counted together.
 const FEW: usize = 64;

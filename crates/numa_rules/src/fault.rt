@@ -2,7 +2,7 @@
 ghost use Rattle.std.specs.Prelude.{◌≡◌};
 ghost use Rattle.numa_rules.specs.declared.fault.ReasonError.TheVariants as fault;
 
-use numa_space::PlaceRefusal;
+use numa_machine::PlaceRefusal;
 use std::alloc::AllocError;
 
 /// Why an explanation is refused.

@@ -11,8 +11,8 @@ use Rattle.numa_space.specs.Pages.{is_mapped}
 use Rattle.numa_space.specs.Lists.{node_list}
 use Rattle.numa_space.specs.Standing.{place_refusal_of}
 use Rattle.numa_space.specs.declared.command.Command.{Command}
-use Rattle.numa_space.specs.declared.refusal.PlaceRefusal.{PlaceRefusal}
-use Rattle.numa_space.specs.declared.refusal.PlaceRefusal.TheVariants.{BadCpu, Unmapped}
+use Rattle.numa_machine.specs.declared.refusal.PlaceRefusal.{PlaceRefusal}
+use Rattle.numa_machine.specs.declared.refusal.PlaceRefusal.TheVariants.{BadCpu, Unmapped}
 use Rattle.numa_plan.specs.Found.{IsMapped}
 use Rattle.numa_plan.specs.Meaning.{PlanData, planned_list, planned_first, place_refusal}
 use Rattle.numa_plan.specs.Meaning.{CountsFirsts, RefusesSpan}

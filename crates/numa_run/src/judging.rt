@@ -6,10 +6,10 @@ ghost use Rattle.numa_space.specs.declared.command.Command.{Command};
 ghost use Rattle.numa_run.specs.Judged.{LacksMemory, fault_in, question_refusal};
 ghost use Rattle.numa_run.specs.Questions.{span_refusal_of};
 
-use numa_machine::MachineFault;
+use numa_machine::{MachineFault, PlaceRefusal};
 use numa_plan::Plan;
 use numa_script::{Question, Reply};
-use numa_space::{CoreRefusal, PAGE_BYTES, PlaceRefusal, Refusal};
+use numa_space::{CoreRefusal, PAGE_BYTES, Refusal};
 
 /// The reply, if it is an error or a refusal.
 pub(crate) fn fault_in(reply: Reply) -> Option<Reply>

@@ -18,12 +18,12 @@ use crate::judging::refusal_by_plan;
 use crate::questions::{fault_at, say_pages, say_place, say_place_in, say_span};
 use numa_core::Core;
 use numa_lines::Watched;
-use numa_machine::Frame;
+use numa_machine::{Frame, PlaceRefusal};
 use numa_maps::{RecordRefusal, Resident, say_maps};
 use numa_script::line::empty_bind;
 use numa_script::tell::{say_ranges, say_starved};
 use numa_script::{Line, Question, Reply, Win, WordError, Work};
-use numa_space::{CoreRefusal, CoreReply, Event, PlaceRefusal, Placement, Refusal, Request};
+use numa_space::{CoreRefusal, CoreReply, Event, Placement, Refusal, Request};
 use std::alloc::Global;
 use std::io::Write;
 

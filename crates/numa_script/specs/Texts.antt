@@ -11,8 +11,8 @@ use Rattle.numa_space.specs.declared.refusal.Errno.{Errno}
 use Rattle.numa_space.specs.declared.refusal.Errno.TheVariants as errno
 use Rattle.numa_space.specs.declared.refusal.Refusal.{Refusal}
 use Rattle.numa_space.specs.declared.refusal.Refusal.TheVariants as refusal
-use Rattle.numa_space.specs.declared.refusal.PlaceRefusal.{PlaceRefusal}
-use Rattle.numa_space.specs.declared.refusal.PlaceRefusal.TheVariants as place
+use Rattle.numa_machine.specs.declared.refusal.PlaceRefusal.{PlaceRefusal}
+use Rattle.numa_machine.specs.declared.refusal.PlaceRefusal.TheVariants as place
 use Rattle.numa_space.specs.declared.event.CoreRefusal.{CoreRefusal}
 use Rattle.numa_space.specs.declared.event.CoreRefusal.TheVariants as core
 use Rattle.numa_maps.specs.Listing.{nodes_text as counts_text}

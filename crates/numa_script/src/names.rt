@@ -2,10 +2,10 @@
 ghost use Rattle.std.specs.Prelude.{◌≡◌, ◌≤◌, length};
 ghost use Rattle.numa_script.specs.Texts.{name_of};
 
-use numa_machine::MachineFault;
+use numa_machine::{MachineFault, PlaceRefusal};
 use numa_mask::ListFault;
 use numa_mode::SpecError;
-use numa_space::{Errno, PlaceRefusal, Refusal};
+use numa_space::{Errno, Refusal};
 
 /// What answers name.
 #[derive(Clone, Copy, Debug, PartialEq, Eq)]

@@ -15,8 +15,8 @@ use crate::policy::WordError;
 use crate::reply::{Reply, Win};
 use crate::short::ShortText;
 use numa_lines::Watched;
-use numa_machine::Frame;
-use numa_space::{CoreRefusal, PlaceRefusal, Refusal};
+use numa_machine::{Frame, PlaceRefusal};
+use numa_space::{CoreRefusal, Refusal};
 use std::io::Write;
 
 /// Writes two texts as a line.

@@ -13,8 +13,8 @@ use Rattle.numa_space.specs.Lists.{node_list}
 use Rattle.numa_space.specs.Standing.{SpaceState, StandsFor, IsInForce, IsNodeList, policy_in}
 use Rattle.numa_space.specs.Standing.{list_in, place_refusal_in, place_refusal_of}
 use Rattle.numa_space.specs.declared.command.Command.{Command}
-use Rattle.numa_space.specs.declared.refusal.PlaceRefusal.{PlaceRefusal}
-use Rattle.numa_space.specs.declared.refusal.PlaceRefusal.TheVariants.{BadCpu, Unmapped}
+use Rattle.numa_machine.specs.declared.refusal.PlaceRefusal.{PlaceRefusal}
+use Rattle.numa_machine.specs.declared.refusal.PlaceRefusal.TheVariants.{BadCpu, Unmapped}
 use Rattle.numa_space.specs.declared.space.Space.TheInside.{Inside}
 use Rattle.numa_space.proofs.Lists.{list-same, place-same}
 use Rattle.numa_space.proofs.NodeLists.{within-from_both, policy-in_force, node-list-sound}

@@ -27,7 +27,7 @@ use Rattle.numa_space.specs.declared.refusal.Refusal.TheVariants.{BadOffset, Ove
 use Rattle.numa_space.specs.declared.refusal.Refusal.TheVariants.{NoSuchNode, BadWeight}
 use Rattle.numa_space.specs.declared.refusal.Refusal.TheVariants.{NodesNotAllowed, NotSupported}
 use Rattle.numa_space.specs.declared.refusal.Refusal.TheVariants.{NoPolicy, TooManyTasks}
-use Rattle.numa_space.specs.declared.refusal.PlaceRefusal.TheVariants.{BadCpu, Unmapped}
+use Rattle.numa_machine.specs.declared.refusal.PlaceRefusal.TheVariants.{BadCpu, Unmapped}
 use Rattle.numa_space.proofs.Rows.{flat, in_a_row, asked, mems}
 
 wide : Bounds

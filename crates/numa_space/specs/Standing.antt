@@ -13,8 +13,8 @@ use Rattle.numa_ranges.specs.Runs.{page_at}
 use Rattle.numa_ranges.specs.declared.run.Run.{Run}
 use Rattle.numa_space.specs.Limited.{Bounds}
 use Rattle.numa_space.specs.declared.command.Command.{Command}
-use Rattle.numa_space.specs.declared.refusal.PlaceRefusal.{PlaceRefusal}
-use Rattle.numa_space.specs.declared.refusal.PlaceRefusal.TheVariants.{BadCpu, Unmapped}
+use Rattle.numa_machine.specs.declared.refusal.PlaceRefusal.{PlaceRefusal}
+use Rattle.numa_machine.specs.declared.refusal.PlaceRefusal.TheVariants.{BadCpu, Unmapped}
 use Rattle.numa_space.specs.Policies.{allowed_nodes, task_record, tasks_of, node_weight}
 use Rattle.numa_space.specs.Policies.{policy_that_counts}
 use Rattle.numa_space.specs.Pages.{page_in, is_mapped}

@@ -94,6 +94,6 @@ pub use limits::Limits;
 pub use placement::Placement;
 pub use range_record::RangeRecord;
 pub use range_rows::RangeRows;
-pub use refusal::{Errno, PlaceRefusal, Refusal};
+pub use refusal::{Errno, Refusal};
 pub use request::Request;
 pub use space::Space;

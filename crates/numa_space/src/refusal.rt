@@ -1,4 +1,4 @@
-//! Why a command or a question is refused.
+//! Why a command is refused.
 ghost use Rattle.std.specs.Prelude.{◌≡◌};
 ghost use Rattle.numa_space.specs.Errors.{errno_of};
 
@@ -72,13 +72,4 @@ impl Refusal {
             Refusal::NoPolicy => Errno::ENoEnt,
         }
     }
-}
-
-/// Why a question about a page has no answer: the first of these that applies.
-#[derive(Clone, Copy, Debug, PartialEq, Eq)]
-pub enum PlaceRefusal {
-    /// The machine lacks the faulting node.
-    BadCpu,
-    /// The page isn't mapped.
-    Unmapped,
 }

@@ -6,8 +6,8 @@ use Rattle.std.specs.Option.{option_map}
 use Rattle.std.proofs.lemmas.Bool.{lt-leb}
 use Rattle.numa_machine.specs.Machine.{Hardware}
 use Rattle.numa_plan.specs.Meaning.{PlanData, place_refusal, planned_list}
-use Rattle.numa_space.specs.declared.refusal.PlaceRefusal.{PlaceRefusal}
-use Rattle.numa_space.specs.declared.refusal.PlaceRefusal.TheVariants.{Unmapped}
+use Rattle.numa_machine.specs.declared.refusal.PlaceRefusal.{PlaceRefusal}
+use Rattle.numa_machine.specs.declared.refusal.PlaceRefusal.TheVariants.{Unmapped}
 use Rattle.numa_traces.specs.Placing.{Frames, node_of, frames_with_page}
 use Rattle.numa_traces.specs.Replaying.{EndsReplay, Replayed, IsReplay, frames_after, is_first}
 use Rattle.numa_traces.specs.Replaying.{route_from}

@@ -1,6 +1,6 @@
 //! Why a trace can't be replayed.
 
-use numa_space::PlaceRefusal;
+use numa_machine::PlaceRefusal;
 
 /// Why a line isn't an access.
 #[derive(Clone, Copy, Debug)]

@@ -9,9 +9,8 @@ use crate::access::Access;
 use crate::fault::ReplayError;
 use crate::memory::Memory;
 use crate::tallies::Tallies;
-use numa_machine::Machine;
+use numa_machine::{Machine, PlaceRefusal};
 use numa_plan::Plan;
-use numa_space::PlaceRefusal;
 use std::alloc::{AllocError, Global};
 use std::marker::Model;
 

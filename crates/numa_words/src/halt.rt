@@ -4,9 +4,9 @@ ghost use Rattle.numa_lines.specs.declared.fault.RunFault.TheVariants as run_fau
 ghost use Rattle.numa_words.specs.declared.halt.Halt.TheVariants as halt;
 
 use numa_lines::RunFault;
+use numa_machine::PlaceRefusal;
 use numa_reports::ReportError;
 use numa_rules::ReasonError;
-use numa_space::PlaceRefusal;
 use numa_traces::ReplayError;
 use std::alloc::AllocError;
 

@@ -3,10 +3,10 @@ ghost use Rattle.std.specs.Prelude.{◌≡◌, ◌≢◌};
 ghost use Rattle.numaplan_c.specs.Codes.{refusal_code, cause_code, answer_code, machine_code};
 ghost use Rattle.numaplan_c.specs.Codes.{list_code, word_code, place_code};
 
-use numa_machine::MachineFault;
+use numa_machine::{MachineFault, PlaceRefusal};
 use numa_mask::ListFault;
 use numa_script::WordError;
-use numa_space::{CoreRefusal, CoreReply, PlaceRefusal, Refusal};
+use numa_space::{CoreRefusal, CoreReply, Refusal};
 
 /// The result codes that need a name here, as in the header. Those of refusals of commands and
 /// questions, and of errors in machines, lists and policies, are counted from the first of their

@@ -8,15 +8,14 @@ ghost use Rattle.numaplan_handles.specs.Handles.{core_in, plan_in};
 ghost use Rattle.numaplan_handles.specs.Steps.{Compiles, Publishes};
 ghost use Rattle.numaplan_handles.specs.Plans.{Chooses, Fills, Counts};
 ghost use Rattle.numaplan_handles.specs.declared.plan_handle.ChoiceRefusal.{ChoiceRefusal};
-ghost use Rattle.numa_space.specs.declared.refusal.PlaceRefusal.{PlaceRefusal};
+ghost use Rattle.numa_machine.specs.declared.refusal.PlaceRefusal.{PlaceRefusal};
 ghost use Rattle.numaplan_c.specs.Codes.{place_code};
 ghost use Rattle.numaplan_c.specs.Questions.{choice_code, fill_code, AreTold};
 
 use crate::codes::{Code, place_code};
 use crate::keeping::{ensure_closed, kept_code, memory_code};
-use numa_machine::NoMemory;
+use numa_machine::{NoMemory, PlaceRefusal};
 use numa_plan::Plan;
-use numa_space::PlaceRefusal;
 use numaplan_handles::{ChoiceRefusal, CoreHandle, PlanHandle};
 use std::alloc::Global;
 

@@ -4,7 +4,7 @@ use Rattle.std.specs.Prelude.{Option, Some, None, Result, Ok, Err, EachIndex, sl
 use Rattle.numa_plan.specs.Found.{IsMapped}
 use Rattle.numa_plan.specs.Meaning.{PlanData, planned_list, planned_first, place_refusal}
 use Rattle.numa_plan.specs.Meaning.{CountsFirsts, RefusesSpan}
-use Rattle.numa_space.specs.declared.refusal.PlaceRefusal.{PlaceRefusal}
+use Rattle.numa_machine.specs.declared.refusal.PlaceRefusal.{PlaceRefusal}
 use Rattle.numaplan_handles.specs.declared.plan_handle.ChoiceRefusal.{ChoiceRefusal}
 use Rattle.numaplan_handles.specs.declared.plan_handle.ChoiceRefusal.TheVariants as refused
 

@@ -7,8 +7,8 @@ ghost use Rattle.numaplan_handles.specs.Plans.{IsListOf, Chooses, Fills, Counts}
 use crate::handle::Handle;
 use crate::kept::Kept;
 use crate::room::copy_bytes;
+use numa_machine::PlaceRefusal;
 use numa_plan::Plan;
-use numa_space::PlaceRefusal;
 use std::alloc::{AllocError, Global};
 use std::sync::Arc;
 

@@ -16,9 +16,8 @@ use crate::plan::Plan;
 use crate::runs::{Beside, Found, PlanRuns};
 use crate::search::{Seen, Walk};
 use crate::steps::Steps;
-use numa_machine::NoMemory;
+use numa_machine::{NoMemory, PlaceRefusal};
 use numa_ranges::Run;
-use numa_space::PlaceRefusal;
 use std::alloc::Global;
 
 impl Plan {

@@ -9,9 +9,10 @@ use crate::filling::{FreePages, fill_few, fill_span, free_of};
 use crate::period::period_in;
 use crate::sheet::written::Written;
 use crate::touch::Touch;
+use numa_machine::PlaceRefusal;
 use numa_plan::Plan;
 use numa_ranges::Run;
-use numa_space::{PlaceRefusal, RangeRecord, Space};
+use numa_space::{RangeRecord, Space};
 use std::alloc::Global;
 
 /// The most pages of a range that have a cell.

@@ -3,7 +3,7 @@ ghost use Rattle.std.specs.Prelude.{◌≡◌, ◌≤◌, List, Err, IfErr, IfOk
 ghost use Rattle.numa_compile.specs.Standing.{PlanStandsFor};
 ghost use Rattle.numa_machine.specs.Machine.{Hardware};
 ghost use Rattle.numa_space.specs.declared.command.Command.{Command};
-ghost use Rattle.numa_space.specs.declared.refusal.PlaceRefusal.TheVariants.{BadCpu};
+ghost use Rattle.numa_machine.specs.declared.refusal.PlaceRefusal.TheVariants.{BadCpu};
 ghost use Rattle.numa_reports.specs.declared.fault.ReportError.TheVariants.{Refused};
 ghost use Rattle.numa_reports.specs.Failing.{MayFail, MovesMayFail};
 ghost use Rattle.numa_reports.specs.Mapped.{IsOutlook};
@@ -20,8 +20,8 @@ use crate::sheet::written::Written;
 use crate::sheet::{Format, moved_objects, moved_pictures};
 use crate::touch::Touch;
 use crate::watch::Watch;
+use numa_machine::PlaceRefusal;
 use numa_plan::Plan;
-use numa_space::PlaceRefusal;
 use std::alloc::{AllocError, Global};
 
 /// The number of pages that go from a node to another, without those already reported.

@@ -7,9 +7,10 @@ use crate::sheet::items::Items;
 use crate::sheet::largest::Largest;
 use crate::sheet::object::Object;
 use crate::touch::Touch;
+use numa_machine::PlaceRefusal;
 use numa_plan::Plan;
 use numa_ranges::Run;
-use numa_space::{PlaceRefusal, RangeRecord, Space};
+use numa_space::{RangeRecord, Space};
 use std::alloc::Global;
 
 /// The most pages of a cycle that is told.

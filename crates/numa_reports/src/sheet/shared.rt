@@ -3,7 +3,7 @@ ghost use Rattle.std.specs.Prelude.{◌≡◌, ◌≢◌, ◌≤◌, ◌<◌, �
 ghost use Rattle.numa_compile.specs.Standing.{PlanStandsFor};
 ghost use Rattle.numa_space.specs.Standing.{StandsFor};
 ghost use Rattle.numa_space.specs.declared.command.Command.{Command};
-ghost use Rattle.numa_space.specs.declared.refusal.PlaceRefusal.TheVariants.{BadCpu};
+ghost use Rattle.numa_machine.specs.declared.refusal.PlaceRefusal.TheVariants.{BadCpu};
 ghost use Rattle.numa_reports.specs.declared.fault.ReportError.TheVariants.{Refused};
 ghost use Rattle.numa_reports.specs.Failing.{FailsForNode};
 ghost use Rattle.numa_reports.specs.Filled.{free_behind, nodes_of};
@@ -16,8 +16,9 @@ use crate::sheet::Format;
 use crate::sheet::parts::{PredictionRequest, PredictionWriter, WatchedWriter, begin, sum_of};
 use crate::touch::{Touch, has_node};
 use crate::watch::Watch;
+use numa_machine::PlaceRefusal;
 use numa_plan::Plan;
-use numa_space::{PlaceRefusal, Space};
+use numa_space::Space;
 use std::alloc::Global;
 
 /// Writes each range, whose pages take free ones of an account, and the total.

@@ -14,9 +14,9 @@ ghost use Rattle.numa_space.specs.Standing.{place_refusal_in, place_refusal_of, 
 ghost use Rattle.numa_space.specs.Standing.{setting_in};
 
 use crate::choice::{first_node, interleave_node, push_others, push_within, weighted_node};
-use crate::refusal::PlaceRefusal;
 use crate::space::Space;
 use arrayvec::ArrayVec;
+use numa_machine::PlaceRefusal;
 use numa_mask::NodeMask;
 use numa_mode::{Mode, Record};
 

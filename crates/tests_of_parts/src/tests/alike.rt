@@ -1,8 +1,8 @@
 //! Whether two plans answer alike: each task's lists on every page of each run and beside it, the
 //! counts of each run, and how many runs and rules there are.
 use crate::tests::same::same;
+use numa_machine::PlaceRefusal;
 use numa_plan::Plan;
-use numa_space::PlaceRefusal;
 use std::process::Abort;
 
 /// The tasks of the examples, and one that none of them names.

@@ -2,8 +2,9 @@
 ghost use Rattle.std.specs.Prelude.{◌≡◌};
 
 use crate::tests::setting::{Seen, desk_for, look, map_one, prefer, same, see, wait_until};
+use numa_machine::PlaceRefusal;
 use numa_publish::{Desk, DeskName, PlanReader, SharedDesk};
-use numa_space::{Command, PlaceRefusal};
+use numa_space::Command;
 use std::marker::Brand;
 use std::process::Abort;
 use std::sync::Wait;

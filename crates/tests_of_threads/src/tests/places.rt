@@ -1,7 +1,7 @@
 //! The readers' places.
 use crate::tests::setting::{desk_for, look, same};
+use numa_machine::PlaceRefusal;
 use numa_publish::NoReader;
-use numa_space::PlaceRefusal;
 
 #[test]
 fn sixty_four_at_once(rt: HostRuntime) {

@@ -6,8 +6,9 @@ ghost use Rattle.std.specs.Prelude.{◌≡◌};
 use crate::tests::setting::{
     Seen, accept_both, bind_a_hole, desk_for, look, new_reader, prefer, same,
 };
+use numa_machine::PlaceRefusal;
 use numa_publish::{Desk, DeskName, SharedDesk, SubmitRefusal};
-use numa_space::{Command, PlaceRefusal, Refusal};
+use numa_space::{Command, Refusal};
 use std::alloc::Global;
 use std::marker::Brand;
 use std::process::Abort;

@@ -2,7 +2,7 @@ use Rattle.std.proofs.Common.{ℕ, Option, List, length, ap, sym, ◌∙◌}
 use Rattle.numa_lines.proofs.Adding.{said_same}
 use Rattle.numa_script.specs.Texts.{nodes_answer}
 use Rattle.numa_space.specs.Lists.{node_list}
-use Rattle.numa_space.specs.declared.refusal.PlaceRefusal.{PlaceRefusal}
+use Rattle.numa_machine.specs.declared.refusal.PlaceRefusal.{PlaceRefusal}
 use Rattle.numa_run.specs.Questions.{unless_refused}
 use Rattle.numa_run.proofs.questions.say_place_in.Goals as goal
 
