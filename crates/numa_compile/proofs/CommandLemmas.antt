@@ -18,7 +18,7 @@ use Rattle.numa_plan.specs.Meaning.{PlanData}
 use Rattle.numa_plan.specs.Slots.{policy_in}
 use Rattle.numa_compile.specs.Copies.{IsNumber}
 use Rattle.numa_compile.specs.Follows.{IsBehind}
-use Rattle.numa_compile.specs.Windows.{BeginsBeside, BeginsInside, HavePolicy, IsOpen, IsFromInside}
+use Rattle.numa_compile.specs.Windows.{BeginsBeside, BeginsInside, HavePolicy, IsOpen}
 use Rattle.numa_compile.specs.Windows.{NumbersInside}
 use Rattle.numa_compile.specs.declared.recompiler.window.Window.{Window}
 use Rattle.numa_compile.proofs.CopyLemmas.{copies-length}
@@ -30,22 +30,6 @@ pub open-within : (space : SpaceState) (plan : PlanData) (window : Window)
     × (window.to_now ≤ length space.ranges)
 open-within space plan window of =
     (omega (arith, of.place, of.moves.rises), omega (arith, of.place, of.moves.within))
-
--- no range begins in the span up to a place, and one more
-pub outside-next : (first end from k : ℕ) (ranges : List (Run (Option PolicyRecord)))
-    (range : Run (Option PolicyRecord)) → k < length ranges → get_or ranges k range ≡ range
-    → begins_in first end range ≡ false
-    → ((j : ℕ) (d : Run (Option PolicyRecord)) → from ≤ j → j < k
-    → begins_in first end (get_or ranges j d) ≡ false) → (j : ℕ) (d : Run (Option PolicyRecord))
-    → from ≤ j → j < k + 1 → begins_in first end (get_or ranges j d) ≡ false
-outside-next first end from k ranges range lt there out before j d low high =
-    elim (cases_lt j k) [
-      | inl l ↦ before j d low l
-      | inr ge ↦
-          let same : j ≡ k = omega arith in
-          ap (begins_in first end) (ap (λ (n : ℕ). get_or ranges n d) same
-          ∙ get_or_default ranges k d range lt ∙ there) ∙ out
-    ]
 
 -- the number of their one policy is that of each range that begins in the span
 pub bound-inside : (space : SpaceState) (plan : PlanData) (window : Window)
@@ -75,17 +59,12 @@ module _ (space : SpaceState) (plan : PlanData) (window : Window) (start bytes :
       absurd (cc)
 
   -- where a policy was set, all ranges that begin have it
-  pub mbind-policy : (spec : Specification) → IsBehind space (Mbind start bytes spec) plan
-      → (policy : Option PolicyRecord) → IsFromInside space window policy
+  pub mbind-policy : (spec : Specification) (behind : IsBehind space (Mbind start bytes spec) plan)
+      (policy : Option PolicyRecord) → policy ≡ record_now behind.before.allowed spec
       → HavePolicy space window policy
-  mbind-policy spec behind policy from k d low high inside =
-      let other = from k d low high inside in
-      let value : (j : ℕ) → j < length space.ranges
-      → begins_in window.first window.end (get_or space.ranges j d) ≡ true
-      → (get_or space.ranges j d).value ≡ record_now behind.before.allowed spec =
-      λ j lt in_it. mbind-value behind.before space start bytes spec behind.step rising maximal j d
-      lt (begins (get_or space.ranges j d) ∙ in_it) in
-      value k (omega (arith, within)) inside ∙ sym (other.3 ∙ value other.0 other.1 other.2)
+  mbind-policy spec behind policy set k d low high inside =
+      mbind-value behind.before space start bytes spec behind.step rising maximal k d
+      (omega (arith, within)) (begins (get_or space.ranges k d) ∙ inside) ∙ sym set
 
   -- where pages were mapped, a range that begins has no policy of its own
   pub map-inside : (offset : ℕ) → IsBehind space (Map start bytes offset) plan → (later : Window)

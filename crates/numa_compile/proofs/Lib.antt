@@ -1,5 +1,6 @@
 pub mod AddedLemmas
 pub mod AllowedLemmas
+pub mod ChangeLemmas
 pub mod CommandLemmas
 pub mod CompileSteps
 pub mod CopyLemmas

@@ -27,7 +27,7 @@ use Rattle.numa_plan.specs.Meaning.{PlanData, number_of}
 use Rattle.numa_plan.specs.Slots.{policy_in}
 use Rattle.numa_compile.specs.Copies.{IsNumber, IsCopy, AreCopies}
 use Rattle.numa_compile.specs.Follows.{Follows, IsBehind}
-use Rattle.numa_compile.specs.Recompiling.{met_from, WritesRules, WritesBoth}
+use Rattle.numa_compile.specs.Recompiling.{WritesRules, WritesBoth}
 use Rattle.numa_compile.specs.Windows.{IsOfSpan, IsOpen, KeepsOutside}
 use Rattle.numa_compile.specs.declared.recompiler.window.Window.{Window}
 use Rattle.numa_compile.proofs.CopyLemmas.{copies-length, copies-next, copies-related}
@@ -335,13 +335,6 @@ open-few space plan window command behind edits rising maximal some first end pl
       copies-met at (span_first command) (span_end command) behind.before.ranges plan.runs
           behind.follows.copies,
     )
-
--- a span with a page
-pub met_from-some : (first pages : ℕ) (runs : List (Run (Option ℕ))) → 0 < pages
-    → met first (first + pages) runs ≡ met_from first pages runs
-met_from-some first pages runs some =
-    sym (ap (λ (none : Bool). cond {A = ℕ} none 0 (met first (first + pages) runs))
-    (ne_eqb pages 0 (λ zero. absurd (omega (arith, zero)))))
 
 pub writes-none : (steps : Counted) → WritesRules 0 steps steps
 writes-none steps = record {

@@ -1,5 +1,7 @@
 -- Which plans follow a space: how its ranges and tasks stand in the plan, and the policies of both.
 use Rattle.std.specs.Prelude.{◌≡◌, None}
+use Rattle.numa_space.specs.Changed.{IsChange}
+use Rattle.numa_space.specs.declared.change.Change.{Change}
 use Rattle.numa_space.specs.declared.command.Command.{Command}
 use Rattle.numa_space.specs.Standing.{SpaceState, setting_in}
 use Rattle.numa_space.specs.Steps.{IsStep}
@@ -24,3 +26,9 @@ pub record IsBehind (space : SpaceState) (command : Command) (plan : PlanData) :
   pub before : SpaceState
   pub step : IsStep before command space
   pub follows : Follows before plan
+
+-- the plan lacks this change, which is that of the last command
+pub record LacksChange (space : SpaceState) (change : Change) (plan : PlanData) : Type 0 where
+  pub command : Command
+  pub behind : IsBehind space command plan
+  pub told : IsChange behind.before command change

@@ -1,17 +1,18 @@
--- What recompiling for a command writes into a plan, and what it leaves there as it was.
+-- What recompiling for a change writes into a plan, and what it leaves there as it was.
 use Rattle.std.specs.Prelude.{◌≡◌, ◌≢◌, ℕ, ◌+◌, ◌≤◌, ◌⊎◌, Bool, true, false, Option, Some, None}
-use Rattle.std.specs.Prelude.{◌==◌, List, count_by, slice_get, if◌then◌else◌}
+use Rattle.std.specs.Prelude.{List, count_by, slice_get}
 use Rattle.std.specs.Option.{ForSome}
 use Rattle.numa_mode.specs.Policy.{PolicyRecord}
 use Rattle.numa_mode.specs.declared.modes.Mode.{Mode}
 use Rattle.numa_mode.specs.declared.modes.Mode.TheVariants.{WeightedInterleave}
 use Rattle.numa_ranges.specs.Windows.{met}
 use Rattle.numa_ranges.specs.declared.run.Run.{Run}
+use Rattle.numa_space.specs.declared.change.Change.{Change}
+use Rattle.numa_space.specs.declared.change.Change.TheVariants.{Nothing, Mapped, Unmapped, Bound}
+use Rattle.numa_space.specs.declared.change.Change.TheVariants.{Homed, TaskSet, Weighed, Allowed}
+use Rattle.numa_space.specs.declared.change.ChangedPages.{ChangedPages}
 use Rattle.numa_space.specs.declared.command.Command.{Command}
-use Rattle.numa_space.specs.declared.command.Command.TheVariants.{Map, Unmap, Mbind, SetTask}
-use Rattle.numa_space.specs.declared.command.Command.TheVariants.{Inherit}
-use Rattle.numa_space.specs.declared.command.Command.TheVariants.{SetHome, SetWeight, SetMems}
-use Rattle.numa_space.specs.History.{page_of, page_count}
+use Rattle.numa_space.specs.declared.command.Command.TheVariants.{SetTask, Inherit}
 use Rattle.numa_space.specs.Standing.{SpaceState}
 use Rattle.numa_plan.specs.Building.{with_rule}
 use Rattle.numa_plan.specs.Counted.{Counted}
@@ -39,13 +40,9 @@ holds_weighted (Taken uses kept) = is_weighted kept.policy
 
 -- ---- what is written
 
--- how many runs have one of so many pages from the first on
-abbrev pub met_from : ℕ → ℕ → List (Run (Option ℕ)) → ℕ
-met_from first pages runs = if pages == 0 then 0 else met first (first + pages) runs
-
--- how many runs of a plan have a page of the span
-abbrev pub met_by : ℕ → ℕ → PlanData → ℕ
-met_by start bytes plan = met_from (page_of start) (page_count bytes) plan.runs
+-- how many runs of a plan have one of the pages
+abbrev pub met_by : ChangedPages → PlanData → ℕ
+met_by pages plan = met pages.first pages.end plan.runs
 
 -- at most so many rules, and no run; no count falls
 pub record WritesRules (few_rules : ℕ) (old new : Counted) : Type 0 where
@@ -68,21 +65,21 @@ pub record Rises (old new : Counted) : Type 0 where
   pub runs : old.runs ≤ new.runs
   pub rules : old.rules ≤ new.rules
 
--- how much a command has written at most: a command of a span a run for each that it meets, and two
--- for the runs beside it; mbind one rule, and a home one for each run that it meets; a task one
--- rule; a weight the rules of weighted interleave. A change of the allowed nodes may write all, but
--- no count falls
-abbrev pub WritesFew : Command → PlanData → Counted → Counted → Type 0
-WritesFew (Map start bytes offset) plan old new = WritesBoth (met_by start bytes plan + 2) 0 old new
-WritesFew (Unmap start bytes) plan old new = WritesBoth (met_by start bytes plan + 2) 0 old new
-WritesFew (Mbind start bytes spec) plan old new = WritesBoth (met_by start bytes plan + 2) 1 old new
-WritesFew (SetHome start bytes node) plan old new =
-    WritesBoth (met_by start bytes plan + 2) (met_by start bytes plan) old new
-WritesFew (SetTask task spec) plan old new = WritesRules 1 old new
-WritesFew (Inherit task from) plan old new = WritesRules 1 old new
-WritesFew (SetWeight node weight) plan old new =
+-- how much is written for a change at most: for pages a run for each that has one of them, and two
+-- for the runs beside them; for a policy of theirs one rule, and for a home node one for each of
+-- these runs; for a task one rule; for a weight the rules of weighted interleave. After a change of
+-- the allowed nodes all may be written, but no count falls
+abbrev pub WritesFew : Change → PlanData → Counted → Counted → Type 0
+WritesFew Nothing plan old new = new ≡ old
+WritesFew (Mapped pages) plan old new = WritesBoth (met_by pages plan + 2) 0 old new
+WritesFew (Unmapped pages) plan old new = WritesBoth (met_by pages plan + 2) 0 old new
+WritesFew (Bound pages policy) plan old new = WritesBoth (met_by pages plan + 2) 1 old new
+WritesFew (Homed pages node) plan old new =
+    WritesBoth (met_by pages plan + 2) (met_by pages plan) old new
+WritesFew (TaskSet task policy) plan old new = WritesRules 1 old new
+WritesFew (Weighed node weight) plan old new =
     WritesRules (count_by holds_weighted plan.slots) old new
-WritesFew (SetMems mask) plan old new = Rises old new
+WritesFew (Allowed nodes) plan old new = Rises old new
 
 -- ---- what stays
 
@@ -104,16 +101,16 @@ pub record KeepsUnweighted (old new : PlanData) : Type 0 where
   pub rules : (number : ℕ) (kept : Kept) → kept_in old.slots number ≡ Some kept
       → is_weighted kept.policy ≡ false → kept_in new.slots number ≡ Some kept
 
--- what a command leaves as it was
-abbrev pub KeepsOthers : Command → PlanData → PlanData → Type 0
-KeepsOthers (Map start bytes offset) old new = new.tasks ≡ old.tasks
-KeepsOthers (Unmap start bytes) old new = new.tasks ≡ old.tasks
-KeepsOthers (Mbind start bytes spec) old new = new.tasks ≡ old.tasks
-KeepsOthers (SetHome start bytes node) old new = new.tasks ≡ old.tasks
-KeepsOthers (SetTask task spec) old new = KeepsRuns task old new
-KeepsOthers (Inherit task from) old new = KeepsRuns task old new
-KeepsOthers (SetWeight node weight) old new = KeepsUnweighted old new
-KeepsOthers (SetMems mask) old new = Unit {0}
+-- what stays in the plan as it was
+abbrev pub KeepsOthers : Change → PlanData → PlanData → Type 0
+KeepsOthers Nothing old new = new ≡ record old { version = new.version }
+KeepsOthers (Mapped pages) old new = new.tasks ≡ old.tasks
+KeepsOthers (Unmapped pages) old new = new.tasks ≡ old.tasks
+KeepsOthers (Bound pages policy) old new = new.tasks ≡ old.tasks
+KeepsOthers (Homed pages node) old new = new.tasks ≡ old.tasks
+KeepsOthers (TaskSet task policy) old new = KeepsRuns task old new
+KeepsOthers (Weighed node weight) old new = KeepsUnweighted old new
+KeepsOthers (Allowed nodes) old new = Unit {0}
 
 -- ---- rules that come and go
 

@@ -1,11 +1,12 @@
 -- The runs that a command of a span leaves to be written anew: those of a window.
-use Rattle.std.specs.Prelude.{◌≡◌, ℕ, ◌<◌, ◌≤◌, true, false, Option, Some, List, [], ◌∷◌, length}
+use Rattle.std.specs.Prelude.{◌≡◌, ℕ, ◌+◌, ◌<◌, ◌≤◌, true, false, Option, Some, List, [], ◌∷◌, length}
 use Rattle.std.specs.Prelude.{get_or}
 use Rattle.std.specs.Option.{option_map}
 use Rattle.numa_mode.specs.Policy.{PolicyRecord}
 use Rattle.numa_ranges.specs.Runs.{end_of, page_at}
 use Rattle.numa_ranges.specs.Windows.{begins_in, to_now, Moves}
 use Rattle.numa_ranges.specs.declared.run.Run.{Run}
+use Rattle.numa_space.specs.declared.change.ChangedPages.{ChangedPages}
 use Rattle.numa_space.specs.declared.command.Command.{Command}
 use Rattle.numa_space.specs.declared.command.Command.TheVariants.{Map, Unmap, Mbind, SetTask}
 use Rattle.numa_space.specs.declared.command.Command.TheVariants.{Inherit}
@@ -45,13 +46,30 @@ pub record IsOpen (space : SpaceState) (plan : PlanData) (window : Window) : Typ
   pub place : window.to_now ≡ to_now behind.before.ranges space.ranges window.to
   pub moves : Moves behind.before.ranges space.ranges window.from window.to
 
--- the plan is behind the space by a command that maps nothing, of a span of so many bytes
-pub record IsBehindSpan (space : SpaceState) (plan : PlanData) (start bytes : ℕ) : Type 0 where
+-- the plan is behind the space by a command whose span has no page
+pub record IsBehindNone (space : SpaceState) (plan : PlanData) : Type 0 where
   pub command : Command
   pub behind : IsBehind space command plan
   pub edits : EditsSpan command
-  pub begins : span_first command ≡ page_of start
-  pub pages : span_pages command ≡ page_count bytes
+  pub none : span_pages command ≡ 0
+
+-- the plan is behind the space by a command of this span, which has mapped nothing
+pub record IsBehindSpan (space : SpaceState) (plan : PlanData) (pages : ChangedPages) : Type 0 where
+  pub command : Command
+  pub behind : IsBehind space command plan
+  pub edits : EditsSpan command
+  pub begins : span_first command ≡ pages.first
+  pub ends : span_end command ≡ pages.end
+  pub some : 0 < span_pages command
+
+-- the plan is behind the space by a command that has mapped this span
+pub record IsBehindMap (space : SpaceState) (plan : PlanData) (pages : ChangedPages) : Type 0 where
+  pub start : ℕ
+  pub bytes : ℕ
+  pub offset : ℕ
+  pub behind : IsBehind space (Map start bytes offset) plan
+  pub begins : page_of start ≡ pages.first
+  pub ends : page_of start + page_count bytes ≡ pages.end
 
 -- a run of the plan has the range's first page, and the number of the range's policy
 pub record IsNumbered (plan : PlanData) (range : Run (Option PolicyRecord)) : Type 0 where
@@ -78,15 +96,6 @@ HavePolicy space window policy = (k : ℕ) (d : Run (Option PolicyRecord))
     → window.from ≤ k → k < window.to_now
     → begins_in window.first window.end (get_or space.ranges k d) ≡ true
     → (get_or space.ranges k d).value ≡ policy
-
--- where a range of the window begins in its span, this policy is that of such a range
-abbrev pub IsFromInside : SpaceState → Window → Option PolicyRecord → Type 0
-IsFromInside space window policy = (k : ℕ) (d : Run (Option PolicyRecord))
-    → window.from ≤ k → k < window.to_now
-    → begins_in window.first window.end (get_or space.ranges k d) ≡ true
-    → (j : ℕ) × (j < length space.ranges)
-    × (begins_in window.first window.end (get_or space.ranges j d) ≡ true)
-    × (policy ≡ (get_or space.ranges j d).value)
 
 -- the window's first range ends where the span begins or before
 abbrev pub BeginsBeside : SpaceState → Window → Type 0

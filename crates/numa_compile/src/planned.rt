@@ -6,14 +6,14 @@ ghost use Rattle.numa_space.specs.declared.command.Command.{Command};
 ghost use Rattle.numa_space.specs.Standing.{StandsFor, IsNodeList};
 ghost use Rattle.numa_space.specs.Steps.{IsApplied};
 ghost use Rattle.numa_plan.specs.Meaning.{planned_list};
-ghost use Rattle.numa_compile.specs.Follows.{Follows, IsBehind};
+ghost use Rattle.numa_compile.specs.Follows.{Follows, LacksChange};
 ghost use Rattle.numa_compile.specs.Standing.{IsPlanOf, PlanStandsFor};
 
 use crate::compiler::{compile, survey};
 use crate::recompiler::recompile;
 use numa_machine::{Machine, NoMemory};
 use numa_plan::{Plan, Steps};
-use numa_space::{Command, Limits, Refusal, Space};
+use numa_space::{Change, Command, Limits, Refusal, Space};
 use std::alloc::Global;
 use std::marker::Model;
 use std::mem;
@@ -57,13 +57,12 @@ fn copy_of(alloc: Global, plan: &Option<Plan>) -> Result<Option<Plan>, NoMemory>
     }
 }
 
-/// Edits a plan for the command that its space accepted last, and returns whether there was memory
-/// for it.
-fn edited(alloc: Global, plan: &mut Plan, space: &Space, command: &Command) -> bool
-    requires behind { IsBehind space.now command.now plan.old }
+/// Edits a plan for the last change of its space, and returns whether there was memory for it.
+fn edited(alloc: Global, plan: &mut Plan, space: &Space, change: &Change) -> bool
+    requires lacks { LacksChange space.now change.now plan.old }
     ensures follows { result ≡ true → Follows space.now plan.new }
 {
-    recompile(alloc, plan, space, command, &mut Steps::new()).is_ok()
+    recompile(alloc, plan, space, change, &mut Steps::new()).is_ok()
 }
 
 /// Keeps a plan that follows its space, and drops another.
@@ -76,27 +75,27 @@ fn keep_if(plan: &mut Option<Plan>, space: &Space, follows: bool)
     }
 }
 
-/// Edits a plan, if there is one, for the command that its space accepted last, or drops it.
-fn follow(alloc: Global, plan: &mut Option<Plan>, space: &Space, command: &Command)
-    requires { ForSome plan.old (IsBehind space.now command.now) }
+/// Edits a plan, if there is one, for the last change of its space, or drops it.
+fn follow(alloc: Global, plan: &mut Option<Plan>, space: &Space, change: &Change)
+    requires { ForSome plan.old (LacksChange space.now change.now) }
     ensures { ForSome plan.new (Follows space.now) }
 {
-    if let Command::SetMems { .. } = command {
+    if let Change::Allowed { .. } = change {
         drop(plan.take());
         return;
     }
     let Some(kept) = plan else {
         return;
     };
-    let follows = edited(alloc, kept, space, command);
+    let follows = edited(alloc, kept, space, change);
     keep_if(plan, space, follows);
 }
 
-/// The number of questions that were answered without a plan, after a command: a change of the
+/// The number of questions that were answered without a plan, after a change: one of the
 /// allowed nodes begins the count again. (Before the first one it is too large to answer so.)
-fn asked_after(asked: usize, command: &Command) -> usize {
-    match command {
-        Command::SetMems { .. } => 0,
+fn asked_after(asked: usize, change: &Change) -> usize {
+    match change {
+        Change::Allowed { .. } => 0,
         _ => asked,
     }
 }
@@ -205,11 +204,12 @@ impl PlannedSpace {
     pub fn apply(&mut self, alloc: Global, command: &Command) -> Result<(), Refusal>
         ensures { IsApplied self.old command.now result self.new }
     {
-        if let Err(refusal) = self.space.apply(command) {
-            return Err(refusal);
-        }
-        self.asked = asked_after(self.asked, command);
-        follow(alloc, &mut self.plan, &self.space, command);
+        let change = match self.space.apply(command) {
+            Ok(change) => change,
+            Err(refusal) => return Err(refusal),
+        };
+        self.asked = asked_after(self.asked, &change);
+        follow(alloc, &mut self.plan, &self.space, &change);
         Ok(())
     }
 

@@ -24,14 +24,14 @@ use Rattle.numa_space.specs.declared.refusal.Refusal.TheVariants.{NoMemory}
 use Rattle.numa_space.proofs.Refused.{refusal-same}
 
 -- a command that never wants memory, and against which nothing stands, isn't refused
-pub never-refused : (old new : SpaceState) (command : Command)
-    (result : Result (Unit {0}) Refusal) (refusal : Refusal) → HasHistory old
+pub never-refused : {A : Type 0} (old new : SpaceState) (command : Command)
+    (result : Result A Refusal) (refusal : Refusal) → HasHistory old
     → refusal_in (scene_in old command) command ≡ None → (MayNeedRoom command → ⊥)
     → IsApplied old command result new → result ≡ Err refusal → ⊥
-never-refused old new command result refusal had none small applied is =
+never-refused {A} old new command result refusal had none small applied is =
     let none_of : refusal_of old.machine old.bounds had.history command ≡ None =
     sym (refusal-same old had.history command had.stands) ∙ none in
-    let P : Result (Unit {0}) Refusal
+    let P : Result A Refusal
     → Type 0 = λ r. IfErr r
     (λ refusal. MatchOption (refusal_of old.machine old.bounds had.history command)
     (refusal ≡ NoMemory) (λ first. refusal ≡ first)) in
@@ -41,7 +41,7 @@ never-refused old new command result refusal had none small applied is =
     let Q : Option Refusal
     → Type 0 = λ o. MatchOption o (refusal ≡ NoMemory) (λ first. refusal ≡ first) in
     let lacked : refusal ≡ NoMemory = subst Q none_of caused in
-    let R : Result (Unit {0}) Refusal
+    let R : Result A Refusal
     → Type 0 = λ r. IfErr r (λ refusal. refusal ≡ NoMemory → MayNeedRoom command) in
     small ((subst R is applied.room) lacked)
 
@@ -62,11 +62,11 @@ mems-same machine mask some inside = go machine.rules
     go Linux = rw (ap (λ m. eqb m 0) inside ∙ ne_eqb mask 0 some) inside
 
 -- the step of a command that was accepted
-pub accepted-step : (old new : SpaceState) (command : Command)
-    (result : Result (Unit {0}) Refusal) → IsApplied old command result new → result ≡ Ok tt
+pub accepted-step : {A : Type 0} {told : A} (old new : SpaceState) (command : Command)
+    (result : Result A Refusal) → IsApplied old command result new → result ≡ Ok told
     → IsStep old command new
-accepted-step old new command result applied is =
-    subst (λ (r : Result (Unit {0}) Refusal). OnOk r (IsStep old command new)) is applied.step
+accepted-step {A} old new command result applied is =
+    subst (λ (r : Result A Refusal). OnOk r (IsStep old command new)) is applied.step
 
 -- nothing stands against nodes that have memory, some of them
 pub mems-free : (old : SpaceState) (mask : ℕ) → old.version < old.bounds.max_commands → mask ≢ 0

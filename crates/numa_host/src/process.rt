@@ -60,7 +60,7 @@ pub(crate) fn allow(space: &mut Space, nodes: &NodeMask)
     if space.allowed() == *nodes {
         return;
     }
-    let Ok(()) = space.apply(&Command::SetMems { mask: *nodes }) else {
+    let Ok(_) = space.apply(&Command::SetMems { mask: *nodes }) else {
         unreachable!()
     };
 }
@@ -77,7 +77,7 @@ pub(crate) fn weigh(space: &mut Space, node: u32, weight: u32)
 {
     // Tells the proof that the space has a history.
     let _ = space.version();
-    let Ok(()) = space.apply(&Command::SetWeight { node, weight }) else {
+    let Ok(_) = space.apply(&Command::SetWeight { node, weight }) else {
         unreachable!()
     };
 }
@@ -149,7 +149,11 @@ pub(crate) fn tell(
     ensures { IsTold place command.now result processes.old.items processes.new.items }
 {
     let process = &mut processes[place];
-    process.space.apply(command)
+    let answer = process.space.apply(command);
+    match answer {
+        Ok(_) => Ok(()),
+        Err(refusal) => Err(refusal),
+    }
 }
 
 /// Whether a process can't give the command: the allowed nodes are the groups', the weights the
@@ -239,7 +243,7 @@ fn heir_of(alloc: Global, parent: &Space, from: u32, task: u32) -> Result<Space,
     ensures { IfOk result (IsHeirOf parent.now from task) }
 {
     let mut space = parent.copy(alloc)?;
-    let Ok(()) = space.apply(&Command::Inherit { task, from }) else {
+    let Ok(_) = space.apply(&Command::Inherit { task, from }) else {
         return Err(NoMemory);
     };
     Ok(space)

@@ -38,13 +38,13 @@ accepted_next-refused machine bounds history command some =
 -- ---- from what a call answers
 
 -- whether a command wanted memory
-abbrev pub wanted_memory : Result (Unit {0}) Refusal → Bool
+abbrev pub wanted_memory : {A : Type 0} → Result A Refusal → Bool
 wanted_memory (Err NoMemory) = true
 wanted_memory _ = false
 
 -- what `apply` ensures of a command that didn't want memory
-applied-next : (old new : SpaceState) (history : List Command) (command : Command)
-    (result : Result (Unit {0}) Refusal) → StandsFor old history
+applied-next : {A : Type 0} (old new : SpaceState) (history : List Command) (command : Command)
+    (result : Result A Refusal) → StandsFor old history
     → OnOk result ((refusal_of old.machine old.bounds history command ≡ None)
     × StandsFor new (command ∷ history))
     → IfErr result (λ refusal. MatchOption (refusal_of old.machine old.bounds history command)
@@ -52,25 +52,25 @@ applied-next : (old new : SpaceState) (history : List Command) (command : Comman
     → OnErr result (new ≡ old)
     → wanted_memory result ≡ false
     → StandsFor new (accepted_next old.machine old.bounds history command)
-applied-next old new history command (Ok u) stands ok err kept fed =
+applied-next {A} old new history command (Ok u) stands ok err kept fed =
     subst (StandsFor new) (sym (accepted_next-ok old.machine old.bounds history command ok.0)) ok.1
-applied-next old new history command (Err refusal) stands ok err kept fed =
+applied-next {A} old new history command (Err refusal) stands ok err kept fed =
     subst (StandsFor new)
     (sym (go (refusal_of old.machine old.bounds history command) refl refusal err fed))
     (subst (λ (space : SpaceState). StandsFor space history) (sym kept) stands)
   where
     go : (o : Option Refusal) → refusal_of old.machine old.bounds history command ≡ o
         → (refusal : Refusal) → MatchOption o (refusal ≡ NoMemory) (λ first. refusal ≡ first)
-        → wanted_memory (Err refusal) ≡ false → accepted_next old.machine old.bounds history command
+        → wanted_memory {A = A} (Err refusal) ≡ false → accepted_next old.machine old.bounds history command
         ≡ history
-    go None e refusal h fed = let odd : true ≡ false = ap (λ r. wanted_memory (Err r)) (sym h)
+    go None e refusal h fed = let odd : true ≡ false = ap (λ r. wanted_memory {A = A} (Err r)) (sym h)
         ∙ fed in absurd (cc)
     go (Some first) e refusal h fed = accepted_next-refused old.machine old.bounds history command
         (ap (λ o. is_some o) e)
 
 -- as one step more of a list
-pub applied-more : (machine : Hardware) (bounds : Bounds) (old new : SpaceState)
-    (commands history : List Command) (command : Command) (result : Result (Unit {0}) Refusal)
+pub applied-more : {A : Type 0} (machine : Hardware) (bounds : Bounds) (old new : SpaceState)
+    (commands history : List Command) (command : Command) (result : Result A Refusal)
     → old.machine ≡ machine → old.bounds ≡ bounds
     → StandsFor old (accepted_of machine bounds commands history)
     → OnOk result
@@ -83,7 +83,7 @@ pub applied-more : (machine : Hardware) (bounds : Bounds) (old new : SpaceState)
     → OnErr result (new ≡ old)
     → wanted_memory result ≡ false
     → StandsFor new (accepted_of machine bounds (commands ++ command ∷ []) history)
-applied-more machine bounds old new commands history command result same_machine same_bounds stands
+applied-more {A} machine bounds old new commands history command result same_machine same_bounds stands
     ok err kept fed =
     let middle : List Command = accepted_of machine bounds commands history in
     let same : accepted_next old.machine old.bounds middle command ≡ accepted_of machine bounds
@@ -102,9 +102,9 @@ command-at (c ∷ commands) (suc place) command low is =
     command-at commands place command (omega arith) is
 
 -- what `apply` ensures of a command that wanted memory
-pub stops-at : (machine : Hardware) (bounds : Bounds) (old : SpaceState)
+pub stops-at : {A : Type 0} (machine : Hardware) (bounds : Bounds) (old : SpaceState)
     (commands history : List Command) (place : ℕ) (command : Command)
-    (result : Result (Unit {0}) Refusal) (refusal : Refusal) → old.machine ≡ machine
+    (result : Result A Refusal) (refusal : Refusal) → old.machine ≡ machine
     → old.bounds ≡ bounds
     → place < length commands → command ≡ get_or commands place command
     → IfErr result
@@ -115,7 +115,7 @@ pub stops-at : (machine : Hardware) (bounds : Bounds) (old : SpaceState)
     → IfErr result (λ refusal. refusal ≡ NoMemory → MayNeedRoom command)
     → result ≡ Err refusal → refusal ≡ NoMemory
     → MayStopAt machine bounds commands history place
-stops-at machine bounds old commands history place command result refusal same_machine same_bounds
+stops-at {A} machine bounds old commands history place command result refusal same_machine same_bounds
     low is err room wanted want = record {
       command = command;
       there = command-at commands place command low is;

@@ -64,24 +64,48 @@ stands-next old new history command stands none next =
 -- ---- answers
 
 -- what an answer is, where this is the first cause
-abbrev pub AnswersBy : Option Refusal → SpaceState → Command → Result (Unit {0}) Refusal
+abbrev pub AnswersBy : {A : Type 0} → Option Refusal → SpaceState → Command → Result A Refusal
     → SpaceState → Type 0
 AnswersBy cause old command result new =
     MatchOption cause
     (MatchResult result (λ _. IsNext old command new) (λ refusal. (refusal ≡ NoMemory)
     × (new ≡ old))) (λ refusal. (result ≡ Err refusal) × (new ≡ old))
 
+-- an accepted command is one whatever else is told of it, and so is a refused one
+pub answer-done : {A B : Type 0} (old new : SpaceState) (command : Command) (a : A) (b : B)
+    → IsAnswer old command (Ok a) new → IsAnswer old command (Ok b) new
+answer-done {A} {B} old new command a b answer =
+    go (refusal_in (scene_in old command) command) answer
+  where
+    go : (o : Option Refusal) → AnswersBy {A = A} o old command (Ok a) new
+        → AnswersBy {A = B} o old command (Ok b) new
+    go None h = h
+    go (Some r) h = let odd : ◌≡◌ {A = Result A Refusal} (Ok a) (Err r) = h.0 in absurd (cc)
+
+pub answer-refused : (A B : Type 0) (old new : SpaceState) (command : Command) (refusal : Refusal)
+    → IsAnswer {A = A} old command (Err refusal) new
+    → IsAnswer {A = B} old command (Err refusal) new
+answer-refused A B old new command refusal answer =
+    go (refusal_in (scene_in old command) command) answer
+  where
+    go : (o : Option Refusal) → AnswersBy {A = A} o old command (Err refusal) new
+        → AnswersBy {A = B} o old command (Err refusal) new
+    go None h = h
+    go (Some r) h =
+        let odd : ◌≡◌ {A = Result A Refusal} (Err refusal) (Err r) = h.0 in
+        let same : refusal ≡ r = cc in (ap Err same, h.1)
+
 -- an accepted command stands in the history from now on
-pub answer-ok : (old new : SpaceState) (history : List Command) (command : Command)
-    (result : Result (Unit {0}) Refusal) → StandsFor old history → IsAnswer old command result new
+pub answer-ok : {A : Type 0} (old new : SpaceState) (history : List Command) (command : Command)
+    (result : Result A Refusal) → StandsFor old history → IsAnswer old command result new
     → OnOk result ((refusal_of old.machine old.bounds history command ≡ None)
     × StandsFor new (command ∷ history))
-answer-ok old new history command result stands answer =
+answer-ok {A} old new history command result stands answer =
     go (refusal_in (scene_in old command) command) (sym (refusal-same old history command stands))
     result answer
   where
     go : (o : Option Refusal) → refusal_of old.machine old.bounds history command ≡ o
-        → (result : Result (Unit {0}) Refusal) → AnswersBy o old command result new
+        → (result : Result A Refusal) → AnswersBy o old command result new
         → OnOk result ((refusal_of old.machine old.bounds history command ≡ None)
         × StandsFor new (command ∷ history))
     go None e (Ok u) h = (e, stands-next old new history command stands e h)
@@ -90,31 +114,31 @@ answer-ok old new history command result stands answer =
     go (Some r) e (Err s) h = tt
 
 -- a refusal is the first cause, or want of memory where there is no cause
-pub answer-err : (old new : SpaceState) (history : List Command) (command : Command)
-    (result : Result (Unit {0}) Refusal) → StandsFor old history → IsAnswer old command result new
+pub answer-err : {A : Type 0} (old new : SpaceState) (history : List Command) (command : Command)
+    (result : Result A Refusal) → StandsFor old history → IsAnswer old command result new
     → IfErr result (λ refusal. MatchOption (refusal_of old.machine old.bounds history command)
     (refusal ≡ NoMemory) (λ first. refusal ≡ first))
-answer-err old new history command result stands answer =
+answer-err {A} old new history command result stands answer =
     rw (← refusal-same old history command stands)
     (go (refusal_in (scene_in old command) command) result answer)
   where
-    go : (o : Option Refusal) (result : Result (Unit {0}) Refusal)
+    go : (o : Option Refusal) (result : Result A Refusal)
         → AnswersBy o old command result new
         → IfErr result (λ refusal. MatchOption o (refusal ≡ NoMemory) (λ first. refusal ≡ first))
     go None (Ok u) h = tt
     go None (Err r) h = h.0
     go (Some r) (Ok u) h = tt
-    go (Some r) (Err s) h = let same : ◌≡◌ {A = Result (Unit {0}) Refusal} (Err s) (Err r) = h.0 in
+    go (Some r) (Err s) h = let same : ◌≡◌ {A = Result A Refusal} (Err s) (Err r) = h.0 in
         cc
 
 -- a refused command leaves the space as it was
-pub answer-unchanged : (old new : SpaceState) (command : Command)
-    (result : Result (Unit {0}) Refusal) → IsAnswer old command result new
+pub answer-unchanged : {A : Type 0} (old new : SpaceState) (command : Command)
+    (result : Result A Refusal) → IsAnswer old command result new
     → OnErr result (new ≡ old)
-answer-unchanged old new command result answer = go (refusal_in (scene_in old command) command)
+answer-unchanged {A} old new command result answer = go (refusal_in (scene_in old command) command)
     result answer
   where
-    go : (o : Option Refusal) (result : Result (Unit {0}) Refusal)
+    go : (o : Option Refusal) (result : Result A Refusal)
         → AnswersBy o old command result new → OnErr result (new ≡ old)
     go None (Ok u) h = tt
     go None (Err r) h = h.1
@@ -122,12 +146,12 @@ answer-unchanged old new command result answer = go (refusal_in (scene_in old co
     go (Some r) (Err s) h = h.1
 
 -- the machine and the limits stay
-pub answer-kept : (old new : SpaceState) (command : Command) (result : Result (Unit {0}) Refusal)
+pub answer-kept : {A : Type 0} (old new : SpaceState) (command : Command) (result : Result A Refusal)
     → IsAnswer old command result new → (new.machine ≡ old.machine) × (new.bounds ≡ old.bounds)
-answer-kept old new command result answer = go (refusal_in (scene_in old command) command) result
+answer-kept {A} old new command result answer = go (refusal_in (scene_in old command) command) result
     answer
   where
-    go : (o : Option Refusal) (result : Result (Unit {0}) Refusal)
+    go : (o : Option Refusal) (result : Result A Refusal)
         → AnswersBy o old command result new → (new.machine ≡ old.machine)
         × (new.bounds ≡ old.bounds)
     go None (Ok u) h = (h.machine, h.bounds)
@@ -135,15 +159,15 @@ answer-kept old new command result answer = go (refusal_in (scene_in old command
     go (Some r) result h = (ap (λ s. s.machine) h.1, ap (λ s. s.bounds) h.1)
 
 -- an accepted command is a step
-pub answer-step : (old new : SpaceState) (command : Command) (result : Result (Unit {0}) Refusal)
+pub answer-step : {A : Type 0} (old new : SpaceState) (command : Command) (result : Result A Refusal)
     → AreApart 0 old.ranges → AreMaximal old.ranges → length old.ranges ≤ 65536
     → length old.tasks ≤ 1024 → IsAnswer old command result new
     → OnOk result (IsStep old command new)
-answer-step old new command result rising maximal few_ranges few_tasks answer =
+answer-step {A} old new command result rising maximal few_ranges few_tasks answer =
     go (refusal_in (scene_in old command) command) refl result answer
   where
     go : (o : Option Refusal) → refusal_in (scene_in old command) command ≡ o
-        → (result : Result (Unit {0}) Refusal) → AnswersBy o old command result new
+        → (result : Result A Refusal) → AnswersBy o old command result new
         → OnOk result (IsStep old command new)
     go None e (Ok u) h = record {
       accepted = e;
@@ -154,6 +178,6 @@ answer-step old new command result rising maximal few_ranges few_tasks answer =
       few_tasks = few_tasks;
     }
     go None e (Err r) h = tt
-    go (Some r) e (Ok u) h = let odd : ◌≡◌ {A = Result (Unit {0}) Refusal} (Ok u) (Err r) = h.0 in
+    go (Some r) e (Ok u) h = let odd : ◌≡◌ {A = Result A Refusal} (Ok u) (Err r) = h.0 in
         absurd (cc)
     go (Some r) e (Err s) h = tt

@@ -8,18 +8,112 @@ use Rattle.numa_machine.specs.declared.rules.Rules.{Rules}
 use Rattle.numa_machine.specs.declared.rules.Rules.TheVariants.{Document, Linux}
 use Rattle.numa_mode.specs.Policy.{Specification, PolicyRecord, is_default, record_when_set}
 use Rattle.numa_ranges.specs.Runs.{page_at}
-use Rattle.numa_ranges.specs.Maps.{any_page, changed_span}
+use Rattle.numa_ranges.specs.Maps.{any_page, changed_span, without_span}
 use Rattle.numa_ranges.specs.declared.run.Run.{Run}
+use Rattle.numa_space.specs.declared.change.Change.{Change}
+use Rattle.numa_space.specs.declared.command.Command.{Command}
 use Rattle.numa_space.specs.declared.command.Command.TheVariants.{Mbind, SetTask, Inherit}
+use Rattle.numa_space.specs.declared.command.Command.TheVariants.{Unmap, SetHome}
 use Rattle.numa_space.specs.declared.refusal.Refusal.{Refusal}
 use Rattle.numa_space.specs.declared.refusal.Refusal.TheVariants.{Hole, NodesNotAllowed}
 use Rattle.numa_space.specs.Edits.{PageRanges, IsEdit, hole_cause, too_many}
 use Rattle.numa_space.specs.History.{page_of, page_count}
 use Rattle.numa_machine.specs.Rules.{is_linux}
 use Rattle.numa_space.specs.Refusals.{PageMap, bad_span, first_of, has_no_node, passes_holes}
-use Rattle.numa_space.specs.Refusals.{bind_cause, refusal_in}
+use Rattle.numa_space.specs.Refusals.{bind_cause, refusal_in, lacks_policy, takes_no_home}
 use Rattle.numa_space.specs.Standing.{SpaceState, record_of}
-use Rattle.numa_space.specs.Steps.{IsAnswer, IsNext, scene_in, record_now}
+use Rattle.numa_space.specs.Steps.{IsAnswer, IsNext, scene_in, record_now, policy_with_home}
+
+-- ---- pages that were edited
+
+-- a command that no cause refuses but that of its edit, where the edit is done
+pub edited-answer : (old : SpaceState) (command : Command) (after : PageMap) (limit : ℕ)
+    (new : PageRanges) (cause : Option Refusal)
+    → refusal_in (scene_in old command) command ≡ cause
+    → (((page : ℕ) → page_at new.runs page ≡ after page)
+    → IsNext old command (record old { ranges = new.runs; version = old.version + 1 }))
+    → IsEdit cause after (record { runs = old.ranges; limit = limit }) (Ok (tt {0})) new
+    → IsAnswer old command (Ok (tt {0}))
+    (record old { ranges = new.runs; version = old.version + 1 })
+edited-answer old command after limit new None e next edit = rw e (next edit)
+edited-answer old command after limit new (Some cause) e next edit =
+    let odd : ◌≡◌ {A = Result (Unit {0}) Refusal} (Ok (tt {0})) (Err cause) = edit.0 in absurd (cc)
+
+module _ (old : SpaceState) (start bytes first count limit : ℕ) (new : PageRanges)
+    (room : old.version < old.bounds.max_commands) (span : bad_span start bytes ≡ None)
+    (some : (bytes == 0) ≡ false) (is_first : first ≡ page_of start)
+    (is_count : count ≡ page_count bytes) (is_limit : limit ≡ old.bounds.max_ranges) where
+  abbrev unmapped : ℕ → ℕ → PageMap
+  unmapped a b = without_span a b (page_at old.ranges)
+
+  pub unmap-answer : IsEdit (too_many limit (unmapped first count)) (unmapped first count)
+      (record { runs = old.ranges; limit = limit }) (Ok (tt {0})) new
+      → IsAnswer old (Unmap start bytes) (Ok (tt {0}))
+      (record old { ranges = new.runs; version = old.version + 1 })
+  unmap-answer edit =
+      edited-answer old (Unmap start bytes) (unmapped first count) limit new
+      (too_many limit (unmapped first count))
+      (cause ∙ (λ i. too_many (sym is_limit i) (unmapped (sym is_first i) (sym is_count i))))
+      (λ pages. record {
+        machine = refl;
+        bounds = refl;
+        version = refl;
+        allowed = refl;
+        pages = λ page. pages page ∙ (λ i. unmapped (is_first i) (is_count i) page);
+        tasks = λ task. refl;
+        task_count = refl;
+        weights = λ n. refl;
+      }) edit
+    where
+      cause : refusal_in (scene_in old (Unmap start bytes)) (Unmap start bytes)
+          ≡ too_many old.bounds.max_ranges (unmapped (page_of start) (page_count bytes))
+      cause = rw (lt-leb old.bounds.max_commands old.version room, span, some) refl
+
+  abbrev homed : ℕ → ℕ → ℕ → PageMap
+  homed node a b = changed_span a b (policy_with_home node) (page_at old.ranges)
+
+  pub home-answer : (node : ℕ) → node < old.machine.nodes
+      → any_page (λ page. takes_no_home (page_at old.ranges page)) first count ≡ false
+      → lacks_policy old.machine.rules (page_at old.ranges) first count ≡ false
+      → IsEdit (too_many limit (homed node first count)) (homed node first count)
+      (record { runs = old.ranges; limit = limit }) (Ok (tt {0})) new
+      → IsAnswer old (SetHome start bytes node) (Ok (tt {0}))
+      (record old { ranges = new.runs; version = old.version + 1 })
+  home-answer node there homes policies edit =
+      edited-answer old (SetHome start bytes node) (homed node first count) limit new
+      (too_many limit (homed node first count))
+      (cause ∙ (λ i. too_many (sym is_limit i) (homed node (sym is_first i) (sym is_count i))))
+      (λ pages. record {
+        machine = refl;
+        bounds = refl;
+        version = refl;
+        allowed = refl;
+        pages = λ page. pages page ∙ (λ i. homed node (is_first i) (is_count i) page);
+        tasks = λ task. refl;
+        task_count = refl;
+        weights = λ n. refl;
+      }) edit
+    where
+      takes : any_page (λ page. takes_no_home (page_at old.ranges page)) (page_of start)
+          (page_count bytes) ≡ false
+      takes = (λ i. any_page (λ page. takes_no_home (page_at old.ranges page)) (sym is_first i)
+          (sym is_count i)) ∙ homes
+
+      lacks : lacks_policy old.machine.rules (page_at old.ranges) (page_of start)
+          (page_count bytes) ≡ false
+      lacks = (λ i. lacks_policy old.machine.rules (page_at old.ranges) (sym is_first i)
+          (sym is_count i)) ∙ policies
+
+      cause : refusal_in (scene_in old (SetHome start bytes node)) (SetHome start bytes node)
+          ≡ too_many old.bounds.max_ranges (homed node (page_of start) (page_count bytes))
+      cause = rw (
+        lt-leb old.bounds.max_commands old.version room,
+        span,
+        lt-leb old.machine.nodes node there,
+        some,
+        takes,
+        lacks,
+      ) refl
 
 -- ---- an Mbind
 
@@ -126,7 +220,7 @@ module _ (old : SpaceState) (start bytes : ℕ) (spec : Specification)
       ≡ (if not (is_linux old.machine.rules)
       && any_page (λ page. not (is_some (page_at old.ranges page))) first count then Hole
       else NodesNotAllowed)
-      → IsAnswer old (Mbind start bytes spec) (Err refusal) old
+      → IsAnswer {A = Change} old (Mbind start bytes spec) (Err refusal) old
   bind-refused first count refusal is_first is_count is =
       go old.machine.rules refl
       (any_page (λ page. not (is_some (page_at old.ranges page))) (page_of start)
@@ -142,7 +236,7 @@ module _ (old : SpaceState) (start bytes : ℕ) (spec : Specification)
           ≡ (if not (is_linux old.machine.rules)
           && any_page (λ page. not (is_some (page_at old.ranges page))) (page_of start)
           (page_count bytes) then Hole else NodesNotAllowed)
-          → IsAnswer old (Mbind start bytes spec) (Err refusal) old
+          → IsAnswer {A = Change} old (Mbind start bytes spec) (Err refusal) old
       go Document rules true e is =
           let cause : refusal_in (scene_in old (Mbind start bytes spec)) (Mbind start bytes spec)
           ≡ Some Hole = rw (
@@ -192,7 +286,7 @@ module _ (old : SpaceState) (task : ℕ) (spec : Specification)
         → ((other : ℕ) → record_of tasks other ≡ if task == other then None else record_of old.tasks
         other)
         → length tasks + (if is_some (record_of old.tasks task) then 1 else 0) ≡ length old.tasks
-        → IsAnswer old (SetTask task spec) (Ok tt)
+        → IsAnswer old (SetTask task spec) (Ok (tt {0}))
         (record old { tasks = tasks; version = old.version + 1 })
     clear-answer tasks none records count =
         let default : is_default spec ≡ true = default-none none in
@@ -229,7 +323,7 @@ module _ (old : SpaceState) (task : ℕ) (spec : Specification)
         → ((other : ℕ) → record_of tasks other ≡ if task == other then Some policy else record_of
         old.tasks other)
         → length tasks ≡ length old.tasks + (if is_some (record_of old.tasks task) then 0 else 1)
-        → IsAnswer old (SetTask task spec) (Ok tt)
+        → IsAnswer old (SetTask task spec) (Ok (tt {0}))
         (record old { tasks = tasks; version = old.version + 1 })
     set-answer policy tasks some place records count =
         let set : is_default spec ≡ false = default-some policy some in
@@ -263,7 +357,7 @@ module _ (old : SpaceState) (heir from : ℕ) (room : old.version < old.bounds.m
       → ((other : ℕ) → record_of tasks other ≡ if heir == other then None else record_of old.tasks
       other)
       → length tasks + (if is_some (record_of old.tasks heir) then 1 else 0) ≡ length old.tasks
-      → IsAnswer old (Inherit heir from) (Ok tt)
+      → IsAnswer old (Inherit heir from) (Ok (tt {0}))
       (record old { tasks = tasks; version = old.version + 1 })
   inherit-clear tasks none records count =
       let free : refusal_in (scene_in old (Inherit heir from)) (Inherit heir from) ≡ None =
@@ -290,7 +384,7 @@ module _ (old : SpaceState) (heir from : ℕ) (room : old.version < old.bounds.m
       → ((other : ℕ) → record_of tasks other ≡ if heir == other then Some policy else record_of
       old.tasks other)
       → length tasks ≡ length old.tasks + (if is_some (record_of old.tasks heir) then 0 else 1)
-      → IsAnswer old (Inherit heir from) (Ok tt)
+      → IsAnswer old (Inherit heir from) (Ok (tt {0}))
       (record old { tasks = tasks; version = old.version + 1 })
   inherit-set policy tasks some place records count =
       let free : refusal_in (scene_in old (Inherit heir from)) (Inherit heir from) ≡ None =

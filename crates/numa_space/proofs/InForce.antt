@@ -432,13 +432,13 @@ module _ (old : SpaceState) (sound : IsSound old) (small : old.machine.memory < 
       }
 
 -- whatever the answer was
-pub sound-answer : (old new : SpaceState) (command : Command) (result : Result (Unit {0}) Refusal)
+pub sound-answer : {A : Type 0} (old new : SpaceState) (command : Command) (result : Result A Refusal)
     → IsSound old → old.machine.memory < 2 ^ 256 → IsAnswer old command result new → IsSound new
-sound-answer old new command result sound small answer =
+sound-answer {A} old new command result sound small answer =
     go (refusal_in (scene_in old command) command) refl result answer
   where
     go : (o : Option Refusal) → refusal_in (scene_in old command) command ≡ o
-        → (result : Result (Unit {0}) Refusal) → AnswersBy o old command result new → IsSound new
+        → (result : Result A Refusal) → AnswersBy o old command result new → IsSound new
     go None e (Ok u) h = sound-next old sound small new command e h
     go None e (Err r) h = subst IsSound (sym h.1) sound
     go (Some r) e result h = subst IsSound (sym h.1) sound

@@ -17,16 +17,16 @@ use Rattle.numa_space.proofs.Answers.{answer-kept, AnswersBy, stands-next}
 use Rattle.numa_space.proofs.InForce.{sound-answer}
 
 -- a space that has a history has one after an answer too
-pub history-answer : (old new : SpaceState) (command : Command) (result : Result (Unit {0}) Refusal)
+pub history-answer : {A : Type 0} (old new : SpaceState) (command : Command) (result : Result A Refusal)
     → HasHistory old → IsAnswer old command result new → HasHistory new
-history-answer old new command result had answer = go (refusal_in (scene_in old command) command)
+history-answer {A} old new command result had answer = go (refusal_in (scene_in old command) command)
     (sym (refusal-same old had.history command had.stands)) result answer
   where
     kept : new ≡ old → HasHistory new
     kept e = subst HasHistory (sym e) had
 
     go : (o : Option Refusal) → refusal_of old.machine old.bounds had.history command ≡ o
-        → (result : Result (Unit {0}) Refusal) → AnswersBy o old command result new → HasHistory new
+        → (result : Result A Refusal) → AnswersBy o old command result new → HasHistory new
     go None e (Ok u) h = record {
       history = command ∷ had.history;
       accepted = (
@@ -40,10 +40,10 @@ history-answer old new command result had answer = go (refusal_in (scene_in old 
     go None e (Err r) h = kept h.1
     go (Some r) e result h = kept h.1
 
-pub kept-answer : (old new : Inside) (command : Command) (result : Result (Unit {0}) Refusal)
+pub kept-answer : {A : Type 0} (old new : Inside) (command : Command) (result : Result A Refusal)
     → IsKept old → new.pages.limit ≡ old.pages.limit → new.weights.nodes ≡ old.weights.nodes
     → IsAnswer (shown_of old) command result (shown_of new) → IsKept new
-kept-answer old new command result kept limit nodes answer =
+kept-answer {A} old new command result kept limit nodes answer =
     let same = answer-kept (shown_of old) (shown_of new) command result answer in
     record {
       sound = sound-answer (shown_of old) (shown_of new) command result kept.sound kept.memory

@@ -7,6 +7,7 @@ pub mod RefusalRows
 pub mod Places
 pub mod Pages
 pub mod Tasks
+pub mod Telling
 pub mod Same
 pub mod Refused
 pub mod Answers

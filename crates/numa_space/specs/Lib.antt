@@ -11,6 +11,7 @@ pub mod Refusals
 pub mod Edits
 pub mod Standing
 pub mod Steps
+pub mod Changed
 pub mod Spans
 pub mod Shared
 pub mod Inside

@@ -122,7 +122,7 @@ pub record MayStopAt (machine : Hardware) (bounds : Bounds) (commands history : 
   pub room : MayNeedRoom command
 
 -- what a command answers, and the space after it
-abbrev pub IsAnswer : SpaceState → Command → Result (Unit {0}) Refusal → SpaceState → Type 0
+abbrev pub IsAnswer : {A : Type 0} → SpaceState → Command → Result A Refusal → SpaceState → Type 0
 IsAnswer old command result new =
     MatchOption (refusal_in (scene_in old command) command)
     (MatchResult result (λ _. IsNext old command new)
@@ -140,7 +140,7 @@ pub record IsStep (old : SpaceState) (command : Command) (new : SpaceState) : Ty
 
 -- what comes of a command: it is added to each history that the space stands for, where no cause
 -- stands against it; else the first cause is answered, or that memory lacked, and all is as it was
-pub record IsApplied (old : SpaceState) (command : Command) (result : Result (Unit {0}) Refusal)
+pub record IsApplied {A : Type 0} (old : SpaceState) (command : Command) (result : Result A Refusal)
     (new : SpaceState) : Type 0 where
   pub ok : (history : List Command) → StandsFor old history
       → OnOk result ((refusal_of old.machine old.bounds history command ≡ None)

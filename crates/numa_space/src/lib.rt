@@ -73,6 +73,7 @@
 //! frames by them.
 #![tactic(auto)]
 
+pub mod change;
 mod choice;
 pub mod command;
 pub mod event;
@@ -88,6 +89,7 @@ pub mod space;
 mod task_policies;
 mod task_records;
 
+pub use change::{Change, ChangedPages};
 pub use command::{Command, PAGE_BYTES};
 pub use event::{CoreRefusal, CoreReply, Event};
 pub use limits::Limits;

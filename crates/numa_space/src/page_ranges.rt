@@ -16,6 +16,7 @@ ghost use Rattle.numa_space.specs.Refusals.{first_of};
 ghost use Rattle.numa_space.specs.Same.{same_record};
 ghost use Rattle.numa_space.specs.Steps.{policy_with_home, policy_after};
 
+use crate::change::ChangedPages;
 use crate::range_record::RangeRecord;
 use crate::range_rows::RangeRows;
 use crate::refusal::Refusal;
@@ -104,9 +105,17 @@ impl Pages {
         self.map.range_at(place)
     }
 
-    /// The place of the last edit, as a guess.
-    pub(crate) fn edited_place(&self) -> usize {
-        self.map.edited_place()
+    /// The pages of a span that was edited last, with the place of that edit as a guess.
+    pub(crate) fn changed(&self, first: u64, pages: u64) -> ChangedPages
+        requires span { IsSpan first pages }
+        ensures first { result.first ≡ first }
+        ensures end { result.end ≡ first + pages }
+    {
+        ChangedPages {
+            first,
+            end: first + pages,
+            place: self.map.edited_place(),
+        }
     }
 
     /// The index of a page and its range's policy, if it is mapped.

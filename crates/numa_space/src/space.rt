@@ -9,6 +9,7 @@ ghost use Rattle.numa_ranges.specs.Counts.{IsRange, range_count};
 ghost use Rattle.numa_ranges.specs.Numbered.{AreRowsOf};
 ghost use Rattle.numa_ranges.specs.Runs.{AreApart, AreMaximal, page_at};
 ghost use Rattle.numa_ranges.specs.declared.run.Run.{Run};
+ghost use Rattle.numa_space.specs.Changed.{IsChange};
 ghost use Rattle.numa_space.specs.declared.command.Command.{Command};
 ghost use Rattle.numa_space.specs.Policies.{allowed_nodes, node_weight, task_record, tasks_of};
 ghost use Rattle.numa_space.specs.Pages.{page_in};
@@ -18,6 +19,7 @@ ghost use Rattle.numa_space.specs.Standing.{HasHistory, IsSound, SpaceState, Sta
 ghost use Rattle.numa_space.specs.Standing.{accepted_of, record_of};
 ghost use Rattle.numa_space.specs.Steps.{IsApplied, MayStopAt};
 
+use crate::change::Change;
 use crate::command::Command;
 use crate::limits::Limits;
 use crate::page_ranges::Pages;
@@ -107,7 +109,7 @@ impl Space {
         })
     }
 
-    /// Carries out a command, or refuses it.
+    /// Carries out a command, or refuses it. Returns what it changed.
     ///
     /// # Errors
     /// The first cause that applies, as [`Refusal`] lists them; `NoMemory` is the last. Then the
@@ -122,8 +124,9 @@ impl Space {
     ///     space.apply(&command(place)?).ok()?;
     /// }
     /// ```
-    pub fn apply(&mut self, command: &Command) -> Result<(), Refusal>
-        ensures { IsApplied self.old command.now result self.new }
+    pub fn apply(&mut self, command: &Command) -> Result<Change, Refusal>
+        ensures applied { IsApplied self.old command.now result self.new }
+        ensures change { IfOk result (IsChange self.old command.now) }
     {
         // Tell the proof that the ranges are maximal, and the limits of ranges and tasks.
         let _ = self.range_iter();
@@ -247,11 +250,6 @@ impl Space {
         ensures { AreRowsOf result.1.now result.0 self.now.ranges }
     {
         self.pages.rows()
-    }
-
-    /// The place of the last edit: a guess at the ranges that it changed. Only speed depends on it.
-    pub fn edited_place(&self) -> usize {
-        self.pages.edited_place()
     }
 
     /// The number of tasks that have a policy.

@@ -1,38 +1,22 @@
 //! Recompiling for a span with an own policy.
-ghost use Rattle.std.specs.Prelude.{◌≡◌, ◌-◌, ◌≤◌, length, OnOk, OnErr};
+ghost use Rattle.std.specs.Prelude.{◌≡◌, ◌-◌, OnOk, OnErr};
 ghost use Rattle.std.specs.Option.{ForSome};
 ghost use Rattle.numa_space.specs.Standing.{IsInForce};
 ghost use Rattle.numa_compile.specs.Follows.{Follows};
 ghost use Rattle.numa_compile.specs.Recompiling.{WritesBoth};
 ghost use Rattle.numa_compile.specs.Rules.{IsReady};
-ghost use Rattle.numa_compile.specs.Windows.{HavePolicy, IsFromInside, IsOpen};
+ghost use Rattle.numa_compile.specs.Windows.{HavePolicy, IsOpen};
 ghost use Rattle.numa_compile.specs.declared.recompiler.window.Window.{Window};
 
 use crate::recompiler::added::number_or_add;
 use crate::recompiler::rewrite::rewrite_window;
 use crate::recompiler::unused::take_back;
-use crate::recompiler::window::{Window, begins_inside, range_there};
+use crate::recompiler::window::Window;
 use numa_machine::NoMemory;
 use numa_mode::Record;
 use numa_plan::{Plan, Steps};
 use numa_space::Space;
 use std::alloc::Global;
-
-/// The policy of the first range of the window that begins in its span; `None` if no range does.
-pub(crate) fn policy_inside(space: &Space, window: &Window) -> Option<Record>
-    requires ready { IsReady space.now }
-    requires within { window.now.to_now ≤ length space.now.ranges }
-    ensures inside { IsFromInside space.now window.now result }
-    ensures in_force { ForSome result (IsInForce space.now.machine space.now.allowed) }
-{
-    for k in window.from..window.to_now {
-        let range = range_there(space, k);
-        if begins_inside(&range, window) {
-            return range.value.policy();
-        }
-    }
-    None
-}
 
 /// Gives the ranges that begin in the window's span the rule of this policy, which each of them
 /// has. Rewrites the window's runs, and writes at most one rule.

@@ -1,6 +1,7 @@
 //! Recompiling for a task's policy.
 ghost use Rattle.std.specs.Prelude.{◌≡◌, OnOk, OnErr};
 ghost use Rattle.numa_space.specs.declared.command.Command.{Command};
+ghost use Rattle.numa_space.specs.Standing.{record_of};
 ghost use Rattle.numa_compile.specs.Follows.{Follows, IsBehind};
 ghost use Rattle.numa_compile.specs.Recompiling.{GivesTask, KeepsRuns, WritesRules};
 
@@ -8,11 +9,12 @@ use crate::compiler::survey;
 use crate::recompiler::added::number_or_add;
 use crate::recompiler::unused::{drop_unused, take_back};
 use numa_machine::NoMemory;
+use numa_mode::Record;
 use numa_plan::{Plan, Steps};
 use numa_space::Space;
 use std::alloc::Global;
 
-/// Gives a task the rule of its new policy. Writes no run, and at most one rule.
+/// Gives a task the rule of its new policy, which is this one. Writes no run, and at most one rule.
 ///
 /// # Errors
 /// `NoMemory`: there is no memory for the rule or for the task. Then the plan hasn't changed.
@@ -21,8 +23,10 @@ pub(crate) fn recompile_task(
     plan: &mut Plan,
     space: &Space,
     task: u32,
+    policy: Option<Record>,
     steps: &mut Steps,
 ) -> Result<(), NoMemory>
+    requires set { policy ≡ record_of space.now.tasks task }
     requires behind { (command : Command) × GivesTask task command
         × IsBehind space.now command plan.old }
     ensures follows { OnOk result (Follows space.now plan.new) }
@@ -32,7 +36,6 @@ pub(crate) fn recompile_task(
 {
     survey(space);
     let had = plan.task_number(task);
-    let policy = space.task_policy(task);
     let (number, added) = number_or_add(alloc, space, policy, plan, steps)?;
     let Ok(()) = plan.set_task(task, number) else {
         take_back(plan, added);

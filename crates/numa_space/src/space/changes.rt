@@ -2,13 +2,15 @@
 ghost use Rattle.std.specs.Prelude.{◌≡◌, ◌+◌, ◌<◌, ◌≤◌, ◌^◌, ◌&&◌, ◌||◌, ◌-◌, ◌==◌, ℕ, true, false};
 ghost use Rattle.std.specs.Prelude.{not, nat_le, nat_lt};
 ghost use Rattle.std.specs.Prelude.{is_some, length, Option, Some, None, MatchResult, IfErr};
-ghost use Rattle.std.specs.Prelude.{◌≢◌, MatchOption, IfSome};
+ghost use Rattle.std.specs.Prelude.{◌≢◌, MatchOption, IfSome, IfOk};
 ghost use Rattle.std.specs.Prelude.{if◌then◌else◌};
 ghost use Rattle.std.specs.List.{list_any};
 ghost use Rattle.numa_mask.specs.NodeSet.{members};
 ghost use Rattle.numa_mode.specs.Policy.{PolicyRecord};
 ghost use Rattle.numa_ranges.specs.Maps.{any_page};
 ghost use Rattle.numa_ranges.specs.Runs.{page_at};
+ghost use Rattle.numa_space.specs.Changed.{IsChange};
+ghost use Rattle.numa_space.specs.declared.change.Change.{Change};
 ghost use Rattle.numa_space.specs.declared.command.Command.{Command};
 ghost use Rattle.numa_space.specs.History.{page_of, page_count};
 ghost use Rattle.numa_ranges.specs.Maps.{IsSpan};
@@ -20,8 +22,10 @@ ghost use Rattle.numa_space.specs.Refusals.{lacks_policy, is_bad_weight, bad_map
 ghost use Rattle.numa_space.specs.Standing.{SpaceState, record_of};
 ghost use Rattle.numa_space.specs.Steps.{IsAnswer, MayNeedRoom, record_now};
 
+use crate::change::{Change, ChangedPages};
 use crate::command::{Command, PAGE_BYTES};
 use crate::page_ranges::PageTest;
+use crate::range_record::RangeRecord;
 use crate::refusal::Refusal;
 use crate::space::Space;
 use numa_machine::{Rules, WeightError};
@@ -50,6 +54,16 @@ fn has_node_from(mask: &NodeMask, first: u32) -> bool
     ensures { result ≡ list_any (λ node. nat_le first node) (members mask.now) }
 {
     mask.iter().any(|node| first <= u32::from(node.number()))
+}
+
+/// What an Mbind changed.
+fn bound(pages: ChangedPages, record: &RangeRecord) -> Change
+    ensures { result ≡ Change.Bound pages record.now }
+{
+    Change::Bound {
+        pages,
+        policy: record.policy(),
+    }
 }
 
 impl Space {
@@ -109,9 +123,10 @@ impl Space {
         }
     }
 
-    /// Carries out a command, or refuses it.
-    pub(super) fn answer(&mut self, command: &Command) -> Result<(), Refusal>
+    /// Carries out a command, or refuses it. Returns what it changed.
+    pub(super) fn answer(&mut self, command: &Command) -> Result<Change, Refusal>
         ensures answer { IsAnswer self.old command.now result self.new }
+        ensures change { IfOk result (IsChange self.old command.now) }
         ensures room { IfErr result (λ refusal. refusal ≡ Refusal.NoMemory
             → MayNeedRoom command.now) }
     {
@@ -158,9 +173,10 @@ impl Space {
         }
     }
 
-    fn map(&mut self, start: u64, length: u64, offset: u64) -> Result<(), Refusal>
+    fn map(&mut self, start: u64, length: u64, offset: u64) -> Result<Change, Refusal>
         requires { self.old.version < self.old.bounds.max_commands }
         ensures answer { IsAnswer self.old (Command.Map start length offset) result self.new }
+        ensures change { IfOk result (IsChange self.old (Command.Map start length offset)) }
         ensures room { IfErr result (λ refusal. refusal ≡ Refusal.NoMemory
             → MayNeedRoom (Command.Map start length offset)) }
     {
@@ -173,12 +189,15 @@ impl Space {
         }
         self.pages.map_span(first, pages, offset)?;
         self.version += 1;
-        Ok(())
+        Ok(Change::Mapped {
+            pages: self.pages.changed(first, pages),
+        })
     }
 
-    fn unmap(&mut self, start: u64, length: u64) -> Result<(), Refusal>
+    fn unmap(&mut self, start: u64, length: u64) -> Result<Change, Refusal>
         requires { self.old.version < self.old.bounds.max_commands }
         ensures answer { IsAnswer self.old (Command.Unmap start length) result self.new }
+        ensures change { IfOk result (IsChange self.old (Command.Unmap start length)) }
         ensures room { IfErr result (λ refusal. refusal ≡ Refusal.NoMemory
             → MayNeedRoom (Command.Unmap start length)) }
     {
@@ -188,11 +207,13 @@ impl Space {
                 return Err(Refusal::EmptyLength);
             }
             self.version += 1;
-            return Ok(());
+            return Ok(Change::Nothing);
         }
         self.pages.unmap_span(first, pages)?;
         self.version += 1;
-        Ok(())
+        Ok(Change::Unmapped {
+            pages: self.pages.changed(first, pages),
+        })
     }
 
     /// The refusal for a span of a policy that has no node: by the documents a hole comes first.
@@ -209,24 +230,28 @@ impl Space {
         }
     }
 
-    fn bind(&mut self, start: u64, length: u64, spec: PolicySpec) -> Result<(), Refusal>
+    fn bind(&mut self, start: u64, length: u64, spec: PolicySpec) -> Result<Change, Refusal>
         requires { self.old.version < self.old.bounds.max_commands }
         ensures answer { IsAnswer self.old (Command.Mbind start length spec) result self.new }
+        ensures change { IfOk result (IsChange self.old (Command.Mbind start length spec)) }
         ensures room { IfErr result (λ refusal. refusal ≡ Refusal.NoMemory
             → MayNeedRoom (Command.Mbind start length spec)) }
     {
         let (first, pages) = span_of(start, length)?;
         if length == 0 {
             self.version += 1;
-            return Ok(());
+            return Ok(Change::Nothing);
         }
         let Ok(policy) = self.policy_of(spec) else {
             return Err(self.hole_or_nodes(first, pages));
         };
+        let record = RangeRecord::of(policy);
         let passes_holes = self.passes_holes(&spec);
-        self.pages.bind_span(first, pages, policy, passes_holes)?;
+        self.pages
+            .bind_span(first, pages, record.policy(), passes_holes)?;
         self.version += 1;
-        Ok(())
+        let pages = self.pages.changed(first, pages);
+        Ok(bound(pages, &record))
     }
 
     /// Whether a task has no policy, and the limit of tasks with one is reached.
@@ -238,16 +263,17 @@ impl Space {
         self.tasks.get(task).is_none() && is_full
     }
 
-    fn set_task(&mut self, task: u32, spec: PolicySpec) -> Result<(), Refusal>
+    fn set_task(&mut self, task: u32, spec: PolicySpec) -> Result<Change, Refusal>
         requires { self.old.version < self.old.bounds.max_commands }
         ensures answer { IsAnswer self.old (Command.SetTask task spec) result self.new }
+        ensures change { IfOk result (IsChange self.old (Command.SetTask task spec)) }
         ensures room { IfErr result (λ refusal. refusal ≡ Refusal.NoMemory
             → MayNeedRoom (Command.SetTask task spec)) }
     {
         let Some(policy) = self.policy_of(spec)? else {
             self.tasks.clear(task);
             self.version += 1;
-            return Ok(());
+            return Ok(Change::TaskSet { task, policy: None });
         };
         if self.has_no_place_for(task) {
             return Err(Refusal::TooManyTasks);
@@ -256,19 +282,23 @@ impl Space {
             return Err(Refusal::NoMemory);
         }
         self.version += 1;
-        Ok(())
+        Ok(Change::TaskSet {
+            task,
+            policy: Some(policy),
+        })
     }
 
-    fn inherit(&mut self, task: u32, from: u32) -> Result<(), Refusal>
+    fn inherit(&mut self, task: u32, from: u32) -> Result<Change, Refusal>
         requires { self.old.version < self.old.bounds.max_commands }
         ensures answer { IsAnswer self.old (Command.Inherit task from) result self.new }
+        ensures change { IfOk result (IsChange self.old (Command.Inherit task from)) }
         ensures room { IfErr result (λ refusal. refusal ≡ Refusal.NoMemory
             → MayNeedRoom (Command.Inherit task from)) }
     {
         let Some(policy) = self.tasks.get(from) else {
             self.tasks.clear(task);
             self.version += 1;
-            return Ok(());
+            return Ok(Change::TaskSet { task, policy: None });
         };
         if self.has_no_place_for(task) {
             return Err(Refusal::TooManyTasks);
@@ -277,12 +307,16 @@ impl Space {
             return Err(Refusal::NoMemory);
         }
         self.version += 1;
-        Ok(())
+        Ok(Change::TaskSet {
+            task,
+            policy: Some(policy),
+        })
     }
 
-    fn set_home(&mut self, start: u64, length: u64, node: u32) -> Result<(), Refusal>
+    fn set_home(&mut self, start: u64, length: u64, node: u32) -> Result<Change, Refusal>
         requires { self.old.version < self.old.bounds.max_commands }
         ensures answer { IsAnswer self.old (Command.SetHome start length node) result self.new }
+        ensures change { IfOk result (IsChange self.old (Command.SetHome start length node)) }
         ensures room { IfErr result (λ refusal. refusal ≡ Refusal.NoMemory
             → MayNeedRoom (Command.SetHome start length node)) }
     {
@@ -292,7 +326,7 @@ impl Space {
         }
         if length == 0 {
             self.version += 1;
-            return Ok(());
+            return Ok(Change::Nothing);
         }
         if self.pages.has_page(PageTest::TakesNoHome, first, pages) {
             return Err(Refusal::NotSupported);
@@ -302,12 +336,16 @@ impl Space {
         }
         self.pages.home_span(first, pages, node as u8)?;
         self.version += 1;
-        Ok(())
+        Ok(Change::Homed {
+            pages: self.pages.changed(first, pages),
+            node,
+        })
     }
 
-    fn set_weight(&mut self, node: u32, weight: u32) -> Result<(), Refusal>
+    fn set_weight(&mut self, node: u32, weight: u32) -> Result<Change, Refusal>
         requires { self.old.version < self.old.bounds.max_commands }
         ensures answer { IsAnswer self.old (Command.SetWeight node weight) result self.new }
+        ensures change { IfOk result (IsChange self.old (Command.SetWeight node weight)) }
         ensures room { IfErr result (λ refusal. refusal ≡ Refusal.NoMemory
             → MayNeedRoom (Command.SetWeight node weight)) }
     {
@@ -318,7 +356,10 @@ impl Space {
             Err(WeightError::BadWeight) => return Err(Refusal::BadWeight),
         }
         self.version += 1;
-        Ok(())
+        Ok(Change::Weighed {
+            node,
+            weight: meant,
+        })
     }
 
     /// The nodes that a mask allows, or `None` if it allows none.
@@ -352,9 +393,10 @@ impl Space {
     }
 
     /// Changes the allowed nodes.
-    fn set_mems(&mut self, mask: NodeMask) -> Result<(), Refusal>
+    fn set_mems(&mut self, mask: NodeMask) -> Result<Change, Refusal>
         requires { self.old.version < self.old.bounds.max_commands }
         ensures answer { IsAnswer self.old (Command.SetMems mask) result self.new }
+        ensures change { IfOk result (IsChange self.old (Command.SetMems mask)) }
         ensures room { IfErr result (λ refusal. refusal ≡ Refusal.NoMemory
             → MayNeedRoom (Command.SetMems mask)) }
     {
@@ -370,6 +412,6 @@ impl Space {
         self.tasks.rebind(rules, &before, &allowed);
         self.allowed = allowed;
         self.version += 1;
-        Ok(())
+        Ok(Change::Allowed { nodes: allowed })
     }
 }

@@ -2,14 +2,14 @@
 //! edited alike, beside plans that are compiled anew. With memory at hand no edit is refused.
 ghost use Rattle.std.specs.Prelude.{◌≡◌};
 ghost use Rattle.std.specs.Bool.{OnFalse, OnTrue};
-ghost use Rattle.numa_compile.specs.Follows.{Follows, IsBehind};
+ghost use Rattle.numa_compile.specs.Follows.{Follows, LacksChange};
 
 use crate::tests::alike::expect_alike;
 use crate::tests::dice::{ACCEPTED, COMMANDS, Dice, SEEDS, rough_space};
 use numa_compile::{compile, recompile};
 use numa_examples::mark;
 use numa_plan::{Plan, Steps};
-use numa_space::{Command, Space};
+use numa_space::{Change, Command, Space};
 use std::alloc::Global;
 use std::process::Abort;
 
@@ -26,19 +26,19 @@ fn is_edited(
     alloc: Global,
     plan: &mut Plan,
     space: &Space,
-    command: &Command,
+    change: &Change,
 ) -> bool
-    requires { IsBehind space.now command.now plan.old }
+    requires { LacksChange space.now change.now plan.old }
     ensures refused { OnFalse result (plan.new ≡ plan.old) }
     ensures edited { OnTrue result (Follows space.now plan.new) }
 {
     assert!(rt; mark(alloc));
-    let answer = recompile(alloc, plan, space, command, &mut Steps::new());
+    let answer = recompile(alloc, plan, space, change, &mut Steps::new());
     assert!(rt; mark(alloc));
     answer.is_ok()
 }
 
-/// Edits a plan by the last command of its space, beside a copy. Where there was no memory, the
+/// Edits a plan by the last change of its space, beside a copy. Where there was no memory, the
 /// plan is as its copy, and is edited once more.
 fn edit(
     rt: &impl Abort,
@@ -46,24 +46,24 @@ fn edit(
     plan: &mut Plan,
     copy: &Plan,
     space: &Space,
-    command: &Command,
+    change: &Change,
 )
-    requires { IsBehind space.now command.now plan.old }
+    requires { LacksChange space.now change.now plan.old }
     ensures { Follows space.now plan.new }
 {
-    if is_edited(rt, alloc, plan, space, command) {
+    if is_edited(rt, alloc, plan, space, change) {
         return;
     }
     expect_alike(rt, plan, copy);
-    recompile(alloc, plan, space, command, &mut Steps::new()).expect(rt, "memory");
+    recompile(alloc, plan, space, change, &mut Steps::new()).expect(rt, "memory");
 }
 
-/// Edits a copy of a plan by the last command of its space, as the plan was: then it answers as one
+/// Edits a copy of a plan by the last change of its space, as the plan was: then it answers as one
 /// that is compiled anew.
-fn edit_copy(rt: &impl Abort, alloc: Global, copy: &mut Plan, space: &Space, command: &Command)
-    requires { IsBehind space.now command.now copy.old }
+fn edit_copy(rt: &impl Abort, alloc: Global, copy: &mut Plan, space: &Space, change: &Change)
+    requires { LacksChange space.now change.now copy.old }
 {
-    recompile(alloc, copy, space, command, &mut Steps::new()).expect(rt, "memory");
+    recompile(alloc, copy, space, change, &mut Steps::new()).expect(rt, "memory");
     expect_compiled(rt, alloc, copy, space);
 }
 
@@ -81,12 +81,12 @@ fn follow_beside(
     requires same { copy.old ≡ plan.old }
     ensures { Follows space.new plan.new }
 {
-    if space.apply(command).is_err() {
+    let Ok(change) = space.apply(command) else {
         return false;
-    }
-    edit(rt, alloc, plan, copy, space, command);
+    };
+    edit(rt, alloc, plan, copy, space, &change);
     expect_compiled(rt, alloc, plan, space);
-    edit_copy(rt, alloc, copy, space, command);
+    edit_copy(rt, alloc, copy, space, &change);
     true
 }
 

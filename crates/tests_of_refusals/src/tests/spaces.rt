@@ -36,7 +36,7 @@ fn apply(rt: &impl Abort, space: &mut Space, command: &Command) {
         return;
     };
     same(rt, &(refusal, shown(space)), &(Refusal::NoMemory, before));
-    same(rt, &space.apply(command), &Ok(()));
+    same(rt, &space.apply(command).is_ok(), &true);
 }
 
 /// Carries out the commands between the marks.

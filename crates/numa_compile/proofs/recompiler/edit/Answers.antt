@@ -1,34 +1,54 @@
-use Rattle.std.proofs.Common.{◌≡◌, ◌≤◌, ℕ, refl, sym, subst, arith}
-use Rattle.numa_space.specs.History.{page_of, page_count}
-use Rattle.numa_space.specs.declared.command.Command.{Command}
-use Rattle.numa_space.specs.declared.command.Command.TheVariants.{Unmap, Mbind, SetTask, Inherit}
-use Rattle.numa_space.specs.declared.command.Command.TheVariants.{SetHome}
-use Rattle.numa_space.specs.Spans.{span_first, span_pages, EditsSpan}
+use Rattle.std.proofs.Common.{◌≡◌, ◌≤◌, ℕ, Option, sym, subst, ◌∙◌, arith}
+use Rattle.numa_mode.specs.Policy.{PolicyRecord}
+use Rattle.numa_space.specs.declared.change.Change.{Change}
+use Rattle.numa_space.specs.declared.change.Change.TheVariants.{Mapped, Unmapped, Bound, Homed}
+use Rattle.numa_space.specs.declared.change.Change.TheVariants.{Nothing, TaskSet, Weighed}
+use Rattle.numa_space.specs.declared.change.ChangedPages.{ChangedPages}
+use Rattle.numa_space.specs.declared.command.Command.TheVariants.{Unmap, Mbind}
 use Rattle.numa_space.specs.Standing.{SpaceState}
 use Rattle.numa_plan.specs.Counted.{Counted}
 use Rattle.numa_plan.specs.Meaning.{PlanData}
-use Rattle.numa_compile.specs.Follows.{IsBehind}
+use Rattle.numa_compile.specs.Follows.{LacksChange}
 use Rattle.numa_compile.specs.Recompiling.{WritesBoth, WritesFew}
 use Rattle.numa_compile.specs.Windows.{IsBehindSpan}
+use Rattle.numa_compile.proofs.ChangeLemmas.{ComesOf, IsBehindMbind, IsBehindUnmap}
+use Rattle.numa_compile.proofs.ChangeLemmas.{bound-in_force, change-of}
 use Rattle.numa_compile.proofs.CommandLemmas.{mbind-policy, open-within, unmap-inside}
 use Rattle.numa_compile.proofs.HomeLemmas.{writes-both}
 use Rattle.numa_compile.proofs.SpanLemmas.{writes-none}
 use Rattle.numa_compile.proofs.recompiler.edit.Goals as goal
 
-behind-as : (space : SpaceState) (plan : PlanData) (command is : Command)
-    → IsBehind space command plan → command ≡ is → IsBehind space is plan
-behind-as space plan command is behind same = subst (λ (it : Command). IsBehind space it plan) same
-    behind
+change-as : (space : SpaceState) (plan : PlanData) (change is : Change)
+    → LacksChange space change plan → change ≡ is → ComesOf is space plan
+change-as space plan change is lacks same =
+    subst (λ (it : Change). ComesOf it space plan) same (change-of space plan change lacks)
 
-behind-span : (space : SpaceState) (plan : PlanData) (is : Command) (start bytes : ℕ)
-    → IsBehind space is plan → EditsSpan is → span_first is ≡ page_of start
-    → span_pages is ≡ page_count bytes → IsBehindSpan space plan start bytes
-behind-span space plan is start bytes behind edits begins pages =
-    record { command = is; behind = behind; edits = edits; begins = begins; pages = pages }
+unmap-span : (space : SpaceState) (plan : PlanData) (pages : ChangedPages)
+    → IsBehindUnmap space plan pages → IsBehindSpan space plan pages
+unmap-span space plan pages b = record {
+  command = Unmap b.start b.bytes;
+  behind = b.behind;
+  edits = tt;
+  begins = b.begins;
+  ends = b.ends;
+  some = b.some;
+}
 
-few-as : (plan : PlanData) (old new : Counted) (command is : Command) → command ≡ is
-    → WritesFew is plan old new → WritesFew command plan old new
-few-as plan old new command is same few = subst (λ (it : Command). WritesFew it plan old new)
+bound-span : (space : SpaceState) (plan : PlanData) (pages : ChangedPages)
+    (policy : Option PolicyRecord) → IsBehindMbind space plan pages policy
+    → IsBehindSpan space plan pages
+bound-span space plan pages policy b = record {
+  command = Mbind b.start b.bytes b.spec;
+  behind = b.behind;
+  edits = tt;
+  begins = b.begins;
+  ends = b.ends;
+  some = b.some;
+}
+
+few-as : (plan : PlanData) (old new : Counted) (change is : Change) → change ≡ is
+    → WritesFew is plan old new → WritesFew change plan old new
+few-as plan old new change is same few = subst (λ (it : Change). WritesFew it plan old new)
     (sym same) few
 
 few-more : (old new : Counted) (runs rules few_runs few_rules : ℕ) → WritesBoth runs rules old new
@@ -36,70 +56,17 @@ few-more : (old new : Counted) (runs rules few_runs few_rules : ℕ) → WritesB
 few-more old new runs rules few_runs few_rules few = writes-both old old new runs rules few_runs
     few_rules (writes-none old) few
 
-pub open_window-requires : goal.open_window-requires
-open_window-requires c = record {
-  behind = behind-span c.args.space.now c.args.plan.now (Unmap c.in-Unmap.start c.in-Unmap.length)
-      c.in-Unmap.start c.in-Unmap.length
-      (behind-as c.args.space.now c.args.plan.now c.args.command
-      (Unmap c.in-Unmap.start c.in-Unmap.length) c.requires.behind c.in-Unmap.is) tt refl refl;
+-- ---- what each arm calls
+
+pub take_version-requires-clause-behind : goal.take_version-requires-clause-behind
+take_version-requires-clause-behind c = change-as c.args.space.now c.args.plan.now c.args.change
+    Nothing c.requires.lacks c.in-Nothing.is
+
+pub mapped_window-window-requires : goal.mapped_window-window-requires
+mapped_window-window-requires c = record {
+  behind = change-as c.args.space.now c.args.plan.now c.args.change (Mapped c.in-Mapped.pages)
+      c.requires.lacks c.in-Mapped.is;
 }
-
-pub open_window-requires-in-Mbind : goal.open_window-requires-in-Mbind
-open_window-requires-in-Mbind c = record {
-  behind = behind-span c.args.space.now c.args.plan.now
-      (Mbind c.in-Mbind.start c.in-Mbind.length c.in-Mbind.spec) c.in-Mbind.start c.in-Mbind.length
-      (behind-as c.args.space.now c.args.plan.now c.args.command
-      (Mbind c.in-Mbind.start c.in-Mbind.length c.in-Mbind.spec) c.requires.behind
-      c.in-Mbind.is) tt refl refl;
-}
-
-pub open_window-requires-in-SetHome : goal.open_window-requires-in-SetHome
-open_window-requires-in-SetHome c = record {
-  behind = behind-span c.args.space.now c.args.plan.now
-      (SetHome c.in-SetHome.start c.in-SetHome.length c.in-SetHome.node) c.in-SetHome.start
-      c.in-SetHome.length
-      (behind-as c.args.space.now c.args.plan.now c.args.command
-      (SetHome c.in-SetHome.start c.in-SetHome.length c.in-SetHome.node) c.requires.behind
-      c.in-SetHome.is) tt refl refl;
-}
-
-pub rewrite_window-requires-in-Unmap-clause-inside :
-    goal.rewrite_window-requires-in-Unmap-clause-inside
-rewrite_window-requires-in-Unmap-clause-inside c =
-    let space = c.args.space.now in
-    let window = c.in-Some.window in
-    unmap-inside space c.args.plan.now window c.in-Unmap.start c.in-Unmap.length
-    c.in-Some.ensures.first c.in-Some.ensures.end
-    (open-within space c.open_window.new.plan window c.in-Some.ensures.open).1 c.requires.rising
-    c.requires.maximal
-    (behind-as space c.args.plan.now c.args.command (Unmap c.in-Unmap.start c.in-Unmap.length)
-    c.requires.behind c.in-Unmap.is) c.open_window.new.plan _
-
-pub rewrite_bound-requires-clause-inside : goal.rewrite_bound-requires-clause-inside
-rewrite_bound-requires-clause-inside c =
-    let space = c.args.space.now in
-    let window = c.in-Some-open_window.window in
-    mbind-policy space c.args.plan.now window c.in-Mbind.start c.in-Mbind.length
-    c.in-Some-open_window.ensures.first c.in-Some-open_window.ensures.end
-    (open-within space c.open_window-in-Mbind.new.plan window c.in-Some-open_window.ensures.open).1
-    c.requires.rising c.requires.maximal c.in-Mbind.spec
-    (behind-as space c.args.plan.now c.args.command
-    (Mbind c.in-Mbind.start c.in-Mbind.length c.in-Mbind.spec) c.requires.behind c.in-Mbind.is)
-    c.policy_inside-policy.result c.policy_inside-policy.ensures.inside
-
-pub returns-in-Some-open_window-clause-few : goal.returns-in-Some-open_window-clause-few
-returns-in-Some-open_window-clause-few c =
-    few-as c.args.plan.now c.args.steps.now c.rewrite_bound.new.steps c.args.command
-    (Mbind c.in-Mbind.start c.in-Mbind.length c.in-Mbind.spec) c.in-Mbind.is
-    (few-more c.args.steps.now c.rewrite_bound.new.steps _ _ _ _ c.rewrite_bound.ensures.few
-    c.in-Some-open_window.ensures.few (omega arith))
-
-pub returns-in-Some-open_window-2-clause-few : goal.returns-in-Some-open_window-2-clause-few
-returns-in-Some-open_window-2-clause-few c =
-    few-as c.args.plan.now c.args.steps.now c.rewrite_homes.new.steps c.args.command
-    (SetHome c.in-SetHome.start c.in-SetHome.length c.in-SetHome.node) c.in-SetHome.is
-    (few-more c.args.steps.now c.rewrite_homes.new.steps _ _ _ _ c.rewrite_homes.ensures.few
-    c.in-Some-open_window-2.ensures.few c.in-Some-open_window-2.ensures.begun)
 
 pub rewrite_window-requires-clause-of : goal.rewrite_window-requires-clause-of
 rewrite_window-requires-clause-of c = c.mapped_window-window.ensures.open
@@ -107,50 +74,96 @@ rewrite_window-requires-clause-of c = c.mapped_window-window.ensures.open
 pub rewrite_window-requires-clause-inside : goal.rewrite_window-requires-clause-inside
 rewrite_window-requires-clause-inside c = c.mapped_window-window.ensures.inside
 
-pub rewrite_window-requires-in-Unmap-clause-of : goal.rewrite_window-requires-in-Unmap-clause-of
-rewrite_window-requires-in-Unmap-clause-of c = c.in-Some.ensures.open
+pub open_window-window-requires : goal.open_window-window-requires
+open_window-window-requires c = record {
+  behind = unmap-span c.args.space.now c.args.plan.now c.in-Unmapped.pages
+      (change-as c.args.space.now c.args.plan.now c.args.change (Unmapped c.in-Unmapped.pages)
+      c.requires.lacks c.in-Unmapped.is);
+}
 
-pub policy_inside-policy-requires-clause-ready : goal.policy_inside-policy-requires-clause-ready
-policy_inside-policy-requires-clause-ready c = c.requires.ready
+pub rewrite_window-requires-in-Unmapped-clause-of :
+    goal.rewrite_window-requires-in-Unmapped-clause-of
+rewrite_window-requires-in-Unmapped-clause-of c = c.open_window-window.ensures.open
 
-pub policy_inside-policy-requires-clause-within : goal.policy_inside-policy-requires-clause-within
-policy_inside-policy-requires-clause-within c =
-    (open-within c.args.space.now c.open_window-in-Mbind.new.plan c.in-Some-open_window.window
-    c.in-Some-open_window.ensures.open).1
+pub rewrite_window-requires-in-Unmapped-clause-inside :
+    goal.rewrite_window-requires-in-Unmapped-clause-inside
+rewrite_window-requires-in-Unmapped-clause-inside c =
+    let space = c.args.space.now in
+    let plan = c.args.plan.now in
+    let found = c.open_window-window in
+    let b = change-as space plan c.args.change (Unmapped c.in-Unmapped.pages) c.requires.lacks
+    c.in-Unmapped.is in
+    unmap-inside space plan found.result b.start b.bytes (found.ensures.first ∙ sym b.begins)
+    (found.ensures.end ∙ sym b.ends) (open-within space plan found.result found.ensures.open).1
+    c.requires.rising c.requires.maximal b.behind plan _
+
+pub open_window-window-requires-in-Bound : goal.open_window-window-requires-in-Bound
+open_window-window-requires-in-Bound c = record {
+  behind = bound-span c.args.space.now c.args.plan.now c.in-Bound.pages c.in-Bound.policy
+      (change-as c.args.space.now c.args.plan.now c.args.change
+      (Bound c.in-Bound.pages c.in-Bound.policy) c.requires.lacks c.in-Bound.is);
+}
 
 pub rewrite_bound-requires-clause-ready : goal.rewrite_bound-requires-clause-ready
 rewrite_bound-requires-clause-ready c = c.requires.ready
 
 pub rewrite_bound-requires-clause-of : goal.rewrite_bound-requires-clause-of
-rewrite_bound-requires-clause-of c = c.in-Some-open_window.ensures.open
+rewrite_bound-requires-clause-of c = c.open_window-window-in-Bound.ensures.open
 
 pub rewrite_bound-requires-clause-in_force : goal.rewrite_bound-requires-clause-in_force
-rewrite_bound-requires-clause-in_force c = c.policy_inside-policy.ensures.in_force
+rewrite_bound-requires-clause-in_force c =
+    bound-in_force c.args.space.now c.args.plan.now c.in-Bound.pages c.in-Bound.policy
+    (change-as c.args.space.now c.args.plan.now c.args.change
+    (Bound c.in-Bound.pages c.in-Bound.policy) c.requires.lacks c.in-Bound.is)
+    c.requires.ready.sound.allowed_memory
+
+pub rewrite_bound-requires-clause-inside : goal.rewrite_bound-requires-clause-inside
+rewrite_bound-requires-clause-inside c =
+    let space = c.args.space.now in
+    let plan = c.args.plan.now in
+    let found = c.open_window-window-in-Bound in
+    let b = change-as space plan c.args.change (Bound c.in-Bound.pages c.in-Bound.policy)
+    c.requires.lacks c.in-Bound.is in
+    mbind-policy space plan found.result b.start b.bytes (found.ensures.first ∙ sym b.begins)
+    (found.ensures.end ∙ sym b.ends) (open-within space plan found.result found.ensures.open).1
+    c.requires.rising c.requires.maximal b.spec b.behind c.in-Bound.policy b.set
+
+pub open_window-window-requires-in-Homed : goal.open_window-window-requires-in-Homed
+open_window-window-requires-in-Homed c = record {
+  behind = change-as c.args.space.now c.args.plan.now c.args.change
+      (Homed c.in-Homed.pages c.in-Homed.node) c.requires.lacks c.in-Homed.is;
+}
 
 pub rewrite_homes-requires-clause-ready : goal.rewrite_homes-requires-clause-ready
 rewrite_homes-requires-clause-ready c = c.requires.ready
 
 pub rewrite_homes-requires-clause-of : goal.rewrite_homes-requires-clause-of
-rewrite_homes-requires-clause-of c = c.in-Some-open_window-2.ensures.open
+rewrite_homes-requires-clause-of c = c.open_window-window-in-Homed.ensures.open
 
 pub recompile_task-requires : goal.recompile_task-requires
-recompile_task-requires c = record {
-  behind = (
-    SetTask c.in-SetTask.task c.in-SetTask.spec,
-    refl,
-    behind-as c.args.space.now c.args.plan.now
-        c.args.command (SetTask c.in-SetTask.task c.in-SetTask.spec) c.requires.behind
-        c.in-SetTask.is,
-  );
+recompile_task-requires c =
+    let comes = change-as c.args.space.now c.args.plan.now c.args.change
+    (TaskSet c.in-TaskSet.task c.in-TaskSet.policy) c.requires.lacks c.in-TaskSet.is in
+    record { set = comes.0; behind = comes.1 }
+
+pub recompile_weight-requires : goal.recompile_weight-requires
+recompile_weight-requires c = record {
+  behind = change-as c.args.space.now c.args.plan.now c.args.change
+      (Weighed c.in-Weighed.node c.in-Weighed.weight) c.requires.lacks c.in-Weighed.is;
 }
 
-pub recompile_task-requires-in-Inherit : goal.recompile_task-requires-in-Inherit
-recompile_task-requires-in-Inherit c = record {
-  behind = (
-    Inherit c.in-Inherit.task c.in-Inherit.from,
-    refl,
-    behind-as c.args.space.now c.args.plan.now
-        c.args.command (Inherit c.in-Inherit.task c.in-Inherit.from) c.requires.behind
-        c.in-Inherit.is,
-  );
-}
+-- ---- how much is written
+
+pub returns-in-Bound-clause-few : goal.returns-in-Bound-clause-few
+returns-in-Bound-clause-few c =
+    few-as c.args.plan.now c.args.steps.now c.rewrite_bound.new.steps c.args.change
+    (Bound c.in-Bound.pages c.in-Bound.policy) c.in-Bound.is
+    (few-more c.args.steps.now c.rewrite_bound.new.steps _ _ _ _ c.rewrite_bound.ensures.few
+    c.open_window-window-in-Bound.ensures.few (omega arith))
+
+pub returns-in-Homed-clause-few : goal.returns-in-Homed-clause-few
+returns-in-Homed-clause-few c =
+    few-as c.args.plan.now c.args.steps.now c.rewrite_homes.new.steps c.args.change
+    (Homed c.in-Homed.pages c.in-Homed.node) c.in-Homed.is
+    (few-more c.args.steps.now c.rewrite_homes.new.steps _ _ _ _ c.rewrite_homes.ensures.few
+    c.open_window-window-in-Homed.ensures.few c.open_window-window-in-Homed.ensures.begun)

@@ -13,10 +13,10 @@ unreachable-requires c =
     (below-nodes c.args.space.now c.args.nodes.now c.memory-memory.result c.machine.result.now
     c.memory-memory.ensures.memory c.machine.ensures c.weight.ensures.within
     c.memory-memory.ensures.of_the_machine c.requires.inside))
-    (λ h. h) c.apply.ensures c.in_default.is
+    (λ h. h) c.apply.ensures.applied c.in_default.is
 
 pub returns-clause-allowed : goal.returns-clause-allowed
 returns-clause-allowed c =
     (accepted-step c.args.space.now c.apply.new.self (SetMems c.args.nodes.now) c.apply.result
-    c.apply.ensures c.in-Ok.is).next.allowed
+    c.apply.ensures.applied c.in-Ok.is).next.allowed
     ∙ mems-same c.args.space.now.machine c.args.nodes.now c.requires.some c.requires.inside

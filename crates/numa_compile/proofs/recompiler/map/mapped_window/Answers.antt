@@ -1,4 +1,4 @@
-use Rattle.std.proofs.Common.{◌+◌, refl, arith}
+use Rattle.std.proofs.Common.{◌+◌, refl, sym, ◌∙◌, arith}
 use Rattle.numa_space.specs.declared.command.Command.TheVariants.{Map}
 use Rattle.numa_compile.proofs.CommandLemmas.{map-inside, map-rest, map-window}
 use Rattle.numa_compile.proofs.SpanLemmas.{open-found}
@@ -7,9 +7,10 @@ use Rattle.numa_compile.proofs.recompiler.map.mapped_window.Goals as goal
 pub returns-then-begins_beside-clause-open : goal.returns-then-begins_beside-clause-open
 returns-then-begins_beside-clause-open c =
     let found = c.find_window-window in
-    (map-rest c.args.space.now c.args.plan.now found.result c.args.start c.args.bytes
-    c.requires.behind.0 c.requires.behind.1 c.survey.ensures.rising c.survey.ensures.maximal
-    found.ensures.first found.ensures.end found.ensures.place found.ensures.window
+    (map-rest c.args.space.now c.args.plan.now found.result c.requires.behind.start c.requires.behind.bytes
+    c.requires.behind.offset c.requires.behind.behind c.survey.ensures.rising c.survey.ensures.maximal
+    (found.ensures.first ∙ sym c.requires.behind.begins)
+    (found.ensures.end ∙ sym c.requires.behind.ends) found.ensures.place found.ensures.window
     c.if-begins_beside.ensures.beside (record {
       first = found.result.first;
       end = found.result.end;
@@ -23,9 +24,10 @@ returns-then-begins_beside-clause-open c =
 pub returns-then-begins_beside-clause-inside : goal.returns-then-begins_beside-clause-inside
 returns-then-begins_beside-clause-inside c =
     let found = c.find_window-window in
-    map-inside c.args.space.now c.args.plan.now found.result c.args.start c.args.bytes
-    found.ensures.first found.ensures.end (omega (arith, found.ensures.place))
-    c.survey.ensures.rising c.survey.ensures.maximal c.requires.behind.0 c.requires.behind.1
+    map-inside c.args.space.now c.args.plan.now found.result c.requires.behind.start c.requires.behind.bytes
+    (found.ensures.first ∙ sym c.requires.behind.begins)
+    (found.ensures.end ∙ sym c.requires.behind.ends) (omega (arith, found.ensures.place))
+    c.survey.ensures.rising c.survey.ensures.maximal c.requires.behind.offset c.requires.behind.behind
     (record {
       first = found.result.first;
       end = found.result.end;
@@ -39,9 +41,10 @@ returns-then-begins_beside-clause-inside c =
 pub returns-then-begins_beside-clause-few : goal.returns-then-begins_beside-clause-few
 returns-then-begins_beside-clause-few c =
     let found = c.find_window-window in
-    (map-rest c.args.space.now c.args.plan.now found.result c.args.start c.args.bytes
-    c.requires.behind.0 c.requires.behind.1 c.survey.ensures.rising c.survey.ensures.maximal
-    found.ensures.first found.ensures.end found.ensures.place found.ensures.window
+    (map-rest c.args.space.now c.args.plan.now found.result c.requires.behind.start c.requires.behind.bytes
+    c.requires.behind.offset c.requires.behind.behind c.survey.ensures.rising c.survey.ensures.maximal
+    (found.ensures.first ∙ sym c.requires.behind.begins)
+    (found.ensures.end ∙ sym c.requires.behind.ends) found.ensures.place found.ensures.window
     c.if-begins_beside.ensures.beside (record {
       first = found.result.first;
       end = found.result.end;
@@ -56,22 +59,29 @@ pub returns-clause-open : goal.returns-clause-open
 returns-clause-open c =
     let found = c.find_window-window in
     open-found c.args.space.now c.args.plan.now found.result
-    (Map c.args.start c.args.bytes c.requires.behind.0) c.requires.behind.1 tt
-    c.survey.ensures.rising c.survey.ensures.maximal found.ensures.first found.ensures.end
+    (Map c.requires.behind.start c.requires.behind.bytes c.requires.behind.offset) c.requires.behind.behind tt
+    c.survey.ensures.rising c.survey.ensures.maximal (found.ensures.first ∙ sym c.requires.behind.begins)
+    (found.ensures.end ∙ sym c.requires.behind.ends)
     found.ensures.place found.ensures.window
 
 pub returns-clause-inside : goal.returns-clause-inside
 returns-clause-inside c =
     let found = c.find_window-window in
-    map-inside c.args.space.now c.args.plan.now found.result c.args.start c.args.bytes
-    found.ensures.first found.ensures.end (omega (arith, found.ensures.place))
-    c.survey.ensures.rising c.survey.ensures.maximal c.requires.behind.0 c.requires.behind.1
+    map-inside c.args.space.now c.args.plan.now found.result c.requires.behind.start c.requires.behind.bytes
+    (found.ensures.first ∙ sym c.requires.behind.begins)
+    (found.ensures.end ∙ sym c.requires.behind.ends) (omega (arith, found.ensures.place))
+    c.survey.ensures.rising c.survey.ensures.maximal c.requires.behind.offset c.requires.behind.behind
     found.result refl refl refl
 
 pub returns-clause-few : goal.returns-clause-few
 returns-clause-few c =
     let found = c.find_window-window in
-    map-window c.args.space.now c.args.plan.now found.result c.args.start c.args.bytes
-    c.requires.behind.0 c.requires.behind.1 c.survey.ensures.rising c.survey.ensures.maximal
-    found.ensures.first found.ensures.end found.ensures.place found.ensures.window
+    map-window c.args.space.now c.args.plan.now found.result c.requires.behind.start c.requires.behind.bytes
+    c.requires.behind.offset c.requires.behind.behind c.survey.ensures.rising c.survey.ensures.maximal
+    (found.ensures.first ∙ sym c.requires.behind.begins)
+    (found.ensures.end ∙ sym c.requires.behind.ends) found.ensures.place found.ensures.window
     c.if-begins_beside.ensures.inside
+
+pub find_window-window-requires : goal.find_window-window-requires
+find_window-window-requires c =
+    omega (arith, c.requires.behind.begins, c.requires.behind.ends)

@@ -13,7 +13,7 @@ pub returns-clause-follows : goal.returns-clause-follows
 returns-clause-follows c =
     let numbered =
     subst (λ (p : Option PolicyRecord). IsNumber (policy_in c.number_or_add.new.plan.slots)
-    (where_live p) c.in_ok-number.number) c.task_policy-policy.ensures.policy
+    (where_live p) c.in_ok-number.number) c.requires.set
     c.in_ok-number.ensures.number in
     follows-dropped c.args.space.now c.set_version.new.self c.drop_unused.new.plan
     c.drop_unused.ensures.rest c.drop_unused.ensures.slots
@@ -29,7 +29,7 @@ returns-clause-follows c =
 
 pub number_or_add-requires-clause-in_force : goal.number_or_add-requires-clause-in_force
 number_or_add-requires-clause-in_force c = λ r is. c.survey.ensures.ready.sound.tasks c.args.task r
-    (sym c.task_policy-policy.ensures.policy ∙ is)
+    (sym c.requires.set ∙ is)
 
 pub number_or_add-requires-clause-nodes : goal.number_or_add-requires-clause-nodes
 number_or_add-requires-clause-nodes c = c.requires.behind.2.follows.nodes
@@ -42,7 +42,7 @@ pub set_task-requires : goal.set_task-requires
 set_task-requires c =
     record {
       named = number-named c.number_or_add.new.plan.slots
-          (where_live c.task_policy-policy.result) c.in_ok-number.number
+          (where_live c.args.policy) c.in_ok-number.number
           c.in_ok-number.ensures.number;
     }
 

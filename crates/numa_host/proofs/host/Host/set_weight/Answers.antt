@@ -38,7 +38,7 @@ weigh_all-requires c =
     record {
       free = subst P (sym c.deref_mut.ensures.value)
           (weights-free host had.history c.args.node c.args.weight had.stands room
-          c.in_default.ensures.step.accepted);
+          c.in_default.ensures.applied.step.accepted);
     }
 
 pub invariant_of-self-2 : goal.invariant_of-self-2
@@ -48,8 +48,8 @@ invariant_of-self-2 c =
     let weight = c.args.weight in
     let blank : SpaceState = c.apply.new.self in
     let news : List Process = c.weigh_all.new.processes in
-    let machine : blank.machine ≡ host.blank.machine = c.in_default.ensures.machine in
-    let bounds : blank.bounds ≡ host.blank.bounds = c.in_default.ensures.bounds in
+    let machine : blank.machine ≡ host.blank.machine = c.in_default.ensures.applied.machine in
+    let bounds : blank.bounds ≡ host.blank.bounds = c.in_default.ensures.applied.bounds in
     let room : host.version < host.blank.bounds.max_commands =
     subst (λ (h : HostState). h.version < h.blank.bounds.max_commands) (sym c.self.view_is)
     c.requires in
@@ -78,12 +78,12 @@ invariant_of-self-2 c =
           sym seam i;
     } in
     let had = c.self.invariant.history in
-    let took = c.in_default.ensures.ok (weights_of had.history) had.stands.blank in
+    let took = c.in_default.ensures.applied.ok (weights_of had.history) had.stands.blank in
     let all : List HostCommand = SetWeight node weight ∷ had.history in
     record {
       sound = subst IsHostSound is
           (weight-sound host node weight blank news machine bounds followed
-          c.self.invariant.sound c.in_default.ensures.step.next.allowed room);
+          c.self.invariant.sound c.in_default.ensures.applied.step.next.allowed room);
       history = subst HasHostHistory is (record {
         history = all;
         accepted = subst (λ (m : Hardware). IsHostAccepted m blank.bounds all) (sym machine)
@@ -102,8 +102,8 @@ returns c =
     let weight = c.args.weight in
     let blank : SpaceState = c.apply.new.self in
     let news : List Process = c.weigh_all.new.processes in
-    let machine : blank.machine ≡ host.blank.machine = c.in_default.ensures.machine in
-    let bounds : blank.bounds ≡ host.blank.bounds = c.in_default.ensures.bounds in
+    let machine : blank.machine ≡ host.blank.machine = c.in_default.ensures.applied.machine in
+    let bounds : blank.bounds ≡ host.blank.bounds = c.in_default.ensures.applied.bounds in
     let room : host.version < host.blank.bounds.max_commands =
     subst (λ (h : HostState). h.version < h.blank.bounds.max_commands) (sym c.self.view_is)
     c.requires in
@@ -134,7 +134,7 @@ returns c =
     let done : IsHostApplied host (SetWeight node weight) (Ok tt)
     (next host node weight blank news machine bounds) = record {
       ok = λ history stands.
-          let took = c.in_default.ensures.ok (weights_of history) stands.blank in (
+          let took = c.in_default.ensures.applied.ok (weights_of history) stands.blank in (
             weight-none host history node weight stands room took.0,
             weight-stands host node weight blank news machine bounds followed history stands
                 took.1,

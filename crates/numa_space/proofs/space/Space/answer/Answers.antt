@@ -1,4 +1,5 @@
-use Rattle.std.proofs.Common.{◌≡◌, IfErr, sym, subst}
+use Rattle.std.proofs.Common.{◌≡◌, IfOk, IfErr, sym, subst}
+use Rattle.numa_space.specs.Changed.{IsChange}
 use Rattle.numa_space.specs.Steps.{IsAnswer, MayNeedRoom}
 use Rattle.numa_space.specs.declared.command.Command.{Command}
 use Rattle.numa_space.specs.declared.refusal.Refusal.TheVariants.{NoMemory}
@@ -10,10 +11,11 @@ returns-in-Map c =
     c.map.new.self in
     let Q : Command → Type 0 = λ command. IfErr c.map.result (λ refusal. refusal ≡ NoMemory
     → MayNeedRoom command) in
+    let R : Command → Type 0 = λ command. IfOk c.map.result (IsChange c.args.self.now command) in
     record {
       answer = subst P (sym c.in-Map.is) c.map.ensures.answer;
-      room =
-          subst Q (sym c.in-Map.is) c.map.ensures.room;
+      change = subst R (sym c.in-Map.is) c.map.ensures.change;
+      room = subst Q (sym c.in-Map.is) c.map.ensures.room;
     }
 
 pub returns-in-Unmap : goal.returns-in-Unmap
@@ -22,10 +24,11 @@ returns-in-Unmap c =
     c.unmap.new.self in
     let Q : Command → Type 0 = λ command. IfErr c.unmap.result (λ refusal. refusal ≡ NoMemory
     → MayNeedRoom command) in
+    let R : Command → Type 0 = λ command. IfOk c.unmap.result (IsChange c.args.self.now command) in
     record {
       answer = subst P (sym c.in-Unmap.is) c.unmap.ensures.answer;
-      room =
-          subst Q (sym c.in-Unmap.is) c.unmap.ensures.room;
+      change = subst R (sym c.in-Unmap.is) c.unmap.ensures.change;
+      room = subst Q (sym c.in-Unmap.is) c.unmap.ensures.room;
     }
 
 pub returns-in-Mbind : goal.returns-in-Mbind
@@ -34,10 +37,11 @@ returns-in-Mbind c =
     c.bind.new.self in
     let Q : Command → Type 0 = λ command. IfErr c.bind.result (λ refusal. refusal ≡ NoMemory
     → MayNeedRoom command) in
+    let R : Command → Type 0 = λ command. IfOk c.bind.result (IsChange c.args.self.now command) in
     record {
       answer = subst P (sym c.in-Mbind.is) c.bind.ensures.answer;
-      room =
-          subst Q (sym c.in-Mbind.is) c.bind.ensures.room;
+      change = subst R (sym c.in-Mbind.is) c.bind.ensures.change;
+      room = subst Q (sym c.in-Mbind.is) c.bind.ensures.room;
     }
 
 pub returns-in-SetTask : goal.returns-in-SetTask
@@ -46,10 +50,11 @@ returns-in-SetTask c =
     c.set_task.new.self in
     let Q : Command → Type 0 = λ command. IfErr c.set_task.result (λ refusal. refusal ≡ NoMemory
     → MayNeedRoom command) in
+    let R : Command → Type 0 = λ command. IfOk c.set_task.result (IsChange c.args.self.now command) in
     record {
       answer = subst P (sym c.in-SetTask.is) c.set_task.ensures.answer;
-      room =
-          subst Q (sym c.in-SetTask.is) c.set_task.ensures.room;
+      change = subst R (sym c.in-SetTask.is) c.set_task.ensures.change;
+      room = subst Q (sym c.in-SetTask.is) c.set_task.ensures.room;
     }
 
 pub returns-in-SetHome : goal.returns-in-SetHome
@@ -58,10 +63,11 @@ returns-in-SetHome c =
     c.set_home.new.self in
     let Q : Command → Type 0 = λ command. IfErr c.set_home.result (λ refusal. refusal ≡ NoMemory
     → MayNeedRoom command) in
+    let R : Command → Type 0 = λ command. IfOk c.set_home.result (IsChange c.args.self.now command) in
     record {
       answer = subst P (sym c.in-SetHome.is) c.set_home.ensures.answer;
-      room =
-          subst Q (sym c.in-SetHome.is) c.set_home.ensures.room;
+      change = subst R (sym c.in-SetHome.is) c.set_home.ensures.change;
+      room = subst Q (sym c.in-SetHome.is) c.set_home.ensures.room;
     }
 
 pub returns-in-SetWeight : goal.returns-in-SetWeight
@@ -70,10 +76,11 @@ returns-in-SetWeight c =
     c.set_weight.new.self in
     let Q : Command → Type 0 = λ command. IfErr c.set_weight.result (λ refusal. refusal ≡ NoMemory
     → MayNeedRoom command) in
+    let R : Command → Type 0 = λ command. IfOk c.set_weight.result (IsChange c.args.self.now command) in
     record {
       answer = subst P (sym c.in-SetWeight.is) c.set_weight.ensures.answer;
-      room =
-          subst Q (sym c.in-SetWeight.is) c.set_weight.ensures.room;
+      change = subst R (sym c.in-SetWeight.is) c.set_weight.ensures.change;
+      room = subst Q (sym c.in-SetWeight.is) c.set_weight.ensures.room;
     }
 
 pub returns-in-SetMems : goal.returns-in-SetMems
@@ -82,10 +89,11 @@ returns-in-SetMems c =
     c.set_mems.new.self in
     let Q : Command → Type 0 = λ command. IfErr c.set_mems.result (λ refusal. refusal ≡ NoMemory
     → MayNeedRoom command) in
+    let R : Command → Type 0 = λ command. IfOk c.set_mems.result (IsChange c.args.self.now command) in
     record {
       answer = subst P (sym c.in-SetMems.is) c.set_mems.ensures.answer;
-      room =
-          subst Q (sym c.in-SetMems.is) c.set_mems.ensures.room;
+      change = subst R (sym c.in-SetMems.is) c.set_mems.ensures.change;
+      room = subst Q (sym c.in-SetMems.is) c.set_mems.ensures.room;
     }
 
 pub returns-in-Inherit : goal.returns-in-Inherit
@@ -94,8 +102,9 @@ returns-in-Inherit c =
     c.inherit.new.self in
     let Q : Command → Type 0 = λ command. IfErr c.inherit.result (λ refusal. refusal ≡ NoMemory
     → MayNeedRoom command) in
+    let R : Command → Type 0 = λ command. IfOk c.inherit.result (IsChange c.args.self.now command) in
     record {
       answer = subst P (sym c.in-Inherit.is) c.inherit.ensures.answer;
-      room =
-          subst Q (sym c.in-Inherit.is) c.inherit.ensures.room;
+      change = subst R (sym c.in-Inherit.is) c.inherit.ensures.change;
+      room = subst Q (sym c.in-Inherit.is) c.inherit.ensures.room;
     }

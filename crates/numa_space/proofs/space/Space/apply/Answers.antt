@@ -3,8 +3,8 @@ use Rattle.numa_space.proofs.Answers.{answer-ok, answer-err, answer-unchanged, a
 use Rattle.numa_space.proofs.Answers.{answer-step}
 use Rattle.numa_space.proofs.space.Space.apply.Goals as goal
 
-pub returns : goal.returns
-returns c = record {
+pub returns-clause-applied : goal.returns-clause-applied
+returns-clause-applied c = record {
   ok = λ history stands. answer-ok c.args.self.now c.answer.new.self history c.args.command.now
       c.answer.result stands c.answer.ensures.answer;
   err = λ history stands. answer-err c.args.self.now c.answer.new.self history c.args.command.now

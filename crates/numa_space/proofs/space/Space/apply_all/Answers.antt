@@ -26,10 +26,10 @@ loop-done-preserved c =
           (applied-more old.machine old.bounds c.loop-done.self c.apply.new.self before history
           command c.apply.result c.loop-done.invariant.machine c.loop-done.invariant.bounds
           stands
-          (c.apply.ensures.ok middle stands) (c.apply.ensures.err middle stands)
-          c.apply.ensures.unchanged fed);
-      machine = c.apply.ensures.machine ∙ c.loop-done.invariant.machine;
-      bounds = c.apply.ensures.bounds ∙ c.loop-done.invariant.bounds;
+          (c.apply.ensures.applied.ok middle stands) (c.apply.ensures.applied.err middle stands)
+          c.apply.ensures.applied.unchanged fed);
+      machine = c.apply.ensures.applied.machine ∙ c.loop-done.invariant.machine;
+      bounds = c.apply.ensures.applied.bounds ∙ c.loop-done.invariant.bounds;
     }
 
 pub returns-in-Err-NoMemory-clause-stop : goal.returns-in-Err-NoMemory-clause-stop
@@ -41,5 +41,5 @@ returns-in-Err-NoMemory-clause-stop c history stood =
     stops-at old.machine old.bounds c.loop-done.self c.args.commands.now history c.loop-done.done
     c.index-commands-done.result c.apply.result c.in-Err-NoMemory.field-0
     c.loop-done.invariant.machine c.loop-done.invariant.bounds
-    c.loop-done-test.true c.index-commands-done.is (c.apply.ensures.err middle stands)
-    c.apply.ensures.room c.in-Err-NoMemory.is c.in-Err-NoMemory.field-0-is
+    c.loop-done-test.true c.index-commands-done.is (c.apply.ensures.applied.err middle stands)
+    c.apply.ensures.applied.room c.in-Err-NoMemory.is c.in-Err-NoMemory.field-0-is

@@ -9,7 +9,10 @@ use Rattle.std.proofs.Common.{subst}
 use Rattle.numa_space.specs.Standing.{SpaceState}
 use Rattle.numa_space.specs.declared.refusal.Refusal.{Refusal}
 use Rattle.std.proofs.Common.{Result}
+use Rattle.numa_space.specs.declared.change.Change.{Change}
+use Rattle.numa_space.proofs.Answers.{answer-done, answer-refused}
 use Rattle.numa_space.proofs.Changes.{bind-answer, bind-after}
+use Rattle.numa_space.proofs.Telling.{told-bind}
 use Rattle.std.proofs.Common.{false, sym}
 use Rattle.std.proofs.lemmas.Bool.{ne_eqb}
 use Rattle.numa_space.specs.Refusals.{has_no_node, passes_holes}
@@ -20,8 +23,8 @@ invariant_of-self-2 c =
     let node : has_no_node (shown_of c.self.inside).allowed c.args.spec ≡ false =
     ap (λ (s : SpaceState). has_no_node s.allowed c.args.spec) c.self.view_is
     ∙ c.in-Ok.ensures.0 in
-    let is : c.in-Ok.policy ≡ record_now (shown_of c.self.inside).allowed c.args.spec =
-    c.in-Ok.ensures.1 ∙ ap (λ (s : SpaceState). record_now s.allowed c.args.spec)
+    let is : c.policy.result ≡ record_now (shown_of c.self.inside).allowed c.args.spec =
+    c.policy.ensures ∙ c.of-record.ensures ∙ c.in-Ok.ensures.1 ∙ ap (λ (s : SpaceState). record_now s.allowed c.args.spec)
     (sym c.self.view_is) in
     let passes : c.passes_holes-passes_holes.result
     ≡ passes_holes (shown_of c.self.inside).machine.rules c.args.spec =
@@ -45,7 +48,7 @@ invariant_of-self-2 c =
       ap (λ (s : SpaceState). s.bounds.max_commands) c.self.view_is,
     )) c.in_ok-first.ensures.span.0
     (ne_eqb c.args.length 0 c.if-length-eq0.false) node c.in_ok-first.first c.in_ok-first.pages
-    c.self.inside.pages.limit c.in-Ok.policy c.passes_holes-passes_holes.result
+    c.self.inside.pages.limit c.policy.result c.passes_holes-passes_holes.result
     c.bind_span.new.self c.bind_span.result
     c.in_ok-first.ensures.span.1 c.in_ok-first.ensures.span.2 c.self.invariant.limit is passes
     c.bind_span.ensures.edit in
@@ -66,8 +69,8 @@ invariant_of-self-2 c =
           c.self.inside.version + 1;
     } in
     let done : IsAnswer (shown_of c.self.inside) (Mbind c.args.start c.args.length c.args.spec)
-    (Ok tt) (shown_of new) = subst P c.in_ok-bind_span.was answer in
-    kept-answer c.self.inside new (Mbind c.args.start c.args.length c.args.spec) (Ok tt)
+    (Ok (tt {0})) (shown_of new) = subst P c.in_ok-bind_span.was answer in
+    kept-answer c.self.inside new (Mbind c.args.start c.args.length c.args.spec) (Ok (tt {0}))
     c.self.invariant c.bind_span.ensures.limit refl done
 
 pub returns-clause-answer : goal.returns-clause-answer
@@ -75,8 +78,8 @@ returns-clause-answer c =
     let node : has_no_node (shown_of c.self.inside).allowed c.args.spec ≡ false =
     ap (λ (s : SpaceState). has_no_node s.allowed c.args.spec) c.self.view_is
     ∙ c.in-Ok.ensures.0 in
-    let is : c.in-Ok.policy ≡ record_now (shown_of c.self.inside).allowed c.args.spec =
-    c.in-Ok.ensures.1 ∙ ap (λ (s : SpaceState). record_now s.allowed c.args.spec)
+    let is : c.policy.result ≡ record_now (shown_of c.self.inside).allowed c.args.spec =
+    c.policy.ensures ∙ c.of-record.ensures ∙ c.in-Ok.ensures.1 ∙ ap (λ (s : SpaceState). record_now s.allowed c.args.spec)
     (sym c.self.view_is) in
     let passes : c.passes_holes-passes_holes.result
     ≡ passes_holes (shown_of c.self.inside).machine.rules c.args.spec =
@@ -100,7 +103,7 @@ returns-clause-answer c =
       ap (λ (s : SpaceState). s.bounds.max_commands) c.self.view_is,
     )) c.in_ok-first.ensures.span.0
     (ne_eqb c.args.length 0 c.if-length-eq0.false) node c.in_ok-first.first c.in_ok-first.pages
-    c.self.inside.pages.limit c.in-Ok.policy c.passes_holes-passes_holes.result
+    c.self.inside.pages.limit c.policy.result c.passes_holes-passes_holes.result
     c.bind_span.new.self c.bind_span.result
     c.in_ok-first.ensures.span.1 c.in_ok-first.ensures.span.2 c.self.invariant.limit is passes
     c.bind_span.ensures.edit in
@@ -121,18 +124,21 @@ returns-clause-answer c =
           c.self.inside.version + 1;
     } in
     let done : IsAnswer (shown_of c.self.inside) (Mbind c.args.start c.args.length c.args.spec)
-    (Ok tt) (shown_of new) = subst P c.in_ok-bind_span.was answer in
+    (Ok (tt {0})) (shown_of new) = subst P c.in_ok-bind_span.was answer in
+    let told : Change = c.bound.result in
     let Q : SpaceState → Type 0 = λ s. IsAnswer s (Mbind c.args.start c.args.length c.args.spec)
-    (Ok tt) (shown_of new) in
-    subst Q c.self.view_is done
+    (Ok told) (shown_of new) in
+    subst Q c.self.view_is
+    (answer-done (shown_of c.self.inside) (shown_of new)
+    (Mbind c.args.start c.args.length c.args.spec) (tt {0}) told done)
 
 pub returns-in_err-bind_span-clause-answer : goal.returns-in_err-bind_span-clause-answer
 returns-in_err-bind_span-clause-answer c =
     let node : has_no_node (shown_of c.self.inside).allowed c.args.spec ≡ false =
     ap (λ (s : SpaceState). has_no_node s.allowed c.args.spec) c.self.view_is
     ∙ c.in-Ok.ensures.0 in
-    let is : c.in-Ok.policy ≡ record_now (shown_of c.self.inside).allowed c.args.spec =
-    c.in-Ok.ensures.1 ∙ ap (λ (s : SpaceState). record_now s.allowed c.args.spec)
+    let is : c.policy.result ≡ record_now (shown_of c.self.inside).allowed c.args.spec =
+    c.policy.ensures ∙ c.of-record.ensures ∙ c.in-Ok.ensures.1 ∙ ap (λ (s : SpaceState). record_now s.allowed c.args.spec)
     (sym c.self.view_is) in
     let passes : c.passes_holes-passes_holes.result
     ≡ passes_holes (shown_of c.self.inside).machine.rules c.args.spec =
@@ -156,7 +162,7 @@ returns-in_err-bind_span-clause-answer c =
       ap (λ (s : SpaceState). s.bounds.max_commands) c.self.view_is,
     )) c.in_ok-first.ensures.span.0
     (ne_eqb c.args.length 0 c.if-length-eq0.false) node c.in_ok-first.first c.in_ok-first.pages
-    c.self.inside.pages.limit c.in-Ok.policy c.passes_holes-passes_holes.result
+    c.self.inside.pages.limit c.policy.result c.passes_holes-passes_holes.result
     c.bind_span.new.self c.bind_span.result
     c.in_ok-first.ensures.span.1 c.in_ok-first.ensures.span.2 c.self.invariant.limit is passes
     c.bind_span.ensures.edit in
@@ -171,21 +177,26 @@ returns-in_err-bind_span-clause-answer c =
     )) c.in_ok-first.ensures.span.0
     (ne_eqb c.args.length 0 c.if-length-eq0.false) node r c.bind_span.new.self) in
     let new : Inside = record c.self.inside { pages = c.bind_span.new.self } in
-    let done : IsAnswer (shown_of c.self.inside) (Mbind c.args.start c.args.length c.args.spec)
-    (Err c.in_err-bind_span.field-0.0) (shown_of new) = subst P c.in_err-bind_span.was answer in
+    let done : IsAnswer {A = Unit {0}} (shown_of c.self.inside)
+    (Mbind c.args.start c.args.length c.args.spec) (Err c.in_err-bind_span.field-0.0)
+    (shown_of new) = subst P c.in_err-bind_span.was answer in
     let is_err : c.from_residual-in_err-bind_span.result ≡ Err c.in_err-bind_span.field-0.0 =
     search rules in
     let Q : SpaceState → Type 0 = λ s. IsAnswer s (Mbind c.args.start c.args.length c.args.spec)
     c.from_residual-in_err-bind_span.result (shown_of new) in
-    subst Q c.self.view_is (rw is_err done)
+    let refused : IsAnswer {A = Change} (shown_of c.self.inside)
+    (Mbind c.args.start c.args.length c.args.spec) (Err c.in_err-bind_span.field-0.0)
+    (shown_of new) = answer-refused (Unit {0}) Change (shown_of c.self.inside) (shown_of new)
+    (Mbind c.args.start c.args.length c.args.spec) c.in_err-bind_span.field-0.0 done in
+    subst Q c.self.view_is (rw is_err refused)
 
 pub invariant_of-self-in_err-bind_span : goal.invariant_of-self-in_err-bind_span
 invariant_of-self-in_err-bind_span c =
     let node : has_no_node (shown_of c.self.inside).allowed c.args.spec ≡ false =
     ap (λ (s : SpaceState). has_no_node s.allowed c.args.spec) c.self.view_is
     ∙ c.in-Ok.ensures.0 in
-    let is : c.in-Ok.policy ≡ record_now (shown_of c.self.inside).allowed c.args.spec =
-    c.in-Ok.ensures.1 ∙ ap (λ (s : SpaceState). record_now s.allowed c.args.spec)
+    let is : c.policy.result ≡ record_now (shown_of c.self.inside).allowed c.args.spec =
+    c.policy.ensures ∙ c.of-record.ensures ∙ c.in-Ok.ensures.1 ∙ ap (λ (s : SpaceState). record_now s.allowed c.args.spec)
     (sym c.self.view_is) in
     let passes : c.passes_holes-passes_holes.result
     ≡ passes_holes (shown_of c.self.inside).machine.rules c.args.spec =
@@ -209,7 +220,7 @@ invariant_of-self-in_err-bind_span c =
       ap (λ (s : SpaceState). s.bounds.max_commands) c.self.view_is,
     )) c.in_ok-first.ensures.span.0
     (ne_eqb c.args.length 0 c.if-length-eq0.false) node c.in_ok-first.first c.in_ok-first.pages
-    c.self.inside.pages.limit c.in-Ok.policy c.passes_holes-passes_holes.result
+    c.self.inside.pages.limit c.policy.result c.passes_holes-passes_holes.result
     c.bind_span.new.self c.bind_span.result
     c.in_ok-first.ensures.span.1 c.in_ok-first.ensures.span.2 c.self.invariant.limit is passes
     c.bind_span.ensures.edit in
@@ -224,8 +235,9 @@ invariant_of-self-in_err-bind_span c =
     )) c.in_ok-first.ensures.span.0
     (ne_eqb c.args.length 0 c.if-length-eq0.false) node r c.bind_span.new.self) in
     let new : Inside = record c.self.inside { pages = c.bind_span.new.self } in
-    let done : IsAnswer (shown_of c.self.inside) (Mbind c.args.start c.args.length c.args.spec)
-    (Err c.in_err-bind_span.field-0.0) (shown_of new) = subst P c.in_err-bind_span.was answer in
+    let done : IsAnswer {A = Unit {0}} (shown_of c.self.inside)
+    (Mbind c.args.start c.args.length c.args.spec) (Err c.in_err-bind_span.field-0.0)
+    (shown_of new) = subst P c.in_err-bind_span.was answer in
     kept-answer c.self.inside new (Mbind c.args.start c.args.length c.args.spec)
     (Err c.in_err-bind_span.field-0.0) c.self.invariant c.bind_span.ensures.limit refl done
 
@@ -233,6 +245,14 @@ pub invariant_of-self : goal.invariant_of-self
 invariant_of-self c =
     let new : Inside = record c.self.inside { version = c.self.inside.version + 1 } in
     let answer : IsAnswer (shown_of c.self.inside) (Mbind c.args.start c.args.length c.args.spec)
-    (Ok tt) (shown_of new) = search rules in
-    kept-answer c.self.inside new (Mbind c.args.start c.args.length c.args.spec) (Ok tt)
+    (Ok (tt {0})) (shown_of new) = search rules in
+    kept-answer c.self.inside new (Mbind c.args.start c.args.length c.args.spec) (Ok (tt {0}))
     c.self.invariant refl refl answer
+
+pub returns-clause-change : goal.returns-clause-change
+returns-clause-change c =
+    told-bind c.args.self.now c.args.start c.args.length c.in_ok-first.first c.in_ok-first.pages
+    c.changed-pages.result c.changed-pages.ensures.first c.changed-pages.ensures.end
+    c.in_ok-first.ensures.span.1 c.in_ok-first.ensures.span.2
+    (ne_eqb c.args.length 0 c.if-length-eq0.false) c.args.spec c.of-record.result
+    (c.of-record.ensures ∙ c.in-Ok.ensures.1) c.bound.result c.bound.ensures

@@ -29,10 +29,10 @@ invariant_of-self c =
     record c.self.inside { tasks = c.clear.new.self; version = c.self.inside.version + 1 } in
     let none : record_of c.self.inside.tasks c.args.from ≡ None = sym c.get.ensures
     ∙ c.in_default.is in
-    let done : IsAnswer (shown_of c.self.inside) (Inherit c.args.task c.args.from) (Ok tt)
+    let done : IsAnswer (shown_of c.self.inside) (Inherit c.args.task c.args.from) (Ok (tt {0}))
     (shown_of new) = inherit-clear (shown_of c.self.inside) c.args.task c.args.from room
     c.clear.new.self none c.clear.ensures.records c.clear.ensures.count in
-    kept-answer c.self.inside new (Inherit c.args.task c.args.from) (Ok tt) c.self.invariant refl
+    kept-answer c.self.inside new (Inherit c.args.task c.args.from) (Ok (tt {0})) c.self.invariant refl
     refl done
 
 pub invariant_of-self-2 : goal.invariant_of-self-2
@@ -60,8 +60,8 @@ invariant_of-self-2 c =
     let count : length c.set.new.self ≡ length c.self.inside.tasks
     + (if is_some (record_of c.self.inside.tasks c.args.task) then 0 else 1) =
     on_ok c.set.result (sym c.is_err.ensures.value ∙ c.if-is_err.false) c.set.ensures.count in
-    let done : IsAnswer (shown_of c.self.inside) (Inherit c.args.task c.args.from) (Ok tt)
+    let done : IsAnswer (shown_of c.self.inside) (Inherit c.args.task c.args.from) (Ok (tt {0}))
     (shown_of new) = inherit-set (shown_of c.self.inside) c.args.task c.args.from room
     c.in-Some.policy c.set.new.self some place records count in
-    kept-answer c.self.inside new (Inherit c.args.task c.args.from) (Ok tt) c.self.invariant refl
+    kept-answer c.self.inside new (Inherit c.args.task c.args.from) (Ok (tt {0})) c.self.invariant refl
     refl done

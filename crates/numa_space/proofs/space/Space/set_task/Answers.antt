@@ -13,6 +13,9 @@ use Rattle.numa_space.specs.Standing.{record_of}
 use Rattle.numa_space.specs.Standing.{SpaceState}
 use Rattle.numa_space.specs.Refusals.{has_no_node}
 use Rattle.numa_space.specs.Steps.{record_now}
+use Rattle.numa_space.specs.declared.change.Change.{Change}
+use Rattle.numa_space.specs.declared.change.Change.TheVariants.{TaskSet}
+use Rattle.numa_space.proofs.Answers.{answer-done}
 use Rattle.numa_space.proofs.Changes.{clear-answer, set-answer}
 
 on_ok : {P : Type 0} (r : Result (Unit {0}) AllocError) → is_err r ≡ false → OnOk r P → P
@@ -36,10 +39,10 @@ invariant_of-self c =
     ) in
     let new : Inside =
     record c.self.inside { tasks = c.clear.new.self; version = c.self.inside.version + 1 } in
-    let done : IsAnswer (shown_of c.self.inside) (SetTask c.args.task c.args.spec) (Ok tt)
+    let done : IsAnswer (shown_of c.self.inside) (SetTask c.args.task c.args.spec) (Ok (tt {0}))
     (shown_of new) = clear-answer (shown_of c.self.inside) c.args.task c.args.spec room node
     c.clear.new.self (sym c.in_default.is ∙ is) c.clear.ensures.records c.clear.ensures.count in
-    kept-answer c.self.inside new (SetTask c.args.task c.args.spec) (Ok tt) c.self.invariant refl
+    kept-answer c.self.inside new (SetTask c.args.task c.args.spec) (Ok (tt {0})) c.self.invariant refl
     refl done
 
 pub invariant_of-self-2 : goal.invariant_of-self-2
@@ -71,10 +74,10 @@ invariant_of-self-2 c =
     let count : length c.set.new.self ≡ length c.self.inside.tasks
     + (if is_some (record_of c.self.inside.tasks c.args.task) then 0 else 1) =
     on_ok c.set.result (sym c.is_err.ensures.value ∙ c.if-is_err.false) c.set.ensures.count in
-    let done : IsAnswer (shown_of c.self.inside) (SetTask c.args.task c.args.spec) (Ok tt)
+    let done : IsAnswer (shown_of c.self.inside) (SetTask c.args.task c.args.spec) (Ok (tt {0}))
     (shown_of new) = set-answer (shown_of c.self.inside) c.args.task c.args.spec room node
     c.in-Some.policy c.set.new.self (sym c.in-Some.is ∙ is) place records count in
-    kept-answer c.self.inside new (SetTask c.args.task c.args.spec) (Ok tt) c.self.invariant refl
+    kept-answer c.self.inside new (SetTask c.args.task c.args.spec) (Ok (tt {0})) c.self.invariant refl
     refl done
 
 pub returns-clause-answer : goal.returns-clause-answer
@@ -106,9 +109,12 @@ returns-clause-answer c =
     let count : length c.set.new.self ≡ length c.self.inside.tasks
     + (if is_some (record_of c.self.inside.tasks c.args.task) then 0 else 1) =
     on_ok c.set.result (sym c.is_err.ensures.value ∙ c.if-is_err.false) c.set.ensures.count in
-    let done : IsAnswer (shown_of c.self.inside) (SetTask c.args.task c.args.spec) (Ok tt)
+    let done : IsAnswer (shown_of c.self.inside) (SetTask c.args.task c.args.spec) (Ok (tt {0}))
     (shown_of new) = set-answer (shown_of c.self.inside) c.args.task c.args.spec room node
     c.in-Some.policy c.set.new.self (sym c.in-Some.is ∙ is) place records count in
-    let Q : SpaceState → Type 0 = λ s. IsAnswer s (SetTask c.args.task c.args.spec) (Ok tt)
+    let told : Change = TaskSet c.args.task (Some c.in-Some.policy) in
+    let Q : SpaceState → Type 0 = λ s. IsAnswer s (SetTask c.args.task c.args.spec) (Ok told)
     (shown_of new) in
-    subst Q c.self.view_is done
+    subst Q c.self.view_is
+    (answer-done (shown_of c.self.inside) (shown_of new) (SetTask c.args.task c.args.spec) (tt {0}) told
+    done)

@@ -10,7 +10,7 @@ pub invariant_of-self-2 : goal.invariant_of-self-2
 invariant_of-self-2 c =
     let new : Inside =
     record c.self.inside { weights = c.set.new.self; version = c.self.inside.version + 1 } in
-    let answer : IsAnswer (shown_of c.self.inside) (SetWeight c.args.node c.args.weight) (Ok tt)
+    let answer : IsAnswer (shown_of c.self.inside) (SetWeight c.args.node c.args.weight) (Ok (tt {0}))
     (shown_of new) = search rules in
-    kept-answer c.self.inside new (SetWeight c.args.node c.args.weight) (Ok tt) c.self.invariant
+    kept-answer c.self.inside new (SetWeight c.args.node c.args.weight) (Ok (tt {0})) c.self.invariant
     refl c.set.ensures.nodes answer

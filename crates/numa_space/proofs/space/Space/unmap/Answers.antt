@@ -3,26 +3,48 @@ use Rattle.numa_space.specs.Inside.{shown_of}
 use Rattle.numa_space.specs.Steps.{IsAnswer}
 use Rattle.numa_space.specs.declared.command.Command.TheVariants.{Unmap}
 use Rattle.numa_space.specs.declared.space.Space.TheInside.{Inside}
+use Rattle.std.proofs.Common.{◌≡◌, ◌<◌, ◌==◌, false, ap, arith}
+use Rattle.std.proofs.lemmas.Bool.{ne_eqb}
+use Rattle.numa_space.specs.Standing.{SpaceState}
+use Rattle.numa_space.proofs.Changes.{unmap-answer}
 use Rattle.numa_space.proofs.Kept.{kept-answer}
+use Rattle.numa_space.proofs.Telling.{told-unmap}
 use Rattle.numa_space.proofs.space.Space.unmap.Goals as goal
 
 pub invariant_of-self-2 : goal.invariant_of-self-2
 invariant_of-self-2 c =
+    let room : c.self.inside.version < c.self.inside.limits.max_commands =
+    omega (
+      arith,
+      c.requires,
+      ap (λ (s : SpaceState). s.version) c.self.view_is,
+      ap (λ (s : SpaceState). s.bounds.max_commands) c.self.view_is,
+    ) in
+    let some : (c.args.length == 0) ≡ false = ne_eqb c.args.length 0 c.if-length-eq0.false in
     let new : Inside =
     record c.self.inside {
       pages = c.unmap_span.new.self;
       version =
           c.self.inside.version + 1;
     } in
-    let answer : IsAnswer (shown_of c.self.inside) (Unmap c.args.start c.args.length) (Ok tt)
-    (shown_of new) = search rules in
-    kept-answer c.self.inside new (Unmap c.args.start c.args.length) (Ok tt) c.self.invariant
+    let answer : IsAnswer (shown_of c.self.inside) (Unmap c.args.start c.args.length) (Ok (tt {0}))
+    (shown_of new) = unmap-answer (shown_of c.self.inside) c.args.start c.args.length
+    c.in_ok-first.first c.in_ok-first.pages c.self.inside.pages.limit c.unmap_span.new.self room
+    c.in_ok-first.ensures.span.0 some c.in_ok-first.ensures.span.1 c.in_ok-first.ensures.span.2
+    c.self.invariant.limit c.in_ok-unmap_span.ensures.edit in
+    kept-answer c.self.inside new (Unmap c.args.start c.args.length) (Ok (tt {0})) c.self.invariant
     c.unmap_span.ensures.limit refl answer
+
+pub returns-clause-change : goal.returns-clause-change
+returns-clause-change c =
+    told-unmap c.args.self.now c.args.start c.args.length c.in_ok-first.first c.in_ok-first.pages
+    c.changed.result c.changed.ensures.first c.changed.ensures.end c.in_ok-first.ensures.span.1
+    c.in_ok-first.ensures.span.2 (ne_eqb c.args.length 0 c.if-length-eq0.false)
 
 pub invariant_of-self : goal.invariant_of-self
 invariant_of-self c =
     let new : Inside = record c.self.inside { version = c.self.inside.version + 1 } in
-    let answer : IsAnswer (shown_of c.self.inside) (Unmap c.args.start c.args.length) (Ok tt)
+    let answer : IsAnswer (shown_of c.self.inside) (Unmap c.args.start c.args.length) (Ok (tt {0}))
     (shown_of new) = search rules in
-    kept-answer c.self.inside new (Unmap c.args.start c.args.length) (Ok tt) c.self.invariant refl
+    kept-answer c.self.inside new (Unmap c.args.start c.args.length) (Ok (tt {0})) c.self.invariant refl
     refl answer
