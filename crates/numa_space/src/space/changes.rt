@@ -57,12 +57,12 @@ fn has_node_from(mask: &NodeMask, first: u32) -> bool
 }
 
 /// What an Mbind changed.
-fn bound(pages: ChangedPages, record: &RangeRecord) -> Change
-    ensures { result ≡ Change.Bound pages record.now }
+fn bound(pages: ChangedPages, range: &RangeRecord) -> Change
+    ensures { result ≡ Change.Bound pages range.now }
 {
     Change::Bound {
         pages,
-        policy: record.policy(),
+        policy: range.policy(),
     }
 }
 
