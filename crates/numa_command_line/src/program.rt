@@ -9,8 +9,9 @@ use crate::words::{check, diff, expect, explain, predict, replay, rules, run, sh
 use clap::Command;
 use std::alloc::{AllocError, Global};
 
-/// The version, as in the file VERSION, and the kit with which it is proved.
-const VERSION: &str = "0.10.0 (proved with rattle-kit-13f)";
+/// The version, as in the file VERSION, and the identity of the logic with which it is proved: kits of
+/// one logic prove the same.
+const VERSION: &str = "0.10.0 (proved with logic dac8208d650f15bf)";
 
 /// The help of the program.
 const PROGRAM: &str =
