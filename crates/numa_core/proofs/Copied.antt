@@ -36,8 +36,9 @@ pub kept-copy : (state copy : State) → copy.space ≡ state.space
     → copy.owners.items ≡ state.owners.items → vec_len copy.owners ≡ vec_len state.owners
     → copy.taken.lowest.items ≡ state.taken.lowest.items
     → copy.taken.marks.items ≡ state.taken.marks.items
-    → vec_len copy.taken.marks ≡ vec_len state.taken.marks → IsKept state → IsKept copy
-kept-copy state copy space places seats count owners len lowest marks room kept =
+    → vec_len copy.taken.marks ≡ vec_len state.taken.marks
+    → copy.unpublished ≡ state.unpublished → copy.plan ≡ state.plan → IsKept state → IsKept copy
+kept-copy state copy space places seats count owners len lowest marks room unpublished plan kept =
     let same : state.places ≡ copy.places = kept.places ∙ ap (λ (s : SpaceState). s.machine.frames)
     (sym space) ∙ sym places in
     record {
@@ -54,4 +55,5 @@ kept-copy state copy space places seats count owners len lowest marks room kept 
             (subst (AreMarked state.owners.items) (sym marks) kept.taken.marked);
         room = subst (λ words. HasRoom state.places words) (sym room) kept.taken.room;
       });
+      behind = rw (unpublished, space, plan) kept.behind;
     }

@@ -10,13 +10,15 @@ use Rattle.numa_core.specs.Steps.{IsAnswer, world_after}
 use Rattle.numa_core.specs.Standing.{CoreState, CoreStandsFor, setup_of, frames_before}
 use Rattle.numa_core.specs.Seats.{core_of, SeatFits}
 use Rattle.numa_core.specs.Hints.{AreTaken}
+use Rattle.numa_core.specs.Published.{IsBehindBy}
 
 abbrev pub core_state : State → CoreState
 core_state state = core_of state.space state.plan state.seats.items state.owners.items
 
 -- the table of places is the machine's; each seat has its room and a cursor that stands right;
 -- there is an owner's place for each frame; a worker's number has room in a byte; for each node
--- there is a number below which all its frames are owned, and a mark stands at owned frames alone
+-- there is a number below which all its frames are owned, and a mark stands at owned frames alone;
+-- the published plan follows the space but for the commands that aren't published
 pub record IsKept (state : State) : Type 0 where
   pub places : state.places ≡ state.space.machine.frames
   pub seats : (w : ℕ) (seat : WorkerSeat) → slice_get state.seats.items w ≡ Some seat →
@@ -24,6 +26,7 @@ pub record IsKept (state : State) : Type 0 where
   pub owners : vec_len state.owners ≡ frames_before state.places (length state.places)
   pub few : vec_len state.seats ≤ 16
   pub taken : AreTaken state.places state.owners.items state.taken
+  pub behind : IsBehindBy state.unpublished state.space state.plan
 
 -- where the old core stands for a world, the event may have the answer there, and the new core
 -- stands for the world afterwards

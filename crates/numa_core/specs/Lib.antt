@@ -8,3 +8,4 @@ pub mod Seats
 pub mod Kept
 pub mod Judging
 pub mod Hints
+pub mod Published

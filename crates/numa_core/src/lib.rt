@@ -20,6 +20,7 @@ mod places;
 mod seat;
 mod state;
 mod tables;
+mod unpublished;
 
 pub use crate::judging::cause_at;
 use crate::state::State;
@@ -152,6 +153,8 @@ impl Core {
             Ok(()) => {}
             Err(refusal) => return Err(refusal),
         }
+        let unpublished = self.state.unpublished.after(command);
+        self.state.unpublished = unpublished;
         Ok(self.state.space.space().version())
     }
 

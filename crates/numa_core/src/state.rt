@@ -17,6 +17,7 @@ use crate::judging::{row_for, seated};
 use crate::places::Places;
 use crate::seat::WorkerSeat;
 use crate::tables::none_owned;
+use crate::unpublished::Unpublished;
 use numa_compile::{PlannedSpace, compile};
 use numa_machine::{Frame, Machine, NoMemory};
 use numa_plan::Plan;
@@ -25,12 +26,14 @@ use numa_space::{Limits, Placement, Request};
 use std::alloc::Global;
 
 /// The space of all accepted commands with its working plan, the plan of those that are published,
-/// the workers' seats, the owner of each frame, and what is known of the owners.
+/// the commands that aren't, the workers' seats, the owner of each frame, and what is known of the
+/// owners.
 #[derive(Drop)]
 pub(crate) struct State {
     pub alloc: Global,
     pub space: PlannedSpace,
     pub plan: Plan,
+    pub unpublished: Unpublished,
     pub places: Places,
     pub seats: Vec<WorkerSeat>,
     pub owners: Vec<Option<u8>>,
@@ -93,6 +96,7 @@ impl State {
             alloc,
             space,
             plan,
+            unpublished: Unpublished::Nothing,
             places,
             seats,
             owners,
@@ -113,6 +117,7 @@ impl State {
             owners: Vec::from_slice(self.alloc, &self.owners)?,
             taken: known_copy(self.alloc, &self.taken)?,
             plan: self.plan.copy(self.alloc)?,
+            unpublished: self.unpublished,
             space: self.space.copy(self.alloc)?,
         })
     }
@@ -125,10 +130,18 @@ impl State {
         if is_newest(&self.plan, &self.space) {
             return Ok(CoreReply::Published(self.plan.version()));
         }
+        if self
+            .unpublished
+            .catch_up(self.alloc, &mut self.plan, &self.space)
+        {
+            self.unpublished = Unpublished::Nothing;
+            return Ok(CoreReply::Published(self.plan.version()));
+        }
         match self.space.plan_copy(self.alloc) {
             Ok(plan) => self.plan = plan,
             Err(_) => return Err(CoreRefusal::NoMemory),
         }
+        self.unpublished = Unpublished::Nothing;
         Ok(CoreReply::Published(self.plan.version()))
     }
 

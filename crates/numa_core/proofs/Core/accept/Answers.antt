@@ -31,6 +31,8 @@ invariant_of-self-2 c =
         owners = c.self.invariant.0.owners;
         few = c.self.invariant.0.few;
         taken = c.self.invariant.0.taken;
+        behind = c.after-unpublished.ensures old.space c.apply.new.self old.plan
+            c.self.invariant.0.behind c.in-Ok.ensures.step;
       },
       past_more (core_state old) (core_state (record old { space = c.apply.new.self }))
           (Accept c.args.command.now) (Ok (Accepted c.version.result))

@@ -25,6 +25,7 @@ returns-then-is_some c = record {
         c.attempt.new.self c.attempt.ensures.fits c.requires.kept.seats;
     owners = c.requires.kept.owners;
     few = c.requires.kept.few;
+    behind = c.requires.kept.behind;
     taken = c.requires.kept.taken;
   };
   follows = λ world stands. let low : c.args.worker < length c.args.self.now.seats.items =
@@ -72,6 +73,7 @@ returns-in-Err c = record {
         c.attempt-2.new.self c.attempt-2.ensures.fits c.requires.kept.seats;
     owners = c.requires.kept.owners;
     few = c.requires.kept.few;
+    behind = c.requires.kept.behind;
     taken = c.requires.kept.taken;
   };
   follows = λ world stands. let low : c.args.worker < length c.args.self.now.seats.items =
@@ -111,6 +113,7 @@ returns c = record {
         c.attempt-2.new.self c.attempt-2.ensures.fits c.requires.kept.seats;
     owners = c.requires.kept.owners;
     few = c.requires.kept.few;
+    behind = c.requires.kept.behind;
     taken = known-put c.args.self.now.places c.args.self.now.owners.items c.args.frame
         c.in-Some.place (sym c.place.ensures.place ∙ c.in-Some.is)
         (omega (

@@ -31,6 +31,7 @@ returns c = record {
         c.begin.new.self c.begin.ensures.fits c.requires.kept.seats;
     owners = c.requires.kept.owners;
     few = c.requires.kept.few;
+    behind = c.requires.kept.behind;
     taken = c.requires.kept.taken;
   };
   follows = λ world stands. let low : c.args.worker < length c.args.self.now.seats.items =

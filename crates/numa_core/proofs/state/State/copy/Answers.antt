@@ -1,4 +1,4 @@
-use Rattle.std.proofs.Common.{List, arith, ap, sym, subst, ◌∙◌}
+use Rattle.std.proofs.Common.{List, arith, ap, refl, sym, subst, ◌∙◌}
 use Rattle.std.proofs.lemmas.List.Elements.{length_all_zip}
 use Rattle.std.specs.List.{AllZip}
 use Rattle.numa_machine.specs.Machine.{Hardware}
@@ -27,7 +27,7 @@ returns-clause-kept c =
     (c.in_ok-from_slice.ensures.items ∙ c.deref-2.ensures.value) (c.in_ok-from_slice.ensures.len
     ∙ c.deref-2.ensures.len)
     c.in_ok-known_copy.ensures.0 c.in_ok-known_copy.ensures.1 c.in_ok-known_copy.ensures.2
-    c.requires.kept
+    refl c.in_ok-copy.ensures c.requires.kept
 
 pub returns-clause-shown : goal.returns-clause-shown
 returns-clause-shown c =

@@ -11,6 +11,7 @@ returns c = record {
     seats = c.requires.kept.seats;
     owners = c.requires.kept.owners;
     few = c.requires.kept.few;
+    behind = c.requires.kept.behind;
     taken = c.lower.ensures c.args.self.now.places c.args.self.now.owners.items
         c.requires.kept.taken (sym c.place.ensures.place ∙ c.in-Some.is)
         (omega (

@@ -21,6 +21,7 @@ returns c = record {
         c.look.new.self c.look.ensures.fits c.requires.kept.seats;
     owners = c.requires.kept.owners;
     few = c.requires.kept.few;
+    behind = c.requires.kept.behind;
     taken = c.requires.kept.taken;
   };
   follows = λ world stands. let low : c.args.worker < length c.args.self.now.seats.items =

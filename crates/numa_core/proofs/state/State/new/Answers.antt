@@ -1,6 +1,7 @@
 use Rattle.std.proofs.Common.{[], arith, sym, ap, subst, ◌∙◌}
 use Rattle.numa_machine.specs.Machine.{Hardware}
 use Rattle.numa_space.specs.Standing.{SpaceState, StandsFor}
+use Rattle.numa_compile.specs.Follows.{Follows}
 use Rattle.numa_compile.specs.Standing.{PlanStandsFor}
 use Rattle.numa_core.proofs.CoreSteps.{opened}
 use Rattle.numa_core.proofs.state.State.new.Goals as goal
@@ -13,6 +14,8 @@ returns-clause-kept c = record {
   owners = c.in_ok-owners.ensures.len ∙ c.total.ensures.total;
   few = omega (arith, c.in_ok-seats.ensures.count, c.requires.few);
   taken = c.in_ok-taken.ensures c.in_ok-owners.owners.items;
+  behind = subst (λ (s : SpaceState). Follows s c.in_ok-plan.plan) c.space-2.ensures
+      c.in_ok-plan.ensures.follows;
 }
 
 pub returns-clause-opens : goal.returns-clause-opens

@@ -16,6 +16,7 @@ returns-clause-kept c = record {
   seats = c.requires.kept.seats;
   owners = c.requires.kept.owners;
   few = c.requires.kept.few;
+  behind = c.requires.kept.behind;
   taken = c.raise.ensures c.args.self.now.places c.args.self.now.owners.items c.args.worker
       c.requires.kept.taken c.requires.low (sym c.place.ensures.place ∙ c.in-Some.is)
       (omega (
