@@ -2,6 +2,7 @@
 ghost use Rattle.std.specs.Prelude.{◌≡◌, ℕ, ◌<◌, None, IfOk};
 ghost use Rattle.std.specs.Prelude.{IfSome, List, [], Some, true};
 ghost use Rattle.std.specs.Option.{ForSome};
+ghost use Rattle.numa_space.specs.Changed.{IsChange};
 ghost use Rattle.numa_space.specs.declared.command.Command.{Command};
 ghost use Rattle.numa_space.specs.Standing.{StandsFor, IsNodeList};
 ghost use Rattle.numa_space.specs.Steps.{IsApplied};
@@ -196,13 +197,14 @@ impl PlannedSpace {
         &self.space
     }
 
-    /// Carries out a command, or refuses it, as `Space::apply`. Lack of memory for the plan refuses
-    /// nothing: then the plan is dropped.
+    /// Carries out a command, or refuses it, as `Space::apply`, and returns what it changed. Lack of
+    /// memory for the plan refuses nothing: then the plan is dropped.
     ///
     /// # Errors
     /// As `Space::apply`: the first cause that applies. Then nothing has changed.
-    pub fn apply(&mut self, alloc: Global, command: &Command) -> Result<(), Refusal>
-        ensures { IsApplied self.old command.now result self.new }
+    pub fn apply(&mut self, alloc: Global, command: &Command) -> Result<Change, Refusal>
+        ensures applied { IsApplied self.old command.now result self.new }
+        ensures change { IfOk result (IsChange self.old command.now) }
     {
         let change = match self.space.apply(command) {
             Ok(change) => change,
@@ -210,7 +212,7 @@ impl PlannedSpace {
         };
         self.asked = asked_after(self.asked, &change);
         follow(alloc, &mut self.plan, &self.space, &change);
-        Ok(())
+        Ok(change)
     }
 
     /// Whether a question about one page is best answered by the space (`Space::list_at`), whose

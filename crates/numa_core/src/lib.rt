@@ -149,11 +149,11 @@ impl Core {
         ensures unchanged { OnErr result (self.new ≡ self.old) }
         ensures setup { setup_of self.new ≡ setup_of self.old }
     {
-        match self.state.space.apply(self.state.alloc, command) {
-            Ok(()) => {}
+        let change = match self.state.space.apply(self.state.alloc, command) {
+            Ok(change) => change,
             Err(refusal) => return Err(refusal),
-        }
-        let unpublished = self.state.unpublished.after(command);
+        };
+        let unpublished = self.state.unpublished.after(&change);
         self.state.unpublished = unpublished;
         Ok(self.state.space.space().version())
     }

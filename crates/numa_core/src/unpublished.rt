@@ -1,6 +1,7 @@
-//! The accepted commands that aren't published.
+//! The changes that aren't published.
 ghost use Rattle.std.specs.Prelude.{◌≡◌, List};
 ghost use Rattle.std.specs.Bool.{OnTrue, OnFalse};
+ghost use Rattle.numa_space.specs.Changed.{IsChange};
 ghost use Rattle.numa_space.specs.declared.command.Command.{Command};
 ghost use Rattle.numa_space.specs.Standing.{SpaceState, StandsFor};
 ghost use Rattle.numa_space.specs.Steps.{IsStep};
@@ -11,38 +12,39 @@ ghost use Rattle.numa_core.specs.Published.{IsBehindBy};
 
 use numa_compile::{PlannedSpace, recompile};
 use numa_plan::{Plan, Steps};
-use numa_space::Command;
+use numa_space::Change;
 use std::alloc::Global;
 
-/// The accepted commands that aren't published.
-#[derive(Clone, Copy, Debug, PartialEq, Eq)]
+/// What accepted commands changed that aren't published.
+#[derive(Clone, Copy, Debug)]
 pub(crate) enum Unpublished {
-    /// There is none.
+    /// There is no such command.
     Nothing,
-    /// There is this one alone.
-    One(Command),
+    /// There is one alone, which changed this.
+    One(Change),
     /// There may be any.
     Several,
 }
 
 impl Unpublished {
-    /// What is unpublished after one more accepted command. A change of the allowed nodes, for
-    /// which a plan is made anew, counts as several.
-    pub(crate) fn after(self, command: &Command) -> Unpublished
-        ensures { (before after : SpaceState) (plan : PlanData) → IsBehindBy self before plan
-            → IsStep before command.now after → IsBehindBy result after plan }
+    /// What is unpublished after one more accepted command, which changed this. A change of the
+    /// allowed nodes, for which a plan is made anew, counts as several.
+    pub(crate) fn after(self, change: &Change) -> Unpublished
+        ensures { (before after : SpaceState) (command : Command) (plan : PlanData)
+            → IsBehindBy self before plan → IsStep before command after
+            → IsChange before command change.now → IsBehindBy result after plan }
     {
-        if let Command::SetMems { .. } = command {
+        if let Change::Allowed { .. } = change {
             return Unpublished::Several;
         }
         match self {
-            Unpublished::Nothing => Unpublished::One(*command),
+            Unpublished::Nothing => Unpublished::One(*change),
             Unpublished::One(_) => Unpublished::Several,
             Unpublished::Several => Unpublished::Several,
         }
     }
 
-    /// Edits the published plan for the only command that isn't published, if there is only one and
+    /// Edits the published plan for the only change that isn't published, if there is only one and
     /// memory for the edit, and returns whether it did. Else the plan hasn't changed.
     pub(crate) fn catch_up(self, alloc: Global, plan: &mut Plan, space: &PlannedSpace) -> bool
         requires behind { IsBehindBy self space.now plan.old }
@@ -51,10 +53,10 @@ impl Unpublished {
             → OnTrue result (PlanStandsFor space.now.machine plan.new history) }
         ensures unchanged { OnFalse result (plan.new ≡ plan.old) }
     {
-        let Unpublished::One(command) = self else {
+        let Unpublished::One(change) = self else {
             return false;
         };
-        let Ok(()) = recompile(alloc, plan, space.space(), &command, &mut Steps::new()) else {
+        let Ok(()) = recompile(alloc, plan, space.space(), &change, &mut Steps::new()) else {
             return false;
         };
         true

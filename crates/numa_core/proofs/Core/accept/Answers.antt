@@ -26,19 +26,20 @@ invariant_of-self-2 c =
     let old : State = c.self.inside.state in (
       record {
         places = c.self.invariant.0.places
-            ∙ ap (λ (m : Hardware). m.frames) (sym c.apply.ensures.machine);
+            ∙ ap (λ (m : Hardware). m.frames) (sym c.apply.ensures.applied.machine);
         seats = c.self.invariant.0.seats;
         owners = c.self.invariant.0.owners;
         few = c.self.invariant.0.few;
         taken = c.self.invariant.0.taken;
-        behind = c.after-unpublished.ensures old.space c.apply.new.self old.plan
-            c.self.invariant.0.behind c.in-Ok.ensures.step;
+        behind = c.after-unpublished.ensures old.space c.apply.new.self c.args.command.now
+            old.plan c.self.invariant.0.behind c.in-Ok.ensures.applied.step
+            c.in-Ok.ensures.change;
       },
       past_more (core_state old) (core_state (record old { space = c.apply.new.self }))
           (Accept c.args.command.now) (Ok (Accepted c.version.result))
-          (same_setup old c.apply.new.self c.apply.ensures.machine c.apply.ensures.bounds)
+          (same_setup old c.apply.new.self c.apply.ensures.applied.machine c.apply.ensures.applied.bounds)
           (accept-follows old.space c.apply.new.self old.plan old.seats.items old.owners.items
-          c.args.command.now c.version.result c.in-Ok.ensures.ok c.apply.ensures.machine
+          c.args.command.now c.version.result c.in-Ok.ensures.applied.ok c.apply.ensures.applied.machine
           (c.version.ensures.version ∙ ap (λ (s : SpaceState). s.version) c.space.ensures))
           c.self.invariant.1,
     )
@@ -50,8 +51,8 @@ returns-clause-answer c =
     let P : CoreState → Type 0 =
     λ core. Follows core (Accept c.args.command.now) (Ok (Accepted c.version.result)) new in
     subst P c.self.view_is (accept-follows old.space c.apply.new.self old.plan old.seats.items
-    old.owners.items c.args.command.now c.version.result c.in-Ok.ensures.ok
-    c.apply.ensures.machine
+    old.owners.items c.args.command.now c.version.result c.in-Ok.ensures.applied.ok
+    c.apply.ensures.applied.machine
     (c.version.ensures.version ∙ ap (λ (s : SpaceState). s.version) c.space.ensures))
 
 pub returns-clause-executions : goal.returns-clause-executions
@@ -63,7 +64,7 @@ returns-clause-executions c =
     (Ok (Accepted c.version.result)) ∷ past) new in
     subst P c.self.view_is (leads_on (core_state old) new (Accept c.args.command.now)
     (Ok (Accepted c.version.result))
-    (same_setup old c.apply.new.self c.apply.ensures.machine c.apply.ensures.bounds)
+    (same_setup old c.apply.new.self c.apply.ensures.applied.machine c.apply.ensures.applied.bounds)
     (accept-follows old.space c.apply.new.self old.plan old.seats.items old.owners.items
-    c.args.command.now c.version.result c.in-Ok.ensures.ok c.apply.ensures.machine
+    c.args.command.now c.version.result c.in-Ok.ensures.applied.ok c.apply.ensures.applied.machine
     (c.version.ensures.version ∙ ap (λ (s : SpaceState). s.version) c.space.ensures)))

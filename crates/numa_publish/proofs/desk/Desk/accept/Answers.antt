@@ -27,7 +27,7 @@ returns-in_default c = record {
 }
 
 pub invariant_of-self-in-Err : goal.invariant_of-self-in-Err
-invariant_of-self-in-Err c = rw (c.in-Err.ensures.unchanged, c.reserve.ensures.items)
+invariant_of-self-in-Err c = rw (c.in-Err.ensures.applied.unchanged, c.reserve.ensures.items)
     c.self.invariant
 
 pub returns-in-Err : goal.returns-in-Err
@@ -35,9 +35,9 @@ returns-in-Err c = record {
   allowed = tt;
   version = tt;
   added = tt;
-  err = rw (← c.self.view_is) (answered _ _ (c.in-Err.ensures.err _ c.self.invariant.0.stands));
-  unchanged = rw (c.in-Err.ensures.unchanged, c.reserve.ensures.items) c.self.view_is;
-  desk = rw c.in-Err.ensures.unchanged (
+  err = rw (← c.self.view_is) (answered _ _ (c.in-Err.ensures.applied.err _ c.self.invariant.0.stands));
+  unchanged = rw (c.in-Err.ensures.applied.unchanged, c.reserve.ensures.items) c.self.view_is;
+  desk = rw c.in-Err.ensures.applied.unchanged (
     ap (λ (d : DeskState). d.desk) c.self.view_is,
     ap (λ (d : DeskState). d.bounds) c.self.view_is,
   );
@@ -51,14 +51,14 @@ pub invariant_of-self-2 : goal.invariant_of-self-2
 invariant_of-self-2 c = (
   accepted_kept _ _ _ _ _ c.self.inside.pending.commands.items _ c.args.command.now _
       c.self.invariant.0 (c.push_reserved.ensures.items ∙ ap (λ w. w ++ c.args.command.now ∷ [])
-      c.reserve.ensures.items) (c.in_default-apply.ensures.ok _ c.self.invariant.0.stands).1
-      c.in_default-apply.ensures.machine,
+      c.reserve.ensures.items) (c.in_default-apply.ensures.applied.ok _ c.self.invariant.0.stands).1
+      c.in_default-apply.ensures.applied.machine,
   c.self.invariant.1,
 )
 
 pub returns : goal.returns
 returns c =
-    let done = c.in_default-apply.ensures.ok _ c.self.invariant.0.stands in
+    let done = c.in_default-apply.ensures.applied.ok _ c.self.invariant.0.stands in
     let desk : ◌≡◌ {A = DeskIdentity}
     (record { book = c.self.inside.log.seen.book; machine = c.apply.new.self.machine })
     (record { book = c.self.inside.log.seen.book; machine = c.self.inside.space.machine }) =
@@ -66,7 +66,7 @@ returns c =
     record {
       book = c.self.inside.log.seen.book;
       machine =
-          c.in_default-apply.ensures.machine i;
+          c.in_default-apply.ensures.applied.machine i;
     } in
     record {
       allowed = rw (← c.self.view_is) done.0;
@@ -76,7 +76,7 @@ returns c =
           ∙ (done.1.version ∙ sym (add-one _))));
       added =
           with_pending _ _ c.args.self.now c.args.command.now c.self.view_is desk
-          c.in_default-apply.ensures.bounds refl refl
+          c.in_default-apply.ensures.applied.bounds refl refl
           (ap (λ (w : List Command). reverse w) (c.push_reserved.ensures.items
           ∙ ap (λ w. w ++ c.args.command.now ∷ []) c.reserve.ensures.items)
           ∙ reverse-append c.self.inside.pending.commands.items (c.args.command.now ∷ []));
@@ -84,7 +84,7 @@ returns c =
       unchanged = tt;
       desk = (
         desk ∙ ap (λ (d : DeskState). d.desk) c.self.view_is,
-        c.in_default-apply.ensures.bounds
+        c.in_default-apply.ensures.applied.bounds
             ∙ ap (λ (d : DeskState). d.bounds) c.self.view_is,
       );
       published = (
