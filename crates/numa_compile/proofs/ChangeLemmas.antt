@@ -156,18 +156,14 @@ change-of space plan change lacks =
     of_command place (SetTask task spec) behind = (
       own task (record_now behind.before.allowed spec) (record_of behind.before.tasks)
           ∙ sym (behind.step.next.tasks task),
-      SetTask task spec,
-      refl,
-      behind,
+      (SetTask task spec, refl, behind),
     )
     of_command place (Inherit heir from) behind = (
       own heir (record_of behind.before.tasks from) (record_of behind.before.tasks)
           ∙ sym (behind.step.next.tasks heir),
-      Inherit heir from,
-      refl,
-      behind,
+      (Inherit heir from, refl, behind),
     )
-    of_command place (SetWeight node weight) behind = (node, weight, behind)
+    of_command place (SetWeight node weight) behind = (node, (weight, behind))
     of_command place (SetMems mask) behind = tt
 
 -- the policy that was set is in force

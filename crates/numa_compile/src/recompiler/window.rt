@@ -35,12 +35,11 @@ pub(crate) fn find_window(plan: &Plan, space: &Space, pages: &ChangedPages) -> W
         - (length plan.now.runs - result.to) }
     ensures window { IsWindow plan.now.runs result.first result.end result.from result.to }
 {
-    let ChangedPages { first, end, place } = *pages;
-    let (from, to, near) = plan.window_near(first, end, place);
+    let (from, to, near) = plan.window_near(pages.first, pages.end, pages.place);
     let behind = plan.run_count() - to;
     Window {
-        first,
-        end,
+        first: pages.first,
+        end: pages.end,
         from,
         to,
         to_now: space.ranges().saturating_sub(behind),

@@ -1,4 +1,4 @@
-use Rattle.std.proofs.Common.{◌≡◌, ◌≤◌, sym, ◌∙◌, arith}
+use Rattle.std.proofs.Common.{◌≡◌, sym, ◌∙◌, arith}
 use Rattle.numa_ranges.specs.Windows.{met}
 use Rattle.numa_space.specs.Spans.{span_first, span_end}
 use Rattle.numa_compile.specs.Recompiling.{met_by}
