@@ -4,7 +4,7 @@ use Rattle.std.proofs.Common.{decimal, length, sym, ap, ◌∙◌, arith, append
 use Rattle.std.specs.List.{flat_map, range_with_len}
 use Rattle.numa_machine.proofs.Nodes.{flat_map-range_more}
 use Rattle.std.proofs.lemmas.Bool.{ne_eqb}
-use Rattle.numa_maps.specs.Listing.{node_text, nodes_text, pages_on, placed_text}
+use Rattle.numa_maps.specs.Listing.{counted_text, node_text, nodes_text, pages_on, placed_text}
 use Rattle.numa_maps.specs.Residents.{Kept}
 
 -- the nodes below a number, in a loop over them
@@ -61,5 +61,21 @@ placed-some old placed count pages is some by_node =
     (append_assoc old (codes " anon=") (decimal (length placed)))
     ∙ ap (λ x. x ++ codes " kernelpagesize_kB=4")
     (append_assoc old first (nodes_text (pages_on placed)))
+    ∙ append_assoc old named (codes " kernelpagesize_kB=4")
+    ∙ ap (λ x. old ++ x) (sym text)
+
+-- the words of counted pages, written one after another
+pub counted-some : (old : List ℕ) (count : ℕ) (pages : ℕ → ℕ) → 0 < count
+    → old ++ codes " anon=" ++ decimal count ++ nodes_text pages ++ codes " kernelpagesize_kB=4"
+    ≡ old ++ counted_text count pages
+counted-some old count pages some =
+    let first : List ℕ = codes " anon=" ++ decimal count in
+    let named : List ℕ = first ++ nodes_text pages in
+    let whole : List ℕ = named ++ codes " kernelpagesize_kB=4" in
+    let text : counted_text count pages ≡ whole =
+    ap (λ (b : Bool). cond b [] whole) (ne_eqb count 0 (λ e. omega (arith, some, e))) in
+    ap (λ x. x ++ nodes_text pages ++ codes " kernelpagesize_kB=4")
+    (append_assoc old (codes " anon=") (decimal count))
+    ∙ ap (λ x. x ++ codes " kernelpagesize_kB=4") (append_assoc old first (nodes_text pages))
     ∙ append_assoc old named (codes " kernelpagesize_kB=4")
     ∙ ap (λ x. old ++ x) (sym text)

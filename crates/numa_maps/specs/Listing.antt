@@ -41,12 +41,15 @@ node_text node pages =
 unfoldable pub nodes_text : (ℕ → ℕ) → List ℕ
 nodes_text pages = flat_map (λ node. node_text node (pages node)) (range_with_len 0 256)
 
--- the placed pages of a range, where there are some: how many, how many on each node, and the size
--- of a page
+-- the pages of a range that lie somewhere, where there are some: how many, how many on each node,
+-- and the size of a page
+abbrev pub counted_text : ℕ → (ℕ → ℕ) → List ℕ
+counted_text count pages =
+    if count == 0 then [] else codes " anon=" ++ decimal count
+    ++ nodes_text pages ++ codes " kernelpagesize_kB=4"
+
 abbrev pub placed_text : Kept → List ℕ
-placed_text placed =
-    if length placed == 0 then [] else codes " anon=" ++ decimal (length placed)
-    ++ nodes_text (pages_on placed) ++ codes " kernelpagesize_kB=4"
+placed_text placed = counted_text (length placed) (pages_on placed)
 
 -- ---- a line
 
@@ -68,6 +71,13 @@ abbrev pub range_line : Option PolicyRecord → Kept → Run (Option PolicyRecor
 range_line policy kept range =
     address_text range.first ++ codes " " ++ policy_or_default policy
     ++ placed_text (placed_in kept range) ++ codes "\n"
+
+-- the line of a range that begins at this page, whose pages have this policy, and of which so many
+-- lie somewhere
+abbrev pub counted_line : Option PolicyRecord → ℕ → ℕ → (ℕ → ℕ) → List ℕ
+counted_line policy first count pages =
+    address_text first ++ codes " " ++ policy_or_default policy
+    ++ counted_text count pages ++ codes "\n"
 
 -- ---- the listing
 

@@ -20,7 +20,7 @@ use numa_space::{PAGE_BYTES, RangeRecord};
 pub(crate) type LineText = ArrayString<8192>;
 
 /// Appends a word and a number.
-fn push_number(text: &mut LineText, word: &str, number: u64)
+pub(crate) fn push_number(text: &mut LineText, word: &str, number: u64)
     requires { array_string_len text.old + length word.now + length (decimal number) ≤ 8192 }
     ensures { text.new.bytes ≡ text.old.bytes ++ word.now ++ decimal number }
 {
@@ -29,7 +29,7 @@ fn push_number(text: &mut LineText, word: &str, number: u64)
 }
 
 /// Appends the address of a page.
-fn push_address(text: &mut LineText, page: u64)
+pub(crate) fn push_address(text: &mut LineText, page: u64)
     requires page { page < 2 ^ 36 }
     requires room { array_string_len text.old + 16 ≤ 8192 }
     ensures bytes { text.new.bytes ≡ text.old.bytes ++ address_text page }
@@ -39,7 +39,7 @@ fn push_address(text: &mut LineText, page: u64)
 }
 
 /// Appends a policy, or `default` without one.
-fn push_policy(text: &mut LineText, policy: Option<Record>)
+pub(crate) fn push_policy(text: &mut LineText, policy: Option<Record>)
     requires room { array_string_len text.old + 1024 ≤ 8192 }
     ensures bytes { text.new.bytes ≡ text.old.bytes ++ policy_or_default policy }
     ensures short { array_string_len text.new ≤ array_string_len text.old + 1024 }
@@ -64,7 +64,7 @@ fn push_node(text: &mut LineText, node: usize, pages: u64)
 }
 
 /// Appends each node that has pages, in ascending order.
-fn push_nodes(text: &mut LineText, pages: &[u64; 256])
+pub(crate) fn push_nodes(text: &mut LineText, pages: &[u64; 256])
     requires room { array_string_len text.old + 6656 ≤ 8192 }
     ensures bytes { text.new.bytes ≡ text.old.bytes
         ++ nodes_text (λ node. slice_index pages.now node) }

@@ -10,7 +10,7 @@ use numa_ranges::Run;
 use numa_space::{Placement, RangeRecord};
 use std::alloc::Global;
 use std::collections::BTreeMap;
-use std::collections::btree_map::{Entry, Range};
+use std::collections::btree_map::{Entry, Iter, Range};
 use std::marker::Model;
 
 /// The placements of pages that have memory, at most one for each page. They are kept by page
@@ -117,6 +117,14 @@ impl Resident {
         self.placements.remove(&page)
     }
 
+    /// The pages that are placed, in ascending order, each with its placement.
+    pub fn iter(&self) -> Iter<'_, u64, Placement>
+        ensures placed { result ≡ self.now }
+        ensures few { length result < 2 ^ 63 }
+    {
+        self.placements.iter()
+    }
+
     /// The placements on the pages of a range, in ascending order.
     fn placed_in(&self, range: &Run<RangeRecord>) -> Range<'_, u64, Placement>
         requires { end_of range.now ≤ 2 ^ 35 }
@@ -128,15 +136,16 @@ impl Resident {
     }
 
     /// The number of placed pages of a range.
-    pub(crate) fn count_in(&self, range: &Run<RangeRecord>) -> usize
+    pub fn count_in(&self, range: &Run<RangeRecord>) -> usize
         requires { end_of range.now ≤ 2 ^ 35 }
-        ensures { result ≡ length (placed_in self.now range.now) }
+        ensures count { result ≡ length (placed_in self.now range.now) }
+        ensures few { result < 2 ^ 63 }
     {
         self.placed_in(range).count()
     }
 
     /// The number of placed pages of a range on each node.
-    pub(crate) fn pages_by_node(&self, range: &Run<RangeRecord>) -> [u64; 256]
+    pub fn pages_by_node(&self, range: &Run<RangeRecord>) -> [u64; 256]
         requires { end_of range.now ≤ 2 ^ 35 }
         ensures { (node : ℕ) → node < 256 → slice_index result node
             ≡ pages_on (placed_in self.now range.now) node }

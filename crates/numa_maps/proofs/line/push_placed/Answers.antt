@@ -48,7 +48,7 @@ returns-then-count-gt0-clause-bytes c =
     c.push_str.ensures.bytes ∙ ap (λ x. x ++ codes " kernelpagesize_kB=4")
     (c.push_nodes.ensures.bytes ∙ ap (λ x. x ++ nodes_text pages) c.push_number.ensures)
     ∙ placed-some c.args.text.now.bytes (placed_in c.args.resident.now c.args.range.now)
-    c.count_in-count.result pages c.count_in-count.ensures c.if-count-gt0.true
+    c.count_in-count.result pages c.count_in-count.ensures.count c.if-count-gt0.true
     c.pages_by_node.ensures
 
 pub returns-then-count-gt0-clause-short : goal.returns-then-count-gt0-clause-short
