@@ -5,6 +5,7 @@ pub mod Edits
 pub mod Filtered
 pub mod MoveRows
 pub mod MovedNodes
+pub mod Parts
 pub mod Reaching
 pub mod Shared
 pub mod ShiftRows

@@ -1,7 +1,8 @@
 -- Where each page lies, what each call makes of that, and how many runs there are.
-use Rattle.std.specs.Prelude.{ℕ, ◌^◌, ◌&&◌, ◌==◌, Bool, true, false, Option, Some, None}
-use Rattle.std.specs.Prelude.{List, nat_lt, if◌then◌else◌}
-use Rattle.numa_ranges.specs.Runs.{in_pages, page_at}
+use Rattle.std.specs.Prelude.{ℕ, ◌-◌, ◌^◌, ◌&&◌, min, max, ◌==◌, Bool, true, false, Option, Some, None}
+use Rattle.std.specs.Prelude.{List, is_some, nat_lt, if◌then◌else◌}
+use Rattle.numa_maps.specs.Residents.{Kept, placed_at}
+use Rattle.numa_ranges.specs.Runs.{end_of, in_pages, page_at}
 use Rattle.numa_ranges.specs.Counts.{count_pages, range_count}
 use Rattle.numa_ranges.specs.declared.run.Run.{Run}
 use Rattle.numa_placed.specs.declared.spot.Spot.{Spot}
@@ -74,6 +75,17 @@ abbrev pub stated_spots : (ℕ → Bool) → ℕ → ℕ → ℕ → (ℕ → Sp
 stated_spots is_mapped first pages node spots page = if in_pages first pages page && is_mapped page
     then stated_spot node (spots page) else spots page
 
+-- nothing is stated of the pages of a span that keep a frame
+abbrev pub passed_over : Kept → ℕ → ℕ → (ℕ → Spot) → ℕ → Spot
+passed_over kept first pages spots page =
+    if in_pages first pages page && is_some (placed_at kept page)
+    then forgotten_spot (spots page) else spots page
+
+-- the mapped pages of a span stated to lie on a node, but those that keep a frame
+abbrev pub stated_beside : (ℕ → Bool) → Kept → ℕ → ℕ → ℕ → (ℕ → Spot) → ℕ → Spot
+stated_beside is_mapped kept first pages node spots =
+    passed_over kept first pages (stated_spots is_mapped first pages node spots)
+
 -- ---- runs
 
 -- a page that lies somewhere, as a page of a map
@@ -106,3 +118,11 @@ pages_if passes pages = if passes then pages else 0
 -- how many pages lie where the test holds
 abbrev pub pages_where : (Spot → Bool) → (ℕ → Spot) → ℕ
 pages_where test spots = count_pages (λ page. test (spots page)) 0 (2 ^ 35)
+
+-- how many pages of a span lie where the test holds
+abbrev pub pages_within : (Spot → Bool) → (ℕ → Spot) → ℕ → ℕ → ℕ
+pages_within test spots first pages = count_pages (λ page. test (spots page)) first pages
+
+-- how many pages a run has from `first` up to `end`
+abbrev pub part_pages : Run Spot → ℕ → ℕ → ℕ
+part_pages run first end = min end (end_of run) - max first run.first

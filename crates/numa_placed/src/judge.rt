@@ -87,8 +87,13 @@ fn judge_spot(node: u32, spot: Spot) -> Result<(), MoveRefusal>
     }
 }
 
-/// Refuses to move a page to a node, unless it may go there.
-pub(crate) fn judge_move(space: &Space, page: u64, node: u32, spot: Spot) -> Result<(), MoveRefusal>
+/// Refuses to move a page that lies here to a node, as [`Placed::move_page`](crate::Placed::move_page)
+/// does where memory serves.
+///
+/// # Errors
+/// The first of these that applies: `NoSuchNode`, `NodesNotAllowed`, `Unmapped`, `NotPlaced`,
+/// `NoRoom`, as [`MoveRefusal`] says.
+pub fn judge_move(space: &Space, page: u64, node: u32, spot: Spot) -> Result<(), MoveRefusal>
     ensures cause { MatchResult result (λ done. move_cause space.now.machine space.now.allowed node
         (is_some (page_at space.now.ranges page)) spot ≡ None)
         (λ refusal. move_cause space.now.machine space.now.allowed node

@@ -35,7 +35,7 @@ mod change;
 mod course;
 mod edit;
 mod filling;
-mod judge;
+pub mod judge;
 pub mod laws;
 pub mod moved;
 pub mod placed;
@@ -48,6 +48,7 @@ mod tally;
 mod targets;
 
 pub use bound::Bound;
+pub use judge::judge_move;
 pub use moved::Moved;
 pub use placed::Placed;
 pub use refusal::{MoveRefusal, PlacedRefusal};

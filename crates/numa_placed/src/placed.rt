@@ -1,5 +1,5 @@
 //! Where pages lie.
-ghost use Rattle.std.specs.Prelude.{◌≡◌, ◌≤◌, ◌<◌, ℕ, OnOk, OnErr, IfOk, IfErr, Some, None, false};
+ghost use Rattle.std.specs.Prelude.{◌≡◌, ◌≤◌, ◌<◌, ◌+◌, ◌^◌, ℕ, OnOk, OnErr, IfOk, IfErr, Some, None, false};
 ghost use Rattle.std.specs.Prelude.{is_some, slice_index, MatchResult};
 ghost use Rattle.numa_mask.specs.NodeSet.{both};
 ghost use Rattle.numa_ranges.specs.Runs.{AreApart, AreMaximal, page_at};
@@ -10,7 +10,8 @@ ghost use Rattle.numa_placed.specs.Moves.{IsMove, moved_node};
 ghost use Rattle.numa_placed.specs.Refusals.{IsLack, IsRefusal, IsMoveRefusal, state_cause};
 ghost use Rattle.numa_placed.specs.Refusals.{span_cause};
 ghost use Rattle.numa_placed.specs.Refusals.{hold_cause, migrate_cause, move_cause, release_cause};
-ghost use Rattle.numa_placed.specs.Spots.{spot_at, is_on, pages_where, run_count, too_many};
+ghost use Rattle.numa_placed.specs.Spots.{spot_at, is_on, pages_where, pages_within, run_count};
+ghost use Rattle.numa_placed.specs.Spots.{stated_beside, too_many};
 ghost use Rattle.numa_placed.specs.Spots.{changed_spots, stated_spots, stated_spot, forgotten_spot};
 ghost use Rattle.numa_placed.specs.Spots.{released_spot};
 ghost use Rattle.numa_placed.specs.Shifts.{AreRooms, IsShift, first_of, room_cause, room_moved};
@@ -29,10 +30,11 @@ use crate::moved::Moved;
 use crate::refusal::{MoveRefusal, PlacedRefusal};
 use crate::rooms::Rooms;
 use crate::shift::shift;
-use crate::spans::{span_of, state_span};
+use crate::spans::{span_of, state_others, state_span};
 use crate::spot::Spot;
-use crate::tally::counts;
+use crate::tally::{counts, counts_within};
 use numa_machine::NoMemory;
+use numa_maps::Resident;
 use numa_mask::NodeMask;
 use numa_ranges::{RangeIter, RangeMap};
 use numa_space::Space;
@@ -123,6 +125,15 @@ impl Placed {
         counts(&self.map)
     }
 
+    /// The number of pages that lie on each node, of the `pages` pages from `first` on.
+    pub fn counts_in(&self, first: u64, pages: u64) -> [u64; 256]
+        requires { first + pages ≤ 2 ^ 35 }
+        ensures { (node : ℕ) → node < 256
+            → slice_index result node ≡ pages_within (is_on node) (spot_at self.now) first pages }
+    {
+        counts_within(&self.map, first, pages)
+    }
+
     /// States that the mapped pages of a span lie on a node. Pages in frames stay there. Start and
     /// length are in bytes, as those of a command to a space.
     ///
@@ -158,6 +169,43 @@ impl Placed {
             return Ok(());
         }
         state_span(&mut self.map, space, first, pages, node as u8)
+    }
+
+    /// States it, as `state` does, but of no page that keeps a frame: of such pages of the span
+    /// nothing is stated afterwards. Pages that keep frames are kept in a record of their own here,
+    /// and not by `hold`.
+    ///
+    /// # Errors
+    /// As those of `state`; nothing has changed.
+    pub fn state_beside(
+        &mut self,
+        space: &Space,
+        resident: &Resident,
+        start: u64,
+        length: u64,
+        node: u32,
+    ) -> Result<(), PlacedRefusal>
+        ensures accepted { OnOk result
+            (state_cause space.now.machine start length node ≡ None) }
+        ensures ok { OnOk result ((page : ℕ) → spot_at self.new page
+            ≡ stated_beside (λ p. is_some (page_at space.now.ranges p)) resident.now
+            (page_of start) (page_count length) node (spot_at self.old) page) }
+        ensures few { OnOk result (too_many (spot_at self.new) ≡ false) }
+        ensures err { IfErr result (IsRefusal (state_cause space.now.machine start length node)
+            (stated_beside (λ p. is_some (page_at space.now.ranges p)) resident.now
+            (page_of start) (page_count length) node (spot_at self.old))) }
+        ensures unchanged { OnErr result (self.new ≡ self.old) }
+    {
+        // Tells the proof that there are few runs.
+        let _ = &self.map;
+        let (first, pages) = span_of(start, length)?;
+        if lacks_node(space.machine(), node) {
+            return Err(PlacedRefusal::NoSuchNode);
+        }
+        if pages == 0 {
+            return Ok(());
+        }
+        state_others(&mut self.map, space, resident, first, pages, node as u8)
     }
 
     /// Takes away what was stated of the pages of a span, as is done when they are unmapped. Pages

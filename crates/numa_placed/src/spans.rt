@@ -5,7 +5,8 @@ ghost use Rattle.numa_ranges.specs.Maps.{IsSpan};
 ghost use Rattle.numa_ranges.specs.Runs.{end_of, in_pages, page_at};
 ghost use Rattle.numa_space.specs.History.{page_of, page_count};
 ghost use Rattle.numa_placed.specs.Refusals.{span_cause};
-ghost use Rattle.numa_placed.specs.Spots.{spot_at, stated_spot, stated_spots};
+ghost use Rattle.numa_placed.specs.Spots.{changed_spots, forgotten_spot, passed_over, spot_at};
+ghost use Rattle.numa_placed.specs.Spots.{stated_beside, stated_spot, stated_spots};
 ghost use Rattle.numa_placed.specs.Wholes.{AreWhole, IsEdit, IsKept};
 
 use crate::change::Change;
@@ -13,6 +14,7 @@ use crate::edit::{change_span, edit, put};
 use crate::refusal::PlacedRefusal;
 use crate::spot::Spot;
 use numa_machine::NoMemory;
+use numa_maps::Resident;
 use numa_ranges::{RangeMap, Run};
 use numa_space::{PAGE_BYTES, RangeRecord, Space};
 
@@ -98,6 +100,71 @@ fn state_ranges(
         };
     }
     Ok(())
+}
+
+/// Forgets a page, if it is one of a span.
+fn forget_page(map: &mut RangeMap<Spot>, page: u64, first: u64, pages: u64) -> Result<(), NoMemory>
+    requires span { first + pages ≤ 2 ^ 35 }
+    requires whole { AreWhole map.old.runs }
+    ensures whole { OnOk result (AreWhole map.new.runs) }
+    ensures spots { OnOk result ((other : ℕ) → spot_at map.new.runs other
+        ≡ (if in_pages first pages page then changed_spots page 1 forgotten_spot
+        (spot_at map.old.runs) other else spot_at map.old.runs other)) }
+    ensures limit { map.new.max_ranges ≡ map.old.max_ranges }
+{
+    if page < first || page - first >= pages {
+        return Ok(());
+    }
+    change_span(map, page, 1, Change::Forget)
+}
+
+/// Forgets the pages of a span that keep a frame.
+fn pass_over(
+    map: &mut RangeMap<Spot>,
+    resident: &Resident,
+    first: u64,
+    pages: u64,
+) -> Result<(), NoMemory>
+    requires span { first + pages ≤ 2 ^ 35 }
+    requires whole { AreWhole map.old.runs }
+    ensures whole { OnOk result (AreWhole map.new.runs) }
+    ensures spots { OnOk result ((page : ℕ) → spot_at map.new.runs page
+        ≡ passed_over resident.now first pages (spot_at map.old.runs) page) }
+    ensures limit { map.new.max_ranges ≡ map.old.max_ranges }
+{
+    for (page, _) in resident.iter() {
+        let Ok(()) = forget_page(map, *page, first, pages) else {
+            return Err(NoMemory);
+        };
+    }
+    Ok(())
+}
+
+/// States where the mapped pages of a span lie, but of those that keep a frame, on a copy.
+pub(crate) fn state_others(
+    map: &mut RangeMap<Spot>,
+    space: &Space,
+    resident: &Resident,
+    first: u64,
+    pages: u64,
+    node: u8,
+) -> Result<(), PlacedRefusal>
+    requires span { IsSpan first pages }
+    requires kept { IsKept map.old }
+    ensures kept { IsKept map.new }
+    ensures edit { IsEdit (stated_beside (λ p. is_some (page_at space.now.ranges p)) resident.now
+        first pages node (spot_at map.old.runs)) map.old result map.new }
+{
+    let Ok(mut next) = map.copy() else {
+        return Err(PlacedRefusal::NoMemory);
+    };
+    let Ok(()) = state_ranges(&mut next, space, first, pages, node) else {
+        return Err(PlacedRefusal::NoMemory);
+    };
+    let Ok(()) = pass_over(&mut next, resident, first, pages) else {
+        return Err(PlacedRefusal::NoMemory);
+    };
+    put(map, next)
 }
 
 /// States where the mapped pages of a span lie. If one range has them all, that is one edit; else

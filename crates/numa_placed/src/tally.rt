@@ -2,7 +2,9 @@
 ghost use Rattle.std.specs.Prelude.{◌≡◌, ◌+◌, ◌<◌, ◌≤◌, ◌^◌, ℕ, slice_index};
 ghost use Rattle.numa_placed.specs.Moves.{moved_node, goes, is_left, goes_from, AreTargets};
 ghost use Rattle.numa_placed.specs.Moves.{IsTally};
-ghost use Rattle.numa_placed.specs.Spots.{spot_at, is_on, pages_where, pages_if};
+ghost use Rattle.numa_placed.specs.Spots.{spot_at, is_on, pages_where, pages_if, pages_within};
+ghost use Rattle.numa_placed.specs.Spots.{part_pages};
+ghost use Rattle.numa_ranges.specs.Runs.{end_of};
 
 use crate::moved::Moved;
 use crate::spot::Spot;
@@ -83,5 +85,39 @@ fn add_to_node(counts: &mut [u64; 256], run: &Run<Spot>)
 {
     if let Some(node) = run.value.node() {
         counts[node as usize] += run.pages;
+    }
+}
+
+/// The number of pages that lie on each node, of the pages from `first` on.
+pub(crate) fn counts_within(map: &RangeMap<Spot>, first: u64, pages: u64) -> [u64; 256]
+    requires { first + pages ≤ 2 ^ 35 }
+    ensures { (node : ℕ) → node < 256
+        → slice_index result node ≡ pages_within (is_on node) (spot_at map.now.runs) first pages }
+{
+    let mut counts = [0; 256];
+    let end = first + pages;
+    for run in map.iter_from(first) {
+        if run.first >= end {
+            return counts;
+        }
+        add_part(&mut counts, &run, first, end);
+    }
+    counts
+}
+
+/// Adds the pages that a run and the pages from `first` up to `end` share to those of its node.
+fn add_part(counts: &mut [u64; 256], run: &Run<Spot>, first: u64, end: u64)
+    requires run { end_of run.now ≤ 2 ^ 35 }
+    requires room { (node : ℕ) → node < 256
+        → slice_index counts.old node + part_pages run.now first end < 2 ^ 64 }
+    ensures { (node : ℕ) → node < 256 → slice_index counts.new node
+        ≡ slice_index counts.old node
+        + pages_if (is_on node run.now.value) (part_pages run.now first end) }
+{
+    let from = first.max(run.first);
+    let to = end.min(run.first + run.pages);
+    let part = to.saturating_sub(from);
+    if let Some(node) = run.value.node() {
+        counts[node as usize] += part;
     }
 }
