@@ -128,10 +128,13 @@ shifted_spots go gone spots page = shifted_spot go gone (stated_below spots page
 
 -- ---- a move
 
+-- where so many pages of each node leave one set of nodes for another
+abbrev pub counted_shift : (ℕ → ℕ) → ℕ → ℕ → (ℕ → ℕ) → Going
+counted_shift count old new room = steps 256 (moved_node old new) count (going_from old room)
+
 -- where pages leave one set of nodes for another
 abbrev pub shift_of : (ℕ → Spot) → ℕ → ℕ → (ℕ → ℕ) → Going
-shift_of spots old new room =
-    steps 256 (moved_node old new) (stated_on spots) (going_from old room)
+shift_of spots old new room = counted_shift (stated_on spots) old new room
 
 -- where they lie then
 abbrev pub shifted : (ℕ → Spot) → ℕ → ℕ → (ℕ → ℕ) → ℕ → Spot

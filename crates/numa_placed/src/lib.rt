@@ -37,6 +37,7 @@ mod edit;
 mod filling;
 pub mod judge;
 pub mod laws;
+pub mod leaving;
 pub mod moved;
 pub mod placed;
 pub mod refusal;
@@ -49,6 +50,7 @@ mod targets;
 
 pub use bound::Bound;
 pub use judge::judge_move;
+pub use leaving::{Leaving, departures};
 pub use moved::Moved;
 pub use placed::Placed;
 pub use refusal::{MoveRefusal, PlacedRefusal};

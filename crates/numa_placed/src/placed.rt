@@ -109,6 +109,15 @@ impl Placed {
         self.map.iter()
     }
 
+    /// The runs in ascending order, from the last that starts at page `first` or before it, which
+    /// is found by one search. They have every page from `first` on.
+    pub fn iter_from(&self, first: u64) -> RangeIter<'_, Spot>
+        ensures spots { (page : ℕ) → first ≤ page → spot_at result page ≡ spot_at self.now page }
+        ensures rising { AreApart 0 result }
+    {
+        self.map.iter_from(first)
+    }
+
     /// The number of runs of pages that lie somewhere.
     pub fn runs(&self) -> usize
         ensures runs { result ≡ run_count (spot_at self.now) }
