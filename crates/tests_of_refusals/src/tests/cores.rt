@@ -93,6 +93,26 @@ fn events(rt: HostRuntime) {
     drop(commands);
 }
 
+/// All commands between the marks, and then one publication of all.
+fn publish_all(rt: &impl Abort, alloc: Global, core: &mut Core, commands: &[Command]) {
+    mark(rt, alloc);
+    for command in commands {
+        step(rt, core, &Event::Accept(*command));
+    }
+    step(rt, core, &Event::Publish);
+    mark(rt, alloc);
+}
+
+#[test]
+fn commands_together(rt: HostRuntime) {
+    let commands = commands_of(rt.alloc(), &COMMANDS).expect(&rt, "commands");
+    let mut core = core_for(&rt, rt.alloc());
+    publish_all(&rt, rt.alloc(), &mut core, &commands);
+    same(&rt, &(core.published(), core.space().version()), &(18, 18));
+    drop(core);
+    drop(commands);
+}
+
 /// Copies a core between the marks, and again if a growth was refused.
 fn copy_of(rt: &impl Abort, alloc: Global, core: &Core) -> Core {
     mark(rt, alloc);
