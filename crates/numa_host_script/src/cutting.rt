@@ -7,7 +7,7 @@ use numa_mask::parts::first_place;
 use numa_script::number::small;
 
 /// The word before the first space, and what stands behind that.
-pub(crate) fn cut(text: &[u8]) -> Option<(&[u8], &[u8])>
+pub fn cut(text: &[u8]) -> Option<(&[u8], &[u8])>
     ensures { option_map (λ v. (v.0.now, v.1.now)) result ≡ cut_of text.now }
 {
     let end = first_place(text, b' ')?;
@@ -15,7 +15,7 @@ pub(crate) fn cut(text: &[u8]) -> Option<(&[u8], &[u8])>
 }
 
 /// The text, if it is one word.
-pub(crate) fn one(text: &[u8]) -> Option<&[u8]>
+pub fn one(text: &[u8]) -> Option<&[u8]>
     ensures { option_map (λ word. word.now) result ≡ one_of text.now }
 {
     if first_place(text, b' ').is_some() || text.is_empty() {
@@ -25,7 +25,7 @@ pub(crate) fn one(text: &[u8]) -> Option<&[u8]>
 }
 
 /// The two numbers of a text.
-pub(crate) fn two(text: &[u8]) -> Option<(u32, u32)>
+pub fn two(text: &[u8]) -> Option<(u32, u32)>
     ensures { result ≡ two_of text.now }
 {
     let (first, second) = cut(text)?;

@@ -7,7 +7,7 @@
 #![tactic(auto)]
 
 pub mod asking;
-mod cutting;
+pub mod cutting;
 mod fault;
 mod judging;
 pub mod keyword;
