@@ -149,8 +149,8 @@ uint32_t np_explain(const uint8_t *script, size_t length, const uint8_t *lines,
                     size_t room, np_report *report);
 
 /* What a trace of accesses meets on a machine where no page is placed (numaplan replay): a line
- * `TASK ADDRESS CPU [COUNT]` for each. The question's task and node don't count.
- * NP_BAD_RULES; NP_BAD_FORMAT; NP_NO_MEMORY; NP_NO_MACHINE; NP_MANY_PROCESSES; NP_BAD_ACCESS where
+ * `TASK ADDRESS CPU [COUNT]` for each, of a host with `in P` before it. The question's task and
+ * node don't count. NP_BAD_RULES; NP_BAD_FORMAT; NP_NO_MEMORY; NP_NO_MACHINE; NP_BAD_ACCESS where
  * a line of the trace can't be replayed, which the last message tells. */
 uint32_t np_replay(const uint8_t *script, size_t length, const uint8_t *lines, size_t lines_length,
                    const uint8_t *trace, size_t trace_length, const np_question *asked,

@@ -1,10 +1,17 @@
 //! Answers as a page to explore in a browser.
+ghost use Rattle.std.specs.Prelude.{◌≡◌, ◌≢◌, ◌^◌, [], List, OnOk};
+ghost use Rattle.numa_compile.specs.Standing.{PlanStandsFor};
+ghost use Rattle.numa_space.specs.Standing.{StandsFor};
+ghost use Rattle.numa_space.specs.declared.command.Command.{Command};
+ghost use Rattle.numa_reports.specs.Filled.{free_behind, nodes_of};
+
 use crate::page_head::head;
 use crate::page_script::script;
 use crate::stretches::stretches_text;
 use numa_plan::Plan;
 use numa_reports::{
-    Format, FreePages, Largest, ReportError, Touch, Watch, Written, cycles_text, filling_text,
+    Account, Format, FreePages, Largest, ReportError, Touch, Watch, Written, cycles_text,
+    filling_text, shared_text,
 };
 use numa_rules::ReasonError;
 use numa_space::Space;
@@ -42,6 +49,30 @@ fn rules_of(
     }
 }
 
+/// The object of a state, with where its pages would go, in the largest `number` ranges.
+fn view_with(
+    alloc: Global,
+    space: &Space,
+    plan: &Plan,
+    asked: Touch,
+    free: &[FreePages],
+    number: u32,
+    prediction: &[u8],
+) -> Result<Vec<u8>, ReportError> {
+    let shown = Largest::of_ranges(alloc, space, number)?;
+    let stretches = rules_of(alloc, space, asked, shown)?;
+    let cycles = cycles_of(alloc, space, plan, asked, free, shown)?;
+    let mut text = Written::new(alloc);
+    text.put(b"{\"prediction\":");
+    text.put(prediction);
+    text.put(b",\"stretches\":");
+    text.put(stretches.as_slice());
+    text.put(b",\"cycles\":");
+    text.put(cycles.as_slice());
+    text.put(b"}");
+    Ok(text.take()?)
+}
+
 /// The object of a state: where its pages would go, by which rules, and each page's node, of the
 /// largest `number` ranges, and the sum of the others. The plan is that of the space. Counting free
 /// pages is watched.
@@ -59,67 +90,84 @@ pub fn view_text<W: Watch>(
 ) -> Result<Vec<u8>, ReportError> {
     let html = Format::Html(number);
     let prediction = filling_text(alloc, space, plan, asked, html, free, watch)?;
-    let shown = Largest::of_ranges(alloc, space, number)?;
-    let stretches = rules_of(alloc, space, asked, shown)?;
-    let cycles = cycles_of(alloc, space, plan, asked, free, shown)?;
-    let mut text = Written::new(alloc);
-    text.put(b"{\"prediction\":");
-    text.put(prediction.as_slice());
-    text.put(b",\"stretches\":");
-    text.put(stretches.as_slice());
-    text.put(b",\"cycles\":");
-    text.put(cycles.as_slice());
-    text.put(b"}");
-    Ok(text.take()?)
+    view_with(alloc, space, plan, asked, free, number, &prediction)
 }
 
-/// A page that is written part by part.
+/// The same of one of several processes: if nodes are named in `free`, its pages take those that
+/// the ones before have left.
+///
+/// # Errors
+/// As [`filling_text`].
+pub fn shared_view_text<W: Watch>(
+    alloc: Global,
+    space: &Space,
+    plan: &Plan,
+    asked: Touch,
+    free: &[FreePages],
+    number: u32,
+    account: &mut Account,
+    watch: &mut W,
+) -> Result<Vec<u8>, ReportError>
+    ensures free { (history : List Command) → StandsFor space.now history
+        → PlanStandsFor space.now.machine plan.now history → free.now ≢ [] → OnOk result
+        (account.new.free ≡ free_behind (nodes_of space.now.machine history asked.task asked.cpu)
+        account.old.free 0 (2 ^ 35)) }
+{
+    let html = Format::Html(number);
+    let prediction = shared_text(alloc, space, plan, asked, html, free, account, watch)?;
+    view_with(alloc, space, plan, asked, free, number, &prediction)
+}
+
+/// The data of a page, or of one process in it: an object, member by member.
 #[derive(Drop)]
-pub struct Page {
+pub struct PageData {
     text: Written,
+    is_empty: bool,
 }
 
-impl Page {
-    /// A page of a kind, before its data.
-    pub fn new(alloc: Global, kind: &str) -> Page {
-        let mut text = Written::new(alloc);
-        text.put(head().as_bytes());
-        text.put(b"{\"kind\":\"");
-        text.put(kind.as_bytes());
-        text.put(b"\"");
-        Page { text }
+impl PageData {
+    /// No member.
+    pub fn new(alloc: Global) -> PageData {
+        PageData {
+            text: Written::new(alloc),
+            is_empty: true,
+        }
     }
 
-    /// Writes an object of the data, behind its name.
+    /// Writes a member: an object, behind its name.
     pub fn put(&mut self, name: &str, object: &[u8]) {
-        self.text.put(b",\"");
+        self.text.put(if self.is_empty {
+            b"{\"".as_slice()
+        } else {
+            b",\""
+        });
+        self.is_empty = false;
         self.text.put(name.as_bytes());
         self.text.put(b"\":");
         self.text.put(object);
     }
 
-    /// Ends the page, and returns it.
+    /// Ends the object, and returns it.
     ///
     /// # Errors
     /// `AllocError`: out of memory.
     pub fn end(&mut self) -> Result<Vec<u8>, AllocError> {
         self.text.put(b"}");
-        self.text.put(script().as_bytes());
         self.text.take()
     }
 }
 
-/// A page of a kind with one object.
+/// A page of a kind with its data, an object with a member or more.
 ///
 /// # Errors
 /// `AllocError`: out of memory.
-pub fn page_of(
-    alloc: Global,
-    kind: &str,
-    name: &str,
-    object: &[u8],
-) -> Result<Vec<u8>, AllocError> {
-    let mut page = Page::new(alloc, kind);
-    page.put(name, object);
-    page.end()
+pub fn page_of(alloc: Global, kind: &str, data: &[u8]) -> Result<Vec<u8>, AllocError> {
+    let mut text = Written::new(alloc);
+    text.put(head().as_bytes());
+    text.put(b"{\"kind\":\"");
+    text.put(kind.as_bytes());
+    text.put(b"\",");
+    text.put(data.strip_prefix(b"{").unwrap_or(data));
+    text.put(script().as_bytes());
+    text.take()
 }

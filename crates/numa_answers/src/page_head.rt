@@ -10,6 +10,9 @@ static HEAD: &str = "\
 <style>
 body { font: 14px sans-serif; margin: 1em 2em; color: #111; background: #fff; }
 h2 { margin: 1em 0 0.3em; font-size: 16px; }
+section { margin-top: 2em; border-top: 3px solid #333; }
+section h1 { font-size: 20px; }
+#said a { margin-right: 1.5em; }
 table { border-collapse: collapse; font-family: monospace; }
 td, th { padding: 2px 10px; text-align: left; border-bottom: 1px solid #ddd; }
 td.number { text-align: right; }

@@ -6,7 +6,12 @@ static SCRIPT: &str = "
 <script>
 'use strict';
 const data = JSON.parse(document.getElementById('data').textContent);
-const page = document.getElementById('page');
+const whole = document.getElementById('page');
+// Where parts are put: in a page of several processes the section that is made, whose paragraph
+// says what it shows, and what its names end with.
+let page = whole;
+let said = document.getElementById('said');
+let mark = '';
 const FILLS = ['#d4d4ff', '#802a00', '#2a2a80', '#00ff80', '#ff00ff', '#805555', '#8080aa',
   '#2aaa00', '#aaff00', '#002aff', '#ffd4d4', '#d48080', '#5500aa', '#8055aa', '#ff80ff', '#552a2a'];
 const DARK = [0, 1, 1, 0, 0, 1, 0, 0, 0, 1, 0, 0, 1, 1, 0, 1];
@@ -35,9 +40,9 @@ function table(title, heads, rows, chosen) {
   make('h2', page, title);
   const filter = make('input', page);
   filter.placeholder = 'filter';
-  const whole = make('table', page);
-  const top = make('tr', make('thead', whole));
-  const body = make('tbody', whole);
+  const made = make('table', page);
+  const top = make('tr', make('thead', made));
+  const body = make('tbody', made);
   let by = -1;
   let falls = false;
   const shown = (cell) => (typeof cell === 'object' ? cell.text : String(cell));
@@ -167,10 +172,9 @@ function paintShares(cell, shares) {
   cell.style.background = 'linear-gradient(to top, ' + parts.join(', ') + ')';
 }
 
-const told = {};
-
 // Strips of the pages of a span, one a view; a click on a cell of several pages goes into them.
 function strips(views, start, end, trail) {
+  const { told } = views;
   told.strips.textContent = '';
   told.words.textContent = '';
   const pages = (end - start) / 4096;
@@ -241,7 +245,7 @@ function explain(views, address) {
     if (views.length > 1) lines.push(name + ':');
     lines.push(...explained(view, address));
   }
-  told.words.textContent = lines.join('\\n');
+  views.told.words.textContent = lines.join('\\n');
 }
 
 // The table of a view's ranges, and what the others have.
@@ -266,8 +270,8 @@ function rangesPart(title, view, views) {
   }
 }
 
-function totals(title, prediction) {
-  const nodes = prediction.total.nodes;
+function totals(title, total) {
+  const nodes = total.nodes;
   const most = Math.max(1, ...nodes.map((it) => it.pages));
   table(
     title,
@@ -286,41 +290,54 @@ function totals(title, prediction) {
 function pagesPart(views) {
   make('h2', page, 'Pages');
   make('p', page, 'Choose a row above; a cell of several pages opens, one of a page tells why.');
-  told.strips = make('div', page);
-  told.strips.id = 'strips';
-  told.words = make('pre', page);
-  told.words.id = 'words';
+  views.told = { strips: make('div', page), words: make('pre', page) };
+  views.told.strips.id = 'strips' + mark;
+  views.told.words.id = 'words' + mark;
   const first = views[0][1].ranges[0];
   if (first) strips(views, first.start, first.end, []);
 }
 
-// ---- the kinds of pages
+// ---- the kinds of pages, of one process and of all together
 
 function say(text) {
-  document.getElementById('said').textContent = text;
+  said.textContent = text;
 }
 
-function prediction() {
-  const view = viewOf(data.before);
-  const { task, cpu, version, total, left } = view.prediction;
-  const exhausted = total.exhausted ? ', ' + total.exhausted + ' exhausted' : '';
-  say('Where pages would go that task ' + task + ' touched on node ' + cpu + ' (version ' + version
-    + '): ' + pagesText(total.anon) + exhausted);
-  totals('Totals', view.prediction);
+const movesText = (list) => list.map((m) => 'N' + m.from + '->N' + m.to + '=' + m.pages).join(' ');
+const placedText = ({ anon, exhausted }) => pagesText(anon)
+  + (exhausted ? ', ' + exhausted + ' exhausted' : '');
+const movedText = ({ moved, moves }) => moved + (moved ? ', ' + movesText(moves) : '');
+
+function leftPart(left) {
   if (left) table('Left', ['node', 'pages'], left.map((it) => ({ cells: [it.node, it.pages] })));
-  rangesPart('Ranges', view, [['now', view]]);
-  pagesPart([['now', view]]);
 }
 
-function difference() {
-  const { spans, total, task, cpu, others } = data.difference;
-  const [before, after] = [viewOf(data.before), viewOf(data.after)];
+function prediction(from) {
+  const view = viewOf(from.before);
+  const { task, cpu, version, total, left } = view.prediction;
+  say('Where pages would go that task ' + task + ' touched on node ' + cpu + ' (version ' + version
+    + '): ' + placedText(total));
+  totals('Totals', total);
+  leftPart(left);
+  const views = [['now', view]];
+  rangesPart('Ranges', view, views);
+  pagesPart(views);
+}
+
+function predictions({ total, left }) {
+  say(placedText(total));
+  totals('Totals', total);
+  leftPart(left);
+}
+
+function difference(from) {
+  const { spans, total, task, cpu, others } = from.difference;
+  const [before, after] = [viewOf(from.before), viewOf(from.after)];
   const views = [['before', before], ['after', after]];
-  const moves = (list) => list.map((m) => 'N' + m.from + '->N' + m.to + '=' + m.pages).join(' ');
   say('Pages that would go elsewhere if task ' + task + ' touched them on node ' + cpu + ': '
-    + total.moved + (total.moved ? ', ' + moves(total.moves) : ''));
-  totals('Before', before.prediction);
-  totals('After', after.prediction);
+    + movedText(total));
+  totals('Before', before.prediction.total);
+  totals('After', after.prediction.total);
   table(
     'Moves',
     ['start', 'end', 'moved', 'from and to'],
@@ -330,7 +347,7 @@ function difference() {
         { key: it.start, text: hex(it.start) },
         { key: it.end, text: hex(it.end) },
         it.moved,
-        moves(it.moves),
+        movesText(it.moves),
       ],
     })),
     (it) => strips(views, it.start, it.end, []),
@@ -343,8 +360,12 @@ function difference() {
   pagesPart(views);
 }
 
-function replay() {
-  const { tasks, total } = data.replay;
+function differences({ total }) {
+  say('Pages that would go elsewhere: ' + movedText(total));
+}
+
+// What the accesses of a trace met.
+function replays({ total }) {
   say('What ' + total.accesses + ' accesses met: ' + total.placed + ' faults placed a page, '
     + total.exhausted + ' found no frame, ' + total.unserved + ' accesses went nowhere');
   const most = Math.max(1, ...total.nodes.map((it) => it.accesses));
@@ -358,29 +379,56 @@ function replay() {
   table('Distances', ['distance', 'accesses'], total.distances.map((it) => ({
     cells: [it.distance, it.accesses],
   })));
+}
+
+function replay(from) {
+  replays(from.replay);
   table(
     'Tasks',
     ['task', 'accesses', 'nodes', 'placed', 'exhausted', 'unserved'],
-    tasks.map((it) => ({
+    from.replay.tasks.map((it) => ({
       cells: [it.task, it.accesses, nodesText(it.nodes, 'accesses'), it.placed, it.exhausted,
         it.unserved],
     })),
   );
-  const before = viewOf(data.before);
+  const before = viewOf(from.before);
   const { task, cpu } = before.prediction;
   const views = [['by the rules, for task ' + task + ' on node ' + cpu, before],
-    ['after the trace', placedView(before, data.placed.runs)]];
+    ['after the trace', placedView(before, from.placed.runs)]];
   rangesPart('Ranges', before, views);
-  if (data.placed.others) {
-    const pages = pagesText(data.placed.others);
+  if (from.placed.others) {
+    const pages = pagesText(from.placed.others);
     make('p', page, 'Of ' + pages + ' it is not told where they lie', 'others');
   }
   pagesPart(views);
 }
 
-if (data.kind === 'prediction') prediction();
-if (data.kind === 'difference') difference();
-if (data.kind === 'replay') replay();
+// A section of a page of several processes, with a link to it at the top.
+function section(name, heading, build, from) {
+  const link = make('a', links, heading);
+  link.href = '#' + name;
+  page = make('section', whole);
+  page.id = name;
+  make('h1', page, heading);
+  said = make('p', page);
+  build(from);
+}
+
+const [one, all] = {
+  prediction: [prediction, predictions],
+  difference: [difference, differences],
+  replay: [replay, replays],
+}[data.kind];
+const links = said;
+if (data.processes) {
+  for (const it of data.processes) {
+    mark = '-' + it.process;
+    section('process' + mark, 'process ' + it.process + ', group ' + it.group, one, it);
+  }
+  section('all', 'all processes', all, data);
+} else {
+  one(data);
+}
 document.body.dataset.ready = 'yes';
 </script>
 </body>

@@ -23,6 +23,7 @@ mod pictures;
 mod policies;
 mod records;
 mod scale;
+mod sections;
 mod shared;
 mod written;
 

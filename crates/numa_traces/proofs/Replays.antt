@@ -9,13 +9,14 @@ use Rattle.numa_plan.specs.Meaning.{PlanData, place_refusal, planned_list}
 use Rattle.numa_machine.specs.declared.refusal.PlaceRefusal.{PlaceRefusal}
 use Rattle.numa_machine.specs.declared.refusal.PlaceRefusal.TheVariants.{Unmapped}
 use Rattle.numa_traces.specs.Placing.{Frames, node_of, frames_with_page}
-use Rattle.numa_traces.specs.Replaying.{EndsReplay, Replayed, IsReplay, frames_after, is_first}
-use Rattle.numa_traces.specs.Replaying.{route_from}
+use Rattle.numa_traces.specs.Replaying.{EndsReplay, Replayed, IsNext, IsReplay, frames_with_access}
+use Rattle.numa_traces.specs.Replaying.{is_first, route_from}
 use Rattle.numa_traces.specs.Tallies.{Counts, IsFull, IsRoomFault, Route, is_route, with_accesses}
 use Rattle.numa_traces.specs.declared.access.Access.{Access}
 use Rattle.numa_traces.specs.declared.fault.ReplayError.{ReplayError}
-use Rattle.numa_traces.specs.declared.fault.ReplayError.TheVariants.{Malformed, Refused, TooMany}
-use Rattle.numa_traces.specs.declared.fault.ReplayError.TheVariants.{NoMemory}
+use Rattle.numa_traces.specs.declared.fault.ReplayError.TheVariants.{Malformed, Named, NoMemory}
+use Rattle.numa_traces.specs.declared.fault.ReplayError.TheVariants.{NoProcess, Refused, TooMany}
+use Rattle.numa_traces.specs.declared.fault.ReplayError.TheVariants.{Unnamed}
 
 pub on-ok : {A E : Type 0} {P Q : Type 0} (result : Result A E) → (P → Q) → OnOk result P
     → OnOk result Q
@@ -50,6 +51,9 @@ room-ends plan met access route first (Err TooMany) none goes is room full = (
 room-ends plan met access route first (Err NoMemory) none goes is room full = none
 room-ends plan met access route first (Err (Refused r)) none goes is room full = absurd room
 room-ends plan met access route first (Err (Malformed f)) none goes is room full = absurd room
+room-ends plan met access route first (Err Unnamed) none goes is room full = absurd room
+room-ends plan met access route first (Err Named) none goes is room full = absurd room
+room-ends plan met access route first (Err NoProcess) none goes is room full = absurd room
 
 -- the route of an access whose page is placed already
 pub placed-route : (plan : PlanData) (frames : Frames) (access : Access) (node : ℕ)
@@ -70,25 +74,35 @@ touched-route plan old new access nodes place planned touches lies =
     (ap (λ (nodes : List ℕ). node_of (frames_with_page old access.page nodes).pages access.page)
     list ∙ ap (λ (f : Frames). node_of f.pages access.page) (sym touches) ∙ lies)
 
-pub replayed : (machine : Hardware) (plan : PlanData) (trace : List Access) (access : Access)
-    (old new : Replayed) (nodes : List ℕ)
+-- what a page's touch and a route's count make
+pub next-of : (plan : PlanData) (access : Access) (old new : Replayed) (nodes : List ℕ)
     → planned_list plan access.task access.page access.cpu ≡ Some nodes
     → new.frames ≡ frames_with_page old.frames access.page nodes
     → Counts old.tallies (access.task, access.cpu, node_of new.frames.pages access.page)
     access.count (not (is_some (node_of old.frames.pages access.page))) new.tallies
-    → IsReplay machine plan trace old → IsReplay machine plan (access ∷ trace) new
-replayed machine plan trace access old new nodes planned touches counts was = record {
-  start = was.start;
-  fresh = was.fresh;
+    → IsNext plan access old new
+next-of plan access old new nodes planned touches counts = record {
   frames = after;
-  tallies = λ route. counts route
-      ∙ (λ i. if is_route (access.task, access.cpu, node_of (after i).pages access.page) route
-      then with_accesses (was.tallies route i) access.count
-      (not (is_some (node_of (was.frames i).pages access.page))) else was.tallies route i);
+  tallies = subst (λ (frames : Frames). Counts old.tallies
+      (access.task, access.cpu, node_of frames.pages access.page) access.count
+      (is_first old.frames access) new.tallies) after counts;
 }
   where
     list : nodes ≡ unwrap_or (planned_list plan access.task access.page access.cpu) []
     list = sym (ap (λ o. unwrap_or o []) planned)
 
-    after : new.frames ≡ frames_after plan was.start (access ∷ trace)
-    after = touches ∙ (λ i. frames_with_page (was.frames i) access.page (list i))
+    after : new.frames ≡ frames_with_access plan old.frames access
+    after = touches ∙ ap (λ (nodes : List ℕ). frames_with_page old.frames access.page nodes) list
+
+pub replayed : (machine : Hardware) (plan : PlanData) (trace : List Access) (access : Access)
+    (old new : Replayed) → IsNext plan access old new → IsReplay machine plan trace old
+    → IsReplay machine plan (access ∷ trace) new
+replayed machine plan trace access old new next was = record {
+  start = was.start;
+  fresh = was.fresh;
+  frames = next.frames ∙ (λ i. frames_with_access plan (was.frames i) access);
+  tallies = λ route. next.tallies route
+      ∙ (λ i. if is_route (route_from plan (was.frames i) access) route
+      then with_accesses (was.tallies route i) access.count (is_first (was.frames i) access)
+      else was.tallies route i);
+}

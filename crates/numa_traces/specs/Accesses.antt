@@ -1,10 +1,12 @@
--- What a line of a trace says: `TASK ADDRESS CPU [COUNT]`.
+-- What a line of a trace says: `TASK ADDRESS CPU [COUNT]`, and `in P` before it.
 use Rattle.std.specs.Prelude.{ℕ, List, [], ◌∷◌, Option, Some, None, Result, Ok, Err}
-use Rattle.std.specs.Prelude.{if◌then◌else◌}
+use Rattle.std.specs.Prelude.{if◌then◌else◌, codes, drop, take}
+use Rattle.std.specs.Str.{bytes_eq}
 use Rattle.numa_script.specs.Lines.{is_silent}
 use Rattle.numa_script.specs.Numbers.{page_of, small_of}
 use Rattle.numa_script.specs.Parts.{words_of}
 use Rattle.numa_traces.specs.declared.access.Access.{Access}
+use Rattle.numa_traces.specs.declared.access.TraceLine.{TraceLine}
 use Rattle.numa_traces.specs.declared.fault.AccessError.{AccessError}
 use Rattle.numa_traces.specs.declared.fault.AccessError.TheVariants as fault
 
@@ -35,11 +37,37 @@ access_by (task ∷ address ∷ cpu ∷ count ∷ []) =
     with_task (small_of task) (page_of address) (small_of cpu) (small_of count)
 access_by words = Err fault.WordCount
 
--- an access, if there is one
-abbrev pub said_by : Result Access AccessError → Result (Option Access) AccessError
-said_by (Ok access) = Ok (Some access)
+-- an access of this process, or of none that is named
+abbrev pub line_with : Option ℕ → Result Access AccessError → Result TraceLine AccessError
+line_with process (Ok access) = Ok (record { process = process; access = access })
+line_with process (Err why) = Err why
+
+-- words whose first is the process
+abbrev pub with_process : Option ℕ → List (List ℕ) → Result TraceLine AccessError
+with_process None words = Err fault.BadProcess
+with_process (Some process) words = line_with (Some process) (access_by words)
+
+abbrev pub named_by : List (List ℕ) → Result TraceLine AccessError
+named_by [] = Err fault.WordCount
+named_by (process ∷ words) = with_process (small_of process) words
+
+-- what stands behind `in `, where a line begins so
+abbrev pub behind_in : List ℕ → Option (List ℕ)
+behind_in line = if bytes_eq (take 3 line) (codes "in ") then Some (drop 3 line) else None
+
+abbrev pub by_name : Option (List ℕ) → List ℕ → Result TraceLine AccessError
+by_name None line = line_with None (access_by (words_of line))
+by_name (Some rest) line = named_by (words_of rest)
+
+-- what a line says that isn't silent
+abbrev pub line_by : List ℕ → Result TraceLine AccessError
+line_by line = by_name (behind_in line) line
+
+-- something, if it is said
+abbrev pub said_by : Result TraceLine AccessError → Result (Option TraceLine) AccessError
+said_by (Ok said) = Ok (Some said)
 said_by (Err why) = Err why
 
 -- what a line says: nothing where it is empty or a comment
-abbrev pub access_of : List ℕ → Result (Option Access) AccessError
-access_of line = if is_silent line then Ok None else said_by (access_by (words_of line))
+abbrev pub access_of : List ℕ → Result (Option TraceLine) AccessError
+access_of line = if is_silent line then Ok None else said_by (line_by line)

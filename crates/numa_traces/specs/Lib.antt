@@ -1,4 +1,6 @@
 pub mod Accesses
+pub mod Hosting
+pub mod HostReading
 pub mod Placing
 pub mod Reading
 pub mod Replaying

@@ -1,7 +1,9 @@
 //! The lines of a trace.
 ghost use Rattle.std.specs.Prelude.{◌≡◌};
+ghost use Rattle.std.specs.Option.{option_map};
 ghost use Rattle.numa_script.specs.Lines.{is_silent};
-ghost use Rattle.numa_traces.specs.Accesses.{access_by, access_of, with_task};
+ghost use Rattle.numa_traces.specs.Accesses.{access_by, access_of, behind_in, line_by, named_by};
+ghost use Rattle.numa_traces.specs.Accesses.{with_task};
 
 use crate::fault::AccessError;
 use numa_mask::Parts;
@@ -22,6 +24,13 @@ pub struct Access {
 }
 
 const _: () = prove!(size_of::<Access>() == 24);
+
+/// What a line of a trace says: accesses, and the process that makes them, if it names one.
+#[derive(Clone, Copy)]
+pub struct TraceLine {
+    pub process: Option<u32>,
+    pub access: Access,
+}
 
 /// The access of four words.
 ///
@@ -77,6 +86,48 @@ fn read_words(mut words: Parts<'_>) -> Result<Access, AccessError>
     access_with(small(task), page(address), small(cpu), small(count))
 }
 
+/// What the words behind `in` say: a process, and its access.
+fn read_named(mut words: Parts<'_>) -> Result<TraceLine, AccessError>
+    ensures { result ≡ named_by words.entry }
+{
+    let Some(word) = words.next() else {
+        return Err(AccessError::WordCount);
+    };
+    let Some(process) = small(word) else {
+        return Err(AccessError::BadProcess);
+    };
+    match read_words(words) {
+        Ok(access) => Ok(TraceLine {
+            process: Some(process),
+            access,
+        }),
+        Err(fault) => Err(fault),
+    }
+}
+
+/// What stands behind `in `, if a line begins so.
+fn behind_in(line: &[u8]) -> Option<&[u8]>
+    ensures { option_map (λ rest. rest.now) result ≡ behind_in line.now }
+{
+    line.strip_prefix(b"in ")
+}
+
+/// What a line says that isn't silent.
+fn read_line(line: &[u8]) -> Result<TraceLine, AccessError>
+    ensures { result ≡ line_by line.now }
+{
+    if let Some(rest) = behind_in(line) {
+        return read_named(words(rest));
+    }
+    match read_words(words(line)) {
+        Ok(access) => Ok(TraceLine {
+            process: None,
+            access,
+        }),
+        Err(fault) => Err(fault),
+    }
+}
+
 /// Whether a line is empty, or begins with `#`.
 fn is_silent(line: &[u8]) -> bool
     ensures { result ≡ is_silent line.now }
@@ -87,21 +138,23 @@ fn is_silent(line: &[u8]) -> bool
     }
 }
 
-/// Parses a line `TASK ADDRESS CPU [COUNT]`: numbers, decimal or hexadecimal with `0x`, separated
-/// by single spaces; the address is in bytes, and COUNT is 1 if it is missing. `None` for an empty
-/// line, and one that begins with `#`.
+/// Parses a line `TASK ADDRESS CPU [COUNT]`, or the same behind `in P`, the process that makes the
+/// accesses: numbers, decimal or hexadecimal with `0x`, separated by single spaces; the address is
+/// in bytes, and COUNT is 1 if it is missing. `None` for an empty line, and one that begins with
+/// `#`.
 ///
 /// # Errors
-/// The first that applies: `WordCount`, there aren't three or four words; `BadTask`, `BadAddress`,
-/// `BadCpu`, `BadCount`: that word isn't a valid number.
-pub fn read_access(line: &[u8]) -> Result<Option<Access>, AccessError>
+/// Behind `in`, `BadProcess`: P isn't a number below 2^32. Then the first that applies:
+/// `WordCount`, there aren't three or four words of an access; `BadTask`, `BadAddress`, `BadCpu`,
+/// `BadCount`: that word isn't a valid number.
+pub fn read_access(line: &[u8]) -> Result<Option<TraceLine>, AccessError>
     ensures { result ≡ access_of line.now }
 {
     if is_silent(line) {
         return Ok(None);
     }
-    match read_words(words(line)) {
-        Ok(access) => Ok(Some(access)),
+    match read_line(line) {
+        Ok(said) => Ok(Some(said)),
         Err(fault) => Err(fault),
     }
 }

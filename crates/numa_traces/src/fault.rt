@@ -5,8 +5,10 @@ use numa_machine::PlaceRefusal;
 /// Why a line isn't an access.
 #[derive(Clone, Copy, Debug)]
 pub enum AccessError {
-    /// There are fewer than three words, or more than four.
+    /// There are fewer than three words of an access, or more than four.
     WordCount,
+    /// The process isn't a number below 2^32.
+    BadProcess,
     /// The task isn't a number below 2^32.
     BadTask,
     /// The address isn't a number below 2^64.
@@ -22,6 +24,12 @@ pub enum AccessError {
 pub enum ReplayError {
     /// The line isn't an access.
     Malformed(AccessError),
+    /// The line names no process, and the accesses are those of a host's processes.
+    Unnamed,
+    /// The line names a process, and there is only one space.
+    Named,
+    /// The line names a process that the host lacks.
+    NoProcess,
     /// The machine lacks the node, or the page isn't mapped.
     Refused(PlaceRefusal),
     /// There are 2^64 or more accesses of one kind.
@@ -34,7 +42,10 @@ impl AccessError {
     /// What is wrong with the line, in a few words.
     pub fn text(self) -> &'static str {
         match self {
-            AccessError::WordCount => "bad words: a line of a trace is TASK ADDRESS CPU [COUNT]",
+            AccessError::WordCount => {
+                "bad words: a line of a trace is [in P] TASK ADDRESS CPU [COUNT]"
+            }
+            AccessError::BadProcess => "bad words: P is no number below 2^32",
             AccessError::BadTask => "bad words: TASK is no number below 2^32",
             AccessError::BadAddress => "bad words: ADDRESS is no number below 2^64",
             AccessError::BadCpu => "bad words: CPU is no number below 2^32",
@@ -48,6 +59,16 @@ impl ReplayError {
     pub fn text(self) -> &'static str {
         match self {
             ReplayError::Malformed(fault) => fault.text(),
+            ReplayError::Unnamed => {
+                "bad state: the line names no process of the host; begin it with in P, or give \
+                --process P"
+            }
+            ReplayError::Named => {
+                "bad state: the line names a process, and no line of the scripts is host"
+            }
+            ReplayError::NoProcess => {
+                "refused NoSuchProcess: the host has no such process after the scripts"
+            }
             ReplayError::Refused(PlaceRefusal::BadCpu) => {
                 "refused BadCpu: the machine lacks the node of CPU"
             }

@@ -3,14 +3,19 @@
 //!
 //! A [`Memory`] has the frames of a machine and the pages in them. A [`Replay`] takes the accesses
 //! of a trace in order: the first touch of a page places it on the first node of its list that has
-//! a frame left, and later accesses go there, whichever task makes them. [`replay_lines`] reads a
-//! trace from a reader.
+//! a frame left, and later accesses go there, whichever task makes them. A [`HostReplay`] has the
+//! processes of a host, each with a plan and pages of its own, on frames that all share.
+//! [`replay_lines`] reads a trace from a reader.
 #![tactic(auto)]
 
 mod access;
 mod fault;
+mod host;
+mod host_reading;
+pub mod laws;
 mod memory;
 mod placed;
+mod process;
 mod reading;
 mod replay;
 mod report;
@@ -19,13 +24,16 @@ mod summary;
 mod tallies;
 mod whole;
 
-pub use access::{Access, read_access};
+pub use access::{Access, TraceLine, read_access};
 pub use fault::{AccessError, ReplayError};
+pub use host::HostReplay;
+pub use host_reading::HostReplaying;
 pub use memory::Memory;
 pub use placed::placed_text;
+pub use process::ProcessReplay;
 pub use reading::{Replaying, replay_lines};
 pub use replay::Replay;
-pub use report::report_text;
+pub use report::{report_text, total_text};
 pub use routes::{RouteCounts, routes_of};
 pub use tallies::{AccessCounts, Route, Tallies};
 pub use whole::replay_all;

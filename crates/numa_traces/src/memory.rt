@@ -8,6 +8,7 @@ use std::alloc::{AllocError, Global};
 use std::collections::BTreeMap;
 use std::collections::btree_map::Iter;
 use std::marker::Model;
+use std::mem;
 
 /// The number of frames that each node has left, and the node of each placed page.
 #[derive(Drop)]
@@ -25,7 +26,7 @@ impl Model for Memory {
 }
 
 /// The number of frames of each node of a machine.
-fn all_frames(alloc: Global, machine: &Machine) -> Result<Vec<u32>, AllocError>
+pub(crate) fn all_frames(alloc: Global, machine: &Machine) -> Result<Vec<u32>, AllocError>
     ensures { IfOk result (λ frames. (node : ℕ) → node < machine.now.nodes
         → slice_index frames.items node ≡ frames_of machine.now node) }
 {
@@ -53,6 +54,25 @@ impl Memory {
             nodes: BTreeMap::new(alloc),
             free,
         })
+    }
+
+    /// The memory of a process that has no frames of its own, with no page placed. It doesn't
+    /// allocate.
+    pub(crate) fn shared(alloc: Global) -> Memory
+        ensures { result ≡ record { pages = []; free = [] } }
+    {
+        Memory {
+            nodes: BTreeMap::new(alloc),
+            free: Vec::new(alloc),
+        }
+    }
+
+    /// Exchanges the numbers of frames left for others.
+    pub(crate) fn exchange(&mut self, free: &mut Vec<u32>)
+        ensures own { self.new ≡ record { pages = self.old.pages; free = free.old.items } }
+        ensures given { free.new.items ≡ self.old.free }
+    {
+        mem::swap(&mut self.free, free);
     }
 
     /// The node of a page, if it is placed.

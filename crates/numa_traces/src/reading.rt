@@ -3,9 +3,10 @@ ghost use Rattle.std.specs.Prelude.{◌≡◌, None, IfOk, IfErr, IsSome, OnOk};
 ghost use Rattle.numa_lines.specs.declared.fault.RunFault.TheVariants as run_fault;
 ghost use Rattle.numa_traces.specs.Accesses.{access_of};
 ghost use Rattle.numa_traces.specs.Reading.{EndsAtLine, IsBegun, ReplaysLine, TakesLine};
+ghost use Rattle.numa_traces.specs.Reading.{access_for, said_for};
 ghost use Rattle.numa_traces.specs.declared.fault.ReplayError.TheVariants as fault;
 
-use crate::access::read_access;
+use crate::access::{Access, TraceLine, read_access};
 use crate::fault::ReplayError;
 use crate::replay::Replay;
 use numa_lines::{Lines, RunFault, TakeLine, read_all};
@@ -14,10 +15,40 @@ use numa_plan::Plan;
 use std::alloc::{AllocError, Global};
 use std::io::Read;
 
+/// The access that a line has for the replay of one space, or of the process of a host that has
+/// this number: what other processes do is left out.
+fn access_for(own: Option<u32>, line: TraceLine) -> Result<Option<Access>, ReplayError>
+    ensures { result ≡ access_for own line.process line.access }
+{
+    let Some(process) = line.process else {
+        return Ok(Some(line.access));
+    };
+    let Some(own) = own else {
+        return Err(ReplayError::Named);
+    };
+    if own == process {
+        return Ok(Some(line.access));
+    }
+    Ok(None)
+}
+
+/// The same of a line that isn't read yet.
+fn said_for(own: Option<u32>, line: &[u8]) -> Result<Option<Access>, ReplayError>
+    ensures { result ≡ said_for own (access_of line.now) }
+{
+    match read_access(line) {
+        Err(fault) => Err(ReplayError::Malformed(fault)),
+        Ok(None) => Ok(None),
+        Ok(Some(said)) => access_for(own, said),
+    }
+}
+
 /// The replay of a trace by a plan, up to the first line that can't be replayed.
 #[derive(Drop)]
 pub struct Replaying<'a> {
     plan: &'a Plan,
+    // The process of a host whose plan it is; none where there is one space.
+    process: Option<u32>,
     replay: Replay,
     // The first line that can't be replayed, and why.
     fault: Option<(u64, ReplayError)>,
@@ -25,7 +56,8 @@ pub struct Replaying<'a> {
 
 impl<'a> Replaying<'a> {
     /// The state before the first line: no page of the machine is placed. The plan is for the
-    /// machine.
+    /// machine. Lines that name another process than this one are left out; without one no line may
+    /// name any.
     ///
     /// # Errors
     /// `AllocError`: out of memory.
@@ -33,12 +65,14 @@ impl<'a> Replaying<'a> {
         alloc: Global,
         machine: &Machine,
         plan: &'a Plan,
+        process: Option<u32>,
     ) -> Result<Replaying<'a>, AllocError>
-        ensures { IfOk result (IsBegun machine.now plan.now) }
+        ensures { IfOk result (IsBegun machine.now plan.now process) }
     {
         match Replay::new(alloc, machine) {
             Ok(replay) => Ok(Replaying {
                 plan,
+                process,
                 replay,
                 fault: None,
             }),
@@ -62,11 +96,13 @@ impl<'a> Replaying<'a> {
 
     /// Replays the access of a line.
     fn take_access(&mut self, line: &[u8]) -> Result<(), ReplayError>
-        ensures ok { OnOk result (ReplaysLine (access_of line.now) self.old self.new) }
-        ensures err { IfErr result (EndsAtLine (access_of line.now) self.old) }
+        ensures ok { OnOk result
+            (ReplaysLine (said_for self.old.process (access_of line.now)) self.old self.new) }
+        ensures err { IfErr result
+            (EndsAtLine (said_for self.old.process (access_of line.now)) self.old) }
     {
-        match read_access(line) {
-            Err(fault) => Err(ReplayError::Malformed(fault)),
+        match said_for(self.process, line) {
+            Err(fault) => Err(fault),
             Ok(None) => Ok(()),
             Ok(Some(access)) => self.replay.take(self.plan, access),
         }
@@ -83,9 +119,9 @@ impl TakeLine<()> for Replaying<'_> {
     ) -> Result<(), RunFault>
         ensures over { IsSome self.old.fault → OnOk result (self.new ≡ self.old) }
         ensures next { self.old.fault ≡ None → OnOk result
-            (TakesLine place (access_of line.now) self.old self.new) }
-        ensures stop { IfErr result (λ why. (why ≡ run_fault.Memory)
-            × EndsAtLine (access_of line.now) self.old fault.NoMemory) }
+            (TakesLine place (said_for self.old.process (access_of line.now)) self.old self.new) }
+        ensures stop { IfErr result (λ why. (why ≡ run_fault.Memory) × EndsAtLine
+            (said_for self.old.process (access_of line.now)) self.old fault.NoMemory) }
     {
         if let Some(_) = self.fault {
             return Ok(());
@@ -109,11 +145,11 @@ impl TakeLine<()> for Replaying<'_> {
 ///
 /// # Errors
 /// `Read`: a read failed; `Memory`: out of memory.
-pub fn replay_lines<'a, R: Read + Drop>(
+pub fn replay_lines<R: Read + Drop, T: TakeLine<()> + Drop>(
     alloc: Global,
     trace: Vec<(String, R)>,
-    replaying: Replaying<'a>,
-) -> Result<Replaying<'a>, RunFault> {
+    replaying: T,
+) -> Result<T, RunFault> {
     let Ok(mut lines) = Lines::new(alloc, replaying) else {
         drop(trace);
         return Err(RunFault::Memory);

@@ -2,7 +2,8 @@
 ghost use Rattle.std.specs.Prelude.{◌≡◌, ◌<◌, ◌∷◌, [], List, Some, IfOk, IfErr, OnOk};
 ghost use Rattle.numa_machine.specs.Machine.{Hardware};
 ghost use Rattle.numa_plan.specs.Meaning.{PlanData, place_refusal, planned_list};
-ghost use Rattle.numa_traces.specs.Replaying.{EndsReplay, IsReplay};
+ghost use Rattle.numa_traces.specs.Hosting.{with_free};
+ghost use Rattle.numa_traces.specs.Replaying.{EndsReplay, IsNext, IsReplay};
 ghost use Rattle.numa_traces.specs.declared.access.Access.{Access};
 
 use crate::access::Access;
@@ -54,6 +55,25 @@ impl Replay {
         })
     }
 
+    /// The state before the first access of a process that has no frames of its own. It doesn't
+    /// allocate.
+    pub(crate) fn shared(alloc: Global) -> Replay
+        ensures { result ≡ record { frames = record { pages = []; free = [] }; tallies = [] } }
+    {
+        Replay {
+            memory: Memory::shared(alloc),
+            tallies: Tallies::new(alloc),
+        }
+    }
+
+    /// Exchanges the numbers of frames left for others.
+    pub(crate) fn exchange(&mut self, free: &mut Vec<u32>)
+        ensures own { self.new ≡ with_free self.old free.old.items }
+        ensures given { free.new.items ≡ self.old.frames.free }
+    {
+        self.memory.exchange(free);
+    }
+
     /// The frames, and the pages in them.
     pub fn memory(&self) -> &Memory
         ensures { result.now ≡ self.now.frames }
@@ -75,6 +95,7 @@ impl Replay {
     /// `TooMany`, a count would exceed 2^64 - 1; `NoMemory`, out of memory. Then the replay has
     /// ended.
     pub fn take(&mut self, plan: &Plan, access: Access) -> Result<(), ReplayError>
+        ensures next { OnOk result (IsNext plan.now access self.old self.new) }
         ensures ok { (machine : Hardware) (trace : List Access)
             → IsReplay machine plan.now trace self.old
             → OnOk result (IsReplay machine plan.now (access ∷ trace) self.new) }

@@ -1,7 +1,8 @@
 //! The report of a replay, as text or JSON.
+use crate::host::HostReplay;
 use crate::replay::Replay;
 use crate::summary::Summary;
-use crate::tallies::{AccessCounts, Route};
+use crate::tallies::{AccessCounts, Route, Tallies};
 use numa_machine::Machine;
 use numa_reports::{Format, Object, Written};
 use serde_json::Value;
@@ -229,4 +230,36 @@ pub fn report_text(
     let mut sheet = Sheet::new(alloc, format);
     sheet.say(machine, replay);
     sheet.written.take()
+}
+
+/// Adds the accesses of each route.
+fn add_routes(sum: &mut Summary, machine: &Machine, tallies: &Tallies) {
+    for (route, tally) in tallies.iter() {
+        let (_, cpu, node) = *route;
+        sum.add(place_of(machine, cpu, node), tally);
+    }
+}
+
+/// The accesses of all processes of a host: of each the sums that [`report_text`] has in total, as
+/// a line or an object. The machine is that of the replay.
+///
+/// # Errors
+/// `AllocError`: out of memory.
+pub fn total_text(
+    alloc: Global,
+    machine: &Machine,
+    host: &HostReplay,
+    format: Format,
+) -> Result<Vec<u8>, AllocError> {
+    let mut sum = Summary::new();
+    for (_, one) in host.iter() {
+        add_routes(&mut sum, machine, one.replay.tallies());
+    }
+    if let Format::Json | Format::Html(_) = format {
+        return summary_text(alloc, None, &sum);
+    }
+    let mut written = Written::new(alloc);
+    written.put(b"total");
+    say_line(&mut written, &sum);
+    written.take()
 }

@@ -4,7 +4,7 @@ use crate::findings::{Ended, Findings, PLAIN};
 use crate::halt::{Halt, halt_of};
 use crate::playing::{Scripts, play};
 use crate::question::{Subject, subject_after, subject_of, write};
-use numa_answers::{page_of, view_text};
+use numa_answers::{PageData, page_of, view_text};
 use numa_compile::compile;
 use numa_host_script::HostScript;
 use numa_lines::RunFault;
@@ -26,7 +26,10 @@ fn prediction_by<P: Watch>(
 ) -> Result<Vec<u8>, ReportError> {
     if let Format::Html(number) = format {
         let view = view_text(alloc, space, plan, asked, free, number, watch)?;
-        return Ok(page_of(alloc, "prediction", "before", view.as_slice())?);
+        let mut data = PageData::new(alloc);
+        data.put("before", view.as_slice());
+        let object = data.end()?;
+        return Ok(page_of(alloc, "prediction", object.as_slice())?);
     }
     filling_text(alloc, space, plan, asked, format, free, watch)
 }

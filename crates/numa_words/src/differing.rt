@@ -1,17 +1,17 @@
 //! Differences after scripts.
-use crate::each::shows_one;
+use crate::each::shown_as;
 use crate::findings::{Ended, Findings, PLAIN};
 use crate::halt::{Halt, halt_of};
 use crate::playing::{Scripts, play};
-use crate::question::{Subject, subject_of, write};
-use numa_answers::{Page, view_text};
+use crate::question::{Subject, member, subject_of, write};
+use numa_answers::{PageData, page_of, view_text};
 use numa_host::{Host, Process};
 use numa_lines::{RunFault, TakeLine};
 use numa_reports::{
     ByProcess, Format, MoveSum, Outlook, Touch, Watch, difference_more, difference_text, outlook_of,
 };
 use numa_space::Space;
-use std::alloc::Global;
+use std::alloc::{AllocError, Global};
 use std::io::{Read, Write};
 
 /// The name of the added lines in messages.
@@ -37,20 +37,20 @@ fn play_lines<T: Write>(findings: &mut Findings<T>, lines: &[String]) -> Result<
     findings.end()
 }
 
-/// The state of a process, or of the one space.
+/// The state of a process, or of the one space, and in a page its object too.
 #[derive(Drop)]
 struct ProcessOutlook {
     process: u32,
     outlook: Outlook,
+    view: Vec<u8>,
 }
 
-/// What a difference is asked of: the states before, and in a page its object too.
+/// What a difference is asked of: the states before.
 #[derive(Drop)]
 struct Before {
     // Whether the states are those of all processes of a host.
     is_each: bool,
     outlooks: Vec<ProcessOutlook>,
-    view: Vec<u8>,
 }
 
 /// A difference that is asked for.
@@ -85,13 +85,37 @@ pub(crate) fn view_in(
     }
 }
 
-/// Adds the state of a space.
+/// The state of a space, as that of a process.
+fn outlook_of_process(
+    alloc: Global,
+    process: u32,
+    space: &Space,
+    asked: Asked,
+) -> Result<ProcessOutlook, Halt> {
+    let outlook = outlook_in(alloc, space)?;
+    match view_in(alloc, space, &outlook, asked) {
+        Ok(view) => Ok(ProcessOutlook {
+            process,
+            outlook,
+            view,
+        }),
+        Err(halt) => {
+            drop(outlook);
+            Err(halt)
+        }
+    }
+}
+
+/// Adds the state of a process.
 fn add_outlook(
+    alloc: Global,
     outlooks: &mut Vec<ProcessOutlook>,
     process: u32,
-    outlook: Outlook,
+    space: &Space,
+    asked: Asked,
 ) -> Result<(), Halt> {
-    match outlooks.push(ProcessOutlook { process, outlook }) {
+    let one = outlook_of_process(alloc, process, space, asked)?;
+    match outlooks.push(one) {
         Ok(()) => Ok(()),
         Err(_) => Err(Halt::Stopped(RunFault::Memory)),
     }
@@ -99,24 +123,14 @@ fn add_outlook(
 
 /// The state of the one space.
 fn before_of_one(alloc: Global, space: &Space, asked: Asked) -> Result<Before, Halt> {
-    let outlook = outlook_in(alloc, space)?;
-    let view = match view_in(alloc, space, &outlook, asked) {
-        Ok(view) => view,
-        Err(halt) => {
-            drop(outlook);
-            return Err(halt);
-        }
-    };
     let mut outlooks = Vec::new(alloc);
-    match add_outlook(&mut outlooks, 0, outlook) {
+    match add_outlook(alloc, &mut outlooks, 0, space, asked) {
         Ok(()) => Ok(Before {
             is_each: false,
             outlooks,
-            view,
         }),
         Err(halt) => {
             drop(outlooks);
-            drop(view);
             Err(halt)
         }
     }
@@ -127,31 +141,41 @@ fn add_outlooks(
     alloc: Global,
     processes: &[Process],
     outlooks: &mut Vec<ProcessOutlook>,
+    asked: Asked,
 ) -> Result<(), Halt> {
     for process in processes {
-        let outlook = outlook_in(alloc, &process.space)?;
-        add_outlook(outlooks, process.id, outlook)?;
+        add_outlook(alloc, outlooks, process.id, &process.space, asked)?;
     }
     Ok(())
 }
 
 /// The states of all processes.
 fn before_of_each(alloc: Global, host: &Host, asked: Asked) -> Result<Before, Halt> {
-    if shows_one(asked.format) {
-        return Err(Halt::ManyProcesses);
-    }
     let mut outlooks = Vec::new(alloc);
-    match add_outlooks(alloc, host.processes(), &mut outlooks) {
+    match add_outlooks(alloc, host.processes(), &mut outlooks, asked) {
         Ok(()) => Ok(Before {
             is_each: true,
             outlooks,
-            view: Vec::new(alloc),
         }),
         Err(halt) => {
             drop(outlooks);
             Err(halt)
         }
     }
+}
+
+/// The data of a page with a difference, and the states before and after.
+fn data_of(
+    alloc: Global,
+    difference: &[u8],
+    before: &[u8],
+    after: &[u8],
+) -> Result<Vec<u8>, AllocError> {
+    let mut data = PageData::new(alloc);
+    data.put("difference", difference);
+    data.put("before", before);
+    data.put("after", after);
+    data.end()
 }
 
 /// The difference to an outlook, on machines with up to so many nodes, as a text, or as a page.
@@ -174,11 +198,8 @@ pub(crate) fn difference_to<P: Watch>(
         return Ok(text);
     };
     let view_after = view_in(alloc, space, after, asked)?;
-    let mut page = Page::new(alloc, "difference");
-    page.put("difference", text.as_slice());
-    page.put("before", view);
-    page.put("after", view_after.as_slice());
-    Ok(page.end()?)
+    let data = data_of(alloc, &text, view, &view_after)?;
+    Ok(page_of(alloc, "difference", data.as_slice())?)
 }
 
 /// The difference to the state of the one space.
@@ -193,7 +214,7 @@ fn difference_of_one<P: Watch>(
         return Err(Halt::NoMachine);
     };
     let after = outlook_in(alloc, space)?;
-    let view = before.view.as_slice();
+    let view = one.view.as_slice();
     let nodes = space.machine().nodes();
     let text = difference_to(
         alloc,
@@ -209,37 +230,50 @@ fn difference_of_one<P: Watch>(
     text
 }
 
+/// The difference of a process to its state now: a text, or the data of a page.
+fn difference_in<P: Watch>(
+    alloc: Global,
+    one: &ProcessOutlook,
+    space: &Space,
+    after: &Outlook,
+    asked: Asked,
+    sum: &mut MoveSum,
+    watch: &mut P,
+) -> Result<Vec<u8>, Halt> {
+    let nodes = space.machine().nodes();
+    let Asked { touch, format, .. } = asked;
+    let before = &one.outlook;
+    let text = match difference_more(alloc, before, after, nodes, touch, format, sum, watch) {
+        Ok(text) => text,
+        Err(fault) => return Err(halt_of(fault, nodes)),
+    };
+    let Format::Html(_) = format else {
+        return Ok(text);
+    };
+    let view = view_in(alloc, space, after, asked)?;
+    Ok(data_of(alloc, &text, &one.view, &view)?)
+}
+
 /// Adds the difference of a process.
 fn add_difference<P: Watch>(
     alloc: Global,
     one: &ProcessOutlook,
-    space: &Space,
+    now: &Process,
     asked: Asked,
     answers: &mut ByProcess,
     sum: &mut MoveSum,
     watch: &mut P,
 ) -> Result<(), Halt> {
-    let nodes = space.machine().nodes();
-    let Asked { touch, format, .. } = asked;
-    let after = outlook_in(alloc, space)?;
-    let text = difference_more(
-        alloc,
-        &one.outlook,
-        &after,
-        nodes,
-        touch,
-        format,
-        sum,
-        watch,
-    );
+    let after = outlook_in(alloc, &now.space)?;
+    let text = difference_in(alloc, one, &now.space, &after, asked, sum, watch);
     drop(after);
     match text {
         Ok(text) => {
-            answers.add(one.process, text.as_slice());
+            answers.add(one.process, now.group, text.as_slice());
             drop(text);
             Ok(())
         }
-        Err(fault) => Err(halt_of(fault, nodes)),
+        Err(halt) => Err(halt),
     }
 }
 
@@ -254,8 +288,8 @@ fn add_differences<P: Watch>(
     watch: &mut P,
 ) -> Result<(), Halt> {
     for one in before {
-        if let Some(space) = host.process(one.process) {
-            add_difference(alloc, one, space, asked, answers, sum, watch)?;
+        if let Some(now) = member(host, one.process) {
+            add_difference(alloc, one, now, asked, answers, sum, watch)?;
         }
     }
     Ok(())
@@ -273,7 +307,8 @@ fn differences<P: Watch>(
     let mut sum = MoveSum::new(alloc)?;
     add_differences(alloc, before, host, asked, answers, &mut sum, watch)?;
     answers.end_moves(&sum, host.machine().nodes());
-    Ok(answers.take()?)
+    let text = answers.take()?;
+    shown_as(alloc, asked.format, "difference", text)
 }
 
 /// The difference to the states of all processes, by process and in all.
@@ -285,9 +320,6 @@ fn difference_of_each<P: Watch>(
     watch: &mut P,
 ) -> Result<Vec<u8>, Halt> {
     let nodes = host.machine().nodes();
-    if shows_one(asked.format) {
-        return Err(Halt::ManyProcesses);
-    }
     if asked.touch.cpu >= nodes {
         return Err(Halt::NoNode(nodes));
     }

@@ -1,10 +1,22 @@
-//! Predictions and explanations of all processes of a host, by process and in all.
+//! Predictions of all processes of a host, by process and in all.
+ghost use Rattle.std.specs.Prelude.{◌≡◌, ◌≢◌, ◌^◌, ℕ, [], All, List, OnOk, map};
+ghost use Rattle.numa_compile.specs.Standing.{PlanStandsFor};
+ghost use Rattle.numa_host.specs.Standing.{IsSpaceOf};
+ghost use Rattle.numa_host.specs.declared.process.Process.{Process};
+ghost use Rattle.numa_machine.specs.Machine.{Hardware};
+ghost use Rattle.numa_space.specs.Limited.{Bounds};
+ghost use Rattle.numa_space.specs.Standing.{StandsFor};
+ghost use Rattle.numa_space.specs.declared.command.Command.{Command};
+ghost use Rattle.numa_reports.specs.Filled.{free_behind, nodes_of};
+ghost use Rattle.numa_words.specs.Accounts.{free_behind_each};
 
 use crate::halt::{Halt, halt_of};
+use numa_answers::{PageData, page_of, shared_view_text};
 use numa_compile::compile;
 use numa_host::{Host, Process};
 use numa_lines::RunFault;
-use numa_reports::{Account, ByProcess, Format, FreePages, Touch, Watch, shared_text};
+use numa_plan::Plan;
+use numa_reports::{Account, ByProcess, Format, FreePages, ReportError, Touch, Watch, shared_text};
 use numa_space::Space;
 use std::alloc::Global;
 
@@ -16,9 +28,67 @@ pub(crate) struct EachAsked<'a> {
     pub(crate) free: &'a [FreePages],
 }
 
-/// Whether a format shows one space alone.
-pub(crate) fn shows_one(format: Format) -> bool {
-    matches!(format, Format::Svg(_) | Format::Html(_))
+/// An answer about all processes, which a page has as its data.
+pub(crate) fn shown_as(
+    alloc: Global,
+    format: Format,
+    kind: &str,
+    text: Vec<u8>,
+) -> Result<Vec<u8>, Halt> {
+    let Format::Html(_) = format else {
+        return Ok(text);
+    };
+    let page = page_of(alloc, kind, text.as_slice());
+    drop(text);
+    Ok(page?)
+}
+
+/// Where the pages of a process would go, by what the ones before it have left, as the data of a
+/// page.
+fn data_of<P: Watch>(
+    alloc: Global,
+    space: &Space,
+    plan: &Plan,
+    asked: EachAsked<'_>,
+    number: u32,
+    account: &mut Account,
+    watch: &mut P,
+) -> Result<Vec<u8>, ReportError>
+    ensures { (history : List Command) → StandsFor space.now history
+        → PlanStandsFor space.now.machine plan.now history → asked.entry.free.now ≢ []
+        → OnOk result (account.new.free ≡ free_behind (nodes_of space.now.machine history
+        asked.entry.touch.task asked.entry.touch.cpu) account.old.free 0 (2 ^ 35)) }
+{
+    let EachAsked { touch, free, .. } = asked;
+    let view = shared_view_text(alloc, space, plan, touch, free, number, account, watch)?;
+    let mut data = PageData::new(alloc);
+    data.put("before", view.as_slice());
+    Ok(data.end()?)
+}
+
+/// Where the pages of a process would go, by what the ones before it have left, in any format.
+fn text_of<P: Watch>(
+    alloc: Global,
+    space: &Space,
+    plan: &Plan,
+    asked: EachAsked<'_>,
+    account: &mut Account,
+    watch: &mut P,
+) -> Result<Vec<u8>, ReportError>
+    ensures { (history : List Command) → StandsFor space.now history
+        → PlanStandsFor space.now.machine plan.now history → asked.entry.free.now ≢ []
+        → OnOk result (account.new.free ≡ free_behind (nodes_of space.now.machine history
+        asked.entry.touch.task asked.entry.touch.cpu) account.old.free 0 (2 ^ 35)) }
+{
+    let EachAsked {
+        touch,
+        format,
+        free,
+    } = asked;
+    match format {
+        Format::Html(number) => data_of(alloc, space, plan, asked, number, account, watch),
+        _ => shared_text(alloc, space, plan, touch, format, free, account, watch),
+    }
 }
 
 /// Where the pages of a process would go, by what the ones before it have left.
@@ -28,16 +98,15 @@ fn prediction_of<P: Watch>(
     asked: EachAsked<'_>,
     account: &mut Account,
     watch: &mut P,
-) -> Result<Vec<u8>, Halt> {
+) -> Result<Vec<u8>, Halt>
+    ensures { (history : List Command) → StandsFor space.now history → asked.entry.free.now ≢ []
+        → OnOk result (account.new.free ≡ free_behind (nodes_of space.now.machine history
+        asked.entry.touch.task asked.entry.touch.cpu) account.old.free 0 (2 ^ 35)) }
+{
     let Ok(plan) = compile(alloc, space) else {
         return Err(Halt::Stopped(RunFault::Memory));
     };
-    let EachAsked {
-        touch,
-        format,
-        free,
-    } = asked;
-    let text = shared_text(alloc, space, &plan, touch, format, free, account, watch);
+    let text = text_of(alloc, space, &plan, asked, account, watch);
     drop(plan);
     match text {
         Ok(text) => Ok(text),
@@ -53,10 +122,15 @@ fn predict_one<P: Watch>(
     account: &mut Account,
     answers: &mut ByProcess,
     watch: &mut P,
-) -> Result<(), Halt> {
+) -> Result<(), Halt>
+    ensures { (history : List Command) → StandsFor process.now.space history
+        → asked.entry.free.now ≢ [] → OnOk result (account.new.free
+        ≡ free_behind (nodes_of process.now.space.machine history asked.entry.touch.task
+        asked.entry.touch.cpu) account.old.free 0 (2 ^ 35)) }
+{
     match prediction_of(alloc, &process.space, asked, account, watch) {
         Ok(text) => {
-            answers.add(process.id, text.as_slice());
+            answers.add(process.id, process.group, text.as_slice());
             drop(text);
             Ok(())
         }
@@ -73,7 +147,13 @@ fn predict_all<P: Watch>(
     account: &mut Account,
     answers: &mut ByProcess,
     watch: &mut P,
-) -> Result<(), Halt> {
+) -> Result<(), Halt>
+    ensures { (machine : Hardware) (limits : Bounds) (commands : ℕ → List Command)
+        → All (λ (p : Process). IsSpaceOf machine limits (commands p.id) p.space) processes.now
+        → asked.entry.free.now ≢ [] → OnOk result (account.new.free
+        ≡ free_behind_each machine asked.entry.touch.task asked.entry.touch.cpu account.old.free
+        (map (λ (p : Process). commands p.id) processes.now)) }
+{
     for process in processes {
         predict_one(alloc, process, asked, account, answers, watch)?;
     }
@@ -90,13 +170,15 @@ pub(crate) fn lacking_node(free: &[FreePages], nodes: u32) -> Option<u8> {
 
 /// Ends predictions with what all processes have together.
 fn ended(
+    alloc: Global,
     answers: &mut ByProcess,
     account: &Account,
-    free: &[FreePages],
+    asked: EachAsked<'_>,
     nodes: u32,
 ) -> Result<Vec<u8>, Halt> {
-    answers.end_placed(account, free, nodes)?;
-    Ok(answers.take()?)
+    answers.end_placed(account, asked.free, nodes)?;
+    let text = answers.take()?;
+    shown_as(alloc, asked.format, "prediction", text)
 }
 
 /// Where the pages of all processes would go, if each were touched now: of one process after the
@@ -104,8 +186,7 @@ fn ended(
 /// the pages of a process take what those before it have left.
 ///
 /// # Errors
-/// `ManyProcesses`: the format shows one process. `NoFreeNode`, `NoNode`, or `Stopped`: out of
-/// memory.
+/// `NoFreeNode`, `NoNode`, or `Stopped`: out of memory.
 pub(crate) fn predict_each<P: Watch>(
     alloc: Global,
     host: &Host,
@@ -113,9 +194,6 @@ pub(crate) fn predict_each<P: Watch>(
     watch: &mut P,
 ) -> Result<Vec<u8>, Halt> {
     let nodes = host.machine().nodes();
-    if shows_one(asked.format) {
-        return Err(Halt::ManyProcesses);
-    }
     if let Some(node) = lacking_node(asked.free, nodes) {
         return Err(Halt::NoFreeNode(node, nodes));
     }
@@ -127,7 +205,7 @@ pub(crate) fn predict_each<P: Watch>(
     let processes = host.processes();
     let done = predict_all(alloc, processes, asked, &mut account, &mut answers, watch);
     let text = match done {
-        Ok(()) => ended(&mut answers, &account, asked.free, nodes),
+        Ok(()) => ended(alloc, &mut answers, &account, asked, nodes),
         Err(halt) => Err(halt),
     };
     drop(answers);

@@ -128,7 +128,7 @@ fn add_reasons(
     let other = other_process(other, process.id);
     match reasons(alloc, &process.space, other, asked) {
         Ok(text) => {
-            answers.add(process.id, text.as_slice());
+            answers.add(process.id, process.group, text.as_slice());
             drop(text);
             Ok(())
         }

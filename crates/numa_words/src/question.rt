@@ -3,7 +3,7 @@ ghost use Rattle.std.specs.Prelude.{◌≡◌, IfOk};
 
 use crate::findings::{Ended, Findings};
 use crate::halt::Halt;
-use numa_host::Host;
+use numa_host::{Host, Process};
 use numa_host_script::HostScript;
 use numa_lines::RunFault;
 use numa_space::Space;
@@ -39,13 +39,9 @@ pub(crate) fn subject_of(script: &HostScript, process: Option<u32>) -> Result<Su
     }
 }
 
-/// The one space that an answer is about after a script.
-pub(crate) fn space_of(script: &HostScript, process: Option<u32>) -> Result<&Space, Halt> {
-    match subject_of(script, process) {
-        Ok(Subject::One(space)) => Ok(space),
-        Ok(Subject::Each(_)) => Err(Halt::ManyProcesses),
-        Err(halt) => Err(halt),
-    }
+/// The process of this number, with its group.
+pub(crate) fn member(host: &Host, process: u32) -> Option<&Process> {
+    host.processes().iter().find(|one| one.id == process)
 }
 
 /// Finishes the messages, and returns what an answer is about.

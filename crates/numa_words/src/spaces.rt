@@ -4,9 +4,7 @@ use crate::differing::{Asked, difference_to, outlook_in, view_in};
 use crate::each::lacking_node;
 use crate::explaining::{explanation_of, reasons_in};
 use crate::halt::Halt;
-use crate::replaying::replayed_by;
-use numa_compile::compile;
-use numa_lines::RunFault;
+use crate::replaying::replayed_in;
 use numa_reports::{Format, FreePages, Outlook, Touch};
 use numa_space::Space;
 use std::alloc::Global;
@@ -116,11 +114,5 @@ pub fn replay_space<S: Read + Drop>(
     trace: Vec<(String, S)>,
     format: Format,
 ) -> Result<Vec<u8>, Halt> {
-    let Ok(plan) = compile(alloc, space) else {
-        drop(trace);
-        return Err(Halt::Stopped(RunFault::Memory));
-    };
-    let text = replayed_by(alloc, space, &plan, trace, format);
-    drop(plan);
-    text
+    replayed_in(alloc, space, None, trace, format)
 }

@@ -45,7 +45,8 @@ a frame left, and later accesses go to where it lies. Tells, by task and in all,
 accesses went to which node (N0=) and over which distance (D10=), how many faults placed a page \
 and how many found no frame, and how many accesses those made. A line of the trace is TASK \
 ADDRESS CPU [COUNT], in decimal or 0x; an empty line or one that begins with # says nothing. Of a \
-host --process names the process that makes the accesses. \
+host a line is in P TASK ADDRESS CPU [COUNT]: it is told by process and in all, and all processes \
+take the same frames; or with --process of process P alone, whose lines need not name it. \
 Script lines that are faulty or refused are told on standard error as by `check`, and passed \
 over. The status is 3 where some are, unless --lenient is given, where no machine is ready after \
 the scripts, and where a line of the trace can't be replayed.",

@@ -3,10 +3,11 @@
 use crate::account::Account;
 use crate::filling::FreePages;
 use crate::moves::{ENTRIES, empty_table};
-use crate::sheet::changes::put_moves;
+use crate::sheet::changes::{moved, put_moves};
 use crate::sheet::fields::{PlacedPages, placed_of};
 use crate::sheet::nodes::{NodePages, list_nodes};
 use crate::sheet::parts::left_on;
+use crate::sheet::sections::{Section, put_moved, put_placed, put_section};
 use crate::sheet::written::Written;
 use crate::sheet::{Format, lines, moved_objects, objects, records};
 use crate::touch::Touch;
@@ -54,6 +55,8 @@ pub struct ByProcess {
     is_whole: bool,
     text: Written,
     processes: u64,
+    // The rows of pixels of the pictures so far.
+    rows: u64,
 }
 
 /// Writes a line.
@@ -62,53 +65,70 @@ fn put_line(text: &mut Written, line: &[u8]) {
     text.put(b"\n");
 }
 
-/// The text without its last line feed.
+/// The text without its last line feed, if it ends with one.
 fn unended(part: &[u8]) -> &[u8] {
-    match part.split_last() {
-        Some((_, front)) => front,
-        None => part,
-    }
+    part.strip_suffix(b"\n").unwrap_or(part)
 }
 
 impl ByProcess {
-    /// Before the first process. Objects are written one a line.
-    pub fn new(alloc: Global, format: Format) -> ByProcess {
+    /// Before the first process, with this text before its answer.
+    fn behind(format: Format, is_whole: bool, text: Written) -> ByProcess {
         ByProcess {
             format,
-            is_whole: false,
-            text: Written::new(alloc),
+            is_whole,
+            text,
             processes: 0,
+            rows: 0,
         }
+    }
+
+    /// Before the first process. Objects are written one a line.
+    pub fn new(alloc: Global, format: Format) -> ByProcess {
+        ByProcess::behind(format, false, Written::new(alloc))
     }
 
     /// Before the first process, if a task touches pages. Objects are members of a whole one.
     pub fn of_touch(alloc: Global, format: Format, touch: Touch) -> ByProcess {
         let mut text = Written::new(alloc);
-        if let Format::Json = format {
+        if let Format::Json | Format::Html(_) = format {
             let asked = [u64::from(touch.task), u64::from(touch.cpu)];
             text.put_form(
                 b"{\"task\":$,\"cpu\":$,\"kernelpagesize_kB\":4,\"processes\":[",
                 &asked,
             );
         }
-        ByProcess {
-            format,
-            is_whole: true,
-            text,
-            processes: 0,
-        }
+        ByProcess::behind(format, true, text)
     }
 
-    /// Writes an object with the process as its first member.
-    fn put_object(&mut self, process: u32, part: &[u8]) {
+    /// Before the first process, if a trace is replayed. Objects are members of a whole one.
+    pub fn of_trace(alloc: Global, format: Format) -> ByProcess {
+        let mut text = Written::new(alloc);
+        if let Format::Json | Format::Html(_) = format {
+            text.put(b"{\"processes\":[");
+        }
+        ByProcess::behind(format, true, text)
+    }
+
+    /// Writes an object with the process and its group as its first members.
+    fn put_object(&mut self, process: u32, group: u32, part: &[u8]) {
         if self.is_whole {
             let before = if self.processes == 0 { "\n" } else { ",\n" };
             self.text.put(before.as_bytes());
         }
+        let numbers = [u64::from(process), u64::from(group)];
+        self.text.put_form(b"{\"process\":$,\"group\":$,", &numbers);
         let part = if self.is_whole { unended(part) } else { part };
-        self.text
-            .put_form(b"{\"process\":$,", &[u64::from(process)]);
         self.text.put(part.strip_prefix(b"{").unwrap_or(part));
+    }
+
+    /// Draws the picture of a process under its heading.
+    fn put_picture(&mut self, process: u32, group: u32, picture: &[u8]) {
+        let section = Section {
+            top: self.rows,
+            process,
+            group,
+        };
+        self.rows = put_section(&mut self.text, section, picture);
     }
 
     /// Writes the header of records, unless it stands already, and each record of a text that has
@@ -139,10 +159,11 @@ impl ByProcess {
         }
     }
 
-    /// Adds the answer about a process.
-    pub fn add(&mut self, process: u32, part: &[u8]) {
+    /// Adds the answer about a process in a group. An answer for a page is the object of its data.
+    pub fn add(&mut self, process: u32, group: u32, part: &[u8]) {
         match self.format {
-            Format::Json => self.put_object(process, part),
+            Format::Json | Format::Html(_) => self.put_object(process, group, part),
+            Format::Svg(_) => self.put_picture(process, group, part),
             Format::Csv => {
                 let mut first = Buffer::new();
                 self.put_records(first.format(process).as_bytes(), part);
@@ -158,10 +179,22 @@ impl ByProcess {
     /// Begins what all processes have together.
     fn begin_all(&mut self) {
         match self.format {
-            Format::Json => self.text.put(b"\n]"),
-            Format::Csv => (),
+            Format::Json | Format::Html(_) => self.text.put(b"\n]"),
+            Format::Csv | Format::Svg(_) => (),
             _ => self.text.put(b"all processes\n"),
         }
+    }
+
+    /// Ends with what a trace met in all processes, a line or an object.
+    pub fn end_trace(&mut self, total: &[u8]) {
+        self.begin_all();
+        if let Format::Json | Format::Html(_) = self.format {
+            self.text.put(b",\"total\":");
+            self.text.put(total);
+            self.text.put(b"}\n");
+            return;
+        }
+        self.text.put(total);
     }
 
     /// Ends with the pages of all processes by node and, if nodes are named, the free pages left on
@@ -177,16 +210,29 @@ impl ByProcess {
     ) -> Result<(), AllocError> {
         self.begin_all();
         let alloc = self.text.alloc();
+        let counts = &account.taken[..(nodes as usize).min(256)];
         let mut listed = Vec::new(alloc);
-        list_nodes(&mut listed, &account.taken[..(nodes as usize).min(256)])?;
+        list_nodes(&mut listed, counts)?;
         let left = left_on(alloc, free, &account.free)?;
         let placed = placed_of(&listed, account.pages, !free.is_empty());
         match self.format {
-            Format::Json => objects::put_total(&mut self.text, placed, &left),
+            Format::Json | Format::Html(_) => objects::put_total(&mut self.text, placed, &left),
             Format::Csv => self.put_total_records(placed, &left),
+            Format::Svg(_) => {
+                let sections = self.text.take()?;
+                put_placed(&mut self.text, &sections, self.rows, placed, counts, &left);
+            }
             _ => lines::put_total(&mut self.text, placed, &left),
         }
         Ok(())
+    }
+
+    /// Ends a picture with how many pages of all processes go to another node.
+    fn end_moved_picture(&mut self, pages: u64) {
+        match self.text.take() {
+            Ok(sections) => put_moved(&mut self.text, &sections, self.rows, pages),
+            Err(_) => self.text.lack(),
+        }
     }
 
     /// Ends with the pages of all processes that go from each node to each other.
@@ -194,7 +240,10 @@ impl ByProcess {
         self.begin_all();
         let table = sum.table.as_slice();
         match self.format {
-            Format::Json => moved_objects::put_total(&mut self.text, table, nodes),
+            Format::Json | Format::Html(_) => {
+                moved_objects::put_total(&mut self.text, table, nodes);
+            }
+            Format::Svg(_) => self.end_moved_picture(moved(table, &[], nodes)),
             _ => {
                 self.text.put(b"total");
                 put_moves(&mut self.text, table, &[], nodes);

@@ -52,24 +52,25 @@ fn put_cells(
 }
 
 /// The number of free pages of each node; `None` if no node is named, so that they aren't counted.
-fn free_where_named(named: &[FreePages]) -> Option<[u64; 256]> {
+pub(crate) fn free_where_named(named: &[FreePages]) -> Option<[u64; 256]> {
     if named.is_empty() {
         return None;
     }
     Some(free_of(named))
 }
 
-/// The nodes of the first pages of each range, as [`put_cells`] writes them, with these free pages.
+/// The nodes of the first pages of each range, as [`put_cells`] writes them, with these free pages,
+/// if they are counted.
 pub(crate) fn first_cells(
     alloc: Global,
     space: &Space,
     plan: &Plan,
     touch: Touch,
-    named: &[FreePages],
+    free: Option<[u64; 256]>,
 ) -> Result<Vec<u8>, ReportError>
     ensures err { FailsForNode space.now plan.now touch.cpu result }
 {
-    let mut left = free_where_named(named);
+    let mut left = free;
     let mut cells = Written::new(alloc);
     for range in space.range_iter() {
         put_cells(space, plan, touch, &range, &mut left, &mut cells)?;

@@ -7,7 +7,7 @@ ghost use Rattle.numa_reports.specs.Failing.{FailsForNode};
 use crate::fault::ReportError;
 use crate::filling::{FreePages, fill_ranges, free_of, taken};
 use crate::prediction::{RangePrediction, TakeRange, predict_ranges};
-use crate::sheet::cells::{CELLS, first_cells};
+use crate::sheet::cells::{CELLS, first_cells, free_where_named};
 use crate::sheet::drawing::Drawing;
 use crate::sheet::fields::{RangeRow, bytes, placed_of};
 use crate::sheet::largest::sizes_of;
@@ -189,17 +189,18 @@ fn drawing_of(alloc: Global, space: &Space, format: Format) -> Result<Drawing, A
     }
 }
 
-/// Before the first range.
+/// Before the first range, with these free pages, if they are counted.
 pub(crate) fn begin(
     alloc: Global,
     asked: PredictionRequest<'_>,
     format: Format,
+    free: Option<[u64; 256]>,
 ) -> Result<PredictionWriter, ReportError>
     ensures err { FailsForNode asked.entry.space.now asked.entry.plan.now
         asked.entry.touch.cpu result }
 {
     let cells = match format {
-        Format::Svg(_) => first_cells(alloc, asked.space, asked.plan, asked.touch, asked.free)?,
+        Format::Svg(_) => first_cells(alloc, asked.space, asked.plan, asked.touch, free)?,
         _ => Vec::new(alloc),
     };
     let drawing = drawing_of(alloc, asked.space, format)?;
@@ -332,7 +333,7 @@ pub fn filling_text<W: Watch>(
         touch,
         free,
     };
-    let mut parts = begin(alloc, asked, format)?;
+    let mut parts = begin(alloc, asked, format, free_where_named(free))?;
     let text = write_all(&mut parts, asked, watch);
     drop(parts);
     text

@@ -210,17 +210,23 @@ fn most_of(counts: &[u64]) -> u64 {
     most
 }
 
-/// Ends the picture, behind this many rows of ranges, with the total pages of each node.
-pub(crate) fn put_total(
+/// The rows of pixels of the total pages of so many nodes.
+pub(crate) fn total_rows(nodes: usize) -> u64 {
+    let nodes = (nodes as u64).saturating_mul(NODE_ROWS);
+    nodes.saturating_add(24)
+}
+
+/// Writes the total pages of each node, from a row of pixels on.
+pub(crate) fn put_totals(
     text: &mut Written,
     placed: PlacedPages<'_>,
     counts: &[u64],
     left: &[NodePages],
-    rows: u64,
+    first: u64,
 ) {
     text.put_form(
         b"<g class=\"total\" transform=\"translate(16,$)\"><text y=\"16\">total anon=",
-        &[below(rows)],
+        &[first],
     );
     text.put_pages(placed.pages);
     text.put_form(b", $ bytes", &[bytes(placed.pages)]);
@@ -232,5 +238,17 @@ pub(crate) fn put_total(
         put_node(text, node, counts[node], most, top, left);
         top = top.saturating_add(NODE_ROWS);
     }
-    text.put(b"</g>\n</svg>\n");
+    text.put(b"</g>\n");
+}
+
+/// Ends the picture, behind this many rows of ranges, with the total pages of each node.
+pub(crate) fn put_total(
+    text: &mut Written,
+    placed: PlacedPages<'_>,
+    counts: &[u64],
+    left: &[NodePages],
+    rows: u64,
+) {
+    put_totals(text, placed, counts, left, below(rows));
+    text.put(b"</svg>\n");
 }

@@ -91,6 +91,14 @@ fn write_by<W: Watch>(
     write_shared(parts, asked, account, watch)
 }
 
+/// The free pages of an account, if nodes are named in it, so that they are counted.
+fn free_in(account: &Account, named: &[FreePages]) -> Option<[u64; 256]> {
+    if named.is_empty() {
+        return None;
+    }
+    Some(account.free)
+}
+
 /// The text of one of several predictions. If nodes are named in `free`, its pages take those that
 /// the ones before have left.
 ///
@@ -122,7 +130,7 @@ pub fn shared_text<W: Watch>(
         touch,
         free,
     };
-    let mut parts = begin(alloc, asked, format)?;
+    let mut parts = begin(alloc, asked, format, free_in(account, free))?;
     let written = write_by(&mut parts, asked, account, watch);
     if let Err(fault) = written {
         drop(parts);

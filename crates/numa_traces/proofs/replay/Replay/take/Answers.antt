@@ -1,10 +1,10 @@
 use Rattle.std.proofs.Common.{◌≡◌, ℕ, Bool, true, false, not, is_some, Option, Some, IfErr, sym, ap}
 use Rattle.std.proofs.Common.{subst, ◌∙◌}
 use Rattle.numa_traces.specs.Placing.{node_of}
-use Rattle.numa_traces.specs.Replaying.{EndsReplay, IsReplay, Replayed}
+use Rattle.numa_traces.specs.Replaying.{EndsReplay, IsNext, Replayed}
 use Rattle.numa_traces.specs.Tallies.{Counts}
-use Rattle.numa_traces.proofs.Replays.{none-refused, on-ok, placed-route, replayed, room-ends}
-use Rattle.numa_traces.proofs.Replays.{touched-route}
+use Rattle.numa_traces.proofs.Replays.{next-of, none-refused, on-ok, placed-route, replayed}
+use Rattle.numa_traces.proofs.Replays.{room-ends, touched-route}
 use Rattle.numa_traces.proofs.replay.Replay.take.Goals as goal
 
 pub returns-in_default-place-clause-err : goal.returns-in_default-place-clause-err
@@ -48,13 +48,13 @@ returns-clause-err c =
     (ap (λ (o : Option ℕ). not (is_some o)) (sym c.node_of.ensures ∙ c.in_default.is))
     c.add-2.ensures.err c.add-2.ensures.full)
 
-pub returns-clause-ok : goal.returns-clause-ok
-returns-clause-ok c machine trace was =
-    let P : Replayed → Type 0 = λ met. IsReplay machine c.args.plan.now trace met in
+pub returns-clause-next : goal.returns-clause-next
+returns-clause-next c =
+    let P : Replayed → Type 0 = λ met. IsNext c.args.plan.now c.args.access met
+    (record { frames = c.place.new.self; tallies = c.add-2.new.self }) in
     let old : Replayed =
     record { frames = c.self.inside.memory; tallies = c.self.inside.tallies } in
     let new : Replayed = record { frames = c.place.new.self; tallies = c.add-2.new.self } in
-    let before : IsReplay machine c.args.plan.now trace old = subst P (sym c.self.view_is) was in
     let lies : node_of new.frames.pages c.args.access.page ≡ c.in-Ok-place.node =
     c.in-Ok-place.ensures.lies in
     let fault : true ≡ not (is_some (node_of old.frames.pages c.args.access.page)) =
@@ -62,8 +62,15 @@ returns-clause-ok c machine trace was =
     let counted : Option ℕ → Bool → Type 0 = λ node is_fault.
     Counts old.tallies (c.args.access.task, c.args.access.cpu, node) c.args.access.count
     is_fault new.tallies in
-    let next = λ (counts : counted c.in-Ok-place.node true). replayed machine c.args.plan.now trace
-    c.args.access old new c.in-Ok.list.now c.in-Ok.ensures.ok.1 c.in-Ok-place.ensures.placed
+    let next = λ (counts : counted c.in-Ok-place.node true). subst P c.self.view_is
+    (next-of c.args.plan.now c.args.access old new c.in-Ok.list.now c.in-Ok.ensures.ok.1
+    c.in-Ok-place.ensures.placed
     (subst (counted (node_of new.frames.pages c.args.access.page)) fault
-    (subst (λ node. counted node true) (sym lies) counts)) before in
+    (subst (λ node. counted node true) (sym lies) counts))) in
     on-ok c.add-2.result next c.add-2.ensures.counts
+
+pub returns-clause-ok : goal.returns-clause-ok
+returns-clause-ok c machine trace was = on-ok c.add-2.result
+    (λ next. replayed machine c.args.plan.now trace c.args.access c.args.self.now
+    (record { frames = c.place.new.self; tallies = c.add-2.new.self }) next was)
+    (returns-clause-next c)

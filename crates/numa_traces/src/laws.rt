@@ -1,0 +1,21 @@
+//! A law about the definitions that the contracts of this crate cite. The function does nothing:
+//! what it ensures is the law.
+ghost use Rattle.std.specs.Prelude.{◌≡◌, ℕ, List, map};
+ghost use Rattle.numa_plan.specs.Meaning.{PlanData};
+ghost use Rattle.numa_traces.specs.Hosting.{HostFrames, frames_before, host_tally_of, seen_by};
+ghost use Rattle.numa_traces.specs.Replaying.{frames_after, tally_of};
+ghost use Rattle.numa_traces.specs.Tallies.{Route};
+ghost use Rattle.numa_traces.specs.declared.access.Access.{Access};
+
+/// Where one process makes all accesses, it meets on a host what a replay of its own meets: the same
+/// frames, and the same counts of each route.
+pub fn alone()
+    ensures frames { (plans : ℕ → PlanData) (start : HostFrames) (process : ℕ)
+        (trace : List Access)
+        → frames_before plans start (map (λ access. (process, access)) trace) process
+        ≡ frames_after (plans process) (seen_by start process) trace }
+    ensures tallies { (plans : ℕ → PlanData) (start : HostFrames) (process : ℕ)
+        (trace : List Access) (route : Route)
+        → host_tally_of plans start (map (λ access. (process, access)) trace) process route
+        ≡ tally_of (plans process) (seen_by start process) trace route }
+{}
