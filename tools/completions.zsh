@@ -9,6 +9,7 @@ _numaplan() {
         'expect:Compares the answers that scripts hold with those that they get'
         'predict:Tells where pages would go after scripts, if a task touched them'
         'diff:Tells which pages would go elsewhere if lines were added to scripts'
+        'moves:Tells what becomes of pages that are there when lines move them'
         'explain:Tells why a page goes where it goes'
         'replay:Tells what a trace of accesses meets after scripts'
         'shell:Answers lines as they are typed, after scripts'
@@ -74,6 +75,21 @@ _numaplan() {
                 '(-h --help)-h[Print help]' '(-h --help)--help[Print help]' \
                 '*:file:_files'
             ;;
+        moves)
+            _arguments \
+                '(--at)--at[A file with further lines at START LENGTH NODE; - is standard input]:FILE:_files' \
+                '(--task)--task[Pages lie where this task would touch them, and not as lines at state]:T: ' \
+                '(--node)--node[The node of the CPU on which it would]:N: ' \
+                '*--then[A line that moves pages\: mems, migrate FROM TO, cgroup-mems or attach; several in turn]:LINE: ' \
+                '(--free)--free[These nodes take so many more pages; with K, M, G or T behind it a number is one of bytes]:NODE=PAGES,..: ' \
+                '(--process)--process[Asks process P of a host alone; all of them where it is all, or isn'\''t given]:P: ' \
+                '(--format)--format[How the answer is written]:FORMAT:(text json svg)' \
+                '(--largest)--largest[Shows the N largest ranges by themselves, and sums the others\: 40 in a picture and 400 in a page, where it isn'\''t given]:N: ' \
+                '(--lenient)--lenient[Ends with status 0 where lines were faulty or refused]' \
+                '(--rules)--rules[Whose rules count, where no line `rules` of the scripts says so]:RULES:(document linux)' \
+                '(-h --help)-h[Print help]' '(-h --help)--help[Print help]' \
+                '*:file:_files'
+            ;;
         explain)
             _arguments \
                 '(--task)--task[The task that touches the pages]:T: ' \
@@ -111,7 +127,7 @@ _numaplan() {
             ;;
         help)
             _arguments \
-                '1:command:(run check expect predict diff explain replay shell storm help)'
+                '1:command:(run check expect predict diff moves explain replay shell storm help)'
             ;;
     esac
 }

@@ -8,8 +8,8 @@ use Rattle.numa_command_line.specs.Asked.{doings_asked}
 use Rattle.numa_reports.specs.declared.sheet.Format.TheVariants as format
 use Rattle.numa_script.specs.Numbers.{in_64_bits, number_of, numeral_of}
 use Rattle.numa_command_line.specs.Grammar.{AreChoices, Choices, diff_formats, plain_formats}
-use Rattle.numa_command_line.specs.Grammar.{predict_formats, program, replay_formats, rules_names}
-use Rattle.numa_command_line.specs.Grammar.{test_formats}
+use Rattle.numa_command_line.specs.Grammar.{moves_formats, predict_formats, program, replay_formats}
+use Rattle.numa_command_line.specs.Grammar.{rules_names, test_formats}
 use Rattle.numa_command_line.specs.Jobs.{check, expect, run, scripts, storm}
 use Rattle.numa_command_line.specs.Usage.{Names}
 
@@ -25,6 +25,7 @@ some_choices = record {
   expect = names_of test_formats;
   predict = names_of predict_formats;
   diff = names_of diff_formats;
+  moves = names_of moves_formats;
   explain = names_of plain_formats;
   replay = names_of replay_formats;
   rules =
@@ -38,6 +39,7 @@ are_choices = record {
   expect = refl;
   predict = refl;
   diff = refl;
+  moves = refl;
   explain = refl;
   replay = refl;
   rules = refl;

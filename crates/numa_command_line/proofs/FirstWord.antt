@@ -6,6 +6,7 @@ use Rattle.std.specs.Prelude.{IfOk, option_and_then}
 use Rattle.std.specs.Str.{bytes_eq}
 use Rattle.std.proofs.lemmas.Slice.Eq.{bytes_eq-Decides}
 use Rattle.clap.specs.Words.{Row, subcommand_of}
+use Rattle.numa_reports.specs.declared.filling.FreePages.{FreePages}
 use Rattle.numa_reports.specs.declared.touch.Touch.{Touch}
 use Rattle.numa_command_line.specs.Asked.{Answers, asking_name, doing_name}
 use Rattle.numa_command_line.specs.Asked.{job_named, name_of, rows_behind, scripts_asked}
@@ -29,6 +30,7 @@ label word.Check = codes "check"
 label word.Expect = codes "expect"
 label word.Predict = codes "predict"
 label word.Diff = codes "diff"
+label word.Moves = codes "moves"
 label word.Explain = codes "explain"
 label word.Replay = codes "replay"
 label word.Shell = codes "shell"
@@ -50,9 +52,10 @@ named_word name found =
     (one_of_words name word.Check found _
     (one_of_words name word.Expect found _ (one_of_words name word.Predict found _
     (one_of_words name word.Diff found _
+    (one_of_words name word.Moves found _
     (one_of_words name word.Explain found _
     (one_of_words name word.Replay found _
-    (one_of_words name word.Shell found None (λ none. cc))))))))
+    (one_of_words name word.Shell found None (λ none. cc)))))))))
 
 asked_name : (touch : Option Touch) (lenient : Bool) (question : Option Asking) (named : Text)
     (doing : Doing)
@@ -72,6 +75,14 @@ mapped_name make named names None what e = cc
 mapped_name make named names (Some x) what e = ap asking_name (sym (some_is (make x) what e))
     ∙ names x
 
+moves_name : (make : List FreePages → Doing)
+    → ((free : List FreePages) → doing_name (make free) ≡ codes "moves")
+    → (free : Option (List FreePages)) (doing : Doing) → option_map make free ≡ Some doing
+    → doing_name doing ≡ codes "moves"
+moves_name make names None doing e = cc
+moves_name make names (Some free) doing e =
+    ap doing_name (sym (some_is (make free) doing e)) ∙ names free
+
 work_name : (w : Subcommand) (rows : List Row) (doing : Doing) → work_asked w rows ≡ Some doing
     → doing_name doing ≡ label w
 work_name word.Run rows doing e = ap doing_name (sym (some_is _ doing e))
@@ -84,6 +95,7 @@ work_name word.Diff rows doing e =
     asked_name (touch_in rows) (is_on (codes "lenient") rows)
     (Some (diff (texts_at (codes "then") rows) (format_in rows))) (codes "diff") doing
     (λ what is. ap asking_name (sym (some_is _ what is))) e
+work_name word.Moves rows doing e = moves_name _ (λ free. refl) (frees_in rows) doing e
 work_name word.Explain rows doing e =
     asked_name (touch_in rows) (is_on (codes "lenient") rows) _ (codes "explain") doing
     (mapped_name (λ page. explain page (small_at (codes "pages") rows) (format_in rows))

@@ -9,8 +9,8 @@ use Rattle.clap.specs.declared.error.kind.ErrorKind.{ErrorKind}
 use Rattle.clap.specs.declared.error.kind.ErrorKind.TheVariants as kind
 use Rattle.numa_command_line.specs.Grammar.{IsProgram}
 use Rattle.numa_command_line.specs.Jobs.{Asking, Doing, Doings, Text, ask, check, diff, doings_of}
-use Rattle.numa_command_line.specs.Jobs.{expect, explain, predict, replay, run, scripts, shell}
-use Rattle.numa_command_line.specs.Jobs.{storm}
+use Rattle.numa_command_line.specs.Jobs.{expect, explain, moves, predict, replay, run, scripts}
+use Rattle.numa_command_line.specs.Jobs.{shell, storm}
 use Rattle.numa_command_line.specs.Values.{format_in, frees_in, is_on, page_in, rules_in, small_at}
 use Rattle.numa_command_line.specs.Values.{process_in}
 use Rattle.numa_command_line.specs.Values.{texts_at, touch_in, workers_in}
@@ -28,6 +28,7 @@ word_named name =
     else if bytes_eq name (codes "expect") then Some word.Expect
     else if bytes_eq name (codes "predict") then Some word.Predict
     else if bytes_eq name (codes "diff") then Some word.Diff
+    else if bytes_eq name (codes "moves") then Some word.Moves
     else if bytes_eq name (codes "explain") then Some word.Explain
     else if bytes_eq name (codes "replay") then Some word.Replay
     else if bytes_eq name (codes "shell") then Some word.Shell
@@ -48,6 +49,9 @@ work_asked word.Predict rows =
     asked_in rows (option_map (predict (format_in rows)) (frees_in rows))
 work_asked word.Diff rows =
     asked_in rows (Some (diff (texts_at (codes "then") rows) (format_in rows)))
+work_asked word.Moves rows = option_map (λ free. moves (texts_at (codes "at") rows)
+    (texts_at (codes "then") rows) (touch_in rows) free (format_in rows)
+    (is_on (codes "lenient") rows)) (frees_in rows)
 work_asked word.Explain rows = asked_in rows (option_map
     (λ page. explain page (small_at (codes "pages") rows) (format_in rows)) (page_in rows))
 work_asked word.Replay rows = Some (replay (texts_at (codes "trace") rows) (format_in rows)
@@ -91,6 +95,7 @@ doing_name (run echo format) = codes "run"
 doing_name (check format) = codes "check"
 doing_name (expect format any_version update) = codes "expect"
 doing_name (ask touch what lenient) = asking_name what
+doing_name (moves at lines touch free format lenient) = codes "moves"
 doing_name (replay trace format lenient) = codes "replay"
 doing_name shell = codes "shell"
 

@@ -44,6 +44,9 @@ predict_formats = codes "text" ∷ codes "json" ∷ codes "csv" ∷ codes "svg" 
 abbrev pub diff_formats : List Text
 diff_formats = codes "text" ∷ codes "json" ∷ codes "svg" ∷ codes "html" ∷ []
 
+abbrev pub moves_formats : List Text
+moves_formats = codes "text" ∷ codes "json" ∷ codes "svg" ∷ []
+
 abbrev pub replay_formats : List Text
 replay_formats = codes "text" ∷ codes "json" ∷ codes "html" ∷ []
 
@@ -80,6 +83,12 @@ diff_arguments formats =
     task ∷ node ∷ needed true (options (codes "then")) ∷ process ∷ format formats ∷ largest
     ∷ lenient ∷ files ∷ []
 
+abbrev pub moves_arguments : Names → List Rule
+moves_arguments formats =
+    option (codes "at") ∷ number (codes "task") ∷ number_or (codes "node") (codes "cpu")
+    ∷ needed true (options (codes "then")) ∷ option (codes "free") ∷ process ∷ format formats
+    ∷ largest ∷ lenient ∷ files ∷ []
+
 abbrev pub explain_arguments : Names → List Rule
 explain_arguments formats =
     task ∷ node ∷ number (codes "pages") ∷ process ∷ format formats ∷ lenient
@@ -105,6 +114,7 @@ pub record Choices : Type 0 where
   pub expect : Names
   pub predict : Names
   pub diff : Names
+  pub moves : Names
   pub explain : Names
   pub replay : Names
   pub rules : Names
@@ -118,6 +128,7 @@ pub record AreChoices (c : Choices) : Type 0 where
   pub expect : AreNames test_formats c.expect
   pub predict : AreNames predict_formats c.predict
   pub diff : AreNames diff_formats c.diff
+  pub moves : AreNames moves_formats c.moves
   pub explain : AreNames plain_formats c.explain
   pub replay : AreNames replay_formats c.replay
   pub rules : AreNames rules_names c.rules
@@ -144,12 +155,14 @@ reader names name arguments =
 abbrev pub program : Choices → App
 program c =
     with_subcommand (with_subcommand (with_subcommand (with_subcommand (with_subcommand
-    (with_subcommand (with_subcommand (with_subcommand (with_subcommand bare_program
+    (with_subcommand (with_subcommand (with_subcommand (with_subcommand (with_subcommand
+    bare_program
     (reader c.rules (codes "run") (run_arguments c.run)))
     (reader c.rules (codes "check") (check_arguments c.check)))
     (reader c.rules (codes "expect") (expect_arguments c.expect)))
     (reader c.rules (codes "predict") (predict_arguments c.predict)))
     (reader c.rules (codes "diff") (diff_arguments c.diff)))
+    (reader c.rules (codes "moves") (moves_arguments c.moves)))
     (reader c.rules (codes "explain") (explain_arguments c.explain)))
     (reader c.rules (codes "replay") (replay_arguments c.replay)))
     (reader c.rules (codes "shell") shell_arguments))

@@ -14,7 +14,7 @@ use Rattle.numa_command_line.specs.declared.jobs.PageQuestion.{PageQuestion}
 use Rattle.numa_command_line.specs.declared.jobs.PageQuestion.TheVariants.{Predict, Diff, Explain}
 use Rattle.numa_command_line.specs.declared.jobs.ScriptJob.{ScriptJob}
 use Rattle.numa_command_line.specs.declared.jobs.ScriptJob.TheVariants.{Run, Check, Expect, Ask}
-use Rattle.numa_command_line.specs.declared.jobs.ScriptJob.TheVariants.{Replay, Shell}
+use Rattle.numa_command_line.specs.declared.jobs.ScriptJob.TheVariants.{Moves, Replay, Shell}
 
 -- a storm is of as many workers as a crew may have
 abbrev pub CanBeDone : Job → Type 0
@@ -37,6 +37,7 @@ pub data Doing : Type 0 where
   check : Format → Doing
   expect : Format → Bool → Bool → Doing
   ask : Touch → Asking → Bool → Doing
+  moves : List Text → List Text → Option Touch → List FreePages → Format → Bool → Doing
   replay : List Text → Format → Bool → Doing
   shell : Doing
 
@@ -54,6 +55,8 @@ work_of (Run echo format) = run echo format
 work_of (Check format) = check format
 work_of (Expect format any_version update) = expect format any_version update
 work_of (Ask asked question lenient) = ask asked (question_of question) lenient
+work_of (Moves at lines asked free format lenient) =
+    moves (map string_bytes at.items) (map string_bytes lines.items) asked free.items format lenient
 work_of (Replay trace format lenient) = replay (map string_bytes trace.items) format lenient
 work_of Shell = shell
 

@@ -11,7 +11,7 @@ use crate::found::{is_on, texts_at};
 use crate::jobs::{Job, JobFault, ScriptJob};
 use crate::program::program;
 use crate::words::format::format_in;
-use crate::words::{diff, explain, predict, process, replay, rules, storm};
+use crate::words::{diff, explain, moves, predict, process, replay, rules, storm};
 use clap::error::ErrorKind;
 use clap::{ArgMatches, Command, Error};
 use std::alloc::Global;
@@ -27,6 +27,7 @@ pub(crate) enum Subcommand {
     Expect,
     Predict,
     Diff,
+    Moves,
     Explain,
     Replay,
     Shell,
@@ -42,6 +43,7 @@ fn word_of(name: &str) -> Option<Subcommand>
         "expect" => Some(Subcommand::Expect),
         "predict" => Some(Subcommand::Predict),
         "diff" => Some(Subcommand::Diff),
+        "moves" => Some(Subcommand::Moves),
         "explain" => Some(Subcommand::Explain),
         "replay" => Some(Subcommand::Replay),
         "shell" => Some(Subcommand::Shell),
@@ -83,6 +85,7 @@ fn work_of(alloc: Global, word: Subcommand, matches: &ArgMatches<'_>) -> Result<
         }),
         Subcommand::Predict => predict::work(alloc, matches),
         Subcommand::Diff => diff::work(alloc, matches),
+        Subcommand::Moves => moves::work(alloc, matches),
         Subcommand::Explain => explain::work(alloc, matches),
         Subcommand::Replay => replay::work(alloc, matches),
         Subcommand::Shell => Ok(ScriptJob::Shell),

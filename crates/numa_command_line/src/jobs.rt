@@ -53,6 +53,16 @@ pub enum ScriptJob {
         question: PageQuestion,
         lenient: bool,
     },
+    /// Tell what becomes of pages when these further lines move them. They lie as lines of the
+    /// scripts and of the file `at` state, or where the task would touch them.
+    Moves {
+        at: Vec<String>,
+        lines: Vec<String>,
+        asked: Option<Touch>,
+        free: Vec<FreePages>,
+        format: Format,
+        lenient: bool,
+    },
     /// Replay the trace of the file `trace` after them, leniently.
     Replay {
         trace: Vec<String>,

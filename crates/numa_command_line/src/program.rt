@@ -5,7 +5,9 @@ ghost use Rattle.numa_command_line.specs.Grammar.{IsProgram, bare_program};
 ghost use Rattle.numa_command_line.specs.Usage.{IsLocal};
 
 use crate::usage::with_word;
-use crate::words::{check, diff, expect, explain, predict, replay, rules, run, shell, storm};
+use crate::words::{
+    check, diff, expect, explain, moves, predict, replay, rules, run, shell, storm,
+};
 use clap::Command;
 use std::alloc::{AllocError, Global};
 
@@ -52,6 +54,7 @@ pub fn program<'a>(alloc: Global) -> Result<Command<'a>, AllocError>
     let program = with_word(alloc, program, expect::word(), rules)?;
     let program = with_word(alloc, program, predict::word(), rules)?;
     let program = with_word(alloc, program, diff::word(), rules)?;
+    let program = with_word(alloc, program, moves::word(), rules)?;
     let program = with_word(alloc, program, explain::word(), rules)?;
     let program = with_word(alloc, program, replay::word(), rules)?;
     let program = with_word(alloc, program, shell::word(), rules)?;

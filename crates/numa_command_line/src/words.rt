@@ -7,6 +7,7 @@ pub mod explain;
 pub mod format;
 pub mod free;
 pub mod lenient;
+pub mod moves;
 pub mod predict;
 pub mod process;
 pub mod replay;

@@ -1,9 +1,9 @@
 //! The program. `numaplan run` answers scripts, `numaplan expect` compares the answers in scripts
 //! with the actual ones, `numaplan check` reports what is wrong with scripts. `numaplan predict`
 //! and `numaplan diff` report where pages would go after scripts, `numaplan explain` why, and
-//! `numaplan replay` replays a trace of accesses. `numaplan shell` answers lines as they are typed.
-//! `numaplan storm` lets workers place pages while
-//! policies change.
+//! `numaplan moves` what becomes of pages that are there. `numaplan replay` replays a trace of
+//! accesses. `numaplan shell` answers lines as they are typed. `numaplan storm` lets workers place
+//! pages while policies change.
 #![tactic(auto)]
 
 ghost use Rattle.std.specs.Prelude.{IfOk};
@@ -30,7 +30,8 @@ use std::rt::{Clock, Files};
 use std::sync::Wait;
 use std::thread::Threads;
 use std::{env, io};
-use words::{asked, check, expect, replay, run, storm};
+use words::moves::Moving;
+use words::{asked, check, expect, moves, replay, run, storm};
 
 /// The message for an argument that isn't UTF-8.
 const NOT_UTF_8: &str = "error: an argument isn't UTF-8\n\nFor more information, try '--help'.\n";
@@ -102,6 +103,24 @@ where
             question,
             lenient,
         } => Ok(asked::answer(rt, scripts, *asked, question, *lenient, tells)),
+        ScriptJob::Moves {
+            at,
+            lines,
+            asked,
+            free,
+            format,
+            lenient,
+        } => {
+            let moving = Moving {
+                at: at.as_slice(),
+                lines: lines.as_slice(),
+                asked: *asked,
+                free: free.as_slice(),
+                format: *format,
+                lenient: *lenient,
+            };
+            moves::answer(rt, scripts, moving, tells)
+        }
         ScriptJob::Replay {
             trace,
             format,

@@ -2,6 +2,7 @@
 pub mod asked;
 pub mod check;
 pub mod expect;
+pub mod moves;
 pub mod replay;
 pub mod run;
 pub mod storm;

@@ -1,5 +1,5 @@
 //! Subcommands that ask about pages that a task would touch, by `--task T --node N`.
-ghost use Rattle.std.specs.Prelude.{Some, codes};
+ghost use Rattle.std.specs.Prelude.{◌≡◌, Some, codes};
 ghost use Rattle.numa_command_line.specs.Asked.{asked_in};
 ghost use Rattle.numa_command_line.specs.Jobs.{IsMade, question_of, work_of};
 ghost use Rattle.numa_command_line.specs.Values.{touch_in};
@@ -33,13 +33,23 @@ pub const NODE: Argument = Argument {
     takes: Takes::NumberOr("cpu"),
 };
 
+/// The values of the options, if both have one.
+pub fn touch_in(matches: &ArgMatches<'_>) -> Option<Touch>
+    ensures { result ≡ touch_in (rows_of (found_of matches.now)) }
+{
+    match (small_at(matches, "task"), small_at(matches, "node")) {
+        (Some(task), Some(cpu)) => Some(Touch { task, cpu }),
+        _ => None,
+    }
+}
+
 /// The values of the options.
 fn asked(alloc: Global, matches: &ArgMatches<'_>) -> Result<Touch, JobFault>
     ensures { IsMade (λ touch. touch) (touch_in (rows_of (found_of matches.now))) result }
 {
-    match (small_at(matches, "task"), small_at(matches, "node")) {
-        (Some(task), Some(cpu)) => Ok(Touch { task, cpu }),
-        _ => Err(JobFault::usage(alloc, MISSING)),
+    match touch_in(matches) {
+        Some(asked) => Ok(asked),
+        None => Err(JobFault::usage(alloc, MISSING)),
     }
 }
 

@@ -2,7 +2,8 @@ use Rattle.std.proofs.Common.{◌≡◌, ◌∙◌, List, ap₂, refl, true, fal
 use Rattle.std.proofs.lemmas.Result.{IfOk-weaker}
 use Rattle.clap.specs.Words.{Rule, Text, with_subcommand}
 use Rattle.numa_command_line.specs.Grammar.{IsWord, check_arguments, diff_arguments}
-use Rattle.numa_command_line.specs.Grammar.{expect_arguments, explain_arguments, predict_arguments}
+use Rattle.numa_command_line.specs.Grammar.{expect_arguments, explain_arguments, moves_arguments}
+use Rattle.numa_command_line.specs.Grammar.{predict_arguments}
 use Rattle.numa_command_line.specs.Grammar.{reader, replay_arguments, rules, run_arguments}
 use Rattle.numa_command_line.specs.Grammar.{shell_arguments, storm_arguments, word}
 use Rattle.numa_command_line.specs.Usage.{Names, rule_said, shape_said}
@@ -49,29 +50,35 @@ returns c =
     (reader_is c.word-5.result.now said option.0 _ (diff_arguments c.word-5.ensures.0)
     c.word-5.ensures.2
     option.2) in
-    let explain = c.in_ok-program-6.ensures.app
+    let moves = c.in_ok-program-6.ensures.app
     ∙ ap₂ with_subcommand diff
-    (reader_is c.word-6.result.now said option.0 _ (explain_arguments c.word-6.ensures.0)
+    (reader_is c.word-6.result.now said option.0 _ (moves_arguments c.word-6.ensures.0)
     c.word-6.ensures.2
     option.2) in
-    let replay = c.in_ok-program-7.ensures.app
-    ∙ ap₂ with_subcommand explain
-    (reader_is c.word-7.result.now said option.0 _ (replay_arguments c.word-7.ensures.0)
+    let explain = c.in_ok-program-7.ensures.app
+    ∙ ap₂ with_subcommand moves
+    (reader_is c.word-7.result.now said option.0 _ (explain_arguments c.word-7.ensures.0)
     c.word-7.ensures.2
     option.2) in
-    let shell = c.in_ok-program-8.ensures.app
-    ∙ ap₂ with_subcommand replay
-    (reader_is c.word-8.result.now said option.0 _ shell_arguments c.word-8.ensures
+    let replay = c.in_ok-program-8.ensures.app
+    ∙ ap₂ with_subcommand explain
+    (reader_is c.word-8.result.now said option.0 _ (replay_arguments c.word-8.ensures.0)
+    c.word-8.ensures.2
     option.2) in
-    IfOk-weaker c.with_word-9.result _ _ (λ command app. (
+    let shell = c.in_ok-program-9.ensures.app
+    ∙ ap₂ with_subcommand replay
+    (reader_is c.word-9.result.now said option.0 _ shell_arguments c.word-9.ensures
+    option.2) in
+    IfOk-weaker c.with_word-10.result _ _ (λ command app. (
       record {
         run = c.word.ensures.0;
         check = c.word-2.ensures.0;
         expect = c.word-3.ensures.0;
         predict = c.word-4.ensures.0;
         diff = c.word-5.ensures.0;
-        explain = c.word-6.ensures.0;
-        replay = c.word-7.ensures.0;
+        moves = c.word-6.ensures.0;
+        explain = c.word-7.ensures.0;
+        replay = c.word-8.ensures.0;
         rules = option.0;
       },
       record {
@@ -80,10 +87,11 @@ returns c =
         expect = c.word-3.ensures.1;
         predict = c.word-4.ensures.1;
         diff = c.word-5.ensures.1;
-        explain = c.word-6.ensures.1;
-        replay = c.word-7.ensures.1;
+        moves = c.word-6.ensures.1;
+        explain = c.word-7.ensures.1;
+        replay = c.word-8.ensures.1;
         rules = option.1;
       },
       app ∙ ap₂ with_subcommand shell
-          (word_is c.word-9.result.now said _ storm_arguments c.word-9.ensures),
-    )) c.with_word-9.ensures.app
+          (word_is c.word-10.result.now said _ storm_arguments c.word-10.ensures),
+    )) c.with_word-10.ensures.app

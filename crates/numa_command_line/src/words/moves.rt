@@ -1,0 +1,126 @@
+//! `numaplan moves --then LINE [FILE]..`: reports what becomes of pages that are there.
+ghost use Rattle.std.specs.Prelude.{codes, true};
+ghost use Rattle.numa_command_line.specs.Grammar.{AreNames, IsWord, moves_arguments, moves_formats};
+ghost use Rattle.numa_command_line.specs.Usage.{Names};
+ghost use Rattle.clap.specs.Words.{found_of, rows_of};
+ghost use Rattle.numa_command_line.specs.Asked.{work_asked};
+ghost use Rattle.numa_command_line.specs.Jobs.{IsMade, work_of};
+ghost use Rattle.numa_command_line.specs.declared.command.Subcommand.TheVariants as word;
+
+use crate::found::{is_on, texts_at};
+use crate::jobs::{JobFault, ScriptJob};
+use crate::usage::{Argument, FILES, SubcommandHelp, Takes};
+use crate::words::asked::touch_in;
+use crate::words::format::{LARGEST, format_in};
+use crate::words::free::named;
+use crate::words::lenient::LENIENT;
+use crate::words::process::PROCESS;
+use clap::ArgMatches;
+use std::alloc::Global;
+
+/// The option `--at FILE`.
+const AT: Argument = Argument {
+    name: "at",
+    value: "FILE",
+    help: "A file with further lines at START LENGTH NODE; - is standard input",
+    is_required: false,
+    takes: Takes::Text,
+};
+
+/// The option `--task T`.
+const TASK: Argument = Argument {
+    name: "task",
+    value: "T",
+    help: "Pages lie where this task would touch them, and not as lines at state",
+    is_required: false,
+    takes: Takes::Number,
+};
+
+/// The option `--node N`, or `--cpu N`.
+const NODE: Argument = Argument {
+    name: "node",
+    value: "N",
+    help: "The node of the CPU on which it would",
+    is_required: false,
+    takes: Takes::NumberOr("cpu"),
+};
+
+/// The option `--then LINE`.
+const THEN: Argument = Argument {
+    name: "then",
+    value: "LINE",
+    help: "A line that moves pages: mems, migrate FROM TO, cgroup-mems or attach; several in turn",
+    is_required: true,
+    takes: Takes::Texts,
+};
+
+/// The option `--free NODE=PAGES,..`.
+const FREE: Argument = Argument {
+    name: "free",
+    value: "NODE=PAGES,..",
+    help: "These nodes take so many more pages; with K, M, G or T behind it a number is one of bytes",
+    is_required: false,
+    takes: Takes::Text,
+};
+
+/// The option `--format FORMAT`.
+const FORMAT: Argument = Argument {
+    name: "format",
+    value: "FORMAT",
+    help: "How the answer is written",
+    is_required: false,
+    takes: Takes::OneOf("text", &["text", "json", "svg"]),
+};
+
+/// The help of the subcommand.
+static WORD: SubcommandHelp = SubcommandHelp {
+    name: "moves",
+    line: "Tells what becomes of pages that are there when lines move them",
+    about: "Tells what becomes of pages that are there when the nodes change that they may lie on, \
+or when people migrate them: for each range how many pages go from which node to which (N2->N0=), \
+how many need not go (stays=) and how many find no room (noroom=), and in all. A line of --then is \
+`mems LIST`, which moves pages as a control group of version 2 does; `migrate FROM TO`, two lists \
+of nodes, as migrate_pages(2) does; or in a host `cgroup-mems`, `attach`, or `in P migrate ..`. \
+Pages lie as lines `at START LENGTH NODE` of the scripts and of the file of --at state (in a host \
+`in P at ..`); with --task and --node where task T would touch them on a CPU of node N, while \
+every node had room. With \
+--free the named nodes take so many more pages, and the others never fill: nodes go one by one, \
+the lowest pages first, and a node that fills ends the move. Of a host it tells that by process, \
+in the order in which they were made, and in all, or with --process of process P alone. Lines that \
+are faulty or refused are told on standard error as by `check`, and passed over. The status is 3 \
+where some are, unless --lenient is given, and where no machine is ready after the scripts.",
+    more: "Example, from the top of the repository:\n  ./numaplan moves --task 1 --node 0 --then \
+'mems 0-1' examples/interleaved-range.numaplan",
+    reads_lines: true,
+    arguments: &[
+        AT, TASK, NODE, THEN, FREE, PROCESS, FORMAT, LARGEST, LENIENT, FILES,
+    ],
+};
+
+/// The subcommand.
+pub fn word() -> &'static SubcommandHelp
+    ensures { (formats : Names) × AreNames moves_formats formats
+        × IsWord (codes "moves") (moves_arguments formats) true result.now }
+{
+    &WORD
+}
+
+/// The job of a command line with this subcommand.
+///
+/// # Errors
+/// `Usage`: `--free` is invalid. `NoMemory`: out of memory.
+pub fn work(alloc: Global, matches: &ArgMatches<'_>) -> Result<ScriptJob, JobFault>
+    ensures { IsMade work_of (work_asked word.Moves (rows_of (found_of matches.now))) result }
+{
+    let free = named(alloc, matches)?;
+    let at = texts_at(alloc, matches, "at")?;
+    let lines = texts_at(alloc, matches, "then")?;
+    Ok(ScriptJob::Moves {
+        at,
+        lines,
+        asked: touch_in(matches),
+        free,
+        format: format_in(matches),
+        lenient: is_on(matches, "lenient"),
+    })
+}

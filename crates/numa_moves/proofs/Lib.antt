@@ -1,0 +1,5 @@
+pub mod Clipped
+pub mod Counted
+pub mod Lists
+pub mod PageMoves
+pub mod Touched

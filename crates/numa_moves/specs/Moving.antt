@@ -1,0 +1,84 @@
+-- What becomes of the pages of shares when those of each node go to another, as many as have room:
+-- the first ones go first.
+use Rattle.std.specs.Prelude.{◌≡◌, ℕ, zero, suc, ◌-◌, ◌<◌, ◌^◌, ◌==◌, ◌&&◌, ◌++◌, true, List, []}
+use Rattle.std.specs.Prelude.{◌∷◌, min, nat_lt, if◌then◌else◌}
+use Rattle.numa_ranges.specs.Counts.{count_pages}
+use Rattle.numa_placed.specs.Moves.{moved_node}
+use Rattle.numa_placed.specs.Shifts.{Going, counted_shift, is_stated, shift_of, stated_below}
+use Rattle.numa_placed.specs.declared.spot.Spot.{Spot}
+use Rattle.numa_reports.specs.Common.{AreRising, has_page}
+use Rattle.numa_reports.specs.declared.outlook.PageSpan.{PageSpan}
+use Rattle.numa_moves.specs.Shares.{pages_on, share_by, stated_in}
+use Rattle.numa_moves.specs.declared.moving.ShareMove.{ShareMove}
+use Rattle.numa_moves.specs.declared.share.Share.{Share}
+
+-- how many pages of each node are still to go once those of a share went
+abbrev pub less_share : Share → (ℕ → ℕ) → ℕ → ℕ
+less_share share left node = if share.node == node then left node - share.there else left node
+
+-- where so many pages of each node are to go: of each share as many as are still to
+abbrev pub moves_by : (ℕ → ℕ) → (ℕ → ℕ) → List Share → List ShareMove
+moves_by go left [] = []
+moves_by go left (share ∷ shares) = record {
+  share = share;
+  to = go share.node;
+  moved = min share.there (left share.node);
+} ∷ moves_by go (less_share share left) shares
+
+-- how many go of each node, and the rooms behind that, when pages leave one set for another
+abbrev pub shift_by : List Share → ℕ → ℕ → (ℕ → ℕ) → Going
+shift_by shares old new room = counted_shift (pages_on shares) old new room
+
+-- what becomes of each share then
+abbrev pub moves_of : List Share → ℕ → ℕ → (ℕ → ℕ) → List ShareMove
+moves_of shares old new room =
+    moves_by (moved_node old new) (shift_by shares old new room).gone shares
+
+-- the shares behind moves: what stayed of each, and what came
+abbrev pub shares_behind : List ShareMove → List Share
+shares_behind [] = []
+shares_behind (move ∷ moves) =
+    (share_by move.share.span move.share.node (move.share.there - move.moved)
+    ++ share_by move.share.span move.to move.moved) ++ shares_behind moves
+
+-- ---- by pages
+
+-- spans with all pages that are stated to lie somewhere, which lie on nodes below a number
+pub record HaveAll (spots : ℕ → Spot) (nodes : ℕ) (spans : List PageSpan) : Type 0 where
+  pub rising : AreRising 0 spans
+  pub below : (page : ℕ) → has_page spans page ≡ true → page < 2 ^ 35
+  pub within : (page node : ℕ) → is_stated node (spots page) ≡ true → has_page spans page ≡ true
+  pub few : (page node : ℕ) → is_stated node (spots page) ≡ true → node < nodes
+
+-- how many pages of a span go from a node, where so many of the lowest of each node go
+abbrev pub gone_in : (ℕ → Spot) → (ℕ → ℕ) → PageSpan → ℕ → ℕ
+gone_in spots gone span node = count_pages
+    (λ page. is_stated node (spots page) && nat_lt (stated_below spots page node) (gone node))
+    span.first span.pages
+
+-- of so many pages of a span on a node, if there are any, so many go to a node
+abbrev pub move_by : PageSpan → ℕ → ℕ → ℕ → ℕ → List ShareMove
+move_by span node to there moved = if there == 0 then [] else record {
+  share = record { span = span; node = node; there = there };
+  to = to;
+  moved = moved;
+} ∷ []
+
+-- those of each of so many nodes, in order
+abbrev pub moves_within : (ℕ → ℕ) → (ℕ → ℕ) → (ℕ → ℕ) → PageSpan → ℕ → List ShareMove
+moves_within go there moved span zero = []
+moves_within go there moved span (suc node) = moves_within go there moved span node
+    ++ move_by span node (go node) (there node) (moved node)
+
+-- those of each span, in order
+abbrev pub moves_over : (ℕ → ℕ) → (PageSpan → ℕ → ℕ) → (PageSpan → ℕ → ℕ) → ℕ → List PageSpan
+    → List ShareMove
+moves_over go there moved nodes [] = []
+moves_over go there moved nodes (span ∷ spans) =
+    moves_within go (there span) (moved span) span nodes ++ moves_over go there moved nodes spans
+
+-- what becomes of the pages of spans when they leave one set for another: of each node of a span,
+-- how many pages lie on it, and how many of them lie elsewhere then
+abbrev pub page_moves : (ℕ → Spot) → ℕ → ℕ → (ℕ → ℕ) → ℕ → List PageSpan → List ShareMove
+page_moves spots old new room nodes spans = moves_over (moved_node old new) (stated_in spots)
+    (gone_in spots (shift_of spots old new room).gone) nodes spans

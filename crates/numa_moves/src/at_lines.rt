@@ -1,0 +1,225 @@
+//! Lines that state where pages lie: `at START LENGTH NODE`, in a host `in P at START LENGTH NODE`.
+
+use numa_lines::{Lines, RunFault, TakeLine, read_all};
+use numa_mask::Parts;
+use numa_script::number::{number, small};
+use numa_script::parts::words;
+use std::alloc::{AllocError, Global};
+use std::io::Read;
+
+/// Where a line stands: its text, counted from 0 as they are read, and its number there, from 1.
+#[derive(Clone, Copy)]
+pub struct LinePlace {
+    pub text: usize,
+    pub line: u64,
+}
+
+/// That the pages of a span lie on a node.
+#[derive(Clone, Copy)]
+pub struct AtLine {
+    /// Where the line stands.
+    pub place: LinePlace,
+    /// The process, if the line names one.
+    pub process: Option<u32>,
+    /// The start of the span, in bytes.
+    pub start: u64,
+    /// The length of the span, in bytes.
+    pub length: u64,
+    /// The node.
+    pub node: u32,
+}
+
+/// What a line says.
+#[derive(Clone, Copy)]
+enum Reading {
+    /// Where pages lie.
+    At(AtLine),
+    /// It begins as such a line does, and isn't one.
+    Bad,
+    /// Something else.
+    Other,
+}
+
+/// What the words behind `at` say.
+fn read_span(place: LinePlace, process: Option<u32>, span: (&[u8], &[u8], &[u8])) -> Reading {
+    let (Some(start), Some(length), Some(node)) = (number(span.0), number(span.1), small(span.2))
+    else {
+        return Reading::Bad;
+    };
+    Reading::At(AtLine {
+        place,
+        process,
+        start,
+        length,
+        node,
+    })
+}
+
+/// The process that a line names by `in P`, and the word behind that.
+pub(crate) fn head<'a>(rest: &mut Parts<'a>) -> Option<(Option<u32>, &'a [u8])> {
+    let first = rest.next()?;
+    if first != b"in".as_slice() {
+        return Some((None, first));
+    }
+    let process = small(rest.next()?)?;
+    Some((Some(process), rest.next()?))
+}
+
+/// The three words that are left, if there are three.
+fn three<'a>(rest: Parts<'a>) -> Option<(&'a [u8], &'a [u8], &'a [u8])> {
+    let mut rest = rest;
+    let first = rest.next()?;
+    let second = rest.next()?;
+    Some((first, second, rest.only()?))
+}
+
+/// What a line says.
+fn read_line(place: LinePlace, line: &[u8]) -> Reading {
+    let mut rest = words(line);
+    let Some((process, first)) = head(&mut rest) else {
+        return Reading::Other;
+    };
+    if first != b"at".as_slice() {
+        return Reading::Other;
+    }
+    match three(rest) {
+        Some(span) => read_span(place, process, span),
+        None => Reading::Bad,
+    }
+}
+
+/// The lines of texts that state where pages lie, and the taker of their other lines.
+#[derive(Drop)]
+pub struct AtLines<T> {
+    alloc: Global,
+    /// The taker of the other lines.
+    pub taker: T,
+    // The names of the texts.
+    names: Vec<String>,
+    /// The lines, in order.
+    pub lines: Vec<AtLine>,
+    /// Where lines stand that begin with `at` and are malformed.
+    pub bad: Vec<LinePlace>,
+}
+
+impl<T> AtLines<T> {
+    /// The state before the first line.
+    pub fn new(alloc: Global, taker: T) -> AtLines<T> {
+        AtLines {
+            alloc,
+            taker,
+            names: Vec::new(alloc),
+            lines: Vec::new(alloc),
+            bad: Vec::new(alloc),
+        }
+    }
+
+    /// The taker, and the lines with one that passes over other lines.
+    pub fn parted(self) -> (T, AtLines<PassOver>) {
+        let AtLines {
+            alloc,
+            taker,
+            names,
+            lines,
+            bad,
+        } = self;
+        let lines = AtLines {
+            alloc,
+            taker: PassOver,
+            names,
+            lines,
+            bad,
+        };
+        (taker, lines)
+    }
+
+    /// The name of a text.
+    pub fn name(&self, text: usize) -> &str {
+        match self.names.get(text) {
+            Some(name) => name.as_str(),
+            None => "",
+        }
+    }
+
+    /// Notes the name of a text, unless its last line was of it, and returns its number.
+    fn note(&mut self, name: &str, place: u64) -> Result<usize, AllocError> {
+        if place == 1 || self.names.is_empty() {
+            self.names.push(String::from_str(self.alloc, name)?)?;
+        }
+        Ok(self.names.len().saturating_sub(1))
+    }
+
+    /// Keeps a line that states where pages lie. Returns whether it is none.
+    fn keep(&mut self, name: &str, place: u64, line: &[u8]) -> Result<bool, AllocError> {
+        let text = self.note(name, place)?;
+        let place = LinePlace { text, line: place };
+        match read_line(place, line) {
+            Reading::At(at) => self.lines.push(at)?,
+            Reading::Bad => self.bad.push(place)?,
+            Reading::Other => return Ok(true),
+        }
+        Ok(false)
+    }
+}
+
+impl<T: TakeLine<()>> TakeLine<()> for AtLines<T> {
+    fn take(
+        &mut self,
+        name: &str,
+        place: u64,
+        line: &[u8],
+        output: &mut (),
+    ) -> Result<(), RunFault> {
+        match self.keep(name, place, line) {
+            Ok(true) => self.taker.take(name, place, line, output),
+            Ok(false) => Ok(()),
+            Err(_) => Err(RunFault::Memory),
+        }
+    }
+
+    fn hand_over(&mut self, output: &mut ()) -> Result<(), RunFault> {
+        self.taker.hand_over(output)
+    }
+}
+
+/// Passes over lines.
+#[derive(Clone, Copy, Drop)]
+pub struct PassOver;
+
+impl TakeLine<()> for PassOver {
+    fn take(
+        &mut self,
+        _name: &str,
+        _place: u64,
+        _line: &[u8],
+        _output: &mut (),
+    ) -> Result<(), RunFault> {
+        Ok(())
+    }
+
+    fn hand_over(&mut self, _output: &mut ()) -> Result<(), RunFault> {
+        Ok(())
+    }
+}
+
+/// Reads texts in order: keeps their lines that state where pages lie, and hands on the others.
+///
+/// # Errors
+/// `Read`: a read failed. `Memory`: out of memory. Or what the taker answers.
+pub fn read_at_lines<R: Read + Drop, T: TakeLine<()> + Drop>(
+    alloc: Global,
+    texts: Vec<(String, R)>,
+    lines: AtLines<T>,
+) -> Result<AtLines<T>, RunFault> {
+    let Ok(mut lines) = Lines::new(alloc, lines) else {
+        drop(texts);
+        return Err(RunFault::Memory);
+    };
+    match read_all(texts, &mut lines, &mut ()) {
+        Ok(()) => Ok(lines.taker),
+        Err(why) => {
+            drop(lines);
+            Err(why)
+        }
+    }
+}

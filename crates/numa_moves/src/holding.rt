@@ -1,0 +1,482 @@
+//! Where the pages of processes lie, and what becomes of them.
+ghost use Rattle.std.specs.Prelude.{◌≡◌, ◌<◌, ◌^◌, ℕ, IfOk, OnOk};
+ghost use Rattle.numa_placed.specs.Shifts.{AreRooms};
+ghost use Rattle.numa_moves.specs.Moving.{moves_of, shares_behind};
+ghost use Rattle.numa_moves.specs.Shares.{pages_on};
+
+use crate::at_lines::{AtLine, LinePlace};
+use crate::moving::{ShareMove, moves_within, shares_behind};
+use crate::share::Share;
+use crate::shares::{stated_shares, touched_shares};
+use numa_compile::compile;
+use numa_host::{Host, Process};
+use numa_mask::NodeMask;
+use numa_placed::{Placed, PlacedRefusal, Rooms};
+use numa_reports::{FreePages, ReportError, Touch};
+use numa_space::Space;
+use std::alloc::{AllocError, Global};
+use std::mem::replace;
+
+/// What moves are told of.
+#[derive(Clone, Copy)]
+pub enum Scene<'a> {
+    /// One space: a script's, or that of a process of a host.
+    One(Option<u32>, &'a Space),
+    /// All processes of a host.
+    Each(&'a Host),
+}
+
+impl RefusedAt {
+    /// The cause in words.
+    pub fn why(&self) -> &'static str {
+        match self.cause {
+            None => {
+                "refused NoSuchProcess ESRCH: there is no such process; in a host write in P at .."
+            }
+            Some(PlacedRefusal::Unaligned) => {
+                "refused Unaligned EINVAL: the start isn't a multiple of 4,096"
+            }
+            Some(PlacedRefusal::OutOfSpace) => {
+                "refused OutOfSpace ENOMEM: the span ends above address 2^47"
+            }
+            Some(PlacedRefusal::NoSuchNode) => {
+                "refused NoSuchNode EINVAL: the machine has no such node with memory"
+            }
+            Some(PlacedRefusal::TooManyRuns) => {
+                "refused TooManyRuns ENOMEM: at most 1,048,576 runs of pages can be stated"
+            }
+            Some(_) => "refused NoMemory ENOMEM: out of memory",
+        }
+    }
+}
+
+impl Scene<'_> {
+    /// The number of nodes of the machine.
+    pub fn nodes(&self) -> u32 {
+        match self {
+            Scene::One(_, space) => space.machine().nodes(),
+            Scene::Each(host) => host.machine().nodes(),
+        }
+    }
+
+    /// Whether it is a host.
+    pub fn is_each(&self) -> bool {
+        matches!(self, Scene::Each(_))
+    }
+
+    /// The nodes that a process is allowed, if it is there.
+    fn allowed(&self, process: u32) -> Option<NodeMask> {
+        match self {
+            Scene::One(_, space) => Some(space.allowed()),
+            Scene::Each(host) => {
+                let space = host.process(process)?;
+                Some(space.allowed())
+            }
+        }
+    }
+}
+
+impl Scene<'_> {
+    /// Whether a line states where pages of this process lie.
+    fn is_of(&self, process: u32, line: &AtLine) -> bool {
+        match self {
+            Scene::One(None, _) => line.process.is_none(),
+            Scene::One(Some(own), _) => line.process.unwrap_or(*own) == *own,
+            Scene::Each(_) => line.process == Some(process),
+        }
+    }
+
+    /// Whether a line is of no process that is there.
+    fn lacks(&self, line: &AtLine) -> bool {
+        match (self, line.process) {
+            (Scene::One(None, _), named) => named.is_some(),
+            (Scene::One(Some(_), _), _) => false,
+            (Scene::Each(host), Some(process)) => host.process(process).is_none(),
+            (Scene::Each(_), None) => true,
+        }
+    }
+}
+
+/// Where the pages of a process lie, and the nodes that it is allowed.
+#[derive(Drop)]
+pub struct Holding {
+    /// The process; 0 for one space.
+    pub process: u32,
+    /// The nodes that it is allowed.
+    pub allowed: NodeMask,
+    /// The pages of each range.
+    pub shares: Vec<Share>,
+}
+
+/// What became of the pages of a process.
+#[derive(Drop)]
+pub struct HoldingMoves {
+    /// The process; 0 for one space.
+    pub process: u32,
+    /// What became of each share.
+    pub moves: Vec<ShareMove>,
+}
+
+/// Why a line that states where pages lie is passed over.
+#[derive(Clone, Copy)]
+pub struct RefusedAt {
+    /// Where it stands.
+    pub place: LinePlace,
+    /// The cause; `None` if there is no such process.
+    pub cause: Option<PlacedRefusal>,
+}
+
+/// How pages came to lie where they do.
+#[derive(Clone, Copy)]
+pub enum Origin<'a> {
+    /// A task touched each, while every node had room.
+    Touched(Touch),
+    /// Lines state it.
+    Stated(&'a [AtLine]),
+}
+
+/// Where pages of a space lie that were all touched while every node had room.
+fn touched(alloc: Global, space: &Space, touch: Touch) -> Result<Vec<Share>, ReportError> {
+    let Ok(plan) = compile(alloc, space) else {
+        return Err(ReportError::Memory);
+    };
+    let shares = touched_shares(alloc, space, &plan, touch);
+    drop(plan);
+    shares
+}
+
+/// States where the pages of a line lie, or notes why not.
+fn state_line(
+    placed: &mut Placed,
+    space: &Space,
+    line: &AtLine,
+    refused: &mut Vec<RefusedAt>,
+) -> Result<(), AllocError> {
+    match placed.state(space, line.start, line.length, line.node) {
+        Ok(()) => Ok(()),
+        Err(PlacedRefusal::NoMemory) => Err(AllocError),
+        Err(cause) => {
+            refused.push(RefusedAt {
+                place: line.place,
+                cause: Some(cause),
+            })?;
+            Ok(())
+        }
+    }
+}
+
+/// States where the pages of a process lie, by its lines.
+fn state_lines(
+    placed: &mut Placed,
+    scene: Scene<'_>,
+    space: &Space,
+    process: u32,
+    lines: &[AtLine],
+    refused: &mut Vec<RefusedAt>,
+) -> Result<(), AllocError> {
+    for line in lines {
+        if scene.is_of(process, line) {
+            state_line(placed, space, line, refused)?;
+        }
+    }
+    Ok(())
+}
+
+/// Where pages of a process lie, as lines state it.
+fn stated(
+    alloc: Global,
+    scene: Scene<'_>,
+    space: &Space,
+    process: u32,
+    lines: &[AtLine],
+    refused: &mut Vec<RefusedAt>,
+) -> Result<Vec<Share>, AllocError> {
+    let Ok(mut placed) = Placed::new(alloc) else {
+        return Err(AllocError);
+    };
+    let shares = match state_lines(&mut placed, scene, space, process, lines, refused) {
+        Ok(()) => stated_shares(alloc, space, &placed),
+        Err(fault) => Err(fault),
+    };
+    drop(placed);
+    shares
+}
+
+/// Where pages of a process lie.
+fn shares_by(
+    alloc: Global,
+    scene: Scene<'_>,
+    space: &Space,
+    process: u32,
+    origin: Origin<'_>,
+    refused: &mut Vec<RefusedAt>,
+) -> Result<Vec<Share>, ReportError> {
+    match origin {
+        Origin::Touched(touch) => touched(alloc, space, touch),
+        Origin::Stated(lines) => match stated(alloc, scene, space, process, lines, refused) {
+            Ok(shares) => Ok(shares),
+            Err(_) => Err(ReportError::Memory),
+        },
+    }
+}
+
+/// Appends what a process holds.
+fn add_holding(
+    alloc: Global,
+    scene: Scene<'_>,
+    space: &Space,
+    process: u32,
+    origin: Origin<'_>,
+    refused: &mut Vec<RefusedAt>,
+    holdings: &mut Vec<Holding>,
+) -> Result<(), ReportError> {
+    let shares = shares_by(alloc, scene, space, process, origin, refused)?;
+    let holding = Holding {
+        process,
+        allowed: space.allowed(),
+        shares,
+    };
+    match holdings.push(holding) {
+        Ok(()) => Ok(()),
+        Err(_) => Err(ReportError::Memory),
+    }
+}
+
+/// Appends what processes of a host hold.
+fn add_holdings(
+    alloc: Global,
+    scene: Scene<'_>,
+    processes: &[Process],
+    origin: Origin<'_>,
+    refused: &mut Vec<RefusedAt>,
+    holdings: &mut Vec<Holding>,
+) -> Result<(), ReportError> {
+    for process in processes {
+        let space = &process.space;
+        add_holding(alloc, scene, space, process.id, origin, refused, holdings)?;
+    }
+    Ok(())
+}
+
+/// Notes the lines that are of no process.
+fn note_lacking(
+    scene: Scene<'_>,
+    origin: Origin<'_>,
+    refused: &mut Vec<RefusedAt>,
+) -> Result<(), AllocError> {
+    let Origin::Stated(lines) = origin else {
+        return Ok(());
+    };
+    for line in lines {
+        if scene.lacks(line) {
+            refused.push(RefusedAt {
+                place: line.place,
+                cause: None,
+            })?;
+        }
+    }
+    Ok(())
+}
+
+/// Appends what the one space holds, or each process of a host.
+fn add_all(
+    alloc: Global,
+    scene: Scene<'_>,
+    origin: Origin<'_>,
+    refused: &mut Vec<RefusedAt>,
+    holdings: &mut Vec<Holding>,
+) -> Result<(), ReportError> {
+    if note_lacking(scene, origin, refused).is_err() {
+        return Err(ReportError::Memory);
+    }
+    match scene {
+        Scene::One(process, space) => {
+            let process = process.unwrap_or(0);
+            add_holding(alloc, scene, space, process, origin, refused, holdings)
+        }
+        Scene::Each(host) => {
+            add_holdings(alloc, scene, host.processes(), origin, refused, holdings)
+        }
+    }
+}
+
+/// Moves pages of a process from one set of nodes to another, and notes where they lie then.
+fn move_pages(
+    alloc: Global,
+    holding: &mut Holding,
+    old: &NodeMask,
+    new: &NodeMask,
+    rooms: &mut Rooms,
+) -> Result<HoldingMoves, AllocError>
+    ensures moves { (room : ℕ → ℕ) → AreRooms rooms.old room
+        → ((node : ℕ) → pages_on holding.old.shares.items node < 2 ^ 64)
+        → IfOk result (λ told. told.moves.items
+        ≡ moves_of holding.old.shares.items old.now new.now room) }
+    ensures behind { IfOk result (λ told.
+        holding.new.shares.items ≡ shares_behind told.moves.items) }
+{
+    let moves = moves_within(alloc, holding.shares.as_slice(), old, new, rooms)?;
+    let behind = shares_behind(alloc, moves.as_slice())?;
+    drop(replace(&mut holding.shares, behind));
+    Ok(HoldingMoves {
+        process: holding.process,
+        moves,
+    })
+}
+
+/// What a line does to pages.
+#[derive(Clone, Copy)]
+enum Act<'a> {
+    /// Those of each process follow the nodes that it is allowed.
+    Follow(Scene<'a>),
+    /// Those of one process go from one set of nodes to the allowed nodes of another.
+    Migrate(u32, &'a NodeMask, &'a NodeMask),
+    /// Nothing.
+    Stay,
+}
+
+/// Moves the pages of a process if its allowed nodes have changed.
+fn follow_one(
+    alloc: Global,
+    holding: &mut Holding,
+    scene: Scene<'_>,
+    rooms: &mut Rooms,
+) -> Result<HoldingMoves, AllocError> {
+    let old = holding.allowed;
+    let new = scene.allowed(holding.process).unwrap_or(old);
+    let told = move_pages(alloc, holding, &old, &new, rooms)?;
+    holding.allowed = new;
+    Ok(told)
+}
+
+/// Does to the pages of a process what a line does.
+fn act_on(
+    alloc: Global,
+    holding: &mut Holding,
+    act: Act<'_>,
+    rooms: &mut Rooms,
+) -> Result<HoldingMoves, AllocError> {
+    let nodes = holding.allowed;
+    match act {
+        Act::Follow(scene) => follow_one(alloc, holding, scene, rooms),
+        Act::Migrate(process, from, to) if process == holding.process => {
+            move_pages(alloc, holding, from, &to.and(&nodes), rooms)
+        }
+        Act::Migrate(_, from, _) => move_pages(alloc, holding, from, from, rooms),
+        Act::Stay => move_pages(alloc, holding, &nodes, &nodes, rooms),
+    }
+}
+
+/// What a line did to the pages of all processes.
+#[derive(Drop)]
+pub struct Step {
+    /// By process, what became of its pages.
+    pub told: Vec<HoldingMoves>,
+    /// How many more pages each node takes then.
+    pub rooms: Rooms,
+}
+
+/// Does to the pages of each process what a line does, one process after the other.
+fn act_on_each(
+    alloc: Global,
+    holdings: &mut [Holding],
+    act: Act<'_>,
+    rooms: &mut Rooms,
+) -> Result<Step, AllocError> {
+    let mut told = Vec::new(alloc);
+    for holding in holdings.iter_mut() {
+        let moves = act_on(alloc, holding, act, rooms)?;
+        told.push(moves)?;
+    }
+    let rooms = *rooms;
+    Ok(Step { told, rooms })
+}
+
+/// Where the pages of all processes lie, and how many more pages each node takes.
+#[derive(Drop)]
+pub struct Holdings {
+    list: Vec<Holding>,
+    rooms: Rooms,
+}
+
+/// The rooms of nodes, of which the named ones take so many more pages.
+fn rooms_of(free: &[FreePages]) -> Rooms {
+    let mut rooms = Rooms::endless();
+    for one in free {
+        rooms.limit(one.node, one.pages);
+    }
+    rooms
+}
+
+impl Holdings {
+    /// Where pages lie before the first line; named nodes take so many more. Lines that are refused
+    /// are noted.
+    ///
+    /// # Errors
+    /// `Refused(BadCpu)`: the machine lacks the node on which a task touches pages. `Memory`: out
+    /// of memory.
+    pub fn new(
+        alloc: Global,
+        scene: Scene<'_>,
+        origin: Origin<'_>,
+        free: &[FreePages],
+        refused: &mut Vec<RefusedAt>,
+    ) -> Result<Holdings, ReportError> {
+        let mut list = Vec::new(alloc);
+        match add_all(alloc, scene, origin, refused, &mut list) {
+            Ok(()) => Ok(Holdings {
+                list,
+                rooms: rooms_of(free),
+            }),
+            Err(fault) => {
+                drop(list);
+                Err(fault)
+            }
+        }
+    }
+
+    /// Moves the pages of each process whose allowed nodes have changed, as a control group with
+    /// memory that migrates does: of one process after the other, in the order in which they were
+    /// made.
+    ///
+    /// # Errors
+    /// `AllocError`: out of memory.
+    pub fn follow(&mut self, alloc: Global, scene: Scene<'_>) -> Result<Step, AllocError> {
+        let act = Act::Follow(scene);
+        act_on_each(alloc, self.list.as_mut_slice(), act, &mut self.rooms)
+    }
+
+    /// Moves the pages of a process from one set of nodes to the allowed nodes of another, as
+    /// migrate_pages(2) does; nothing if none is allowed, or there is no such process.
+    ///
+    /// # Errors
+    /// `AllocError`: out of memory.
+    pub fn migrate(
+        &mut self,
+        alloc: Global,
+        process: u32,
+        from: &NodeMask,
+        to: &NodeMask,
+    ) -> Result<Step, AllocError> {
+        let act = Act::Migrate(process, from, to);
+        act_on_each(alloc, self.list.as_mut_slice(), act, &mut self.rooms)
+    }
+
+    /// A line that moves nothing.
+    ///
+    /// # Errors
+    /// `AllocError`: out of memory.
+    pub fn stay(&mut self, alloc: Global) -> Result<Step, AllocError> {
+        act_on_each(alloc, self.list.as_mut_slice(), Act::Stay, &mut self.rooms)
+    }
+
+    /// The nodes that a process is allowed, if it is there.
+    pub fn allowed(&self, process: u32) -> Option<NodeMask> {
+        for holding in &self.list {
+            if holding.process == process {
+                return Some(holding.allowed);
+            }
+        }
+        None
+    }
+}

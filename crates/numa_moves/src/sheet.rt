@@ -1,0 +1,198 @@
+//! What becomes of pages, as text, JSON and SVG.
+
+mod bars;
+mod drawing;
+mod lines;
+mod objects;
+
+use crate::holding::{HoldingMoves, Step};
+use crate::moving::ShareMove;
+use crate::sums::{AllMoves, MoveSum};
+use drawing::Drawing;
+use numa_reports::{Format, FreePages, PageSpan, Written};
+use std::alloc::{AllocError, Global};
+
+/// How an answer is written.
+#[derive(Clone, Copy)]
+pub struct Asked<'a> {
+    /// The lines, one for each step.
+    pub lines: &'a [String],
+    /// Whether it is about all processes of a host.
+    pub is_each: bool,
+    /// The number of nodes of the machine.
+    pub nodes: u32,
+    /// The nodes with so much room, which is told of again at the end of each step.
+    pub free: &'a [FreePages],
+    /// Text, JSON or SVG.
+    pub format: Format,
+}
+
+/// An answer that is written span by span.
+#[derive(Drop)]
+struct Sheet {
+    format: Format,
+    nodes: u32,
+    text: Written,
+    // The spans of a picture.
+    drawing: Drawing,
+    // The span that is open, and what becomes of its pages so far.
+    span: Option<PageSpan>,
+    sum: MoveSum,
+    // The number of spans of the process that were written, and all its pages.
+    spans: u64,
+    total: MoveSum,
+}
+
+impl Sheet {
+    /// Before the first step.
+    fn new(alloc: Global, format: Format, nodes: u32) -> Sheet {
+        Sheet {
+            format,
+            nodes,
+            text: Written::new(alloc),
+            drawing: Drawing::new(alloc),
+            span: None,
+            sum: MoveSum::new(),
+            spans: 0,
+            total: MoveSum::new(),
+        }
+    }
+
+    /// Writes the open span.
+    fn close(&mut self) {
+        let Some(span) = self.span else {
+            return;
+        };
+        let text = &mut self.text;
+        match self.format {
+            Format::Json => objects::put_span(text, self.spans == 0, span, &self.sum, self.nodes),
+            Format::Svg(_) => self.drawing.put_span(text, span, &self.sum, self.nodes),
+            _ => lines::put_span(text, span, &self.sum, self.nodes),
+        }
+        self.spans = self.spans.saturating_add(1);
+        self.sum.clear(self.nodes);
+        self.span = None;
+    }
+
+    /// Adds a share; the one before it is of the same span, or that is closed.
+    fn take(&mut self, moved: &ShareMove) {
+        let span = moved.share.span;
+        match self.span {
+            Some(open) if open.first == span.first => {}
+            _ => self.close(),
+        }
+        self.span = Some(span);
+        self.sum.add(moved);
+        self.total.add(moved);
+    }
+
+    /// Writes what became of the pages of a process.
+    fn put_moves(&mut self, moves: &[ShareMove], is_last: bool) {
+        self.spans = 0;
+        self.total.clear(self.nodes);
+        if let Format::Svg(number) = self.format {
+            self.drawing.begin(&mut self.text, moves, number);
+        }
+        for moved in moves {
+            self.take(moved);
+        }
+        self.close();
+        let text = &mut self.text;
+        match self.format {
+            Format::Json => objects::put_sum(text, &self.total, self.nodes, is_last),
+            Format::Svg(_) => self.drawing.put_sum(text, &self.total),
+            _ => lines::put_sum(text, &self.total, self.nodes),
+        }
+    }
+
+    /// Writes what became of the pages of a process of a host.
+    fn put_process(&mut self, told: &HoldingMoves, is_first: bool) {
+        let text = &mut self.text;
+        match self.format {
+            Format::Json => objects::begin_process(text, told.process, is_first),
+            _ => text.put_form(b"process $\n", &[u64::from(told.process)]),
+        }
+        self.put_moves(told.moves.as_slice(), true);
+    }
+
+    /// Writes what became of the pages of all processes.
+    fn put_all(&mut self, alloc: Global, told: &[HoldingMoves]) -> Result<(), AllocError> {
+        let mut all = AllMoves::new(alloc)?;
+        let mut is_first = true;
+        for one in told {
+            self.put_process(one, is_first);
+            all.add(&self.total);
+            is_first = false;
+        }
+        match self.format {
+            Format::Json => objects::put_all(&mut self.text, &all, self.nodes),
+            _ => lines::put_all(&mut self.text, &all, self.nodes),
+        }
+        drop(all);
+        Ok(())
+    }
+
+    /// Writes a step.
+    fn put_step(
+        &mut self,
+        alloc: Global,
+        step: &Step,
+        asked: Asked<'_>,
+        place: usize,
+    ) -> Result<(), AllocError> {
+        let line = match asked.lines.get(place) {
+            Some(line) => line.as_str(),
+            None => "",
+        };
+        match self.format {
+            Format::Json => objects::begin_step(&mut self.text, line, asked.is_each, place == 0),
+            Format::Svg(_) => self.drawing.begin_step(&mut self.text, place as u64),
+            _ if asked.lines.len() > 1 => lines::begin_step(&mut self.text, line),
+            _ => (),
+        }
+        if asked.is_each {
+            self.put_all(alloc, step.told.as_slice())?;
+        } else if let Some(one) = step.told.first() {
+            self.put_moves(one.moves.as_slice(), false);
+        }
+        match self.format {
+            Format::Json => objects::end_step(&mut self.text, asked.free, &step.rooms),
+            Format::Svg(_) => (),
+            _ => lines::put_left(&mut self.text, asked.free, &step.rooms),
+        }
+        Ok(())
+    }
+}
+
+/// Writes all steps.
+fn put_steps(
+    sheet: &mut Sheet,
+    alloc: Global,
+    steps: &[Step],
+    asked: Asked<'_>,
+) -> Result<Vec<u8>, AllocError> {
+    if let Format::Json = asked.format {
+        sheet.text.put(b"{\"kernelpagesize_kB\":4,\"steps\":[");
+    }
+    for place in 0..steps.len() {
+        sheet.put_step(alloc, &steps[place], asked, place)?;
+    }
+    match asked.format {
+        Format::Json => sheet.text.put(b"\n]}\n"),
+        Format::Svg(_) => return sheet.drawing.end(&mut sheet.text),
+        _ => (),
+    }
+    sheet.text.take()
+}
+
+/// What became of the pages of spans, step by step, as text, JSON or a picture: of each span, by
+/// node, how many go where, how many need not go, and how many find no room; and the same in all.
+///
+/// # Errors
+/// `AllocError`: out of memory.
+pub fn moves_text(alloc: Global, steps: &[Step], asked: Asked<'_>) -> Result<Vec<u8>, AllocError> {
+    let mut sheet = Sheet::new(alloc, asked.format, asked.nodes);
+    let text = put_steps(&mut sheet, alloc, steps, asked);
+    drop(sheet);
+    text
+}
