@@ -328,7 +328,12 @@ fn difference_of_each<P: Watch>(
     } else {
         &[]
     };
-    let mut answers = ByProcess::of_touch(alloc, asked.format, asked.touch);
+    let format = match asked.format {
+        // (Differences have no records.)
+        Format::Csv | Format::Tap => Format::Text,
+        format => format,
+    };
+    let mut answers = ByProcess::of_touch(alloc, format, asked.touch);
     let text = differences(alloc, outlooks, host, asked, &mut answers, watch);
     drop(answers);
     text

@@ -82,8 +82,12 @@ impl ByProcess {
         }
     }
 
-    /// Before the first process. Objects are written one a line.
+    /// Before the first process. Objects are written one a line; other answers are text.
     pub fn new(alloc: Global, format: Format) -> ByProcess {
+        let format = match format {
+            Format::Json => Format::Json,
+            _ => Format::Text,
+        };
         ByProcess::behind(format, false, Written::new(alloc))
     }
 
@@ -100,13 +104,15 @@ impl ByProcess {
         ByProcess::behind(format, true, text)
     }
 
-    /// Before the first process, if a trace is replayed. Objects are members of a whole one.
+    /// Before the first process, if a trace is replayed. Objects are members of a whole one; what
+    /// is neither an object nor a page is text.
     pub fn of_trace(alloc: Global, format: Format) -> ByProcess {
         let mut text = Written::new(alloc);
         if let Format::Json | Format::Html(_) = format {
             text.put(b"{\"processes\":[");
+            return ByProcess::behind(format, true, text);
         }
-        ByProcess::behind(format, true, text)
+        ByProcess::behind(Format::Text, true, text)
     }
 
     /// Writes an object with the process and its group as its first members.
