@@ -5,11 +5,11 @@
  * unit of any size. Nodes are numbered from 0 to 255, tasks by any number of 32 bits, workers
  * from 0.
  *
- * Handles. A core, a plan, a seat, a script and a host are kept by handles of 16 bytes that begin
- * as zero bytes, as in `np_core core = {0};`. A handle owns what it keeps until it is closed. It
- * is not to be copied, and its fields are the library's: C neither reads nor writes them.
- * Closing a closed handle does nothing. No call takes a `const` handle: a question, too, takes
- * what is kept out of its handle, and puts it back before it answers.
+ * Handles. A core, a core with its pages, a plan, a seat, a script and a host are kept by handles
+ * of 16 bytes that begin as zero bytes, as in `np_core core = {0};`. A handle owns what it keeps
+ * until it is closed. It is not to be copied, and its fields are the library's: C neither reads
+ * nor writes them. Closing a closed handle does nothing. No call takes a `const` handle: a
+ * question, too, takes what is kept out of its handle, and puts it back before it answers.
  *
  * Threads. A handle may go to another thread, ordered by a lock, a start or a join, and is
  * given to one call at a time. A plan never changes: np_plan_share keeps it in a handle for
@@ -133,8 +133,18 @@ enum np_answer {
     NP_PROCESS_EXISTS = 95,     /* EEXIST: there is a process of this number */
     NP_NO_SUCH_PROCESS = 96,    /* ESRCH: there is no process of this number, or not so many */
     NP_TOO_MANY_PROCESSES = 97, /* EAGAIN: there are 4,096 processes */
-    NP_GROUP_MEMS = 98          /* EPERM: a process's allowed nodes are its group's; no call asks
+    NP_GROUP_MEMS = 98,         /* EPERM: a process's allowed nodes are its group's; no call asks
                                    for others */
+
+    /* a change of pages that are there is refused */
+    NP_TOO_MANY_RUNS = 100,      /* ENOMEM: there would be over 1,048,576 runs of pages */
+    NP_ASTRAY = 101,             /* EIO: a page lies on a node for which the policy doesn't ask */
+    NP_NO_SUCH_TARGET = 102,     /* ENODEV: the machine lacks the node, or it has no memory */
+    NP_TARGET_NOT_ALLOWED = 103, /* EACCES: the node isn't allowed */
+    NP_PAGE_UNMAPPED = 104,      /* EFAULT: the page isn't mapped */
+    NP_NOT_PLACED = 105,         /* ENOENT: the page lies nowhere */
+    NP_NODE_FULL = 106,          /* ENOMEM: the node has no room for the page */
+    NP_OCCUPIED = 107            /* EEXIST: the page lies somewhere; no call answers so yet */
 };
 
 /* ---- types */
@@ -460,7 +470,8 @@ uint32_t np_answer_name(uint32_t code, uint8_t *name, size_t room, size_t *lengt
 /* Writes the error number that Linux gives for the cause of an answer (errno(3)): EINVAL,
  * ENOMEM, EEXIST, EFAULT, ENOSPC, EOPNOTSUPP or ENOENT for what mmap(2), mbind(2),
  * set_mempolicy(2) and set_mempolicy_home_node(2) refuse, EACCES, ESRCH, EAGAIN or EPERM too for
- * what a host refuses, else 0. NP_UNKNOWN where no answer has this number. */
+ * what a host refuses, EACCES, EIO or ENODEV too for what pages refuse, else 0. NP_UNKNOWN where no
+ * answer has this number. */
 uint32_t np_answer_errno(uint32_t code, uint32_t *number);
 
 #ifdef __cplusplus
@@ -470,4 +481,5 @@ uint32_t np_answer_errno(uint32_t code, uint32_t *number);
 #include "numaplan_pools.h"
 #include "numaplan_reports.h"
 #include "numaplan_hosts.h"
+#include "numaplan_placed.h"
 #endif

@@ -17,7 +17,8 @@ from __future__ import annotations
 from typing import TYPE_CHECKING
 
 from ._causes import CAUSES as CAUSES
-from ._causes import AllTaken, AnswerLost, BadAccess, BadCpu, BadDistance, BadFormat, BadLimits
+from ._causes import AllTaken, AnswerLost, Astray, BadAccess, BadCpu, BadDistance, BadFormat
+from ._causes import BadLimits
 from ._causes import BadNodeCount, BadOffset
 from ._causes import BadOrders, BadRules, BadTry, BadWeight, BadWorkers, BothFlags, Busy, Closed
 from ._causes import GroupExists, GroupMems, NoSuchGroup, NoSuchProcess, Populated, ProcessExists
@@ -25,7 +26,8 @@ from ._causes import RootGroup, TooManyGroups, TooManyProcesses
 from ._causes import CommandsSpent, EmptyLength, Exhausted, FlagsForbidden, Hole, Idle
 from ._causes import ListBackwards, ListBadDigit, ListEmpty, ListTooHigh, ManyProcesses, NoMachine
 from ._causes import NoMemory, NoMemoryNode
-from ._causes import NoNodeAllowed, NoPolicy, NoPolicyThere, NoRange, NoRoom, NoSuchNode
+from ._causes import NodeFull, NoNodeAllowed, NoPolicy, NoPolicyThere, NoRange, NoRoom, NoSuchNode
+from ._causes import NoSuchTarget, NotPlaced, Occupied, PageUnmapped, TargetNotAllowed, TooManyRuns
 from ._causes import NoSuchWorker, NodesForbidden
 from ._causes import NodesMissing, NodesNotAllowed, NotOwned, NotSupported, Open, OutOfSpace
 from ._causes import Overlap, PlacedTwice, Refused, TooManyFrames, TooManyRanges, TooManyTasks
@@ -34,6 +36,7 @@ from ._core_reports import Move, Route
 from ._cores import Core, Explanation, Placement, Policy, Prediction, Range
 from ._hosts import Group, Host, Process
 from ._library import LIBRARY
+from ._pages import Moved, PageRun, Pages
 from ._plans import Plan
 from ._scripts import Script
 from ._seats import Frame, Seat
@@ -41,11 +44,13 @@ from ._values import effective, nodes, nodes_text, policy_text, rebind
 
 __version__ = "0.10.0"
 __all__ = [
-    "Answer", "Core", "Explanation", "Frame", "Group", "Host", "Move", "Placement", "Plan", "Policy",
-    "Prediction", "Process", "Question", "Range", "Report", "Route", "Script", "Seat",
+    "Answer", "Core", "Explanation", "Frame", "Group", "Host", "Move", "Moved",
+    "PageRun", "Pages", "Placement", "Plan", "Policy", "Prediction", "Process", "Question", "Range",
+    "Report", "Route", "Script", "Seat",
     "check", "diff", "effective", "explain", "nodes", "nodes_text", "policy_text", "predict",
     "progress", "rebind", "replay", "sweep", "write_table",
-    "AllTaken", "AnswerLost", "BadAccess", "BadCpu", "BadDistance", "BadFormat", "BadLimits",
+    "AllTaken", "AnswerLost", "Astray", "BadAccess", "BadCpu", "BadDistance", "BadFormat",
+    "BadLimits",
     "BadNodeCount", "BadOffset",
     "BadOrders", "BadRules", "BadTry", "BadWeight", "BadWorkers", "BothFlags", "Busy", "CAUSES",
     "Closed", "CommandsSpent", "EmptyLength", "Exhausted", "FlagsForbidden", "Hole", "Idle",
@@ -53,15 +58,16 @@ __all__ = [
     "RootGroup", "TooManyGroups", "TooManyProcesses",
     "ListBackwards", "ListBadDigit", "ListEmpty", "ListTooHigh", "ManyProcesses", "NoMachine",
     "NoMemory",
-    "NoMemoryNode", "NoNodeAllowed", "NoPolicy",
+    "NoMemoryNode", "NoNodeAllowed", "NoPolicy", "NodeFull", "NoSuchTarget", "NotPlaced",
+    "Occupied", "PageUnmapped", "TargetNotAllowed", "TooManyRuns",
     "NoPolicyThere", "NoRange", "NoRoom", "NoSuchNode", "NoSuchWorker", "NodesForbidden",
     "NodesMissing", "NodesNotAllowed", "NotOwned", "NotSupported", "Open", "OutOfSpace", "Overlap",
     "PlacedTwice", "Refused", "TooManyFrames", "TooManyRanges", "TooManyTasks", "Unaligned",
     "Unknown", "UnknownMode", "Unmapped",
 ]
 # (as users name them, also where they are pickled)
-for _one in (Core, Explanation, Frame, Group, Host, Move, Placement, Plan, Policy, Prediction, Process,
-             Range, Route, Script, Seat):
+for _one in (Core, Explanation, Frame, Group, Host, Move, Moved, PageRun, Pages, Placement, Plan,
+             Policy, Prediction, Process, Range, Route, Script, Seat):
     _one.__module__ = __name__
 
 if TYPE_CHECKING:

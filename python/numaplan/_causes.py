@@ -347,6 +347,50 @@ class GroupMems(Refused):
              " attach the process to another")
 
 
+# ---- pages that are there
+
+
+class TooManyRuns(Refused):
+    number = 100
+    words = ("there would be more than 1048576 runs of pages that lie on one node; state fewer, or"
+             " move whole spans")
+
+
+class Astray(Refused):
+    number = 101
+    words = ("a page of the span lies on a node for which the policy doesn't ask; move it first, or"
+             " bind without strict")
+
+
+class NoSuchTarget(Refused):
+    number = 102
+    words = ("the machine lacks the node to move to, or it has no memory; its nodes are numbered from"
+             " 0")
+
+
+class TargetNotAllowed(Refused):
+    number = 103
+    words = "the node to move to isn't allowed; name one that is, or allow it by set_mems"
+
+
+class PageUnmapped(Refused):
+    number, words = 104, "the page that is to move isn't mapped; map it, and state where it lies"
+
+
+class NotPlaced(Refused):
+    number, words = 105, "the page lies nowhere; state where it lies, by place"
+
+
+class NodeFull(Refused):
+    number = 106
+    words = ("the node has no room for the page; move another away from it, or give it room by"
+             " set_room")
+
+
+class Occupied(Refused):
+    number, words = 107, "the page lies somewhere already; unmap it first"
+
+
 CAUSES: dict[int, type[Refused]] = {cause.number: cause for cause in Refused.__subclasses__()}
 
 

@@ -12,7 +12,7 @@ NAME = "libnumaplan.so.0"
 
 
 class Handle(ctypes.Structure):
-    """What a core, a plan, a seat, a script or a host is kept by."""
+    """What a core, its pages, a plan, a seat, a script or a host is kept by."""
 
     _fields_ = [("is_open", c_bool), ("at", c_void_p)]
 
@@ -52,6 +52,19 @@ class Span(ctypes.Structure):
     """np_range."""
 
     _fields_ = [(name, c_uint64) for name in ("start", "length", "offset")]
+
+
+class PagesInRow(ctypes.Structure):
+    """np_page_run."""
+
+    _fields_ = [("first", c_uint64), ("pages", c_uint64), ("node", c_uint8)]
+
+
+class ToldMoves(ctypes.Structure):
+    """np_moves."""
+
+    _fields_ = [("moved", c_uint64), ("left", c_uint64), ("went", c_uint64 * 256),
+                ("to", c_uint8 * 256)]
 
 
 class TakenFrame(ctypes.Structure):
@@ -202,6 +215,28 @@ _SIGNATURES = {
     "host_ranges": [_HANDLE, _U32, POINTER(c_size_t)],
     "host_range": [_HANDLE, _U32, c_size_t, POINTER(Span), *_ROOM],
     "host_task_policy": [_HANDLE, _U32, _U32, POINTER(StandingPolicy)],
+    "pages_open": [_HANDLE, _HANDLE],
+    "pages_copy": [_HANDLE, _HANDLE],
+    "pages_core": [_HANDLE, _HANDLE],
+    "pages_version": [_HANDLE, POINTER(_U64)],
+    "pages_map": [_HANDLE, _U64, _U64, _U64],
+    "pages_unmap": [_HANDLE, _U64, _U64],
+    "pages_mbind": [_HANDLE, _U64, _U64, _TEXT, c_size_t],
+    "pages_mbind_strictly": [_HANDLE, _U64, _U64, _TEXT, c_size_t],
+    "pages_set_task": [_HANDLE, _U32, _TEXT, c_size_t],
+    "pages_inherit": [_HANDLE, _U32, _U32],
+    "pages_set_home": [_HANDLE, _U64, _U64, _U32],
+    "pages_set_weight": [_HANDLE, _U32, _U32],
+    "pages_set_mems": [_HANDLE, _TEXT, c_size_t],
+    "pages_place": [_HANDLE, _U64, _U64, _U32],
+    "pages_set_room": [_HANDLE, _U32, _U64],
+    "pages_room": [_HANDLE, _U32, POINTER(_U64)],
+    "pages_node": [_HANDLE, _U64, POINTER(_U32)],
+    "pages_counts": [_HANDLE, POINTER(_U64 * 256)],
+    "pages_runs": [_HANDLE, POINTER(PagesInRow), c_size_t, POINTER(c_size_t)],
+    "pages_move_mems": [_HANDLE, _TEXT, c_size_t, POINTER(ToldMoves)],
+    "pages_migrate": [_HANDLE, _TEXT, c_size_t, _TEXT, c_size_t, POINTER(ToldMoves)],
+    "pages_move": [_HANDLE, _U64, _U32],
     "core_diff": [_HANDLE, _HANDLE, _U32, _U32, POINTER(SpanMove), c_size_t, POINTER(c_size_t)],
     "core_replay": [_HANDLE, POINTER(Access), c_size_t, POINTER(ToldRoute), c_size_t,
                     POINTER(c_size_t)],
@@ -235,7 +270,8 @@ def _load() -> ctypes.CDLL:
         if function is None:
             raise ImportError(f"{library._name} lacks np_{name}: it is of another version")
         function.argtypes, function.restype = types, c_uint32
-    for name in ("core_close", "host_close", "plan_close", "script_close", "seat_close"):
+    for name in ("core_close", "host_close", "pages_close", "plan_close", "script_close",
+                 "seat_close"):
         function = getattr(library, "np_" + name)
         function.argtypes, function.restype = [_HANDLE], None
     return library

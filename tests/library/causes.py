@@ -10,7 +10,7 @@ import sys
 from types import FunctionType
 
 import numaplan
-from numaplan import Core, Host, Plan, Refused, Script, Seat
+from numaplan import Core, Host, Pages, Plan, Refused, Script, Seat
 
 NO_FAILURES = {0, 40}  # NP_OK and NP_STILL
 FAR = [[10, 20], [20, 10]]
@@ -82,7 +82,9 @@ want(repr(core), "<numaplan.Core of version 1, published 0>", "a core")
 want(repr(plan), "<numaplan.Plan of version 1>", "a plan")
 want([repr(seat), repr(script)], ["<numaplan.Seat>", "<numaplan.Script>"], "a seat, a script")
 want(repr(host), "<numaplan.Host of version 0, 0 processes>", "a host")
-for one in (core, plan, seat, script, host):
+pages = Pages(core)
+want(repr(pages), "<numaplan.Pages of version 1, 0 pages>", "pages")
+for one in (core, pages, plan, seat, script, host):
     one.close()
     want(repr(one), f"<numaplan.{type(one).__name__}, closed>", "a closed one")
 want(repr(Plan()), "<numaplan.Plan, closed>", "a plan of nothing")
@@ -96,8 +98,8 @@ ran = subprocess.run(
      "print(hasattr(numaplan, 'sweeps'))"], capture_output=True, text=True, check=True)
 want(ran.stdout.splitlines(), [
     "numaplan._calls numaplan._causes numaplan._core_reports numaplan._cores numaplan._hosts"
-    " numaplan._judged numaplan._library numaplan._machines numaplan._plans numaplan._scripts numaplan._seats"
-    " numaplan._values",
+    " numaplan._judged numaplan._library numaplan._machines numaplan._pages numaplan._plans"
+    " numaplan._scripts numaplan._seats numaplan._values",
     "True numaplan._sweeps numaplan", "False"], "modules")
 
 # what a checker and `import *` see

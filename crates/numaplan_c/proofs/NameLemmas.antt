@@ -3,12 +3,18 @@ use Rattle.std.proofs.Common.{◌≡◌, ℕ, List, Some, codes, refl}
 use Rattle.numa_host.specs.Answers.{host_errno_of}
 use Rattle.numa_host.specs.declared.refusal.HostRefusal.{HostRefusal}
 use Rattle.numa_host.specs.declared.refusal.HostRefusal.TheVariants as host
+use Rattle.numa_placed.specs.Refusals.{errno_of as placed_errno_of, move_errno_of}
+use Rattle.numa_placed.specs.declared.refusal.MoveRefusal.{MoveRefusal}
+use Rattle.numa_placed.specs.declared.refusal.MoveRefusal.TheVariants as move
+use Rattle.numa_placed.specs.declared.refusal.PlacedRefusal.{PlacedRefusal}
+use Rattle.numa_placed.specs.declared.refusal.PlacedRefusal.TheVariants as placed
 use Rattle.numa_script.specs.Texts.{refusal_name}
 use Rattle.numa_space.specs.declared.refusal.Refusal.{Refusal}
 use Rattle.numa_space.specs.declared.refusal.Refusal.TheVariants as refusal
 use Rattle.numaplan_c.specs.Codes.{refusal_code}
 use Rattle.numaplan_c.specs.Hosts.{host_cause_code}
 use Rattle.numaplan_c.specs.Names.{answer_errno, answer_name, host_errno_number, refusal_numbered}
+use Rattle.numaplan_c.specs.Placed.{move_code, placed_code}
 
 pub numbered-same : (cause : Refusal) → refusal_numbered (refusal_code cause) ≡ Some cause
 numbered-same refusal.CommandsSpent = refl
@@ -80,3 +86,24 @@ host-errno-same (host.OfSpace refusal.TooManyRanges) = refl
 host-errno-same (host.OfSpace refusal.NoPolicy) = refl
 host-errno-same (host.OfSpace refusal.NoMemory) = refl
 host-errno-same host.NoMemory = refl
+
+-- the error number of what pages refuse is that of their cause, and move_pages(2)'s is its own
+pub placed-errno-same : (cause : PlacedRefusal)
+    → answer_errno (placed_code cause) ≡ placed_errno_of cause
+placed-errno-same placed.Unaligned = refl
+placed-errno-same placed.OutOfSpace = refl
+placed-errno-same placed.NoSuchNode = refl
+placed-errno-same placed.Occupied = refl
+placed-errno-same placed.NodesNotAllowed = refl
+placed-errno-same placed.Astray = refl
+placed-errno-same placed.TooManyRuns = refl
+placed-errno-same placed.NoMemory = refl
+
+pub move-errno-same : (cause : MoveRefusal) → answer_errno (move_code cause) ≡ move_errno_of cause
+move-errno-same move.NoSuchNode = refl
+move-errno-same move.NodesNotAllowed = refl
+move-errno-same move.Unmapped = refl
+move-errno-same move.NotPlaced = refl
+move-errno-same move.NoRoom = refl
+move-errno-same move.TooManyRuns = refl
+move-errno-same move.NoMemory = refl

@@ -7,6 +7,7 @@ pub mod Options
 pub mod Questions
 pub mod Migrations
 pub mod Names
+pub mod Placed
 pub mod Policies
 pub mod Scripts
 pub mod Standing

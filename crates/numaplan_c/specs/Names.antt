@@ -1,5 +1,6 @@
 -- The names of the answers, and their error numbers.
 use Rattle.std.specs.Prelude.{ℕ, ◌-◌, ◌==◌, ◌&&◌, nat_le, nat_lt, List, [], ◌∷◌, codes, slice_get}
+use Rattle.std.specs.Prelude.{slice_index}
 use Rattle.std.specs.Prelude.{Option, Some, None, if◌then◌else◌}
 use Rattle.std.specs.Borrow.{Bor}
 use Rattle.numa_host.specs.Answers.{host_errno_of}
@@ -7,6 +8,9 @@ use Rattle.numa_host.specs.declared.refusal.HostErrno.{HostErrno}
 use Rattle.numa_host.specs.declared.refusal.HostErrno.TheVariants as host_errno
 use Rattle.numa_host.specs.declared.refusal.HostRefusal.{HostRefusal}
 use Rattle.numa_host.specs.declared.refusal.HostRefusal.TheVariants as host
+use Rattle.numa_placed.specs.Refusals.{errno_of as placed_errno_of, move_errno_of}
+use Rattle.numa_placed.specs.declared.refusal.MoveRefusal.TheVariants as move
+use Rattle.numa_placed.specs.declared.refusal.PlacedRefusal.TheVariants as placed
 use Rattle.numa_script.specs.Texts.{refusal_name}
 use Rattle.numa_space.specs.Errors.{errno_of}
 use Rattle.numa_space.specs.declared.refusal.Errno.{Errno}
@@ -91,6 +95,14 @@ host_names =
     ∷ named 96 (codes "NoSuchProcess") ∷ named 97 (codes "TooManyProcesses")
     ∷ named 98 (codes "GroupMems") ∷ []
 
+-- causes that only pages have
+abbrev pub placed_names : List Named
+placed_names =
+    named 100 (codes "TooManyRuns") ∷ named 101 (codes "Astray")
+    ∷ named 102 (codes "NoSuchTarget") ∷ named 103 (codes "TargetNotAllowed")
+    ∷ named 104 (codes "PageUnmapped") ∷ named 105 (codes "NotPlaced")
+    ∷ named 106 (codes "NodeFull") ∷ named 107 (codes "Occupied") ∷ []
+
 -- the name of a number, without a byte where it has none
 abbrev pub name_in : List Named → ℕ → List ℕ
 name_in [] code = []
@@ -108,7 +120,8 @@ answer_name code =
     else name_or (refusal_numbered code)
     (if nat_lt code 50 then name_in call_names code
     else if nat_lt code 90 then name_in fault_names code
-    else name_in host_names code)
+    else if nat_lt code 100 then name_in host_names code
+    else name_in placed_names code)
 
 -- ---- error numbers
 
@@ -137,10 +150,21 @@ abbrev pub host_errno_or : Option HostRefusal → ℕ → ℕ
 host_errno_or (Some cause) other = host_errno_number (host_errno_of cause)
 host_errno_or None other = other
 
+-- those of the causes that only pages have, from 100 on; 0 where there is none
+abbrev pub placed_errnos : List ℕ
+placed_errnos =
+    placed_errno_of placed.TooManyRuns ∷ placed_errno_of placed.Astray
+    ∷ move_errno_of move.NoSuchNode ∷ move_errno_of move.NodesNotAllowed
+    ∷ move_errno_of move.Unmapped ∷ move_errno_of move.NotPlaced ∷ move_errno_of move.NoRoom
+    ∷ placed_errno_of placed.Occupied ∷ []
+
+abbrev pub placed_errno : ℕ → ℕ
+placed_errno code = if nat_lt code 100 then 0 else slice_index placed_errnos (code - 100)
+
 -- that of an answer that refuses no command of a core
 abbrev pub other_errno : ℕ → ℕ
-other_errno code =
-    host_errno_or (host_numbered code) (if nat_le 70 code && nat_le code 74 then 22 else 0)
+other_errno code = host_errno_or (host_numbered code)
+    (if nat_le 70 code && nat_le code 74 then 22 else placed_errno code)
 
 -- the error number of an answer: a faulty policy word is set_mempolicy(2)'s EINVAL; 0 where there
 -- is none

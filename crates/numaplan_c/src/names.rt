@@ -3,11 +3,13 @@ ghost use Rattle.std.specs.Prelude.{◌≡◌, ◌≢◌, [], map};
 ghost use Rattle.numaplan_c.specs.Names.{answer_name, answer_errno, errno_number};
 ghost use Rattle.numaplan_c.specs.Names.{name_in, refusal_numbered, row_of};
 ghost use Rattle.numaplan_c.specs.Names.{host_errno_number, host_numbered, other_errno};
+ghost use Rattle.numaplan_c.specs.Names.{placed_errno};
 ghost use Rattle.numaplan_c.specs.Texts.{IsWritten};
 
 use crate::codes::Code;
 use crate::texts::write;
 use numa_host::{HostErrno, HostRefusal};
+use numa_placed::{MoveRefusal, PlacedRefusal};
 use numa_script::names::Named;
 use numa_space::{Errno, Refusal};
 
@@ -97,6 +99,18 @@ static HOST_NAMES: [(u32, &[u8]); 9] = [
     (98, b"GroupMems"),
 ];
 
+/// The names of the codes of causes that only pages have.
+static PLACED_NAMES: [(u32, &[u8]); 8] = [
+    (100, b"TooManyRuns"),
+    (101, b"Astray"),
+    (102, b"NoSuchTarget"),
+    (103, b"TargetNotAllowed"),
+    (104, b"PageUnmapped"),
+    (105, b"NotPlaced"),
+    (106, b"NodeFull"),
+    (107, b"Occupied"),
+];
+
 /// The name of a code in a table, empty if it has none.
 fn name_in(names: &[(u32, &'static [u8])], code: u32) -> &'static [u8]
     ensures { result.now ≡ name_in (map row_of names.now) code }
@@ -126,7 +140,10 @@ fn answer_name(code: u32) -> &'static [u8]
     if code < 90 {
         return name_in(&FAULT_NAMES, code);
     }
-    name_in(&HOST_NAMES, code)
+    if code < 100 {
+        return name_in(&HOST_NAMES, code);
+    }
+    name_in(&PLACED_NAMES, code)
 }
 
 /// Writes the name of a result code.
@@ -190,6 +207,23 @@ fn host_errno_number(errno: HostErrno) -> u32
     }
 }
 
+/// The error number of a code of pages, 0 if there is none.
+fn placed_errno(code: u32) -> u32
+    ensures { result ≡ placed_errno code }
+{
+    match code {
+        100 => PlacedRefusal::TooManyRuns.errno(),
+        101 => PlacedRefusal::Astray.errno(),
+        102 => MoveRefusal::NoSuchNode.errno(),
+        103 => MoveRefusal::NodesNotAllowed.errno(),
+        104 => MoveRefusal::Unmapped.errno(),
+        105 => MoveRefusal::NotPlaced.errno(),
+        106 => MoveRefusal::NoRoom.errno(),
+        107 => PlacedRefusal::Occupied.errno(),
+        _ => 0,
+    }
+}
+
 /// The error number of a code that isn't that of a command's refusal, 0 if there is none.
 fn other_errno(code: u32) -> u32
     ensures { result ≡ other_errno code }
@@ -200,7 +234,7 @@ fn other_errno(code: u32) -> u32
             if 70 <= code && code <= 74 {
                 return 22;
             }
-            0
+            placed_errno(code)
         }
     }
 }

@@ -3,6 +3,7 @@ use Rattle.std.specs.Prelude.{◌≡◌, Bool, true, false, Option, Some, None}
 use Rattle.std.specs.Arc.{arc_value}
 use Rattle.numa_core.specs.Standing.{CoreState}
 use Rattle.numa_host.specs.Standing.{HostState}
+use Rattle.numa_pages.specs.Changes.{PagesState}
 use Rattle.numa_plan.specs.Meaning.{PlanData}
 use Rattle.numa_pool.specs.Seated.{Seated}
 use Rattle.numaplan_handles.specs.declared.dialog.Dialog.{Dialog}
@@ -17,6 +18,7 @@ core_of (Some (kept.Plan plan)) = None
 core_of (Some (kept.Seat seat)) = None
 core_of (Some (kept.Script dialog)) = None
 core_of (Some (kept.Host host)) = None
+core_of (Some (kept.Pages pages)) = None
 
 -- the plan that is kept
 abbrev pub plan_of : Option Kept → Option PlanData
@@ -26,6 +28,7 @@ plan_of (Some (kept.Plan plan)) = Some (arc_value plan)
 plan_of (Some (kept.Seat seat)) = None
 plan_of (Some (kept.Script dialog)) = None
 plan_of (Some (kept.Host host)) = None
+plan_of (Some (kept.Pages pages)) = None
 
 -- the seat that is kept
 abbrev pub seat_of : Option Kept → Option Seated
@@ -35,6 +38,7 @@ seat_of (Some (kept.Plan plan)) = None
 seat_of (Some (kept.Seat seat)) = Some seat
 seat_of (Some (kept.Script dialog)) = None
 seat_of (Some (kept.Host host)) = None
+seat_of (Some (kept.Pages pages)) = None
 
 -- the script that is kept, with the answer to its last line
 abbrev pub dialog_of : Option Kept → Option Dialog
@@ -44,6 +48,7 @@ dialog_of (Some (kept.Plan plan)) = None
 dialog_of (Some (kept.Seat seat)) = None
 dialog_of (Some (kept.Script dialog)) = Some dialog
 dialog_of (Some (kept.Host host)) = None
+dialog_of (Some (kept.Pages pages)) = None
 
 -- the host that is kept
 abbrev pub host_of : Option Kept → Option HostState
@@ -53,6 +58,17 @@ host_of (Some (kept.Plan plan)) = None
 host_of (Some (kept.Seat seat)) = None
 host_of (Some (kept.Script dialog)) = None
 host_of (Some (kept.Host host)) = Some host
+host_of (Some (kept.Pages pages)) = None
+
+-- the core with its pages that is kept
+abbrev pub pages_of : Option Kept → Option PagesState
+pages_of None = None
+pages_of (Some (kept.Core core)) = None
+pages_of (Some (kept.Plan plan)) = None
+pages_of (Some (kept.Seat seat)) = None
+pages_of (Some (kept.Script dialog)) = None
+pages_of (Some (kept.Host host)) = None
+pages_of (Some (kept.Pages pages)) = Some pages
 
 -- nothing but a core is kept
 abbrev pub is_core : Option Kept → Bool
@@ -62,6 +78,7 @@ is_core (Some (kept.Plan plan)) = false
 is_core (Some (kept.Seat seat)) = false
 is_core (Some (kept.Script dialog)) = false
 is_core (Some (kept.Host host)) = false
+is_core (Some (kept.Pages pages)) = false
 
 -- nothing but a plan is kept
 abbrev pub is_plan : Option Kept → Bool
@@ -71,6 +88,7 @@ is_plan (Some (kept.Plan plan)) = true
 is_plan (Some (kept.Seat seat)) = false
 is_plan (Some (kept.Script dialog)) = false
 is_plan (Some (kept.Host host)) = false
+is_plan (Some (kept.Pages pages)) = false
 
 -- nothing but a seat is kept
 abbrev pub is_seat : Option Kept → Bool
@@ -80,6 +98,7 @@ is_seat (Some (kept.Plan plan)) = false
 is_seat (Some (kept.Seat seat)) = true
 is_seat (Some (kept.Script dialog)) = false
 is_seat (Some (kept.Host host)) = false
+is_seat (Some (kept.Pages pages)) = false
 
 -- nothing but a script is kept
 abbrev pub is_script : Option Kept → Bool
@@ -89,6 +108,7 @@ is_script (Some (kept.Plan plan)) = false
 is_script (Some (kept.Seat seat)) = false
 is_script (Some (kept.Script dialog)) = true
 is_script (Some (kept.Host host)) = false
+is_script (Some (kept.Pages pages)) = false
 
 -- nothing but a host is kept
 abbrev pub is_host : Option Kept → Bool
@@ -98,6 +118,17 @@ is_host (Some (kept.Plan plan)) = false
 is_host (Some (kept.Seat seat)) = false
 is_host (Some (kept.Script dialog)) = false
 is_host (Some (kept.Host host)) = true
+is_host (Some (kept.Pages pages)) = false
+
+-- nothing but a core with its pages is kept
+abbrev pub is_pages : Option Kept → Bool
+is_pages None = true
+is_pages (Some (kept.Core core)) = false
+is_pages (Some (kept.Plan plan)) = false
+is_pages (Some (kept.Seat seat)) = false
+is_pages (Some (kept.Script dialog)) = false
+is_pages (Some (kept.Host host)) = false
+is_pages (Some (kept.Pages pages)) = true
 
 -- the same as `Calls` of a value that is kept, which stays of its kind: what `told` says is of the
 -- values of that kind

@@ -3,7 +3,7 @@ ghost use Rattle.std.specs.Prelude.{◌≡◌, Some, None, MatchOption, is_some,
 ghost use Rattle.std.specs.Prelude.{Ok, Err, MatchResult, OnOk, OnErr};
 ghost use Rattle.numaplan_handles.specs.Calls.{IsShared};
 ghost use Rattle.numaplan_handles.specs.Kinds.{core_of, is_core, is_plan, plan_of};
-ghost use Rattle.numaplan_handles.specs.Kinds.{host_of, is_host};
+ghost use Rattle.numaplan_handles.specs.Kinds.{host_of, is_host, is_pages, pages_of};
 
 use crate::held::HeapSlot;
 use crate::kept::Kept;
@@ -102,7 +102,10 @@ impl Handle {
     }
 
     /// Puts a value into a closed handle, if there is memory for it; else the value is dropped.
-    pub(crate) fn keep(&mut self, alloc: Global, kept: Kept) -> Result<(), AllocError>
+    ///
+    /// # Errors
+    /// `AllocError`: out of memory.
+    pub fn keep(&mut self, alloc: Global, kept: Kept) -> Result<(), AllocError>
         requires closed { self.old.held.kept ≡ None }
         ensures ok { OnOk result (self.new.held.kept ≡ Some kept) }
         ensures err { OnErr result (self.new ≡ self.old) }
@@ -110,13 +113,12 @@ impl Handle {
         self.put_made(kept.on_heap(alloc).ok_or(AllocError))
     }
 
-    /// Puts a copy of the core or the host, or the same plan, into another, closed handle. `None` if this one
-    /// is closed.
-    pub(crate) fn share(
-        &mut self,
-        alloc: Global,
-        other: &mut Handle,
-    ) -> Option<Result<(), AllocError>>
+    /// Puts a copy of the core, the host or the pages, or the same plan, into another, closed
+    /// handle. `None` if this one is closed.
+    ///
+    /// # Errors
+    /// `AllocError`: out of memory.
+    pub fn share(&mut self, alloc: Global, other: &mut Handle) -> Option<Result<(), AllocError>>
         requires closed { other.old.held.kept ≡ None }
         ensures same { self.new.held.kept ≡ self.old.held.kept }
         ensures core { is_core self.old.held.kept ≡ true →
@@ -128,6 +130,9 @@ impl Handle {
         ensures host { is_host self.old.held.kept ≡ true →
             (is_host other.new.held.kept ≡ true)
             × IsShared (host_of self.old.held.kept) result (host_of other.new.held.kept) }
+        ensures pages { is_pages self.old.held.kept ≡ true →
+            (is_pages other.new.held.kept ≡ true)
+            × IsShared (pages_of self.old.held.kept) result (pages_of other.new.held.kept) }
     {
         let kept = self.take(alloc)?;
         let again = kept.again(alloc);

@@ -4,6 +4,7 @@ ghost use Rattle.std.specs.Prelude.{◌≡◌, Some, IfSome, true};
 use crate::dialog::Dialog;
 use numa_core::Core;
 use numa_host::Host;
+use numa_pages::Pages;
 use numa_plan::Plan;
 use numa_pool::OwnedSeat;
 use std::alloc::Global;
@@ -22,11 +23,13 @@ pub enum Kept {
     Script(Dialog),
     /// A host, which belongs to the handle alone.
     Host(Host),
+    /// A core with its pages, which belong to the handle alone.
+    Pages(Pages),
 }
 
 impl Kept {
     ghost use Rattle.numaplan_handles.specs.Kinds.{core_of, is_core, is_plan, plan_of};
-    ghost use Rattle.numaplan_handles.specs.Kinds.{host_of, is_host};
+    ghost use Rattle.numaplan_handles.specs.Kinds.{host_of, is_host, is_pages, pages_of};
 
     /// Moves the value to the heap, if there is memory for it; else it is dropped.
     pub(crate) fn on_heap(self, alloc: Global) -> Option<Box<Kept>>
@@ -35,7 +38,7 @@ impl Kept {
         Box::new(alloc, self).ok()
     }
 
-    /// A copy of the core or the host, or the same plan shared, if there is memory for it.
+    /// A copy of the core, the host or the pages, or the same plan shared, if there is memory for it.
     pub(crate) fn again(&self, alloc: Global) -> Option<Box<Kept>>
         ensures core { is_core (Some self.now) ≡ true → IfSome result (λ other.
             (is_core (Some other.value) ≡ true)
@@ -46,6 +49,9 @@ impl Kept {
         ensures host { is_host (Some self.now) ≡ true → IfSome result (λ other.
             (is_host (Some other.value) ≡ true)
             × (host_of (Some other.value) ≡ host_of (Some self.now))) }
+        ensures pages { is_pages (Some self.now) ≡ true → IfSome result (λ other.
+            (is_pages (Some other.value) ≡ true)
+            × (pages_of (Some other.value) ≡ pages_of (Some self.now))) }
     {
         match self {
             Kept::Core(core) => {
@@ -65,6 +71,12 @@ impl Kept {
                     return None;
                 };
                 Kept::Host(other).on_heap(alloc)
+            }
+            Kept::Pages(pages) => {
+                let Ok(other) = pages.copy(alloc) else {
+                    return None;
+                };
+                Kept::Pages(other).on_heap(alloc)
             }
             _ => None,
         }

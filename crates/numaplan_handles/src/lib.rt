@@ -1,7 +1,7 @@
-//! Handles for C callers: of a core, a plan, a seat at pools of frames, a script, or a host. A handle
-//! is 16 bytes, initially 0: a flag that says whether it is open, and a pointer to a value on the
-//! heap, which the handle owns. The calls that ask whether it is open and that close it are the same
-//! for all kinds: those of its `handle`.
+//! Handles for C callers: of a core, a plan, a seat at pools of frames, a script, a host, or a core
+//! with its pages (whose calls numaplan_placed has). A handle is 16 bytes, initially 0: a flag that
+//! says whether it is open, and a pointer to a value on the heap, which the handle owns. The calls
+//! that ask whether it is open and that close it are the same for all kinds: those of its `handle`.
 #![tactic(auto)]
 
 mod core_handle;

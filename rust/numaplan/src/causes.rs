@@ -146,6 +146,22 @@ causes! {
         "there are 4096 processes, as many as a host may have; let one exit first";
     98 GROUP_MEMS "GroupMems"
         "the nodes that a process is allowed are those of its group; give the group a list, or attach the process to another";
+    100 TOO_MANY_RUNS "TooManyRuns"
+        "there would be more than 1048576 runs of pages that lie on one node; state fewer, or move whole spans";
+    101 ASTRAY "Astray"
+        "a page of the span lies on a node for which the policy doesn't ask; move it first, or bind without strict";
+    102 NO_SUCH_TARGET "NoSuchTarget"
+        "the machine lacks the node to move to, or it has no memory; its nodes are numbered from 0";
+    103 TARGET_NOT_ALLOWED "TargetNotAllowed"
+        "the node to move to isn't allowed; name one that is, or allow it by set_mems";
+    104 PAGE_UNMAPPED "PageUnmapped"
+        "the page that is to move isn't mapped; map it, and state where it lies";
+    105 NOT_PLACED "NotPlaced"
+        "the page lies nowhere; state where it lies, by place";
+    106 NODE_FULL "NodeFull"
+        "the node has no room for the page; move another away from it, or give it room by set_room";
+    107 OCCUPIED "Occupied"
+        "the page lies somewhere already; unmap it first";
 }
 
 impl Refused {

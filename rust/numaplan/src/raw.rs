@@ -108,6 +108,29 @@ pub(crate) struct ToldGroup {
     pub mems: Nodes,
 }
 
+/// Pages in a row that lie on one node: the number of the first, and how many they are.
+#[repr(C)]
+#[derive(Clone, Copy, Debug, Default, PartialEq, Eq)]
+pub struct PageRun {
+    pub first: u64,
+    pub pages: u64,
+    pub node: u8,
+}
+
+#[repr(C)]
+pub(crate) struct ToldMoves {
+    pub moved: u64,
+    pub left: u64,
+    pub from: [u64; 256],
+    pub to: [u8; 256],
+}
+
+impl ToldMoves {
+    pub(crate) fn none() -> ToldMoves {
+        ToldMoves { moved: 0, left: 0, from: [0; 256], to: [0; 256] }
+    }
+}
+
 /// A process: its number, and its group's.
 #[repr(C)]
 #[derive(Clone, Copy, Debug, Default, PartialEq, Eq, Hash)]
@@ -173,6 +196,7 @@ const _: () = assert!(size_of::<ToldRoute>() == 32);
 const _: () = assert!(size_of::<ToldReport>() == 24 && size_of::<ToldExplanation>() == 112);
 
 const _: () = assert!(size_of::<ToldGroup>() == 48 && size_of::<Process>() == 8);
+const _: () = assert!(size_of::<PageRun>() == 24 && size_of::<ToldMoves>() == 2320);
 
 #[rustfmt::skip]
 #[link(name = "numaplan", kind = "static")]
@@ -262,6 +286,29 @@ extern "C" {
     pub(crate) fn np_host_ranges(host: &mut Handle, process: u32, count: &mut usize) -> u32;
     pub(crate) fn np_host_range(host: &mut Handle, process: u32, index: usize, range: &mut Span, policy: *mut u8, room: usize, policy_length: &mut usize) -> u32;
     pub(crate) fn np_host_task_policy(host: &mut Handle, process: u32, task: u32, policy: &mut StandingPolicy) -> u32;
+    pub(crate) fn np_pages_open(pages: &mut Handle, core: &mut Handle) -> u32;
+    pub(crate) fn np_pages_close(pages: &mut Handle);
+    pub(crate) fn np_pages_copy(pages: &mut Handle, copy: &mut Handle) -> u32;
+    pub(crate) fn np_pages_core(pages: &mut Handle, core: &mut Handle) -> u32;
+    pub(crate) fn np_pages_version(pages: &mut Handle, version: &mut u64) -> u32;
+    pub(crate) fn np_pages_map(pages: &mut Handle, start: u64, length: u64, offset: u64) -> u32;
+    pub(crate) fn np_pages_unmap(pages: &mut Handle, start: u64, length: u64) -> u32;
+    pub(crate) fn np_pages_mbind(pages: &mut Handle, start: u64, length: u64, policy: *const u8, policy_length: usize) -> u32;
+    pub(crate) fn np_pages_mbind_strictly(pages: &mut Handle, start: u64, length: u64, policy: *const u8, policy_length: usize) -> u32;
+    pub(crate) fn np_pages_set_task(pages: &mut Handle, task: u32, policy: *const u8, policy_length: usize) -> u32;
+    pub(crate) fn np_pages_inherit(pages: &mut Handle, task: u32, from: u32) -> u32;
+    pub(crate) fn np_pages_set_home(pages: &mut Handle, start: u64, length: u64, node: u32) -> u32;
+    pub(crate) fn np_pages_set_weight(pages: &mut Handle, node: u32, weight: u32) -> u32;
+    pub(crate) fn np_pages_set_mems(pages: &mut Handle, nodes: *const u8, nodes_length: usize) -> u32;
+    pub(crate) fn np_pages_place(pages: &mut Handle, start: u64, length: u64, node: u32) -> u32;
+    pub(crate) fn np_pages_set_room(pages: &mut Handle, node: u32, room: u64) -> u32;
+    pub(crate) fn np_pages_room(pages: &mut Handle, node: u32, room: &mut u64) -> u32;
+    pub(crate) fn np_pages_node(pages: &mut Handle, address: u64, node: &mut u32) -> u32;
+    pub(crate) fn np_pages_counts(pages: &mut Handle, counts: &mut Counts) -> u32;
+    pub(crate) fn np_pages_runs(pages: &mut Handle, runs: *mut PageRun, room: usize, count: &mut usize) -> u32;
+    pub(crate) fn np_pages_move_mems(pages: &mut Handle, nodes: *const u8, nodes_length: usize, moves: &mut ToldMoves) -> u32;
+    pub(crate) fn np_pages_migrate(pages: &mut Handle, old: *const u8, old_length: usize, new: *const u8, new_length: usize, moves: &mut ToldMoves) -> u32;
+    pub(crate) fn np_pages_move(pages: &mut Handle, address: u64, node: u32) -> u32;
     pub(crate) fn np_core_diff(before: &mut Handle, after: &mut Handle, task: u32, cpu: u32, moves: *mut Move, room: usize, count: &mut usize) -> u32;
     pub(crate) fn np_core_replay(core: &mut Handle, trace: *const Access, length: usize, routes: *mut ToldRoute, room: usize, count: &mut usize) -> u32;
     pub(crate) fn np_core_predict_text(core: &mut Handle, asked: &AskedReport, free_pages: *const FreePages, free_count: usize, text: *mut u8, room: usize, report: &mut ToldReport) -> u32;

@@ -1,0 +1,107 @@
+-- What the exported calls of pages that are there answer and do.
+use Rattle.std.specs.Prelude.{◌≡◌, ℕ, Option, Some, None, Result, Ok, Err, List, MatchResult, IfOk}
+use Rattle.numa_pages.specs.Changes.{PagesState}
+use Rattle.numa_pages.specs.declared.listing.PageRun.{PageRun}
+use Rattle.numa_pages.specs.declared.refusal.ChangeRefusal.{ChangeRefusal}
+use Rattle.numa_pages.specs.declared.refusal.ChangeRefusal.TheVariants as change
+use Rattle.numa_placed.specs.declared.moved.Moved.{Moved}
+use Rattle.numa_placed.specs.declared.refusal.MoveRefusal.{MoveRefusal}
+use Rattle.numa_placed.specs.declared.refusal.MoveRefusal.TheVariants as move
+use Rattle.numa_placed.specs.declared.refusal.PlacedRefusal.{PlacedRefusal}
+use Rattle.numa_placed.specs.declared.refusal.PlacedRefusal.TheVariants as placed
+use Rattle.numaplan_c.specs.Codes.{refusal_code}
+use Rattle.numaplan_c.specs.Compared.{IsListed}
+use Rattle.numaplan_c.specs.declared.placed_moves.NpMoves.{NpMoves}
+use Rattle.numaplan_placed.specs.Pages.{OfPages}
+
+-- ---- codes
+
+-- those of pages alone are from 100 on
+abbrev pub placed_code : PlacedRefusal → ℕ
+placed_code placed.Unaligned = 11
+placed_code placed.OutOfSpace = 12
+placed_code placed.NoSuchNode = 17
+placed_code placed.Occupied = 107
+placed_code placed.NodesNotAllowed = 19
+placed_code placed.Astray = 101
+placed_code placed.TooManyRuns = 100
+placed_code placed.NoMemory = 3
+
+-- move_pages(2) has other error numbers for the same words
+abbrev pub move_code : MoveRefusal → ℕ
+move_code move.NoSuchNode = 102
+move_code move.NodesNotAllowed = 103
+move_code move.Unmapped = 104
+move_code move.NotPlaced = 105
+move_code move.NoRoom = 106
+move_code move.TooManyRuns = 100
+move_code move.NoMemory = 3
+
+abbrev pub change_code : ChangeRefusal → ℕ
+change_code (change.OfSpace refusal) = refusal_code refusal
+change_code (change.OfPages cause) = placed_code cause
+change_code change.NoMemory = 3
+
+-- of what is done, or refused for a cause
+abbrev pub done_code : {A E : Type 0} → (E → ℕ) → Result A E → ℕ
+done_code code_of (Ok done) = 0
+done_code code_of (Err cause) = code_of cause
+
+-- ---- changes
+
+-- the call did to what is kept what `told` says, answered by the number of its answer, and `tells`
+-- is what else it told; a closed handle answers 1, stays closed, and nothing is told
+abbrev pub PagesTell : {A : Type 0} → (A → ℕ) → (A → Type 0) → Type 0
+    → (PagesState → A → PagesState → Type 0) → Option PagesState → ℕ → Option PagesState → Type 0
+PagesTell {A} code_of tells untold told old code new =
+    (old ≡ None → (code ≡ 1) × (new ≡ None) × untold)
+    × ((pages : PagesState) → old ≡ Some pages → (answer : A) × (code ≡ code_of answer)
+    × tells answer × OfPages told old new answer)
+
+-- the same of a call that tells nothing else
+abbrev pub PagesAnswer : {A E : Type 0} → (E → ℕ)
+    → (PagesState → Result A E → PagesState → Type 0) → Option PagesState → ℕ → Option PagesState
+    → Type 0
+PagesAnswer code_of told old code new =
+    PagesTell (done_code code_of) (λ answer. Unit {0}) (Unit {0}) told old code new
+
+-- the same for a command with a word that is read first: a faulty word is told, by `fault_code` its
+-- fault, and changes nothing
+abbrev pub PagesAnswerRead : {W F A E : Type 0} → Result W F → (F → ℕ) → (E → ℕ)
+    → (W → PagesState → Result A E → PagesState → Type 0) → Option PagesState → ℕ
+    → Option PagesState → Type 0
+PagesAnswerRead word fault_code code_of told old code new = MatchResult word
+    (λ it. PagesAnswer code_of (told it) old code new)
+    (λ fault. (code ≡ fault_code fault) × (new ≡ old))
+
+-- what went where is told; where it is refused, what stood there stays
+abbrev pub TellsMoved : {E : Type 0} → NpMoves → NpMoves → Result Moved E → Type 0
+TellsMoved old new (Ok moved) = (new.moved ≡ moved.moved) × (new.left ≡ moved.left)
+    × (new.from ≡ moved.from) × (new.to ≡ moved.to)
+TellsMoved old new (Err cause) = new ≡ old
+
+-- a call that moves pages
+abbrev pub PagesMove : {E : Type 0} → (E → ℕ)
+    → (PagesState → Result Moved E → PagesState → Type 0) → Option PagesState → ℕ
+    → Option PagesState → NpMoves → NpMoves → Type 0
+PagesMove code_of told old code new moves moves-then = PagesTell (done_code code_of)
+    (TellsMoved moves moves-then) (moves-then ≡ moves) told old code new
+
+-- ---- questions
+
+-- the node of a page is told, if it lies on one
+abbrev pub TellsNode : Option ℕ → ℕ → ℕ → ℕ → Type 0
+TellsNode None code old new = (code ≡ 105) × (new ≡ old)
+TellsNode (Some node) code old new = (code ≡ 0) × (new ≡ node)
+
+-- the room of a node is told, if it has memory
+abbrev pub TellsRoom : Result ℕ PlacedRefusal → ℕ → ℕ → ℕ → Type 0
+TellsRoom (Ok pages) code old new = (code ≡ 0) × (new ≡ pages)
+TellsRoom (Err cause) code old new = (code ≡ placed_code cause) × (new ≡ old)
+
+-- runs are told; out of memory, what stood there stays
+abbrev pub TellsRuns : {E : Type 0} → Result (List PageRun) E → ℕ → List PageRun → List PageRun
+    → ℕ → ℕ → Type 0
+TellsRuns (Ok runs) code old new count count_then = IsListed runs code old new count_then
+TellsRuns (Err lack) code old new count count_then =
+    (code ≡ 3) × (new ≡ old) × (count_then ≡ count)

@@ -1,0 +1,101 @@
+//! The result codes of pages that are there.
+ghost use Rattle.std.specs.Prelude.{◌≡◌};
+ghost use Rattle.numaplan_c.specs.Placed.{change_code, done_code, move_code, placed_code};
+
+use crate::codes::{Code, refusal_code};
+use numa_pages::ChangeRefusal;
+use numa_placed::{MoveRefusal, PlacedRefusal};
+use numa_space::Refusal;
+
+/// The codes of causes that only pages have.
+#[derive(Clone, Copy)]
+pub(crate) enum PlacedCode {
+    /// There would be too many runs of pages.
+    TooManyRuns = 100,
+    /// A page lies on a node for which the policy doesn't ask.
+    Astray = 101,
+    /// A page is to move to a node that isn't there, or has no memory.
+    NoSuchTarget = 102,
+    /// A page is to move to a node that isn't allowed.
+    TargetNotAllowed = 103,
+    /// A page that is to move isn't mapped.
+    PageUnmapped = 104,
+    /// A page lies nowhere.
+    NotPlaced = 105,
+    /// A node has no room for a page that is to move to it.
+    NodeFull = 106,
+    /// A page lies somewhere already.
+    Occupied = 107,
+}
+
+/// The code of what stands against a change of pages.
+pub(crate) fn placed_code(cause: PlacedRefusal) -> u32
+    ensures { result ≡ placed_code cause }
+{
+    match cause {
+        PlacedRefusal::Unaligned => refusal_code(Refusal::Unaligned),
+        PlacedRefusal::OutOfSpace => refusal_code(Refusal::OutOfSpace),
+        PlacedRefusal::NoSuchNode => refusal_code(Refusal::NoSuchNode),
+        PlacedRefusal::Occupied => PlacedCode::Occupied as u32,
+        PlacedRefusal::NodesNotAllowed => refusal_code(Refusal::NodesNotAllowed),
+        PlacedRefusal::Astray => PlacedCode::Astray as u32,
+        PlacedRefusal::TooManyRuns => PlacedCode::TooManyRuns as u32,
+        PlacedRefusal::NoMemory => Code::NoMemory as u32,
+    }
+}
+
+/// The code of what stands against moving a page.
+pub(crate) fn move_code(cause: MoveRefusal) -> u32
+    ensures { result ≡ move_code cause }
+{
+    match cause {
+        MoveRefusal::NoSuchNode => PlacedCode::NoSuchTarget as u32,
+        MoveRefusal::NodesNotAllowed => PlacedCode::TargetNotAllowed as u32,
+        MoveRefusal::Unmapped => PlacedCode::PageUnmapped as u32,
+        MoveRefusal::NotPlaced => PlacedCode::NotPlaced as u32,
+        MoveRefusal::NoRoom => PlacedCode::NodeFull as u32,
+        MoveRefusal::TooManyRuns => PlacedCode::TooManyRuns as u32,
+        MoveRefusal::NoMemory => Code::NoMemory as u32,
+    }
+}
+
+/// The code of what stands against a change of a core and its pages.
+pub(crate) fn change_code(cause: ChangeRefusal) -> u32
+    ensures { result ≡ change_code cause }
+{
+    match cause {
+        ChangeRefusal::OfSpace(refusal) => refusal_code(refusal),
+        ChangeRefusal::OfPages(cause) => placed_code(cause),
+        ChangeRefusal::NoMemory => Code::NoMemory as u32,
+    }
+}
+
+/// The code of the result of a change of a core and its pages.
+pub(crate) fn changed_code<A: Drop>(answer: Result<A, ChangeRefusal>) -> u32
+    ensures { result ≡ done_code change_code answer }
+{
+    match answer {
+        Ok(_) => 0,
+        Err(cause) => change_code(cause),
+    }
+}
+
+/// The code of the result of a change of pages.
+pub(crate) fn set_code<A: Drop>(answer: Result<A, PlacedRefusal>) -> u32
+    ensures { result ≡ done_code placed_code answer }
+{
+    match answer {
+        Ok(_) => 0,
+        Err(cause) => placed_code(cause),
+    }
+}
+
+/// The code of the result of moving a page.
+pub(crate) fn moved_code(answer: Result<(), MoveRefusal>) -> u32
+    ensures { result ≡ done_code move_code answer }
+{
+    match answer {
+        Ok(()) => 0,
+        Err(cause) => move_code(cause),
+    }
+}

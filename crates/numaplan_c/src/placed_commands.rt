@@ -1,0 +1,198 @@
+//! Commands of a core with its pages.
+ghost use Rattle.numa_mask.specs.Lists.{list_of};
+ghost use Rattle.numa_pages.specs.Changes.{Accepts, BindsStrictly};
+ghost use Rattle.numa_script.specs.Policies.{policy_of};
+ghost use Rattle.numa_space.specs.declared.command.Command.{Command};
+ghost use Rattle.numaplan_c.specs.Codes.{list_code, word_code};
+ghost use Rattle.numaplan_c.specs.Placed.{PagesAnswer, PagesAnswerRead, change_code};
+ghost use Rattle.numaplan_placed.specs.Handles.{pages_in};
+
+use crate::codes::{Code, list_code, word_code};
+use crate::placed_codes::changed_code;
+use numa_mask::read_list;
+use numa_mode::PolicySpec;
+use numa_script::policy::read_policy;
+use numa_space::Command;
+use numaplan_placed::PagesHandle;
+use std::alloc::Global;
+
+/// Carries out a command of the core in a handle, and returns the code of its result.
+fn accept(alloc: Global, pages: &mut PagesHandle, command: Command) -> u32
+    ensures { PagesAnswer change_code (Accepts command) (pages_in pages.old) result
+        (pages_in pages.new) }
+{
+    match pages.accept(alloc, &command) {
+        None => Code::Closed as u32,
+        Some(answer) => changed_code(answer),
+    }
+}
+
+/// Maps a span.
+#[unsafe(no_mangle)]
+pub extern "C" fn np_pages_map(
+    alloc: Global,
+    pages: &mut PagesHandle,
+    start: u64,
+    length: u64,
+    offset: u64,
+) -> u32
+    ensures { PagesAnswer change_code (Accepts (Command.Map start length offset))
+        (pages_in pages.old) result (pages_in pages.new) }
+{
+    let command = Command::Map {
+        start,
+        length,
+        offset,
+    };
+    accept(alloc, pages, command)
+}
+
+/// Unmaps the pages of a span, of which nothing is stated any more.
+#[unsafe(no_mangle)]
+pub extern "C" fn np_pages_unmap(
+    alloc: Global,
+    pages: &mut PagesHandle,
+    start: u64,
+    length: u64,
+) -> u32
+    ensures { PagesAnswer change_code (Accepts (Command.Unmap start length)) (pages_in pages.old)
+        result (pages_in pages.new) }
+{
+    accept(alloc, pages, Command::Unmap { start, length })
+}
+
+/// Sets the policy of a span's pages, wherever they lie.
+#[unsafe(no_mangle)]
+pub extern "C" fn np_pages_mbind(
+    alloc: Global,
+    pages: &mut PagesHandle,
+    start: u64,
+    length: u64,
+    policy: &[u8],
+) -> u32
+    ensures { PagesAnswerRead (policy_of policy.now) word_code change_code
+        (λ spec. Accepts (Command.Mbind start length spec)) (pages_in pages.old) result
+        (pages_in pages.new) }
+{
+    let spec = match read_policy(policy) {
+        Ok(spec) => spec,
+        Err(fault) => return word_code(fault),
+    };
+    let command = Command::Mbind {
+        start,
+        length,
+        spec,
+    };
+    accept(alloc, pages, command)
+}
+
+/// Sets a policy for a span, and returns the code of its result.
+fn bind(alloc: Global, pages: &mut PagesHandle, start: u64, length: u64, spec: PolicySpec) -> u32
+    ensures { PagesAnswer change_code (BindsStrictly start length spec) (pages_in pages.old) result
+        (pages_in pages.new) }
+{
+    match pages.bind_strictly(alloc, start, length, spec) {
+        None => Code::Closed as u32,
+        Some(answer) => changed_code(answer),
+    }
+}
+
+/// Sets the policy of a span's pages, unless one lies on another node than it asks for.
+#[unsafe(no_mangle)]
+pub extern "C" fn np_pages_mbind_strictly(
+    alloc: Global,
+    pages: &mut PagesHandle,
+    start: u64,
+    length: u64,
+    policy: &[u8],
+) -> u32
+    ensures { PagesAnswerRead (policy_of policy.now) word_code change_code
+        (BindsStrictly start length) (pages_in pages.old) result (pages_in pages.new) }
+{
+    let spec = match read_policy(policy) {
+        Ok(spec) => spec,
+        Err(fault) => return word_code(fault),
+    };
+    bind(alloc, pages, start, length, spec)
+}
+
+/// Sets the policy of a task.
+#[unsafe(no_mangle)]
+pub extern "C" fn np_pages_set_task(
+    alloc: Global,
+    pages: &mut PagesHandle,
+    task: u32,
+    policy: &[u8],
+) -> u32
+    ensures { PagesAnswerRead (policy_of policy.now) word_code change_code
+        (λ spec. Accepts (Command.SetTask task spec)) (pages_in pages.old) result
+        (pages_in pages.new) }
+{
+    let spec = match read_policy(policy) {
+        Ok(spec) => spec,
+        Err(fault) => return word_code(fault),
+    };
+    accept(alloc, pages, Command::SetTask { task, spec })
+}
+
+/// Gives a task the policy of another, or removes its policy if the other has none.
+#[unsafe(no_mangle)]
+pub extern "C" fn np_pages_inherit(
+    alloc: Global,
+    pages: &mut PagesHandle,
+    task: u32,
+    from: u32,
+) -> u32
+    ensures { PagesAnswer change_code (Accepts (Command.Inherit task from)) (pages_in pages.old)
+        result (pages_in pages.new) }
+{
+    accept(alloc, pages, Command::Inherit { task, from })
+}
+
+/// Sets the home node of the policies of a span's pages.
+#[unsafe(no_mangle)]
+pub extern "C" fn np_pages_set_home(
+    alloc: Global,
+    pages: &mut PagesHandle,
+    start: u64,
+    length: u64,
+    node: u32,
+) -> u32
+    ensures { PagesAnswer change_code (Accepts (Command.SetHome start length node))
+        (pages_in pages.old) result (pages_in pages.new) }
+{
+    let command = Command::SetHome {
+        start,
+        length,
+        node,
+    };
+    accept(alloc, pages, command)
+}
+
+/// Sets the weight of a node.
+#[unsafe(no_mangle)]
+pub extern "C" fn np_pages_set_weight(
+    alloc: Global,
+    pages: &mut PagesHandle,
+    node: u32,
+    weight: u32,
+) -> u32
+    ensures { PagesAnswer change_code (Accepts (Command.SetWeight node weight)) (pages_in pages.old)
+        result (pages_in pages.new) }
+{
+    accept(alloc, pages, Command::SetWeight { node, weight })
+}
+
+/// Sets the nodes on which memory may be placed. Pages stay where they lie.
+#[unsafe(no_mangle)]
+pub extern "C" fn np_pages_set_mems(alloc: Global, pages: &mut PagesHandle, nodes: &[u8]) -> u32
+    ensures { PagesAnswerRead (list_of nodes.now) list_code change_code
+        (λ mask. Accepts (Command.SetMems mask)) (pages_in pages.old) result
+        (pages_in pages.new) }
+{
+    let mask = match read_list(nodes) {
+        Ok(mask) => mask,
+        Err(fault) => return list_code(fault),
+    };
+    accept(alloc, pages, Command::SetMems { mask })
+}

@@ -1,0 +1,178 @@
+//! Stating where pages lie, and moving them.
+ghost use Rattle.std.specs.Prelude.{◌≡◌, MatchResult};
+ghost use Rattle.numa_mask.specs.Lists.{list_of};
+ghost use Rattle.numa_pages.specs.Changes.{Limits, Migrates, MovesMems, MovesPage, Places};
+ghost use Rattle.numa_space.specs.History.{page_of};
+ghost use Rattle.numaplan_c.specs.Codes.{list_code};
+ghost use Rattle.numaplan_c.specs.Placed.{PagesAnswer, PagesMove, TellsMoved, change_code};
+ghost use Rattle.numaplan_c.specs.Placed.{move_code, placed_code};
+ghost use Rattle.numaplan_placed.specs.Handles.{pages_in};
+
+use crate::codes::{Code, list_code};
+use crate::placed_codes::{changed_code, moved_code, set_code};
+use numa_mask::{NodeMask, read_list};
+use numa_placed::Moved;
+use numa_space::PAGE_BYTES;
+use numaplan_placed::PagesHandle;
+use std::alloc::Global;
+
+/// What a move did: how many pages went, how many had a node to go to and stayed, how many went from
+/// each node, and to which node those of each go.
+#[repr(C)]
+#[derive(Clone, Copy)]
+pub struct NpMoves {
+    pub moved: u64,
+    pub left: u64,
+    pub from: [u64; 256],
+    pub to: [u8; 256],
+}
+
+const _: () = prove!(size_of::<NpMoves>() == 2320);
+
+/// Writes what a move did, if it wasn't refused.
+fn tell<E>(answer: &Result<Moved, E>, moves: &mut NpMoves)
+    ensures { TellsMoved moves.old moves.new answer.now }
+{
+    if let Ok(moved) = answer {
+        *moves = NpMoves {
+            moved: moved.moved,
+            left: moved.left,
+            from: moved.from,
+            to: moved.to,
+        };
+    }
+}
+
+/// States that the mapped pages of a span lie on a node.
+#[unsafe(no_mangle)]
+pub extern "C" fn np_pages_place(
+    alloc: Global,
+    pages: &mut PagesHandle,
+    start: u64,
+    length: u64,
+    node: u32,
+) -> u32
+    ensures { PagesAnswer placed_code (Places start length node) (pages_in pages.old) result
+        (pages_in pages.new) }
+{
+    match pages.place(alloc, start, length, node) {
+        None => Code::Closed as u32,
+        Some(answer) => set_code(answer),
+    }
+}
+
+/// Says how many more pages a node takes.
+#[unsafe(no_mangle)]
+pub extern "C" fn np_pages_set_room(
+    alloc: Global,
+    pages: &mut PagesHandle,
+    node: u32,
+    room: u64,
+) -> u32
+    ensures { PagesAnswer placed_code (Limits node room) (pages_in pages.old) result
+        (pages_in pages.new) }
+{
+    match pages.limit(alloc, node, room) {
+        None => Code::Closed as u32,
+        Some(answer) => set_code(answer),
+    }
+}
+
+/// Moves a page to a node.
+#[unsafe(no_mangle)]
+pub extern "C" fn np_pages_move(
+    alloc: Global,
+    pages: &mut PagesHandle,
+    address: u64,
+    node: u32,
+) -> u32
+    ensures { PagesAnswer move_code (MovesPage (page_of address) node) (pages_in pages.old) result
+        (pages_in pages.new) }
+{
+    match pages.move_page(alloc, address / PAGE_BYTES, node) {
+        None => Code::Closed as u32,
+        Some(answer) => moved_code(answer),
+    }
+}
+
+/// Moves pages from one set of nodes to the allowed nodes of another.
+fn migrate(
+    alloc: Global,
+    pages: &mut PagesHandle,
+    from: &NodeMask,
+    to: &NodeMask,
+    moves: &mut NpMoves,
+) -> u32
+    ensures { PagesMove placed_code (Migrates from.now to.now) (pages_in pages.old) result
+        (pages_in pages.new) moves.old moves.new }
+{
+    match pages.migrate(alloc, from, to) {
+        None => Code::Closed as u32,
+        Some(answer) => {
+            tell(&answer, moves);
+            set_code(answer)
+        }
+    }
+}
+
+/// Moves pages from the nodes of one list to the allowed nodes of another.
+#[unsafe(no_mangle)]
+pub extern "C" fn np_pages_migrate(
+    alloc: Global,
+    pages: &mut PagesHandle,
+    from: &[u8],
+    to: &[u8],
+    moves: &mut NpMoves,
+) -> u32
+    ensures { MatchResult (list_of from.now) (λ old. MatchResult (list_of to.now)
+        (λ new. PagesMove placed_code (Migrates old new) (pages_in pages.old) result
+        (pages_in pages.new) moves.old moves.new)
+        (λ fault. (result ≡ list_code fault) × (pages_in pages.new ≡ pages_in pages.old)
+        × (moves.new ≡ moves.old)))
+        (λ fault. (result ≡ list_code fault) × (pages_in pages.new ≡ pages_in pages.old)
+        × (moves.new ≡ moves.old)) }
+{
+    let old = match read_list(from) {
+        Ok(mask) => mask,
+        Err(fault) => return list_code(fault),
+    };
+    let new = match read_list(to) {
+        Ok(mask) => mask,
+        Err(fault) => return list_code(fault),
+    };
+    migrate(alloc, pages, &old, &new, moves)
+}
+
+/// Changes the allowed nodes, and moves the pages with them.
+fn follow(alloc: Global, pages: &mut PagesHandle, mask: NodeMask, moves: &mut NpMoves) -> u32
+    ensures { PagesMove change_code (MovesMems mask) (pages_in pages.old) result
+        (pages_in pages.new) moves.old moves.new }
+{
+    match pages.move_mems(alloc, mask) {
+        None => Code::Closed as u32,
+        Some(answer) => {
+            tell(&answer, moves);
+            changed_code(answer)
+        }
+    }
+}
+
+/// Sets the nodes on which memory may be placed, and moves the pages with them.
+#[unsafe(no_mangle)]
+pub extern "C" fn np_pages_move_mems(
+    alloc: Global,
+    pages: &mut PagesHandle,
+    nodes: &[u8],
+    moves: &mut NpMoves,
+) -> u32
+    ensures { MatchResult (list_of nodes.now) (λ mask. PagesMove change_code (MovesMems mask)
+        (pages_in pages.old) result (pages_in pages.new) moves.old moves.new)
+        (λ fault. (result ≡ list_code fault) × (pages_in pages.new ≡ pages_in pages.old)
+        × (moves.new ≡ moves.old)) }
+{
+    let mask = match read_list(nodes) {
+        Ok(mask) => mask,
+        Err(fault) => return list_code(fault),
+    };
+    follow(alloc, pages, mask, moves)
+}

@@ -1,0 +1,108 @@
+//! Where pages lie.
+ghost use Rattle.std.specs.Prelude.{◌≡◌, IfOk, List, Result, ℕ};
+ghost use Rattle.numa_machine.specs.declared.no_memory.NoMemory.{NoMemory};
+ghost use Rattle.numa_pages.specs.declared.listing.PageRun.{PageRun};
+ghost use Rattle.numa_placed.specs.Spots.{node_of, spot_at};
+ghost use Rattle.numa_placed.specs.declared.refusal.PlacedRefusal.{PlacedRefusal};
+ghost use Rattle.numa_space.specs.History.{page_of};
+ghost use Rattle.numaplan_c.specs.Border.{Asked};
+ghost use Rattle.numaplan_c.specs.Placed.{TellsNode, TellsRoom, TellsRuns};
+ghost use Rattle.numaplan_placed.specs.Handles.{pages_in};
+ghost use Rattle.numaplan_placed.specs.Pages.{HasCounts, HasRoom, HasRuns};
+
+use crate::codes::Code;
+use crate::differences::write_items;
+use crate::placed_codes::{PlacedCode, placed_code};
+use crate::plans::NpCounts;
+use numa_pages::PageRun;
+use numa_space::PAGE_BYTES;
+use numaplan_placed::PagesHandle;
+use std::alloc::Global;
+
+/// Returns the node on which the page of an address lies.
+#[unsafe(no_mangle)]
+pub extern "C" fn np_pages_node(
+    alloc: Global,
+    pages: &mut PagesHandle,
+    address: u64,
+    node: &mut u32,
+) -> u32
+    ensures { Asked (pages_in pages.old) (pages_in pages.new) result (node.new ≡ node.old)
+        (λ kept. TellsNode (node_of (spot_at kept.runs (page_of address))) result node.old
+        node.new) }
+{
+    match pages.node_at(alloc, address / PAGE_BYTES) {
+        None => Code::Closed as u32,
+        Some(None) => PlacedCode::NotPlaced as u32,
+        Some(Some(found)) => {
+            *node = u32::from(found);
+            0
+        }
+    }
+}
+
+/// Counts, for each node, the pages that lie on it.
+#[unsafe(no_mangle)]
+pub extern "C" fn np_pages_counts(
+    alloc: Global,
+    pages: &mut PagesHandle,
+    counts: &mut NpCounts,
+) -> u32
+    ensures { Asked (pages_in pages.old) (pages_in pages.new) result (counts.new ≡ counts.old)
+        (λ kept. (result ≡ 0) × HasCounts counts.new.pages kept) }
+{
+    match pages.counts(alloc) {
+        None => Code::Closed as u32,
+        Some(found) => {
+            counts.pages = found;
+            0
+        }
+    }
+}
+
+/// Lists the runs of pages that lie on one node.
+#[unsafe(no_mangle)]
+pub extern "C" fn np_pages_runs(
+    alloc: Global,
+    pages: &mut PagesHandle,
+    room: &mut [PageRun],
+    count: &mut usize,
+) -> u32
+    ensures { Asked (pages_in pages.old) (pages_in pages.new) result
+        ((room.new ≡ room.old) × (count.new ≡ count.old))
+        (λ kept. (answer : Result (List PageRun) NoMemory)
+        × IfOk answer (λ runs. HasRuns runs kept)
+        × TellsRuns answer result room.old room.new count.old count.new) }
+{
+    match pages.runs(alloc) {
+        None => Code::Closed as u32,
+        Some(Ok(runs)) => {
+            let code = write_items(runs.as_slice(), room, count);
+            drop(runs);
+            code
+        }
+        Some(Err(_)) => Code::NoMemory as u32,
+    }
+}
+
+/// Returns how many more pages a node takes.
+#[unsafe(no_mangle)]
+pub extern "C" fn np_pages_room(
+    alloc: Global,
+    pages: &mut PagesHandle,
+    node: u32,
+    room: &mut u64,
+) -> u32
+    ensures { Asked (pages_in pages.old) (pages_in pages.new) result (room.new ≡ room.old)
+        (λ kept. (answer : Result ℕ PlacedRefusal) × HasRoom node answer kept
+        × TellsRoom answer result room.old room.new) }
+{
+    match pages.room(alloc, node) {
+        None => Code::Closed as u32,
+        Some(Ok(found)) => {
+            *room = found;
+            0
+        }
+        Some(Err(cause)) => placed_code(cause),
+    }
+}

@@ -1,0 +1,3 @@
+pub mod Handles
+pub mod Pages
+pub use Rattle.numa_pages.specs.Changes

@@ -1,0 +1,75 @@
+-- What a call does to a core with its pages that is kept, and what it answers.
+use Rattle.std.specs.Prelude.{◌≡◌, ◌<◌, ℕ, true, false, Option, Some, None, Result, Ok, Err, List}
+use Rattle.std.specs.Prelude.{OnOk, OnErr, IfSome, MatchOption, is_some, slice_index}
+use Rattle.numa_core.specs.Standing.{CoreState}
+use Rattle.numa_machine.specs.declared.no_memory.NoMemory.{NoMemory}
+use Rattle.numa_pages.specs.Changes.{PagesState}
+use Rattle.numa_pages.specs.Listing.{listed}
+use Rattle.numa_pages.specs.declared.listing.PageRun.{PageRun}
+use Rattle.numa_placed.specs.Refusals.{lacks_node}
+use Rattle.numa_placed.specs.Shifts.{AreRooms, endless, room_of}
+use Rattle.numa_placed.specs.Spots.{is_on, node_of, pages_where, spot_at}
+use Rattle.numa_placed.specs.Wholes.{AreWhole}
+use Rattle.numa_placed.specs.declared.refusal.PlacedRefusal.{PlacedRefusal}
+use Rattle.numa_placed.specs.declared.refusal.PlacedRefusal.TheVariants.{NoSuchNode}
+use Rattle.numa_placed.specs.declared.spot.Spot.TheVariants.{Nowhere}
+use Rattle.numa_ranges.specs.Runs.{AreApart, AreMaximal}
+
+-- `told` says what the call did to what is kept
+abbrev pub OfPages : {A : Type 0} → (PagesState → A → PagesState → Type 0) → Option PagesState
+    → Option PagesState → A → Type 0
+OfPages told old new answer = (before : PagesState) → old ≡ Some before →
+    (after : PagesState) × (new ≡ Some after) × told before answer after
+
+-- `told` is said of what is kept
+abbrev pub TellsOf : (PagesState → Type 0) → Option PagesState → Type 0
+TellsOf told kept = (pages : PagesState) → kept ≡ Some pages → told pages
+
+-- ---- opening
+
+-- nothing is stated of any page, and no node ever fills
+abbrev pub IsUntouched : PagesState → Type 0
+IsUntouched pages = ((page : ℕ) → spot_at pages.runs page ≡ Nowhere)
+    × AreRooms pages.rooms (λ node. endless)
+
+-- these are the core that is kept, and pages of which nothing is stated
+abbrev pub IsOpenedFrom : Option CoreState → PagesState → Type 0
+IsOpenedFrom kept pages = (kept ≡ Some pages.core) × IsUntouched pages
+
+-- this is the core of the pages that are kept
+abbrev pub IsCoreOf : Option PagesState → CoreState → Type 0
+IsCoreOf kept core = (pages : PagesState) → kept ≡ Some pages → core ≡ pages.core
+
+-- another handle, which was closed, keeps what was made from what one keeps; where there is no
+-- memory for it, it stays closed
+abbrev pub IsMade : {A B : Type 0} → (Option A → B → Type 0) → Option A
+    → Option (Result (Unit {0}) NoMemory) → Option B → Type 0
+IsMade made from answer new = (from ≡ None → answer ≡ None)
+    × MatchOption answer ((from ≡ None) × (new ≡ None)) (λ it. (is_some from ≡ true)
+    × OnOk it (is_some new ≡ true) × OnErr it (new ≡ None))
+    × IfSome new (made from)
+
+-- ---- questions
+
+-- this is the node on which a page lies, if it lies on one
+abbrev pub HasNode : ℕ → Option ℕ → PagesState → Type 0
+HasNode page found pages = found ≡ node_of (spot_at pages.runs page)
+
+-- so many pages lie on each node
+abbrev pub HasCounts : List ℕ → PagesState → Type 0
+HasCounts counts pages = (node : ℕ) → node < 256
+    → slice_index counts node ≡ pages_where (is_on node) (spot_at pages.runs)
+
+-- these are the runs of pages that lie on a node: of all maximal runs those whose pages lie there
+pub record HasRuns (list : List PageRun) (pages : PagesState) : Type 0 where
+  pub told : list ≡ listed pages.runs
+  pub rising : AreApart 0 pages.runs
+  pub maximal : AreMaximal pages.runs
+  pub whole : AreWhole pages.runs
+
+-- a node takes so many more pages; or it has no memory
+abbrev pub HasRoom : ℕ → Result ℕ PlacedRefusal → PagesState → Type 0
+HasRoom node (Ok pages) kept = (lacks_node kept.core.space.machine node ≡ false)
+    × (pages ≡ room_of kept.rooms node)
+HasRoom node (Err cause) kept = (lacks_node kept.core.space.machine node ≡ true)
+    × (cause ≡ NoSuchNode)

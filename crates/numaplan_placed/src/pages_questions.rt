@@ -1,0 +1,89 @@
+//! Questions to a handle of a core with its pages.
+ghost use Rattle.std.specs.Prelude.{◌≡◌, IfOk, Some, true};
+ghost use Rattle.numaplan_handles.specs.Calls.{Asks};
+ghost use Rattle.numaplan_handles.specs.Kinds.{is_pages, pages_of};
+ghost use Rattle.numaplan_placed.specs.Handles.{pages_in};
+ghost use Rattle.numaplan_placed.specs.Pages.{HasCounts, HasNode, HasRoom, HasRuns, TellsOf};
+
+use crate::pages_handle::{PagesHandle, pages_kept};
+use numa_machine::NoMemory;
+use numa_pages::{PageRun, list_runs};
+use numa_placed::PlacedRefusal;
+use numaplan_handles::Kept;
+use std::alloc::Global;
+
+/// The runs of pages that lie on one node.
+fn runs_kept(kept: &Kept, alloc: Global) -> Result<Vec<PageRun>, NoMemory>
+    requires pages { is_pages (Some kept.now) ≡ true }
+    ensures { IfOk result (λ list. TellsOf (HasRuns list.items) (pages_of (Some kept.now))) }
+{
+    match list_runs(alloc, pages_kept(kept).placed()) {
+        Ok(list) => Ok(list),
+        Err(_) => Err(NoMemory),
+    }
+}
+
+impl PagesHandle {
+    /// The number of accepted commands. `None` if the handle is closed.
+    pub fn version(&mut self, alloc: Global) -> Option<u64>
+        ensures { Asks (λ version. TellsOf (λ pages. version ≡ pages.core.space.version)
+            (pages_in self.old)) (pages_in self.old) result (pages_in self.new) }
+    {
+        let kept = self.handle.take(alloc)?;
+        let version = pages_kept(&kept).core().space().version();
+        self.handle.put(kept);
+        Some(version)
+    }
+
+    /// The node on which a page lies, if it lies on one. `None` if the handle is closed.
+    pub fn node_at(&mut self, alloc: Global, page: u64) -> Option<Option<u8>>
+        ensures { Asks (λ found. TellsOf (HasNode page found) (pages_in self.old))
+            (pages_in self.old) result (pages_in self.new) }
+    {
+        let kept = self.handle.take(alloc)?;
+        let found = pages_kept(&kept).placed().at(page).node();
+        self.handle.put(kept);
+        Some(found)
+    }
+
+    /// The number of pages that lie on each node. `None` if the handle is closed.
+    pub fn counts(&mut self, alloc: Global) -> Option<[u64; 256]>
+        ensures { Asks (λ counts. TellsOf (HasCounts counts) (pages_in self.old))
+            (pages_in self.old) result (pages_in self.new) }
+    {
+        let kept = self.handle.take(alloc)?;
+        let counts = pages_kept(&kept).placed().counts();
+        self.handle.put(kept);
+        Some(counts)
+    }
+
+    /// The maximal runs of pages that lie on one node, in ascending order. `None` if the handle is
+    /// closed.
+    ///
+    /// # Errors
+    /// `NoMemory`: out of memory.
+    pub fn runs(&mut self, alloc: Global) -> Option<Result<Vec<PageRun>, NoMemory>>
+        ensures { Asks (λ answer. IfOk answer (λ list. TellsOf (HasRuns list.items)
+            (pages_in self.old))) (pages_in self.old) result (pages_in self.new) }
+    {
+        let kept = self.handle.take(alloc)?;
+        let answer = runs_kept(&kept, alloc);
+        self.handle.put(kept);
+        Some(answer)
+    }
+
+    /// How many more pages a node takes, 2^64 - 1 if it never fills. `None` if the handle is
+    /// closed.
+    ///
+    /// # Errors
+    /// In the `Some`, as [`Pages::room`](numa_pages::Pages::room).
+    pub fn room(&mut self, alloc: Global, node: u32) -> Option<Result<u64, PlacedRefusal>>
+        ensures { Asks (λ answer. TellsOf (HasRoom node answer) (pages_in self.old))
+            (pages_in self.old) result (pages_in self.new) }
+    {
+        let kept = self.handle.take(alloc)?;
+        let answer = pages_kept(&kept).room(node);
+        self.handle.put(kept);
+        Some(answer)
+    }
+}

@@ -1,0 +1,235 @@
+//! Cores whose pages are there. Each call of the library is as `calls` says.
+
+use crate::calls::done;
+use crate::raw::{self, Counts, Handle, ToldMoves};
+use crate::{Core, PageRun, Refused};
+
+/// The room of a node that never fills (NP_ENDLESS).
+const ENDLESS: u64 = u64::MAX;
+
+/// Pages that went from one node to another.
+#[derive(Clone, Copy, Debug, PartialEq, Eq, Hash)]
+pub struct Flow {
+    pub from: u8,
+    pub to: u8,
+    pub pages: u64,
+}
+
+/// What a move did: how many pages went to another node, how many had a node to go to and stayed, since a
+/// node was full, and how many went from which node to which, the lowest first.
+#[derive(Clone, Debug, PartialEq, Eq)]
+pub struct Moved {
+    pub moved: u64,
+    pub left: u64,
+    pub flows: Vec<Flow>,
+}
+
+impl Moved {
+    fn told(told: &ToldMoves) -> Moved {
+        let flows = told.from.iter().zip(&told.to).enumerate();
+        let flows = flows.filter(|(_, (&pages, _))| pages > 0);
+        let flows = flows.map(|(from, (&pages, &to))| Flow { from: from as u8, to, pages });
+        Moved { moved: told.moved, left: told.left, flows: flows.collect() }
+    }
+}
+
+/// A core together with where its pages lie: as it is stated, and then where Linux moves them. It has a
+/// copy of the core, and each command of that is given here; of a page that is unmapped nothing is stated
+/// any more. Frames that workers take are apart.
+///
+/// ```
+/// use numaplan::{Core, Pages, Refused};
+///
+/// let mut core = Core::open("0-2", &[8; 3], &[10, 20, 20, 20, 10, 20, 20, 20, 10], 1)?;
+/// core.map(0x10000, 0x4000, 0x10)?;
+/// let mut pages = Pages::open(&mut core)?;
+/// pages.place(0x10000, 0x3000, 1)?;
+/// pages.place(0x13000, 0x1000, 2)?;
+/// // node 1 is taken away: its pages go to the second of the nodes that are left
+/// let moved = pages.move_mems("0,2")?;
+/// assert_eq!((moved.moved, pages.counts()[2]), (3, 4));
+/// assert_eq!(pages.move_page(0x10000, 1), Err(Refused::TARGET_NOT_ALLOWED));
+/// // of an unmapped page nothing is stated any more
+/// pages.unmap(0x10000, 0x1000)?;
+/// pages.map(0x10000, 0x1000, 0x10)?;
+/// assert_eq!(pages.node_of(0x10000)?, None);
+/// # Ok::<(), Refused>(())
+/// ```
+#[derive(Debug)]
+#[must_use]
+pub struct Pages(pub(crate) Handle);
+
+// SAFETY: as for a core.
+unsafe impl Send for Pages {}
+
+impl Pages {
+    /// A copy of a core: its pages lie nowhere yet, and no node ever fills.
+    pub fn open(core: &mut Core) -> Result<Pages, Refused> {
+        let mut pages = Pages(Handle::closed());
+        done(unsafe { raw::np_pages_open(&mut pages.0, &mut core.0) })?;
+        Ok(pages)
+    }
+
+    /// The same once more, to be asked "what if": what is done to one of the two doesn't change the other.
+    pub fn copy(&mut self) -> Result<Pages, Refused> {
+        let mut other = Pages(Handle::closed());
+        done(unsafe { raw::np_pages_copy(&mut self.0, &mut other.0) })?;
+        Ok(other)
+    }
+
+    /// A copy of the core, for plans, ranges, reports and all else that a core is asked.
+    pub fn core(&mut self) -> Result<Core, Refused> {
+        let mut core = Core(Handle::closed());
+        done(unsafe { raw::np_pages_core(&mut self.0, &mut core.0) })?;
+        Ok(core)
+    }
+
+    /// How many commands are accepted.
+    #[must_use]
+    pub fn version(&mut self) -> u64 {
+        let mut version = 0;
+        unsafe { raw::np_pages_version(&mut self.0, &mut version) };
+        version
+    }
+
+    /// Maps a span of unmapped pages; the first has the index `offset`.
+    pub fn map(&mut self, start: u64, length: u64, offset: u64) -> Result<(), Refused> {
+        done(unsafe { raw::np_pages_map(&mut self.0, start, length, offset) })
+    }
+
+    /// Unmaps the pages of a span; then nothing is stated of them any more.
+    pub fn unmap(&mut self, start: u64, length: u64) -> Result<(), Refused> {
+        done(unsafe { raw::np_pages_unmap(&mut self.0, start, length) })
+    }
+
+    /// Gives the pages of a span a policy of their own, as "bind:0-1", wherever they lie.
+    pub fn mbind(&mut self, start: u64, length: u64, policy: &str) -> Result<(), Refused> {
+        let text = policy.as_bytes();
+        done(unsafe {
+            raw::np_pages_mbind(&mut self.0, start, length, text.as_ptr(), text.len())
+        })
+    }
+
+    /// The same, refused as [`Refused::ASTRAY`] where one of the pages lies on a node that isn't in the
+    /// policy's list as it is written (MPOL_MF_STRICT).
+    pub fn mbind_strictly(&mut self, start: u64, length: u64, policy: &str) -> Result<(), Refused> {
+        let text = policy.as_bytes();
+        done(unsafe {
+            raw::np_pages_mbind_strictly(&mut self.0, start, length, text.as_ptr(), text.len())
+        })
+    }
+
+    /// Gives a task its policy.
+    pub fn set_task(&mut self, task: u32, policy: &str) -> Result<(), Refused> {
+        let text = policy.as_bytes();
+        done(unsafe { raw::np_pages_set_task(&mut self.0, task, text.as_ptr(), text.len()) })
+    }
+
+    /// Gives a task the policy that another has, or none, as a new thread has its maker's.
+    pub fn inherit(&mut self, task: u32, from: u32) -> Result<(), Refused> {
+        done(unsafe { raw::np_pages_inherit(&mut self.0, task, from) })
+    }
+
+    /// Gives the policies of the pages of a span a home node.
+    pub fn set_home(&mut self, start: u64, length: u64, node: u32) -> Result<(), Refused> {
+        done(unsafe { raw::np_pages_set_home(&mut self.0, start, length, node) })
+    }
+
+    /// Gives a node its weight for weighted interleaving.
+    pub fn set_weight(&mut self, node: u32, weight: u32) -> Result<(), Refused> {
+        done(unsafe { raw::np_pages_set_weight(&mut self.0, node, weight) })
+    }
+
+    /// Changes the nodes on which memory may be placed, as "0-1". The pages stay where they lie.
+    pub fn set_mems(&mut self, nodes: &str) -> Result<(), Refused> {
+        done(unsafe { raw::np_pages_set_mems(&mut self.0, nodes.as_ptr(), nodes.len()) })
+    }
+
+    /// States that the mapped pages of a span lie on a node; a later statement counts.
+    pub fn place(&mut self, start: u64, length: u64, node: u32) -> Result<(), Refused> {
+        done(unsafe { raw::np_pages_place(&mut self.0, start, length, node) })
+    }
+
+    /// Says how many more pages a node takes: each page that moves there takes one, and each that moves away
+    /// gives one back; `place` takes none. `None`, as at first: it never fills.
+    pub fn set_room(&mut self, node: u32, pages: Option<u64>) -> Result<(), Refused> {
+        done(unsafe { raw::np_pages_set_room(&mut self.0, node, pages.unwrap_or(ENDLESS)) })
+    }
+
+    /// How many more pages a node takes; `None` where it never fills.
+    pub fn room(&mut self, node: u32) -> Result<Option<u64>, Refused> {
+        let mut room = 0;
+        done(unsafe { raw::np_pages_room(&mut self.0, node, &mut room) })?;
+        Ok((room != ENDLESS).then_some(room))
+    }
+
+    /// The node on which the page of an address lies, if it lies on one.
+    pub fn node_of(&mut self, address: u64) -> Result<Option<u8>, Refused> {
+        let mut node = 0;
+        match done(unsafe { raw::np_pages_node(&mut self.0, address, &mut node) }) {
+            Err(Refused::NOT_PLACED) => Ok(None),
+            answer => answer.map(|()| Some(node as u8)),
+        }
+    }
+
+    /// How many pages lie on each node.
+    #[must_use]
+    pub fn counts(&mut self) -> [u64; 256] {
+        let mut counts = Counts { pages: [0; 256] };
+        unsafe { raw::np_pages_counts(&mut self.0, &mut counts) };
+        counts.pages
+    }
+
+    /// The runs of pages that lie on one node, in order of address and as long as they can be.
+    pub fn runs(&mut self) -> Result<Vec<PageRun>, Refused> {
+        let (mut runs, mut count) = (vec![PageRun::default(); 64], 0);
+        loop {
+            let (at, room) = (runs.as_mut_ptr(), runs.len());
+            match done(unsafe { raw::np_pages_runs(&mut self.0, at, room, &mut count) }) {
+                Err(Refused::NO_ROOM) => runs.resize(count, PageRun::default()),
+                answer => {
+                    runs.truncate(count);
+                    return answer.map(|()| runs);
+                }
+            }
+        }
+    }
+
+    /// Changes the nodes on which memory may be placed, as "0-1", and moves the pages along, as far as there
+    /// is room: as in a cpuset of cgroup v2, or of v1 with memory_migrate.
+    pub fn move_mems(&mut self, nodes: &str) -> Result<Moved, Refused> {
+        let mut told = ToldMoves::none();
+        done(unsafe {
+            raw::np_pages_move_mems(&mut self.0, nodes.as_ptr(), nodes.len(), &mut told)
+        })?;
+        Ok(Moved::told(&told))
+    }
+
+    /// Moves pages from the nodes of one list to the allowed nodes of another, as far as there is room
+    /// (migrate_pages(2)).
+    pub fn migrate(&mut self, old: &str, new: &str) -> Result<Moved, Refused> {
+        let mut told = ToldMoves::none();
+        done(unsafe {
+            raw::np_pages_migrate(
+                &mut self.0,
+                old.as_ptr(),
+                old.len(),
+                new.as_ptr(),
+                new.len(),
+                &mut told,
+            )
+        })?;
+        Ok(Moved::told(&told))
+    }
+
+    /// Moves the page of an address to a node (move_pages(2)); a page that lies there stays.
+    pub fn move_page(&mut self, address: u64, node: u32) -> Result<(), Refused> {
+        done(unsafe { raw::np_pages_move(&mut self.0, address, node) })
+    }
+}
+
+impl Drop for Pages {
+    fn drop(&mut self) {
+        unsafe { raw::np_pages_close(&mut self.0) }
+    }
+}

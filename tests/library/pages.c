@@ -1,0 +1,446 @@
+/* Cores with their pages from C: where pages lie, and where they go. The values are those of
+ * cpusets(7), migrate_pages(2), move_pages(2) and mbind(2), by hand. Prints what is wrong; not
+ * proved. */
+#include "numaplan_placed.h"
+
+#include <errno.h>
+#include <stdio.h>
+#include <string.h>
+
+static int wrong;
+
+#define WANT(got, wanted)                                                                          \
+    do {                                                                                           \
+        unsigned long long got_ = (got), wanted_ = (wanted);                                       \
+        if (got_ != wanted_) {                                                                     \
+            printf("line %d: %s is %llu, not %llu\n", __LINE__, #got, got_, wanted_);              \
+            wrong = 1;                                                                             \
+        }                                                                                          \
+    } while (0)
+
+#define TEXT(words) (const uint8_t *)(words), strlen(words)
+#define BASE 0x10000 /* (page 16) */
+
+static const uint32_t frames[5] = {0, 0, 0, 0, 0};
+static const uint8_t distances[25] = {10, 20, 20, 20, 20, 20, 10, 20, 20, 20, 20, 20, 10,
+                                      20, 20, 20, 20, 20, 10, 20, 20, 20, 20, 20, 10};
+
+/* Five nodes, of which 4 has no memory, six mapped pages from 16 on, and so many ranges and
+ * commands. */
+static void open_pages(np_pages *pages, uint32_t ranges, uint32_t commands) {
+    const np_limits limits = {ranges, 2, commands};
+    np_core core = {0};
+    WANT(np_core_open(&core, TEXT("0-3"), frames, 5, distances, 25, &limits, 1), NP_OK);
+    WANT(np_core_map(&core, BASE, 0x6000, 0x10), NP_OK);
+    WANT(np_pages_open(pages, &core), NP_OK);
+    np_core_close(&core);
+}
+
+/* The node of a page, 9 where it lies nowhere. */
+static unsigned node_of(np_pages *pages, uint64_t page) {
+    uint32_t node = 9, code = np_pages_node(pages, page * 4096 + 5, &node);
+    WANT(code, node == 9 ? NP_NOT_PLACED : NP_OK);
+    return node;
+}
+
+/* The nodes of the six pages, as digits from a leading 7. */
+static unsigned nodes_of(np_pages *pages) {
+    unsigned digits = 7;
+    for (uint64_t page = 16; page < 22; page++)
+        digits = digits * 10 + node_of(pages, page);
+    return digits;
+}
+
+static uint64_t room_of(np_pages *pages, uint32_t node) {
+    uint64_t room = 77;
+    WANT(np_pages_room(pages, node, &room), NP_OK);
+    return room;
+}
+
+static uint64_t version_of(np_pages *pages) {
+    uint64_t version = 99;
+    WANT(np_pages_version(pages, &version), NP_OK);
+    return version;
+}
+
+/* States where each of the six pages lies: a digit each, 9 for nowhere. */
+static void place_all(np_pages *pages, const char *nodes) {
+    for (uint64_t k = 0; k < 6; k++)
+        if (nodes[k] != '9')
+            WANT(np_pages_place(pages, BASE + k * 4096, 4096, nodes[k] - '0'), NP_OK);
+}
+
+/* Statements, and what is told of them. */
+static void statements(void) {
+    np_pages pages = {0};
+    np_page_run runs[4];
+    np_counts counts;
+    size_t count = 99;
+    open_pages(&pages, 64, 99);
+    WANT(nodes_of(&pages), 7999999);
+    WANT(np_pages_runs(&pages, runs, 0, &count), NP_OK);
+    WANT(count, 0);
+    WANT(np_pages_place(&pages, BASE, 0x2000, 0), NP_OK);
+    WANT(np_pages_place(&pages, BASE + 0x2000, 0x2000, 1), NP_OK);
+    WANT(np_pages_place(&pages, BASE + 0x4000, 1, 2), NP_OK);
+    WANT(nodes_of(&pages), 7001129);
+    memset(runs, 9, sizeof runs);
+    WANT(np_pages_runs(&pages, runs, 2, &count), NP_NO_ROOM);
+    WANT(count, 3);
+    WANT(runs[0].node, 9);
+    WANT(np_pages_runs(&pages, runs, 4, &count), NP_OK);
+    WANT(count, 3);
+    WANT(runs[0].first * 100 + runs[0].pages * 10 + runs[0].node, 1620);
+    WANT(runs[1].first * 100 + runs[1].pages * 10 + runs[1].node, 1821);
+    WANT(runs[2].first * 100 + runs[2].pages * 10 + runs[2].node, 2012);
+    WANT(runs[3].node, 9);
+    WANT(np_pages_counts(&pages, &counts), NP_OK);
+    WANT(counts.pages[0] * 100 + counts.pages[1] * 10 + counts.pages[2], 221);
+    WANT(counts.pages[3] + counts.pages[255], 0);
+    /* a later one counts; what isn't mapped is passed over; a span of no bytes has no page */
+    WANT(np_pages_place(&pages, BASE + 0x1000, 0x2000, 3), NP_OK);
+    WANT(nodes_of(&pages), 7033129);
+    WANT(np_pages_place(&pages, BASE, 0, 1), NP_OK);
+    WANT(nodes_of(&pages), 7033129);
+    WANT(np_pages_place(&pages, 0, UINT64_C(1) << 47, 1), NP_OK);
+    WANT(nodes_of(&pages), 7111111);
+    WANT(np_pages_runs(&pages, runs, 4, &count), NP_OK);
+    WANT(count, 1);
+    WANT(runs[0].first * 100 + runs[0].pages * 10 + runs[0].node, 1661);
+    /* the causes in their order */
+    WANT(np_pages_place(&pages, (UINT64_C(1) << 47) + 1, 4096, 7), NP_UNALIGNED);
+    WANT(np_pages_place(&pages, UINT64_C(1) << 47, 4096, 7), NP_OUT_OF_SPACE);
+    WANT(np_pages_place(&pages, BASE, 4096, 5), NP_NO_SUCH_NODE);
+    WANT(np_pages_place(&pages, BASE, 4096, 4), NP_NO_SUCH_NODE); /* (without memory) */
+    WANT(np_pages_place(&pages, BASE, 4096, UINT32_MAX), NP_NO_SUCH_NODE);
+    WANT(nodes_of(&pages), 7111111);
+    np_pages_close(&pages);
+}
+
+/* The allowed nodes change, and the pages follow (do_migrate_pages), or they don't. */
+static void followed(void) {
+    np_pages pages = {0};
+    np_moves moves;
+    open_pages(&pages, 64, 99);
+    WANT(np_pages_set_mems(&pages, TEXT("0-2")), NP_OK);
+    place_all(&pages, "001129");
+    /* as many nodes: those of the k-th go to the k-th, and each page moves once */
+    WANT(np_pages_move_mems(&pages, TEXT("1-3"), &moves), NP_OK);
+    WANT(nodes_of(&pages), 7112239);
+    WANT(moves.moved * 10 + moves.left, 50);
+    WANT(moves.from[0] * 1000 + moves.from[1] * 100 + moves.from[2] * 10 + moves.from[3], 2210);
+    WANT(moves.to[0] * 1000 + moves.to[1] * 100 + moves.to[2] * 10 + moves.to[3], 1233);
+    WANT(moves.to[255], 255);
+    /* fewer: what may stay stays, and the second of three goes to the second of two */
+    WANT(np_pages_move_mems(&pages, TEXT("1,3"), &moves), NP_OK);
+    WANT(nodes_of(&pages), 7113339);
+    WANT(moves.moved, 2);
+    WANT(moves.from[2], 2);
+    WANT(moves.to[2], 3);
+    /* pages that don't follow stay; then nothing of them is on an old node */
+    WANT(np_pages_set_mems(&pages, TEXT("0")), NP_OK);
+    WANT(nodes_of(&pages), 7113339);
+    WANT(np_pages_move_mems(&pages, TEXT("2"), &moves), NP_OK);
+    WANT(nodes_of(&pages), 7113339);
+    WANT(moves.moved + moves.left, 0);
+    /* refused: nothing has changed, and no move is told */
+    memset(&moves, 9, sizeof moves);
+    WANT(np_pages_move_mems(&pages, TEXT("9"), &moves), NP_NO_SUCH_NODE);
+    WANT(np_pages_move_mems(&pages, TEXT("4"), &moves), NP_NODES_NOT_ALLOWED);
+    WANT(np_pages_move_mems(&pages, TEXT("3-"), &moves), NP_LIST_BAD_DIGIT);
+    WANT(moves.moved, UINT64_C(0x0909090909090909));
+    WANT(moves.to[0], 9);
+    WANT(version_of(&pages), 6);
+    np_pages_close(&pages);
+}
+
+/* migrate_pages(2). */
+static void migrated(void) {
+    np_pages pages = {0};
+    np_moves moves;
+    open_pages(&pages, 64, 99);
+    place_all(&pages, "000119");
+    WANT(np_pages_set_mems(&pages, TEXT("0-2")), NP_OK);
+    WANT(np_pages_migrate(&pages, TEXT("0"), TEXT("3"), &moves), NP_NODES_NOT_ALLOWED);
+    /* of 2 to 3 only 2 is allowed */
+    WANT(np_pages_migrate(&pages, TEXT("0"), TEXT("2-3"), &moves), NP_OK);
+    WANT(nodes_of(&pages), 7222119);
+    WANT(moves.moved * 10 + moves.left, 30);
+    /* two nodes to two: the first to the first, the second to the second */
+    WANT(np_pages_migrate(&pages, TEXT("1-2"), TEXT("0,2"), &moves), NP_OK);
+    WANT(nodes_of(&pages), 7222009);
+    WANT(np_pages_migrate(&pages, TEXT("0,2"), TEXT("2,0"), &moves), NP_OK);
+    WANT(moves.moved, 0);
+    /* a node outside the first list keeps its pages */
+    WANT(np_pages_migrate(&pages, TEXT("0"), TEXT("1"), &moves), NP_OK);
+    WANT(nodes_of(&pages), 7222119);
+    WANT(np_pages_migrate(&pages, TEXT("0-"), TEXT("x"), &moves), NP_LIST_BAD_DIGIT);
+    WANT(np_pages_migrate(&pages, TEXT("0"), TEXT("1-0"), &moves), NP_LIST_BACKWARDS);
+    /* the pages moved, and no command was accepted */
+    WANT(version_of(&pages), 2);
+    np_pages_close(&pages);
+}
+
+/* Nodes that fill. */
+static void rooms(void) {
+    np_pages pages = {0};
+    np_moves moves;
+    open_pages(&pages, 64, 99);
+    place_all(&pages, "111119");
+    WANT(room_of(&pages, 2), NP_ENDLESS);
+    WANT(np_pages_set_room(&pages, 2, 3), NP_OK);
+    WANT(np_pages_set_room(&pages, 1, 0), NP_OK);
+    /* the lowest pages go first; those that leave give room back */
+    WANT(np_pages_migrate(&pages, TEXT("1"), TEXT("2"), &moves), NP_OK);
+    WANT(nodes_of(&pages), 7222119);
+    WANT(moves.moved * 10 + moves.left, 32);
+    WANT(room_of(&pages, 2), 0);
+    WANT(room_of(&pages, 1), 3);
+    WANT(np_pages_move(&pages, BASE + 0x3000, 2), NP_NODE_FULL);
+    WANT(np_pages_move(&pages, BASE, 2), NP_OK); /* (it lies there) */
+    WANT(np_pages_move(&pages, BASE + 4095, 3), NP_OK);
+    WANT(room_of(&pages, 2), 1);
+    WANT(np_pages_move(&pages, BASE + 0x3000, 2), NP_OK);
+    WANT(nodes_of(&pages), 7322219);
+    WANT(room_of(&pages, 2), 0);
+    /* a statement takes no room, and an unmapped page gives none back */
+    WANT(np_pages_place(&pages, BASE + 0x5000, 4096, 2), NP_OK);
+    WANT(np_pages_unmap(&pages, BASE + 0x1000, 4096), NP_OK);
+    WANT(room_of(&pages, 2), 0);
+    WANT(np_pages_set_room(&pages, 4, 1), NP_NO_SUCH_NODE);
+    WANT(np_pages_set_room(&pages, 5, 1), NP_NO_SUCH_NODE);
+    uint64_t room = 77;
+    WANT(np_pages_room(&pages, 256, &room), NP_NO_SUCH_NODE);
+    WANT(room, 77);
+    np_pages_close(&pages);
+}
+
+/* A node that fills ends the move, also for nodes whose pages would find room. */
+static void ended(void) {
+    np_pages pages = {0};
+    np_moves moves;
+    open_pages(&pages, 64, 99);
+    place_all(&pages, "001199");
+    WANT(np_pages_set_room(&pages, 2, 1), NP_OK);
+    /* 0 goes to 2 first, and 1 to 3 not any more */
+    WANT(np_pages_migrate(&pages, TEXT("0-1"), TEXT("2-3"), &moves), NP_OK);
+    WANT(nodes_of(&pages), 7201199);
+    WANT(moves.moved * 10 + moves.left, 13);
+    WANT(moves.from[0] * 10 + moves.from[1], 10);
+    np_pages_close(&pages);
+}
+
+/* move_pages(2): the causes in their order. */
+static void moved(void) {
+    np_pages pages = {0};
+    open_pages(&pages, 64, 99);
+    place_all(&pages, "009999");
+    WANT(np_pages_set_mems(&pages, TEXT("0-1")), NP_OK);
+    WANT(np_pages_set_room(&pages, 1, 0), NP_OK);
+    WANT(np_pages_move(&pages, 0, 5), NP_NO_SUCH_TARGET);
+    WANT(np_pages_move(&pages, 0, 4), NP_NO_SUCH_TARGET);
+    WANT(np_pages_move(&pages, 0, 3), NP_TARGET_NOT_ALLOWED);
+    WANT(np_pages_move(&pages, 0, 1), NP_PAGE_UNMAPPED);
+    WANT(np_pages_move(&pages, UINT64_MAX, 1), NP_PAGE_UNMAPPED);
+    WANT(np_pages_move(&pages, BASE + 0x5000, 1), NP_NOT_PLACED);
+    WANT(np_pages_move(&pages, BASE, 1), NP_NODE_FULL);
+    WANT(np_pages_move(&pages, BASE, 0), NP_OK);
+    WANT(np_pages_set_room(&pages, 1, NP_ENDLESS), NP_OK);
+    WANT(np_pages_move(&pages, BASE, 1), NP_OK);
+    WANT(nodes_of(&pages), 7109999);
+    WANT(room_of(&pages, 1), NP_ENDLESS);
+    np_pages_close(&pages);
+}
+
+/* mbind(2) with MPOL_MF_STRICT. */
+static void strictly(void) {
+    np_pages pages = {0};
+    open_pages(&pages, 64, 99);
+    place_all(&pages, "222119");
+    WANT(np_pages_mbind_strictly(&pages, BASE, 0x3000, TEXT("bind:1-2")), NP_OK);
+    WANT(np_pages_mbind_strictly(&pages, BASE, 0x4000, TEXT("bind:2")), NP_ASTRAY);
+    WANT(np_pages_mbind_strictly(&pages, BASE, 0x3000, TEXT("prefer:1")), NP_ASTRAY);
+    WANT(np_pages_mbind_strictly(&pages, BASE, 0x3000, TEXT("local")), NP_ASTRAY);
+    WANT(np_pages_mbind_strictly(&pages, BASE, 0x3000, TEXT("default")), NP_OK);
+    WANT(np_pages_mbind_strictly(&pages, BASE + 0x5000, 0x1000, TEXT("bind:3")), NP_OK);
+    WANT(np_pages_mbind_strictly(&pages, BASE, 0, TEXT("bind:1")), NP_OK);
+    WANT(version_of(&pages), 5);
+    /* without strict it is set, and the pages stay */
+    WANT(np_pages_mbind(&pages, BASE, 0x4000, TEXT("bind:3")), NP_OK);
+    WANT(nodes_of(&pages), 7222119);
+    /* the list as it is written, though 0 of 1 to 3 is node 1 */
+    WANT(np_pages_place(&pages, BASE, 0x1000, 0), NP_OK);
+    WANT(np_pages_set_mems(&pages, TEXT("1-3")), NP_OK);
+    WANT(np_pages_mbind_strictly(&pages, BASE, 0x1000, TEXT("bind=relative:0")), NP_OK);
+    WANT(np_pages_mbind_strictly(&pages, BASE, 0x1000, TEXT("bind=relative:1")), NP_ASTRAY);
+    /* before it */
+    WANT(np_pages_mbind_strictly(&pages, BASE + 1, 0x1000, TEXT("bind:3")), NP_UNALIGNED);
+    WANT(np_pages_mbind_strictly(&pages, BASE, 0x7000, TEXT("bind:3")), NP_HOLE);
+    WANT(np_pages_mbind_strictly(&pages, BASE, 0x2000, TEXT("bind:0")), NP_NODES_NOT_ALLOWED);
+    WANT(np_pages_mbind_strictly(&pages, BASE, 0x1000, TEXT("bend:0")), NP_UNKNOWN_MODE);
+    np_pages_close(&pages);
+    /* and behind it: one range has to become three */
+    open_pages(&pages, 1, 2);
+    place_all(&pages, "222222");
+    WANT(np_pages_mbind_strictly(&pages, BASE + 0x1000, 0x1000, TEXT("bind:2")),
+         NP_TOO_MANY_RANGES);
+    WANT(np_pages_mbind_strictly(&pages, BASE + 0x1000, 0x1000, TEXT("bind:1")), NP_ASTRAY);
+    WANT(np_pages_set_weight(&pages, 0, 2), NP_OK);
+    WANT(np_pages_mbind_strictly(&pages, BASE + 0x1000, 0x1000, TEXT("bind:1")),
+         NP_COMMANDS_SPENT);
+    np_pages_close(&pages);
+}
+
+/* Of pages that are unmapped nothing is stated any more. */
+static void unmapped(void) {
+    np_pages pages = {0};
+    open_pages(&pages, 1, 99);
+    place_all(&pages, "222222");
+    /* refused, since one range would become two: the pages are as they were */
+    WANT(np_pages_unmap(&pages, BASE + 0x1000, 0x1000), NP_TOO_MANY_RANGES);
+    WANT(np_pages_unmap(&pages, BASE + 1, 0x1000), NP_UNALIGNED);
+    WANT(np_pages_unmap(&pages, BASE, UINT64_C(1) << 47), NP_OUT_OF_SPACE);
+    WANT(nodes_of(&pages), 7222222);
+    WANT(np_pages_unmap(&pages, BASE + 0x4000, 0x9000), NP_OK);
+    WANT(nodes_of(&pages), 7222299);
+    WANT(np_pages_map(&pages, BASE + 0x4000, 0x2000, 0x14), NP_OK);
+    WANT(nodes_of(&pages), 7222299);
+    WANT(np_pages_move(&pages, BASE + 0x4000, 2), NP_NOT_PLACED);
+    WANT(version_of(&pages), 3);
+    np_pages_close(&pages);
+}
+
+/* Copies, and the core. */
+static void copies(void) {
+    np_pages pages = {0}, copy = {0};
+    np_core core = {0};
+    np_plan plan = {0};
+    np_moves moves;
+    uint64_t accepted = 0, published = 99;
+    uint8_t nodes[4];
+    open_pages(&pages, 64, 99);
+    place_all(&pages, "012301");
+    WANT(np_pages_set_room(&pages, 1, 7), NP_OK);
+    WANT(np_pages_copy(&pages, &copy), NP_OK);
+    WANT(np_pages_copy(&pages, &copy), NP_OPEN);
+    WANT(np_pages_move_mems(&copy, TEXT("1"), &moves), NP_OK);
+    WANT(nodes_of(&copy), 7111111);
+    WANT(room_of(&copy, 1), 3);
+    WANT(nodes_of(&pages), 7012301);
+    WANT(room_of(&pages, 1), 7);
+    /* the core of the one and of the other */
+    WANT(np_pages_core(&copy, &core), NP_OK);
+    WANT(np_pages_core(&copy, &core), NP_OPEN);
+    np_pages_close(&copy);
+    WANT(np_core_versions(&core, &accepted, &published), NP_OK);
+    WANT(accepted * 10 + published, 20);
+    WANT(np_core_compile(&core, &plan), NP_OK);
+    WANT(np_plan_fill(&plan, 1, 0, 16, nodes, 4), NP_OK);
+    WANT(nodes[0] * 10 + nodes[3], 11);
+    np_plan_close(&plan);
+    /* what is done to it changes the pages' core as little */
+    WANT(np_core_unmap(&core, BASE, 0x6000), NP_OK);
+    WANT(nodes_of(&pages), 7012301);
+    WANT(np_pages_move(&pages, BASE, 2), NP_OK);
+    np_core_close(&core);
+    np_pages_close(&pages);
+    np_pages_close(&pages);
+}
+
+/* The other commands of the core. */
+static void commands(void) {
+    np_pages pages = {0};
+    np_core core = {0};
+    np_policy policy;
+    open_pages(&pages, 64, 99);
+    WANT(np_pages_set_task(&pages, 1, TEXT("bind:2")), NP_OK);
+    WANT(np_pages_inherit(&pages, 2, 1), NP_OK);
+    WANT(np_pages_mbind(&pages, BASE, 0x1000, TEXT("bind:1")), NP_OK);
+    WANT(np_pages_set_home(&pages, BASE, 0x1000, 3), NP_OK);
+    WANT(np_pages_set_weight(&pages, 0, 0), NP_BAD_WEIGHT);
+    WANT(np_pages_set_weight(&pages, 0, 5), NP_OK);
+    WANT(np_pages_inherit(&pages, 3, 1), NP_TOO_MANY_TASKS);
+    WANT(np_pages_map(&pages, BASE, 0x1000, 0), NP_OVERLAP);
+    WANT(np_pages_core(&pages, &core), NP_OK);
+    WANT(np_core_task_policy(&core, 2, &policy), NP_OK);
+    WANT(policy.nodes.words[0], 4);
+    WANT(np_core_range_policy(&core, 0, &policy), NP_OK);
+    WANT(policy.home * 10 + policy.nodes.words[0], 32);
+    np_core_close(&core);
+    np_pages_close(&pages);
+}
+
+static void closed(void) {
+    np_pages pages = {0}, other = {0};
+    np_core core = {0};
+    np_moves moves;
+    np_counts counts;
+    np_page_run run;
+    uint64_t number = 99;
+    uint32_t node = 99;
+    size_t count = 99;
+    memset(&moves, 9, sizeof moves);
+    WANT(np_pages_open(&pages, &core), NP_CLOSED);
+    WANT(np_pages_copy(&pages, &other), NP_CLOSED);
+    WANT(np_pages_core(&pages, &core), NP_CLOSED);
+    WANT(np_pages_version(&pages, &number), NP_CLOSED);
+    WANT(np_pages_room(&pages, 0, &number), NP_CLOSED);
+    WANT(np_pages_node(&pages, 0, &node), NP_CLOSED);
+    WANT(np_pages_counts(&pages, &counts), NP_CLOSED);
+    WANT(np_pages_runs(&pages, &run, 1, &count), NP_CLOSED);
+    WANT(np_pages_map(&pages, 0, 0, 0), NP_CLOSED);
+    WANT(np_pages_place(&pages, 1, 0, 9), NP_CLOSED);
+    WANT(np_pages_set_room(&pages, 9, 0), NP_CLOSED);
+    WANT(np_pages_move(&pages, 0, 9), NP_CLOSED);
+    WANT(np_pages_migrate(&pages, TEXT("0"), TEXT("1"), &moves), NP_CLOSED);
+    WANT(np_pages_migrate(&pages, TEXT("0"), TEXT(""), &moves), NP_LIST_EMPTY);
+    WANT(np_pages_move_mems(&pages, TEXT("0"), &moves), NP_CLOSED);
+    WANT(np_pages_mbind_strictly(&pages, 1, 0, TEXT("bend")), NP_UNKNOWN_MODE);
+    WANT(np_pages_mbind_strictly(&pages, 1, 0, TEXT("bind:0")), NP_CLOSED);
+    WANT(number + node + count, 297);
+    WANT(moves.to[255], 9);
+    open_pages(&pages, 64, 99);
+    WANT(np_pages_open(&pages, &core), NP_OPEN);
+    np_pages_close(&pages);
+}
+
+/* The error numbers of the causes that only pages have (errno(3)), and their names. */
+static void causes(void) {
+    static const struct {
+        uint32_t code, number;
+        const char *name;
+    } all[] = {
+        {NP_TOO_MANY_RUNS, ENOMEM, "TooManyRuns"}, {NP_ASTRAY, EIO, "Astray"},
+        {NP_NO_SUCH_TARGET, ENODEV, "NoSuchTarget"},
+        {NP_TARGET_NOT_ALLOWED, EACCES, "TargetNotAllowed"},
+        {NP_PAGE_UNMAPPED, EFAULT, "PageUnmapped"}, {NP_NOT_PLACED, ENOENT, "NotPlaced"},
+        {NP_NODE_FULL, ENOMEM, "NodeFull"}, {NP_OCCUPIED, EEXIST, "Occupied"},
+    };
+    uint32_t number = 99;
+    for (size_t k = 0; k < sizeof all / sizeof *all; k++) {
+        uint8_t name[32];
+        size_t length = 0;
+        WANT(np_answer_name(all[k].code, name, sizeof name, &length), NP_OK);
+        WANT(length, strlen(all[k].name));
+        WANT(memcmp(name, all[k].name, length), 0);
+        WANT(np_answer_errno(all[k].code, &number), NP_OK);
+        WANT(number, all[k].number);
+    }
+    WANT(np_answer_errno(108, &number), NP_UNKNOWN);
+}
+
+int main(void) {
+    statements();
+    followed();
+    migrated();
+    rooms();
+    ended();
+    moved();
+    strictly();
+    unmapped();
+    copies();
+    commands();
+    closed();
+    causes();
+    return wrong;
+}

@@ -1,0 +1,198 @@
+#!/usr/bin/env python3
+"""Cores with their pages by the Python module: rows worked by hand, and then the module against the
+model of tests/model, which has the rules from the documents' text: seeded commands, statements and
+moves, refused ones among them, each asked of both. Not proved."""
+
+import os
+import random
+import sys
+from types import SimpleNamespace
+
+import numaplan
+from numaplan import Core, Moved, PageRun, Pages
+
+sys.path.insert(0, os.path.join(os.path.dirname(os.path.abspath(__file__)), "..", "model"))
+
+import placed as model  # noqa: E402
+from space import Space, machine_of  # noqa: E402
+from words import policy as asked_policy  # noqa: E402
+
+SEED, ROUNDS, STEPS, NODES, PAGES = 5, 30, 120, 5, 24
+MEMORY = [0, 1, 2, 3]  # (node 4 has none)
+FLAT = [[10 if a == b else 20 for b in range(NODES)] for a in range(NODES)]
+LIMITS = (12, 2, 100)  # ranges, tasks, commands
+MODES = ["prefer", "bind", "interleave", "many", "weighted"]
+BASE = 0x10000
+
+
+def opened():
+    """A core with its pages, on which nothing is mapped."""
+    with Core([0] * NODES, FLAT, memory=MEMORY, max_ranges=LIMITS[0], max_tasks=LIMITS[1],
+              max_commands=LIMITS[2]) as core:
+        return Pages(core)
+
+
+def worked():
+    """Rows by hand, as tests/library/pages.c has more."""
+    with opened() as pages:
+        pages.map(BASE, 0x6000)
+        pages.set_mems("0-2")
+        pages.place(BASE, 0x2000, 0)
+        pages.place(BASE + 0x2000, 0x2000, 1)
+        pages.place(BASE + 0x4000, 0x1000, 2)
+        assert pages.runs() == [PageRun(16, 2, 0), PageRun(18, 2, 1), PageRun(20, 1, 2)]
+        assert pages.counts() == {0: 2, 1: 2, 2: 1}
+        assert repr(pages) == "<numaplan.Pages of version 2, 5 pages>"
+        with pages.copy() as after:
+            told = after.move_mems([1, 2, 3])
+            assert told == Moved(5, 0, {(0, 1): 2, (1, 2): 2, (2, 3): 1})
+            assert (after.node_of(BASE), after.node_of(BASE + 0x5000)) == (1, None)
+        pages.set_room(2, 1)
+        assert (pages.room(2), pages.room(1)) == (1, None)
+        assert pages.migrate("0-1", "2") == Moved(1, 3, {(0, 2): 1})
+        try:
+            pages.move(BASE + 0x1000, 2)
+        except numaplan.NodeFull as cause:
+            assert cause.errno == 12
+        else:
+            raise AssertionError("a full node took a page")
+        try:
+            pages.mbind(BASE, 0x2000, "bind:2", strict=True)
+        except numaplan.Astray as cause:
+            assert cause.errno == 5
+        else:
+            raise AssertionError("a page lay astray")
+        pages.unmap(BASE, 0x1000)
+        pages.map(BASE, 0x1000)
+        assert pages.node_of(BASE) is None
+        with pages.core() as core, core.compile() as plan:
+            assert plan.version == 4
+
+
+def span(dice):
+    """A span, mostly within the pages; seldom one that isn't aligned, or has no byte."""
+    first = dice.randrange(PAGES)
+    length = 4096 * dice.randrange(0 if dice.random() < 0.1 else 1, 9)
+    return BASE + 4096 * first + (dice.random() < 0.03), max(0, length - dice.randrange(2) * 7)
+
+
+def some_list(dice):
+    """A list of nodes."""
+    return sorted(dice.sample(range(4 + (dice.random() < 0.1)), dice.randrange(1, 5)))
+
+
+def word_of(dice):
+    """A policy word."""
+    if dice.random() < 0.15:
+        return dice.choice(["default", "local"])
+    flag = dice.choice(["", "", "=static", "=relative"])
+    return f"{dice.choice(MODES)}{flag}:{','.join(map(str, some_list(dice)))}"
+
+
+def change(state, follows, name, *arguments):
+    """What the model says of a command of the core, beside which pages follow or don't."""
+    state.placed.follows = follows
+    return model.command(state, name, list(arguments))
+
+
+def a_call(dice, state):
+    """What is asked of the model, and the same of the module."""
+    (start, length), node = span(dice), min(dice.randrange(7), dice.randrange(7))
+    some, other, word, kind = some_list(dice), some_list(dice), word_of(dice), dice.randrange(16)
+    address, asked, nodes = BASE + dice.randrange(4096 * PAGES), asked_policy(word), frozenset(some)
+    if kind < 2:
+        return (lambda: change(state, False, "map", start, length, start // 4096),
+                lambda pages: pages.map(start, length))
+    if kind == 2:
+        start = BASE + 4096 * dice.randrange(PAGES)
+        length = 4096 * dice.randrange(3)
+        return (lambda: change(state, False, "unmap", start, length),
+                lambda pages: pages.unmap(start, length))
+    if kind == 3:
+        return (lambda: change(state, False, "mbind", start, length, asked),
+                lambda pages: pages.mbind(start, length, word))
+    if kind == 4:
+        return (lambda: change(state, False, "mems", nodes), lambda pages: pages.set_mems(some))
+    if kind == 5:
+        return (lambda: change(state, True, "mems", nodes), lambda pages: pages.move_mems(some))
+    if kind == 6:
+        return (lambda: model.bind_strictly(state, start, length, asked),
+                lambda pages: pages.mbind(start, length, word, strict=True))
+    if kind == 7:
+        room = dice.choice([0, 1, 2, 3, 5])
+        return lambda: model.room(state, node, room), lambda pages: pages.set_room(node, room)
+    if kind < 12:
+        return (lambda: model.at(state, start, length, node),
+                lambda pages: pages.place(start, length, node))
+    if kind < 14:
+        return lambda: model.move(state, address, node), lambda pages: pages.move(address, node)
+    return (lambda: model.migrate(state, nodes, frozenset(other)),
+            lambda pages: pages.migrate(some, other))
+
+
+# what the module names otherwise, of what move_pages(2) refuses
+MOVES = {"NoSuchNode": "NoSuchTarget", "NodesNotAllowed": "TargetNotAllowed",
+         "Unmapped": "PageUnmapped", "NotPlaced": "NotPlaced", "NoRoom": "NodeFull"}
+ERRNO = {"EINVAL": 22, "ENOMEM": 12, "EEXIST": 17, "EFAULT": 14, "ENOSPC": 28, "EIO": 5,
+         "ENODEV": 19, "EACCES": 13, "ENOENT": 2}
+
+
+def wanted(text):
+    """What the model answered: a refusal and its error number, or None."""
+    words = text.split()
+    if words[0] != "refused":
+        return None
+    name = MOVES[words[1]] if (words[1], words[2]) in model.MOVE_ERRNO.items() else words[1]
+    return name, ERRNO[words[2]]
+
+
+def answer(pages, call):
+    """What the module answers: a refusal or None, and a move that it tells."""
+    try:
+        return None, call(pages)
+    except numaplan.Refused as cause:
+        return (type(cause).__name__, cause.errno), None
+
+
+def told_by(placed):
+    """What the model's last move did, as the module tells it."""
+    return Moved(sum(placed.flows.values()), placed.left, dict(placed.flows))
+
+
+def is_same(pages, state):
+    """Whether pages lie in both alike, and nodes have the same room."""
+    stated = state.placed.stated
+    of_module = {page: run.node for run in pages.runs()
+                 for page in range(run.first, run.first + run.pages)}
+    rooms = [(pages.room(node), state.placed.rooms.get(node)) for node in MEMORY]
+    return of_module == stated and all(a == b for a, b in rooms)
+
+
+def play(dice):
+    """A round. How many calls were refused, and how many pages moved."""
+    machine, fault = machine_of(None, NODES, frozenset(MEMORY), [0], ("flat", False))
+    assert fault is None
+    state = SimpleNamespace(space=Space(machine, LIMITS), placed=model.Placed(),
+                            crew=SimpleNamespace(kept={}))
+    refused = moved = 0
+    with opened() as pages:
+        change(state, False, "map", BASE, 4096 * PAGES, 16)
+        pages.map(BASE, 4096 * PAGES)
+        for step in range(STEPS):
+            of_model, of_module = a_call(dice, state)
+            text = of_model()
+            cause, told = answer(pages, of_module)
+            if cause != wanted(text) or isinstance(told, Moved) and told != told_by(state.placed):
+                sys.exit(f"step {step}: {cause} {told}, and the model: {text}")
+            if not is_same(pages, state) or pages.version != state.space.version:
+                sys.exit(f"step {step}: after {text} pages lie otherwise: {pages.runs()}")
+            refused += cause is not None
+            moved += told.moved if isinstance(told, Moved) else 0
+    return refused, moved
+
+
+worked()
+dice = random.Random(SEED)
+rounds = [play(dice) for _ in range(ROUNDS)]
+# (so that the seed asks something)
+assert sum(refused for refused, _ in rounds) > 300 and sum(moved for _, moved in rounds) > 300, rounds
