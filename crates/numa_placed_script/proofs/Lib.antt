@@ -1,0 +1,17 @@
+pub mod Answered
+pub mod Commands
+pub mod Flows
+pub mod Following
+pub mod Follows
+pub mod HeldPages
+pub mod Judged
+pub mod Mapped
+pub mod Migrating
+pub mod Moving
+pub mod Played
+pub mod Rows
+pub mod Seen
+pub mod Served
+pub mod Singles
+pub mod There
+pub mod Unmapping

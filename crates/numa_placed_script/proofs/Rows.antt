@@ -1,0 +1,93 @@
+-- Worked rows: what lines say, what they are answered, and what is told of moves.
+use Rattle.std.proofs.Common.{◌≡◌, ℕ, ◌==◌, Bool, true, false, Option, Some, None, List, [], ◌∷◌}
+use Rattle.std.proofs.Common.{codes, refl}
+use Rattle.std.specs.Prelude.{if◌then◌else◌}
+use Rattle.numa_space.specs.declared.placement.Placement.{Placement}
+use Rattle.numa_machine.specs.declared.frame.Frame.{Frame}
+use Rattle.numa_placed.specs.declared.refusal.MoveRefusal.TheVariants as move
+use Rattle.numa_placed.specs.declared.refusal.PlacedRefusal.TheVariants as cause
+use Rattle.numa_placed.specs.declared.spot.Spot.TheVariants.{Held, Nowhere, Stated}
+use Rattle.numa_script.specs.Numbers.{in_64_bits, number_of, numeral_of}
+use Rattle.numa_placed_script.specs.Lines.{placed_keyword_of, placed_line_of}
+use Rattle.numa_placed_script.specs.Lying.{Lying, Told, held_left, nothing, still, with_held}
+use Rattle.numa_placed_script.specs.Outcomes.{has_stated, held_move_unless, memory_migrate_outcome}
+use Rattle.numa_placed_script.specs.Outcomes.{told_of, with_text}
+use Rattle.numa_placed_script.specs.Texts.{arrow_text, cause_name, flow_text, move_name, moved_line}
+use Rattle.numa_placed_script.specs.Texts.{node_line, refusal_line}
+use Rattle.numa_placed_script.specs.declared.line.PlacedLine.TheVariants as line
+
+-- ---- lines
+
+at-row : placed_line_of (codes "at 65536 12288 2") ≡ line.At 65536 12288 2
+unfolding placed_line_of placed_keyword_of number_of numeral_of in_64_bits
+at-row = refl
+
+room-row : placed_line_of (codes "room 0 1") ≡ line.Room 0 1
+unfolding placed_line_of placed_keyword_of number_of numeral_of in_64_bits
+room-row = refl
+
+follows-row : placed_line_of (codes "memory-migrate on") ≡ line.MemoryMigrate true
+unfolding placed_line_of placed_keyword_of number_of numeral_of in_64_bits
+follows-row = refl
+
+move-row : placed_line_of (codes "move 65536 1") ≡ line.Move 65536 1
+unfolding placed_line_of placed_keyword_of number_of numeral_of in_64_bits
+move-row = refl
+
+moved-row : placed_line_of (codes "moved") ≡ line.Moved
+unfolding placed_line_of placed_keyword_of number_of numeral_of in_64_bits
+moved-row = refl
+
+-- a word too many, a word too few, another word
+too-many-row : placed_line_of (codes "moved 1") ≡ line.Malformed
+unfolding placed_line_of placed_keyword_of number_of numeral_of in_64_bits
+too-many-row = refl
+
+too-few-row : placed_line_of (codes "at 65536 12288") ≡ line.Malformed
+unfolding placed_line_of placed_keyword_of number_of numeral_of in_64_bits
+too-few-row = refl
+
+plain-row : placed_line_of (codes "ranges") ≡ line.Plain
+unfolding placed_line_of placed_keyword_of number_of numeral_of in_64_bits
+plain-row = refl
+
+-- ---- answers
+
+refused-row : refusal_line (cause_name cause.NodesNotAllowed)
+    ≡ codes "refused NodesNotAllowed EINVAL\n"
+refused-row = refl
+
+not-placed-row : refusal_line (move_name move.NotPlaced) ≡ codes "refused NotPlaced ENOENT\n"
+not-placed-row = refl
+
+no-flow-row : flow_text 2 0 10 ≡ []
+no-flow-row = refl
+
+-- ---- what is told
+
+-- two pages keep frames of nodes 1 and 2: where node 1 goes to node 0, the first is left
+kept-on : ℕ → Placement
+kept-on node = record {
+  version = 1;
+  task = 1;
+  page = 16;
+  node = node;
+  frame = record { node = node; number = 0 };
+  rank = 0;
+}
+
+held-row : held_left ((16, kept-on 1) ∷ (17, kept-on 2) ∷ [])
+    (λ node. if node == 1 then 0 else node) ≡ 1
+unfolding kept-on
+held-row = refl
+
+told-row : (told_of 1 (Stated 0)).moved ≡ 1
+told-row = refl
+
+told-still-row : told_of 1 (Stated 1) ≡ still
+told-still-row = refl
+
+-- a page in a frame of another node stays
+no-room-row : held_move_unless (Some move.NoRoom) 1 nothing
+    ≡ with_text (codes "refused NoRoom ENOMEM\n") nothing
+no-room-row = refl

@@ -1,0 +1,7 @@
+use Rattle.std.proofs.Common.{ℕ, refl, arith}
+use Rattle.std.proofs.lemmas.Simd.{get_or-replicate}
+use Rattle.numa_placed_script.proofs.Singles.{told-other}
+use Rattle.numa_placed_script.proofs.beside.told_from.Goals as goal
+
+pub returns : goal.returns
+returns c = told-other c.args.node c.args.from c.if-from-node.false (omega arith)

@@ -1,0 +1,443 @@
+//! Where pages lie, beside a script.
+ghost use Rattle.std.specs.Prelude.{◌≡◌, ◌==◌, ◌<◌, ℕ, Bool, IfOk, None, Option, Some, false};
+ghost use Rattle.std.specs.Prelude.{if◌then◌else◌, is_some, [], MatchOption};
+ghost use Rattle.numa_mask.specs.NodeSet.{both};
+ghost use Rattle.numa_maps.specs.Residents.{Kept};
+ghost use Rattle.numa_placed.specs.Refusals.{lacks_node, migrate_cause, move_cause};
+ghost use Rattle.numa_ranges.specs.Runs.{page_at};
+ghost use Rattle.numa_placed.specs.Shifts.{AreRooms};
+ghost use Rattle.numa_placed_script.specs.Lying.{Lying, ground_in, nothing, still};
+ghost use Rattle.numa_placed_script.specs.Outcomes.{at_outcome, followed, is_lack, is_no_memory};
+ghost use Rattle.numa_placed_script.specs.Outcomes.{held_move_unless, memory_migrate_outcome};
+ghost use Rattle.numa_placed_script.specs.Outcomes.{migrate_outcome, move_cause_by, move_outcome};
+ghost use Rattle.numa_placed_script.specs.Outcomes.{move_unless, placed_outcome, room_outcome};
+ghost use Rattle.numa_placed_script.specs.Outcomes.{rooms_of, told_of, with_text};
+ghost use Rattle.numa_placed_script.specs.Standing.{AnswersAs, HaveRoom, LiesAs, Migrates};
+ghost use Rattle.numa_placed_script.specs.Standing.{MovesPage, TellsOf};
+ghost use Rattle.numa_placed_script.specs.Texts.{last_line};
+ghost use Rattle.numa_script.specs.Texts.{text_of};
+
+use crate::frames::with_held;
+use crate::line::PlacedLine;
+use crate::tell::{say_last, say_move_refusal, say_moved, say_node, say_refusal};
+use numa_lines::Watched;
+use numa_machine::NoMemory;
+use numa_maps::Resident;
+use numa_mask::NodeMask;
+use numa_placed::{MoveRefusal, Moved, Placed, PlacedRefusal, Rooms, Spot, judge_move};
+use numa_script::tell::say_reply;
+use numa_script::{Reply, WordError};
+use numa_space::{PAGE_BYTES, Space};
+use std::alloc::Global;
+use std::io::Write;
+
+/// Where pages lie, how many more each node takes, whether pages follow the allowed nodes, and what
+/// the last move did.
+#[derive(Drop)]
+pub(crate) struct Beside {
+    pub(crate) placed: Placed,
+    pub(crate) rooms: Option<Rooms>,
+    pub(crate) follows: bool,
+    pub(crate) last: Moved,
+}
+
+/// A move of nothing.
+fn still() -> Moved
+    ensures { TellsOf result still }
+{
+    Moved {
+        moved: 0,
+        left: 0,
+        from: [0; 256],
+        to: [0; 256],
+    }
+}
+
+/// Whether a refusal tells that memory ran out.
+pub(crate) fn is_no_memory(refusal: PlacedRefusal) -> bool
+    ensures { result ≡ is_no_memory refusal }
+{
+    matches!(refusal, PlacedRefusal::NoMemory)
+}
+
+/// Whether a refusal of a move tells that memory ran out.
+fn is_lack(refusal: MoveRefusal) -> bool
+    ensures { result ≡ is_lack refusal }
+{
+    matches!(refusal, MoveRefusal::NoMemory)
+}
+
+/// Whether the machine lacks a node, or the node has no memory.
+fn lacks_node(space: &Space, node: u32) -> bool
+    ensures lacks { result ≡ lacks_node space.now.machine node }
+    ensures byte { result ≡ false → node < 256 }
+{
+    let machine = space.machine();
+    node >= machine.nodes() || !machine.memory().has(node as u8)
+}
+
+/// What is told of a page that went from a node to another.
+fn told_from(node: u8, from: u8) -> Moved
+    ensures { TellsOf result (told_of node (Spot.Stated from)) }
+{
+    if from == node {
+        return still();
+    }
+    let mut gone = [0; 256];
+    gone[from as usize] = 1;
+    Moved {
+        moved: 1,
+        left: 0,
+        from: gone,
+        to: [node; 256],
+    }
+}
+
+/// What is told of a page that lay here and moved to a node.
+fn told_at(node: u8, spot: Spot) -> Moved
+    ensures { TellsOf result (told_of node spot) }
+{
+    match spot {
+        Spot::Nowhere => still(),
+        Spot::Held(_) => still(),
+        Spot::Stated(from) => told_from(node, from),
+    }
+}
+
+/// What is told of a page that lay here and moved to a node.
+fn told_of(node: u32, spot: Spot) -> Moved
+    ensures { node < 256 → TellsOf result (told_of node spot) }
+{
+    if node >= 256 {
+        return still();
+    }
+    told_at(node as u8, spot)
+}
+
+/// The rooms; without any no node fills.
+fn rooms_of(rooms: &Option<Rooms>) -> Rooms
+    ensures { (room : Option (ℕ → ℕ)) → HaveRoom rooms.now room → AreRooms result (rooms_of room) }
+{
+    match rooms {
+        None => Rooms::endless(),
+        Some(have) => *have,
+    }
+}
+
+/// The rooms, with one more said.
+fn limited(rooms: &Option<Rooms>, node: u8, pages: u64) -> Rooms
+    ensures { (room : Option (ℕ → ℕ)) → HaveRoom rooms.now room
+        → AreRooms result (λ other. if other == node then pages else rooms_of room other) }
+{
+    let mut limited = rooms_of(rooms);
+    limited.limit(node, pages);
+    limited
+}
+
+/// Pages leave a set of nodes for the allowed nodes of another, as far as there is room.
+fn migrate(
+    placed: &mut Placed,
+    rooms: &mut Option<Rooms>,
+    space: &Space,
+    from: &NodeMask,
+    to: &NodeMask,
+) -> Result<Moved, PlacedRefusal>
+    ensures { Migrates placed.old rooms.old from.now (both to.now space.now.allowed)
+        (migrate_cause space.now.allowed to.now) result placed.new rooms.new }
+{
+    match rooms {
+        None => placed.migrate(space, from, to),
+        Some(have) => placed.migrate_within(space, from, to, have),
+    }
+}
+
+/// Pages follow the allowed nodes, as far as there is room.
+fn follow(
+    placed: &mut Placed,
+    rooms: &mut Option<Rooms>,
+    old: &NodeMask,
+    new: &NodeMask,
+) -> Result<Moved, PlacedRefusal>
+    ensures { Migrates placed.old rooms.old old.now new.now None result placed.new rooms.new }
+{
+    match rooms {
+        None => Ok(placed.follow(old, new)),
+        Some(have) => placed.follow_within(old, new, have),
+    }
+}
+
+/// A page goes to a node, if there is room.
+fn move_page(
+    placed: &mut Placed,
+    rooms: &mut Option<Rooms>,
+    space: &Space,
+    _resident: &Resident,
+    page: u64,
+    node: u32,
+) -> Result<(), MoveRefusal>
+    ensures { MovesPage placed.old rooms.old (ground_in space.now _resident.now) page node result placed.new
+        rooms.new }
+{
+    // Tells the proof that the machine has few nodes.
+    let _ = space.machine().nodes();
+    match rooms {
+        None => placed.move_page(space, page, node),
+        Some(have) => placed.move_page_within(space, page, node, have),
+    }
+}
+
+impl Beside {
+    /// Pages that all lie nowhere.
+    ///
+    /// # Errors
+    /// `NoMemory`: there is no memory for it.
+    pub(crate) fn new(alloc: Global) -> Result<Beside, NoMemory>
+        ensures { IfOk result (λ beside. LiesAs beside nothing) }
+    {
+        let Ok(placed) = Placed::new(alloc) else {
+            return Err(NoMemory);
+        };
+        let last = still();
+        Ok(Beside {
+            placed,
+            rooms: None,
+            follows: false,
+            last,
+        })
+    }
+
+    /// The mapped pages of a span lie on a node.
+    fn at<W: Write>(
+        &mut self,
+        space: &Space,
+        resident: &Resident,
+        start: u64,
+        length: u64,
+        node: u32,
+        output: &mut Watched<W>,
+    ) -> bool
+        ensures { AnswersAs W.contents self.old output.old result self.new output.new
+            (λ refused at. at_outcome refused (ground_in space.now resident.now) start length node at) }
+    {
+        match self
+            .placed
+            .state_beside(space, resident, start, length, node)
+        {
+            Ok(()) => {
+                output.say(b"at ok\n");
+                false
+            }
+            Err(refusal) => {
+                say_refusal(output, refusal);
+                is_no_memory(refusal)
+            }
+        }
+    }
+
+    /// Says how many more pages a node takes.
+    fn room<W: Write>(
+        &mut self,
+        space: &Space,
+        node: u32,
+        pages: u64,
+        output: &mut Watched<W>,
+    ) -> bool
+        ensures { AnswersAs W.contents self.old output.old result self.new output.new
+            (λ refused at. room_outcome space.now.machine node pages at) }
+    {
+        if lacks_node(space, node) {
+            say_refusal(output, PlacedRefusal::NoSuchNode);
+            return false;
+        }
+        self.rooms = Some(limited(&self.rooms, node as u8, pages));
+        output.say(b"room ok\n");
+        false
+    }
+
+    /// Says whether pages follow the allowed nodes.
+    fn memory_migrate<W: Write>(&mut self, follows: bool, output: &mut Watched<W>) -> bool
+        ensures { AnswersAs W.contents self.old output.old result self.new output.new
+            (λ refused at. memory_migrate_outcome follows at) }
+    {
+        self.follows = follows;
+        output.say(b"memory-migrate ok\n");
+        false
+    }
+
+    /// Pages leave the nodes of one set for the allowed nodes of another.
+    fn migrate<W: Write>(
+        &mut self,
+        space: &Space,
+        resident: &Resident,
+        from: &NodeMask,
+        to: &NodeMask,
+        output: &mut Watched<W>,
+    ) -> bool
+        ensures { AnswersAs W.contents self.old output.old result self.new output.new
+            (λ refused at. migrate_outcome refused (ground_in space.now resident.now) from.now to.now at) }
+    {
+        match migrate(&mut self.placed, &mut self.rooms, space, from, to) {
+            Ok(moved) => {
+                let moved = with_held(moved, Some(resident));
+                say_moved(output, moved.moved, moved.left);
+                self.last = moved;
+                false
+            }
+            Err(refusal) => {
+                say_refusal(output, refusal);
+                is_no_memory(refusal)
+            }
+        }
+    }
+
+    /// A page that keeps a frame stays there, and has moved if its node is the one asked for.
+    fn stay<W: Write>(
+        &mut self,
+        space: &Space,
+        page: u64,
+        node: u32,
+        from: u8,
+        output: &mut Watched<W>,
+    ) -> bool
+        ensures { AnswersAs W.contents self.old output.old result self.new output.new
+            (λ refused at. held_move_unless (move_cause space.now.machine space.now.allowed node
+            (is_some (page_at space.now.ranges page)) (Spot.Held from)) node at) }
+    {
+        match judge_move(space, page, node, Spot::Held(from)) {
+            Ok(()) => {
+                self.last = still();
+                say_node(output, node);
+                false
+            }
+            Err(refusal) => {
+                say_move_refusal(output, refusal);
+                false
+            }
+        }
+    }
+
+    /// A page goes to a node.
+    fn move_page<W: Write>(
+        &mut self,
+        space: &Space,
+        resident: &Resident,
+        address: u64,
+        node: u32,
+        output: &mut Watched<W>,
+    ) -> bool
+        ensures { AnswersAs W.contents self.old output.old result self.new output.new
+            (λ refused at. move_outcome refused (ground_in space.now resident.now) address node
+            at) }
+    {
+        let page = address / PAGE_BYTES;
+        match resident.at(page) {
+            Some(placement) => self.stay(space, page, node, placement.node, output),
+            None => self.send(space, resident, page, node, output),
+        }
+    }
+
+    /// A page that keeps no frame goes to a node.
+    fn send<W: Write>(
+        &mut self,
+        space: &Space,
+        _resident: &Resident,
+        page: u64,
+        node: u32,
+        output: &mut Watched<W>,
+    ) -> bool
+        ensures { AnswersAs W.contents self.old output.old result self.new output.new
+            (λ refused at. move_unless (move_cause_by refused
+            (ground_in space.now _resident.now) page node at) page node at) }
+    {
+        let spot = self.placed.at(page);
+        match move_page(
+            &mut self.placed,
+            &mut self.rooms,
+            space,
+            _resident,
+            page,
+            node,
+        ) {
+            Ok(()) => {
+                self.last = told_of(node, spot);
+                say_node(output, node);
+                false
+            }
+            Err(refusal) => {
+                say_move_refusal(output, refusal);
+                is_lack(refusal)
+            }
+        }
+    }
+
+    /// Writes a reply to a line that changes nothing.
+    fn reply<W: Write>(&mut self, reply: Reply, output: &mut Watched<W>) -> bool
+        ensures { AnswersAs W.contents self.old output.old result self.new output.new
+            (λ refused at. with_text (text_of reply) at) }
+    {
+        say_reply(output, &reply);
+        false
+    }
+
+    /// Tells what the last move did.
+    fn moved<W: Write>(&mut self, version: u64, output: &mut Watched<W>) -> bool
+        ensures { AnswersAs W.contents self.old output.old result self.new output.new
+            (λ refused at. with_text (last_line version at.last) at) }
+    {
+        say_last(output, version, &self.last);
+        false
+    }
+
+    /// Answers a line about pages. Returns whether memory ran out; then the answer says so.
+    pub(crate) fn serve<W: Write>(
+        &mut self,
+        space: &Space,
+        resident: &Resident,
+        line: &PlacedLine,
+        output: &mut Watched<W>,
+    ) -> bool
+        ensures { AnswersAs W.contents self.old output.old result self.new output.new
+            (λ refused at. placed_outcome refused (ground_in space.now resident.now)
+            space.now.version line.now at) }
+    {
+        match line {
+            PlacedLine::Plain => self.reply(Reply::BadState, output),
+            PlacedLine::Malformed => self.reply(Reply::BadWords, output),
+            PlacedLine::At {
+                start,
+                length,
+                node,
+            } => self.at(space, resident, *start, *length, *node, output),
+            PlacedLine::Room { node, pages } => self.room(space, *node, *pages, output),
+            PlacedLine::MemoryMigrate(follows) => self.memory_migrate(*follows, output),
+            PlacedLine::Migrate { from, to } => self.migrate(space, resident, from, to, output),
+            PlacedLine::BadList(fault) => {
+                self.reply(Reply::BadWord(WordError::List(*fault)), output)
+            }
+            PlacedLine::Move { address, node } => {
+                self.move_page(space, resident, *address, *node, output)
+            }
+            PlacedLine::Moved => self.moved(space.version(), output),
+        }
+    }
+
+    /// Pages follow the allowed nodes, if they are to; where memory lacks, they stay.
+    pub(crate) fn follow(&mut self, old: &NodeMask, new: &NodeMask, resident: Option<&Resident>)
+        ensures { (lying : Lying) (kept : Kept) → LiesAs self.old lying → MatchOption resident.entry
+            (kept ≡ []) (λ held. held.now ≡ kept)
+            → (refused : Bool) × LiesAs self.new (followed refused old.now new.now kept lying) }
+    {
+        if !self.follows {
+            self.last = still();
+            return;
+        }
+        match follow(&mut self.placed, &mut self.rooms, old, new) {
+            Ok(moved) => {
+                self.last = with_held(moved, resident);
+            }
+            Err(_refusal) => {
+                self.last = still();
+            }
+        }
+    }
+}

@@ -1,0 +1,23 @@
+//! Scripts with lines about pages that are there: `at`, `room`, `memory-migrate`, `migrate`, `move`
+//! and `moved`.
+//!
+//! Such lines have a place once a machine is ready, and as long as the script is one process's. All
+//! other lines are answered as `numa_host_script` answers them, with these effects: an accepted
+//! `mems` moves pages, if they are to follow the allowed nodes; and `touch` of a page that is there
+//! is refused.
+#![tactic(auto)]
+
+mod beside;
+mod concern;
+mod frames;
+pub mod keyword;
+pub mod line;
+mod listing;
+mod process;
+pub mod script;
+pub mod streams;
+pub mod tell;
+
+pub use line::{PlacedLine, is_plain, parse_placed};
+pub use script::PlacedScript;
+pub use streams::run_by;

@@ -1,0 +1,352 @@
+//! Running scripts with lines about pages that are there.
+ghost use Rattle.std.specs.Prelude.{◌≡◌, ℕ, Bool, IfErr, IfOk, IsSomeAnd, Some, MatchOption, None, [], false, true};
+ghost use Rattle.numa_host_script.specs.Sessions.{Session};
+ghost use Rattle.numa_host_script.specs.Standing.{StandsIn as IsIn};
+ghost use Rattle.numa_placed.specs.Spots.{is_placed, spot_at};
+ghost use Rattle.numa_placed_script.specs.Lying.{Lying};
+ghost use Rattle.numa_placed_script.specs.Outcomes.{followed, forgotten, has_stated};
+ghost use Rattle.numa_placed_script.specs.Outcomes.{is_astray_cause, is_no_memory, lack_of};
+ghost use Rattle.numa_placed_script.specs.Scenes.{concern_of, early_reply};
+ghost use Rattle.numa_placed_script.specs.Scenes.{maps_served, mems_served, passed, placed_served};
+ghost use Rattle.numa_placed_script.specs.Scenes.{plain_served, scene_by, scene_served};
+ghost use Rattle.numa_placed_script.specs.Scenes.{touch_served, unmap_served};
+ghost use Rattle.numa_placed_script.specs.Standing.{Forgets, Lies, LiesAs, Replaces};
+ghost use Rattle.numa_placed_script.specs.Standing.{ServesScene, StandsIn};
+ghost use Rattle.numa_maps.specs.Residents.{Kept};
+ghost use Rattle.numa_script.specs.Lines.{line_of};
+
+use crate::beside::{Beside, is_no_memory};
+use crate::concern::{Concern, concern_of};
+use crate::line::{PlacedLine, is_plain, parse_placed};
+use crate::listing::say_pages;
+use crate::process::{allowed_in, kept_in, process, version_in};
+use crate::tell::{say_placed, say_refusal};
+use numa_host_script::HostScript;
+use numa_lines::{Serve, Watched};
+use numa_machine::Rules;
+use numa_maps::Resident;
+use numa_mask::NodeMask;
+use numa_placed::{Placed, PlacedRefusal};
+use numa_script::Reply;
+use numa_script::line::parse;
+use numa_script::tell::say_reply;
+use std::alloc::Global;
+use std::io::Write;
+use std::mem;
+
+/// A running script, and where pages lie beside it once a line says so.
+#[derive(Drop)]
+pub struct PlacedScript {
+    script: HostScript,
+    beside: Option<Beside>,
+}
+
+/// The reply to a line about pages before a machine is ready, or in a host.
+fn early_reply(line: &PlacedLine) -> Reply
+    ensures { result ≡ early_reply line.now }
+{
+    match line {
+        PlacedLine::Malformed => Reply::BadWords,
+        _ => Reply::BadState,
+    }
+}
+
+/// Begins to keep where pages lie, if nothing is kept yet. Returns whether memory ran out.
+fn begins_starved(alloc: Global, beside: &mut Option<Beside>) -> bool
+    ensures starved { result ≡ true → (beside.new ≡ beside.old) × (beside.old ≡ None) }
+    ensures kept { result ≡ false → IsSomeAnd beside.new (λ kept. (lying : Lying)
+        → Lies beside.old lying → LiesAs kept lying) }
+{
+    if let Some(_) = beside {
+        return false;
+    }
+    match Beside::new(alloc) {
+        Ok(begun) => {
+            *beside = Some(begun);
+            false
+        }
+        Err(_) => true,
+    }
+}
+
+/// Answers a line about pages. Returns whether memory ran out.
+fn serve_placed<W: Write>(
+    script: &HostScript,
+    beside: &mut Option<Beside>,
+    alloc: Global,
+    said: &PlacedLine,
+    output: &mut Watched<W>,
+) -> bool
+    ensures { ServesScene W.contents script.now beside.old output.old script.now beside.new
+        output.new (λ refused scene. placed_served refused scene said.now) }
+{
+    let Some(found) = process(script) else {
+        say_reply(output, &early_reply(said));
+        return false;
+    };
+    if begins_starved(alloc, beside) {
+        say_refusal(output, PlacedRefusal::NoMemory);
+        return true;
+    }
+    let Some(kept) = beside else { unreachable!() };
+    kept.serve(found.0, found.1, said, output)
+}
+
+/// Whether a page lies somewhere.
+fn is_there(beside: &Option<Beside>, page: u64) -> bool
+    ensures { (lying : Lying) → Lies beside.now lying → result ≡ is_placed (lying.spots page) }
+{
+    let Some(kept) = beside else {
+        return false;
+    };
+    kept.placed.at(page).node().is_some()
+}
+
+/// Pages follow the allowed nodes, where any are kept.
+fn follow(beside: &mut Option<Beside>, old: &NodeMask, new: &NodeMask, resident: Option<&Resident>)
+    ensures { (lying : Lying) (kept : Kept) → Lies beside.old lying → MatchOption resident.entry
+        (kept ≡ []) (λ held. held.now ≡ kept)
+        → (refused : Bool) × Lies beside.new (followed refused old.now new.now kept lying) }
+{
+    if let Some(beside) = beside {
+        beside.follow(old, new, resident);
+    }
+}
+
+/// Whether a refusal is that pages lie astray.
+fn is_astray(refusal: PlacedRefusal) -> bool
+    ensures { result ≡ is_astray_cause (Some refusal) }
+{
+    matches!(refusal, PlacedRefusal::Astray)
+}
+
+/// Whether pages of a span were stated to lie somewhere: then they lie astray of no nodes at all.
+fn has_stated(placed: &Placed, start: u64, length: u64) -> bool
+    ensures { result ≡ has_stated (spot_at placed.now) start length }
+{
+    match placed.judge_strict(start, length, &NodeMask::empty()) {
+        Ok(()) => false,
+        Err(refusal) => is_astray(refusal),
+    }
+}
+
+/// The pages, with nothing stated of those of a span.
+///
+/// # Errors
+/// `TooManyRuns`, `NoMemory`: as [`Placed::forget`] says.
+fn forgotten(placed: &Placed, start: u64, length: u64) -> Result<Placed, PlacedRefusal>
+    requires { has_stated (spot_at placed.now) start length ≡ true }
+    ensures ok { IfOk result (λ after. (lack_of false (forgotten start length (spot_at placed.now))
+        ≡ None) × ((page : ℕ) → spot_at after page ≡ forgotten start length (spot_at placed.now)
+        page)) }
+    ensures err { IfErr result (λ why. lack_of (is_no_memory why)
+        (forgotten start length (spot_at placed.now)) ≡ Some why) }
+{
+    let Ok(mut after) = placed.copy() else {
+        return Err(PlacedRefusal::NoMemory);
+    };
+    match after.forget(start, length) {
+        Ok(()) => Ok(after),
+        Err(refusal) => Err(refusal),
+    }
+}
+
+/// The pages without those of a span, if some of the span were stated to lie somewhere.
+///
+/// # Errors
+/// `TooManyRuns`, `NoMemory`: as [`Placed::forget`] says.
+fn without_span(
+    beside: &Option<Beside>,
+    start: u64,
+    length: u64,
+) -> Result<Option<Placed>, PlacedRefusal>
+    ensures { Forgets beside.now start length result }
+{
+    let Some(kept) = beside else {
+        return Ok(None);
+    };
+    if !has_stated(&kept.placed, start, length) {
+        return Ok(None);
+    }
+    match forgotten(&kept.placed, start, length) {
+        Ok(after) => Ok(Some(after)),
+        Err(refusal) => Err(refusal),
+    }
+}
+
+/// Pages lie so from now on.
+fn replace(beside: &mut Option<Beside>, after: Placed)
+    ensures { Replaces beside.old after beside.new }
+{
+    if let Some(beside) = beside {
+        drop(mem::replace(&mut beside.placed, after));
+    }
+}
+
+impl PlacedScript {
+    /// The state before the first line; these rules apply unless a line says otherwise. It doesn't
+    /// allocate.
+    pub fn by(rules: Rules) -> PlacedScript
+        ensures { StandsIn result.script result.beside (scene_by rules) }
+    {
+        PlacedScript {
+            script: HostScript::by(rules),
+            beside: None,
+        }
+    }
+
+    /// Answers a line as without lines about pages. Returns whether memory ran out.
+    fn pass<W: Write>(&mut self, alloc: Global, line: &[u8], output: &mut Watched<W>) -> bool
+        ensures { ServesScene W.contents self.old.script self.old.beside output.old self.new.script
+            self.new.beside output.new (λ refused scene. passed refused scene line.now
+            scene.lying) }
+    {
+        self.script.serve_line(alloc, line, output)
+    }
+
+    /// Answers a line that touches a page. Returns whether memory ran out.
+    fn touch<W: Write>(
+        &mut self,
+        alloc: Global,
+        line: &[u8],
+        page: u64,
+        output: &mut Watched<W>,
+    ) -> bool
+        ensures { ServesScene W.contents self.old.script self.old.beside output.old self.new.script
+            self.new.beside output.new (λ refused scene. touch_served refused scene line.now
+            page) }
+    {
+        if is_there(&self.beside, page) {
+            say_placed(output);
+            return false;
+        }
+        self.pass(alloc, line, output)
+    }
+
+    /// Answers a line `mems`; if it is accepted, pages follow the allowed nodes. Returns whether
+    /// memory ran out.
+    fn mems<W: Write>(&mut self, alloc: Global, line: &[u8], output: &mut Watched<W>) -> bool
+        requires { concern_of (line_of line.now) ≡ Concern.Mems }
+        ensures { ServesScene W.contents self.old.script self.old.beside output.old self.new.script
+            self.new.beside output.new (λ refused scene. mems_served refused scene line.now) }
+    {
+        let old = allowed_in(&self.script);
+        let before = version_in(&self.script);
+        let starved = self.script.serve_line(alloc, line, output);
+        let new = allowed_in(&self.script);
+        let after = version_in(&self.script);
+        if before == after {
+            return starved;
+        }
+        follow(&mut self.beside, &old, &new, kept_in(&self.script));
+        starved
+    }
+
+    /// Answers a line `unmap`; if it is accepted, nothing is stated any more of its pages. Returns
+    /// whether memory ran out.
+    fn unmap<W: Write>(
+        &mut self,
+        alloc: Global,
+        line: &[u8],
+        start: u64,
+        length: u64,
+        output: &mut Watched<W>,
+    ) -> bool
+        requires { concern_of (line_of line.now) ≡ Concern.Unmap start length }
+        ensures { ServesScene W.contents self.old.script self.old.beside output.old self.new.script
+            self.new.beside output.new (λ refused scene. unmap_served refused scene line.now
+            start length) }
+    {
+        let Some(_) = process(&self.script) else {
+            return self.pass(alloc, line, output);
+        };
+        let forgotten = match without_span(&self.beside, start, length) {
+            Ok(forgotten) => forgotten,
+            Err(refusal) => {
+                say_refusal(output, refusal);
+                return is_no_memory(refusal);
+            }
+        };
+        let Some(after) = forgotten else {
+            return self.pass(alloc, line, output);
+        };
+        let before = version_in(&self.script);
+        let starved = self.script.serve_line(alloc, line, output);
+        let later = version_in(&self.script);
+        if before == later {
+            return starved;
+        }
+        replace(&mut self.beside, after);
+        starved
+    }
+
+    /// Answers a line `maps`, with the pages that were stated to lie somewhere. Returns whether
+    /// memory ran out.
+    fn maps<W: Write>(
+        &mut self,
+        alloc: Global,
+        line: &[u8],
+        task: u32,
+        output: &mut Watched<W>,
+    ) -> bool
+        ensures { ServesScene W.contents self.old.script self.old.beside output.old self.new.script
+            self.new.beside output.new (λ refused scene. maps_served refused scene line.now
+            task) }
+    {
+        let Some(found) = process(&self.script) else {
+            return self.pass(alloc, line, output);
+        };
+        // Tells the proof that the ranges are in ascending order and maximal.
+        let _ = found.0.range_iter();
+        say_pages(found.0, task, found.1, &self.beside, output);
+        false
+    }
+
+    /// Answers a line of every script. Returns whether memory ran out.
+    fn serve_plain<W: Write>(&mut self, alloc: Global, line: &[u8], output: &mut Watched<W>) -> bool
+        ensures { ServesScene W.contents self.old.script self.old.beside output.old self.new.script
+            self.new.beside output.new (λ refused scene. plain_served refused scene line.now) }
+    {
+        match concern_of(&parse(line)) {
+            Concern::Mems => self.mems(alloc, line, output),
+            Concern::Unmap { start, length } => self.unmap(alloc, line, start, length, output),
+            Concern::Touch(page) => self.touch(alloc, line, page, output),
+            Concern::Maps(task) => self.maps(alloc, line, task, output),
+            Concern::Nothing => self.pass(alloc, line, output),
+        }
+    }
+
+    /// Carries out a line, and writes its answer. Returns whether memory ran out.
+    pub fn serve_line<W: Write>(
+        &mut self,
+        alloc: Global,
+        line: &[u8],
+        output: &mut Watched<W>,
+    ) -> bool
+        ensures { ServesScene W.contents self.old.script self.old.beside output.old self.new.script
+            self.new.beside output.new (λ refused scene. scene_served refused scene line.now) }
+    {
+        let said = parse_placed(line);
+        if is_plain(&said) {
+            return self.serve_plain(alloc, line, output);
+        }
+        serve_placed(&self.script, &mut self.beside, alloc, &said, output)
+    }
+}
+
+impl Serve for PlacedScript {
+    ghost use Rattle.numa_placed_script.specs.Scenes.{Scene, scene_after, scene_answer};
+    ghost use Rattle.numa_placed_script.specs.Standing.{StandsIn};
+
+    ghost State = { Scene };
+
+    ghost stands_for = { λ server scene. StandsIn server.script server.beside scene };
+
+    ghost answer_of = { scene_answer };
+
+    ghost after = { scene_after };
+
+    fn serve<W: Write>(&mut self, alloc: Global, line: &[u8], output: &mut Watched<W>) {
+        let _ = self.serve_line(alloc, line, output);
+    }
+}
