@@ -155,7 +155,7 @@ impl<R: Print> Subject<R> for Large {
 fn accepted(space: &mut Space, turns: &Turns) -> u64 {
     let mut count = 0u64;
     for command in turns {
-        if black_box(space.apply(command)).is_ok() {
+        if space.apply(command).is_ok() {
             count = count.wrapping_add(1);
         }
     }
