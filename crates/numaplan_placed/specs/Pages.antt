@@ -12,8 +12,10 @@ use Rattle.numa_placed.specs.Spots.{is_on, node_of, pages_where, spot_at}
 use Rattle.numa_placed.specs.Wholes.{AreWhole}
 use Rattle.numa_placed.specs.declared.refusal.PlacedRefusal.{PlacedRefusal}
 use Rattle.numa_placed.specs.declared.refusal.PlacedRefusal.TheVariants.{NoSuchNode}
+use Rattle.numa_placed.specs.declared.spot.Spot.{Spot}
 use Rattle.numa_placed.specs.declared.spot.Spot.TheVariants.{Nowhere}
 use Rattle.numa_ranges.specs.Runs.{AreApart, AreMaximal}
+use Rattle.numa_ranges.specs.declared.run.Run.{Run}
 
 -- `told` says what the call did to what is kept
 abbrev pub OfPages : {A : Type 0} → (PagesState → A → PagesState → Type 0) → Option PagesState
@@ -61,11 +63,14 @@ HasCounts counts pages = (node : ℕ) → node < 256
     → slice_index counts node ≡ pages_where (is_on node) (spot_at pages.runs)
 
 -- these are the runs of pages that lie on a node: of all maximal runs those whose pages lie there
-pub record HasRuns (list : List PageRun) (pages : PagesState) : Type 0 where
-  pub told : list ≡ listed pages.runs
-  pub rising : AreApart 0 pages.runs
-  pub maximal : AreMaximal pages.runs
-  pub whole : AreWhole pages.runs
+pub record AreRuns (list : List PageRun) (runs : List (Run Spot)) : Type 0 where
+  pub told : list ≡ listed runs
+  pub rising : AreApart 0 runs
+  pub maximal : AreMaximal runs
+  pub whole : AreWhole runs
+
+abbrev pub HasRuns : List PageRun → PagesState → Type 0
+HasRuns list pages = AreRuns list pages.runs
 
 -- a node takes so many more pages; or it has no memory
 abbrev pub HasRoom : ℕ → Result ℕ PlacedRefusal → PagesState → Type 0

@@ -1,23 +1,21 @@
 //! Questions to a handle of a core with its pages.
-ghost use Rattle.std.specs.Prelude.{◌≡◌, IfOk, Some, true};
+ghost use Rattle.std.specs.Prelude.{◌≡◌, IfOk};
 ghost use Rattle.numaplan_handles.specs.Calls.{Asks};
-ghost use Rattle.numaplan_handles.specs.Kinds.{is_pages, pages_of};
 ghost use Rattle.numaplan_placed.specs.Handles.{pages_in};
-ghost use Rattle.numaplan_placed.specs.Pages.{HasCounts, HasNode, HasRoom, HasRuns, TellsOf};
+ghost use Rattle.numaplan_placed.specs.Pages.{AreRuns, HasCounts, HasNode, HasRoom, HasRuns};
+ghost use Rattle.numaplan_placed.specs.Pages.{TellsOf};
 
 use crate::pages_handle::{PagesHandle, pages_kept};
 use numa_machine::NoMemory;
 use numa_pages::{PageRun, list_runs};
-use numa_placed::PlacedRefusal;
-use numaplan_handles::Kept;
+use numa_placed::{Placed, PlacedRefusal};
 use std::alloc::Global;
 
 /// The runs of pages that lie on one node.
-fn runs_kept(kept: &Kept, alloc: Global) -> Result<Vec<PageRun>, NoMemory>
-    requires pages { is_pages (Some kept.now) ≡ true }
-    ensures { IfOk result (λ list. TellsOf (HasRuns list.items) (pages_of (Some kept.now))) }
+fn runs_of(alloc: Global, placed: &Placed) -> Result<Vec<PageRun>, NoMemory>
+    ensures { IfOk result (λ list. AreRuns list.items placed.now) }
 {
-    match list_runs(alloc, pages_kept(kept).placed()) {
+    match list_runs(alloc, placed) {
         Ok(list) => Ok(list),
         Err(_) => Err(NoMemory),
     }
@@ -67,7 +65,7 @@ impl PagesHandle {
             (pages_in self.old))) (pages_in self.old) result (pages_in self.new) }
     {
         let kept = self.handle.take(alloc)?;
-        let answer = runs_kept(&kept, alloc);
+        let answer = runs_of(alloc, pages_kept(&kept).placed());
         self.handle.put(kept);
         Some(answer)
     }
