@@ -41,6 +41,9 @@ TellsMoves (Err why) code old new count count_then =
 -- why a trace can't be replayed; an access that is refused has a place
 abbrev pub ended_code : ReplayError → ℕ
 ended_code (fault.Malformed why) = 81
+ended_code fault.Unnamed = 81
+ended_code fault.Named = 81
+ended_code fault.NoProcess = 81
 ended_code (fault.Refused cause) = 81
 ended_code fault.TooMany = 81
 ended_code fault.NoMemory = 3
@@ -48,6 +51,9 @@ ended_code fault.NoMemory = 3
 -- the place is told, where it is that of an access
 abbrev pub place_told : ReplayError → ℕ → ℕ → ℕ
 place_told (fault.Malformed why) place before = place
+place_told fault.Unnamed place before = place
+place_told fault.Named place before = place
+place_told fault.NoProcess place before = place
 place_told (fault.Refused cause) place before = place
 place_told fault.TooMany place before = place
 place_told fault.NoMemory place before = before

@@ -86,19 +86,15 @@ fault_names =
     ∷ named 80 (codes "NoMachine") ∷ named 81 (codes "BadAccess")
     ∷ named 82 (codes "ManyProcesses") ∷ []
 
--- causes that only a host has
-abbrev pub host_names : List Named
-host_names =
+-- causes that only a host or pages have
+abbrev pub late_names : List Named
+late_names =
     named 90 (codes "GroupExists") ∷ named 91 (codes "NoSuchGroup")
     ∷ named 92 (codes "TooManyGroups") ∷ named 93 (codes "RootGroup")
     ∷ named 94 (codes "Populated") ∷ named 95 (codes "ProcessExists")
     ∷ named 96 (codes "NoSuchProcess") ∷ named 97 (codes "TooManyProcesses")
-    ∷ named 98 (codes "GroupMems") ∷ []
-
--- causes that only pages have
-abbrev pub placed_names : List Named
-placed_names =
-    named 100 (codes "TooManyRuns") ∷ named 101 (codes "Astray")
+    ∷ named 98 (codes "GroupMems")
+    ∷ named 100 (codes "TooManyRuns") ∷ named 101 (codes "Astray")
     ∷ named 102 (codes "NoSuchTarget") ∷ named 103 (codes "TargetNotAllowed")
     ∷ named 104 (codes "PageUnmapped") ∷ named 105 (codes "NotPlaced")
     ∷ named 106 (codes "NodeFull") ∷ named 107 (codes "Occupied") ∷ []
@@ -120,8 +116,7 @@ answer_name code =
     else name_or (refusal_numbered code)
     (if nat_lt code 50 then name_in call_names code
     else if nat_lt code 90 then name_in fault_names code
-    else if nat_lt code 100 then name_in host_names code
-    else name_in placed_names code)
+    else name_in late_names code)
 
 -- ---- error numbers
 

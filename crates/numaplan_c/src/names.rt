@@ -86,8 +86,8 @@ static FAULT_NAMES: [(u32, &[u8]); 23] = [
     (82, b"ManyProcesses"),
 ];
 
-/// The names of the codes of causes that only a host has.
-static HOST_NAMES: [(u32, &[u8]); 9] = [
+/// The names of the codes of causes that only a host or pages have.
+static LATE_NAMES: [(u32, &[u8]); 17] = [
     (90, b"GroupExists"),
     (91, b"NoSuchGroup"),
     (92, b"TooManyGroups"),
@@ -97,10 +97,6 @@ static HOST_NAMES: [(u32, &[u8]); 9] = [
     (96, b"NoSuchProcess"),
     (97, b"TooManyProcesses"),
     (98, b"GroupMems"),
-];
-
-/// The names of the codes of causes that only pages have.
-static PLACED_NAMES: [(u32, &[u8]); 8] = [
     (100, b"TooManyRuns"),
     (101, b"Astray"),
     (102, b"NoSuchTarget"),
@@ -140,10 +136,7 @@ fn answer_name(code: u32) -> &'static [u8]
     if code < 90 {
         return name_in(&FAULT_NAMES, code);
     }
-    if code < 100 {
-        return name_in(&HOST_NAMES, code);
-    }
-    name_in(&PLACED_NAMES, code)
+    name_in(&LATE_NAMES, code)
 }
 
 /// Writes the name of a result code.
