@@ -26,9 +26,9 @@ pub struct Moved {
 
 impl Moved {
     fn told(told: &ToldMoves) -> Moved {
-        let flows = told.from.iter().zip(&told.to).enumerate();
+        let flows = (0..=u8::MAX).zip(told.from.iter().zip(&told.to));
         let flows = flows.filter(|(_, (&pages, _))| pages > 0);
-        let flows = flows.map(|(from, (&pages, &to))| Flow { from: from as u8, to, pages });
+        let flows = flows.map(|(from, (&pages, &to))| Flow { from, to, pages });
         Moved { moved: told.moved, left: told.left, flows: flows.collect() }
     }
 }
@@ -168,7 +168,7 @@ impl Pages {
         let mut node = 0;
         match done(unsafe { raw::np_pages_node(&mut self.0, address, &mut node) }) {
             Err(Refused::NOT_PLACED) => Ok(None),
-            answer => answer.map(|()| Some(node as u8)),
+            answer => answer.map(|()| u8::try_from(node).ok()),
         }
     }
 
