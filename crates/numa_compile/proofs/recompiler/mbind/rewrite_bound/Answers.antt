@@ -18,8 +18,9 @@ rewrite_window-requires-clause-of c = open-added c.args.space.now c.args.plan.no
 
 pub rewrite_window-requires-clause-inside : goal.rewrite_window-requires-clause-inside
 rewrite_window-requires-clause-inside c =
-    bound-inside c.args.space.now c.number_or_add.new.plan c.args.window.now c.args.policy
-    c.in_ok-number.number c.requires.inside c.in_ok-number.ensures.number
+    bound-inside c.args.space.now c.number_or_add.new.plan c.args.window.now
+    c.policy_begun-policy.result c.in_ok-number.number c.policy_begun-policy.ensures.inside
+    c.in_ok-number.ensures.number
 
 pub returns-in_default-clause-few : goal.returns-in_default-clause-few
 returns-in_default-clause-few c =
@@ -35,7 +36,7 @@ pub number_or_add-requires-clause-ready : goal.number_or_add-requires-clause-rea
 number_or_add-requires-clause-ready c = c.requires.ready
 
 pub number_or_add-requires-clause-in_force : goal.number_or_add-requires-clause-in_force
-number_or_add-requires-clause-in_force c = c.requires.in_force
+number_or_add-requires-clause-in_force c = c.policy_begun-policy.ensures.in_force
 
 pub returns-clause-follows : goal.returns-clause-follows
 returns-clause-follows c = c.in-Ok.ensures.follows
