@@ -153,8 +153,7 @@ impl Core {
             Ok(change) => change,
             Err(refusal) => return Err(refusal),
         };
-        let unpublished = self.state.unpublished.after(&change);
-        self.state.unpublished = unpublished;
+        self.state.unpublished.note(&change);
         Ok(self.state.space.space().version())
     }
 

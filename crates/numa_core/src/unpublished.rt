@@ -27,21 +27,21 @@ pub(crate) enum Unpublished {
 }
 
 impl Unpublished {
-    /// What is unpublished after one more accepted command, which changed this. A change of the
-    /// allowed nodes, for which a plan is made anew, counts as several.
-    pub(crate) fn after(self, change: &Change) -> Unpublished
+    /// Notes what one more accepted command changed. A change of the allowed nodes, for which a
+    /// plan is made anew, counts as several.
+    pub(crate) fn note(&mut self, change: &Change)
         ensures { (before after : SpaceState) (command : Command) (plan : PlanData)
-            → IsBehindBy self before plan → IsStep before command after
-            → IsChange before command change.now → IsBehindBy result after plan }
+            → IsBehindBy self.old before plan → IsStep before command after
+            → IsChange before command change.now → IsBehindBy self.new after plan }
     {
-        if let Change::Allowed { .. } = change {
-            return Unpublished::Several;
-        }
-        match self {
-            Unpublished::Nothing => Unpublished::One(*change),
-            Unpublished::One(_) => Unpublished::Several,
-            Unpublished::Several => Unpublished::Several,
-        }
+        let Unpublished::Nothing = self else {
+            *self = Unpublished::Several;
+            return;
+        };
+        *self = match change {
+            Change::Allowed { .. } => Unpublished::Several,
+            _ => Unpublished::One(*change),
+        };
     }
 
     /// Edits the published plan for the only change that isn't published, if there is only one and

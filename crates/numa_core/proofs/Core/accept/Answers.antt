@@ -31,7 +31,7 @@ invariant_of-self-2 c =
         owners = c.self.invariant.0.owners;
         few = c.self.invariant.0.few;
         taken = c.self.invariant.0.taken;
-        behind = c.after-unpublished.ensures old.space c.apply.new.self c.args.command.now
+        behind = c.note.ensures old.space c.apply.new.self c.args.command.now
             old.plan c.self.invariant.0.behind c.in-Ok.ensures.applied.step
             c.in-Ok.ensures.change;
       },

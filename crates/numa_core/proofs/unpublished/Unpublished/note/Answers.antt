@@ -1,11 +1,11 @@
 use Rattle.std.proofs.Common.{subst}
 use Rattle.numa_core.specs.Published.{IsBehindBy}
 use Rattle.numa_core.specs.declared.unpublished.Unpublished.{Unpublished}
-use Rattle.numa_core.proofs.unpublished.Unpublished.after.Goals as goal
+use Rattle.numa_core.proofs.unpublished.Unpublished.note.Goals as goal
 
 -- the plan followed the space before this change
-pub returns-in-Nothing : goal.returns-in-Nothing
-returns-in-Nothing c before after command plan behind step told = record {
+pub returns-in_default-change : goal.returns-in_default-change
+returns-in_default-change c before after command plan behind step told = record {
   command = command;
   behind = record {
     before = before;
