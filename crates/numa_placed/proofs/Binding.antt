@@ -1,23 +1,75 @@
 -- Sending the pages of a span that lie astray, run by run.
-use Rattle.std.proofs.Common.{◌≡◌, ℕ, zero, suc, ◌+◌, ◌-◌, ◌<◌, ◌≤◌, ◌^◌, ◌&&◌, Bool, true, false}
+use Rattle.std.proofs.Common.{◌≡◌, ℕ, zero, suc, ◌+◌, ◌-◌, ◌<◌, ◌≤◌, ◌^◌, ◌&&◌, Bool, false}
 use Rattle.std.proofs.Common.{Option, Some, None, List, [], ◌∷◌, refl, sym, ap, ◌∙◌, subst, arith}
-use Rattle.std.proofs.Common.{inl, inr}
+use Rattle.std.proofs.Common.{inl, inr, add-one}
 use Rattle.std.specs.Prelude.{if◌then◌else◌}
-use Rattle.std.proofs.lemmas.Bool.{cases_Bool, cases_lt, and_left, and_right}
+use Rattle.std.proofs.lemmas.Bool.{cases_Bool, cases_lt, and_right}
 use Rattle.numa_ranges.specs.Counts.{count_pages}
 use Rattle.numa_ranges.specs.Runs.{page_at, in_pages, end_of, AreApart}
 use Rattle.numa_ranges.specs.declared.run.Run.{Run}
 use Rattle.numa_ranges.proofs.Apart.{in_pages-true, in_pages-below, in_pages-above, page_at-before}
 use Rattle.numa_ranges.proofs.Apart.{apart-top}
 use Rattle.numa_ranges.proofs.Counted.{count-none, count-split}
-use Rattle.numa_ranges.proofs.Laws.{inside}
-use Rattle.numa_placed.specs.Astray.{is_astray}
-use Rattle.numa_placed.specs.Binds.{bound_spot, bound_spots, is_kept, is_sent, sent_spot}
-use Rattle.numa_placed.specs.Spots.{changed_spots, pages_if, spot_at, spot_in}
+use Rattle.numa_placed.specs.Binds.{Asked, IsBound, bound_by, goal_at}
+use Rattle.numa_placed.specs.Binds.{goals, is_kept, is_sent, room_before, room_sent}
+use Rattle.numa_placed.specs.Binds.{strays}
+use Rattle.numa_placed.specs.Shifts.{AreRooms}
+use Rattle.numa_placed.specs.Spots.{spot_at, spot_in}
+use Rattle.numa_placed.specs.Standing.{AreFound, AreSent, Sends}
+use Rattle.numa_placed.specs.declared.bind.Walk.{Walk}
+use Rattle.numa_placed.specs.declared.bound.Bound.{Bound}
 use Rattle.numa_placed.specs.declared.spot.Spot.{Spot}
 use Rattle.numa_placed.specs.declared.spot.Spot.TheVariants.{Nowhere}
-use Rattle.numa_placed.proofs.Shared.{IsShared, count-le, count-same, count-shared, in-both}
-use Rattle.numa_placed.proofs.Shared.{in-neither}
+use Rattle.numa_placed.proofs.Shared.{count-same}
+
+-- ---- rooms
+
+-- rooms that no page from one up to another changes
+pub rooms-still : (rooms : ℕ → ℕ → ℕ) (from n : ℕ)
+    → ((page : ℕ) → from ≤ page → page < from + n → rooms (page + 1) ≡ rooms page)
+    → rooms (from + n) ≡ rooms from
+rooms-still rooms from zero still = let none : from + 0 ≡ from = omega arith in ap rooms none
+rooms-still rooms from (suc n) still =
+    let next : from + suc n ≡ from + n + 1 = omega arith in
+    ap rooms next ∙ still (from + n) (omega arith) (omega arith)
+    ∙ rooms-still rooms from n (λ page low high. still page low (omega arith))
+
+pub rooms-same : (rooms : ℕ → ℕ → ℕ) (from to : ℕ) → from ≤ to
+    → ((page : ℕ) → from ≤ page → page < to → rooms (page + 1) ≡ rooms page)
+    → rooms to ≡ rooms from
+rooms-same rooms from to le still =
+    let size : from + (to - from) ≡ to = omega arith in
+    sym (ap rooms size)
+    ∙ rooms-still rooms from (to - from) (λ page low high. still page low (omega arith))
+
+-- where none passes, none changes them
+pub found-still : (test : ℕ → Bool) (nodes : ℕ → List ℕ) (spot : Spot) (from to a b : ℕ)
+    (rooms : ℕ → ℕ → ℕ) → AreFound test nodes spot from to rooms → from ≤ a → a ≤ b → b ≤ to
+    → ((page : ℕ) → a ≤ page → page < b → test page ≡ false) → rooms b ≡ rooms a
+found-still test nodes spot from to a b rooms found low le high none =
+    rooms-same rooms a b le (λ page l h.
+    let f = none page l h in
+    found page (omega arith) (omega arith) ∙ rw f refl)
+
+-- ---- pages of a run
+
+-- the rooms that each page of one's own finds
+module _ (asked : Asked) (spots : ℕ → Spot) (room : ℕ → ℕ) where
+  pub before-next : (page : ℕ) → room_before asked spots room (page + 1)
+      ≡ (if strays asked page (spots page)
+      then room_sent (room_before asked spots room page)
+      (goal_at asked.nodes (room_before asked spots room) page) (spots page)
+      else room_before asked spots room page)
+  unfolding room_before
+  before-next page = rw add-one refl
+
+  pub before-none : room_before asked spots room 0 ≡ room
+  unfolding room_before
+  before-none = refl
+
+-- a page that lies nowhere isn't astray
+pub strays-nowhere : (asked : Asked) (page : ℕ) → strays asked page Nowhere ≡ false
+strays-nowhere asked page = and_right (in_pages asked.first asked.pages page) false refl
 
 -- ---- run by run
 
@@ -25,28 +77,25 @@ abbrev pub Test : Type 0
 Test = Option ℕ → Spot → Bool
 
 -- a page of the span that lies astray and passes
-abbrev pub passes : Test → ℕ → ℕ → ℕ → (ℕ → Option ℕ) → (ℕ → Spot) → ℕ → Bool
-passes test first pages list firsts spots page = in_pages first pages page
-    && (is_astray list (spots page) && test (firsts page) (spots page))
+abbrev pub passes : Test → Asked → (ℕ → Option ℕ) → (ℕ → Spot) → ℕ → Bool
+passes test asked goal spots page = strays asked page (spots page) && test (goal page) (spots page)
 
 -- the pages before a page are bound, those from it on are as they were; and the pages that went
 -- so far, with those that are to go, are all
-pub record IsBoundTo (first pages list : ℕ) (firsts : ℕ → Option ℕ) (whole rest : List (Run Spot))
+pub record IsBoundTo (asked : Asked) (goal : ℕ → Option ℕ) (whole rest : List (Run Spot))
     (next : ℕ → Spot) : Type 0 where
   pub low : ℕ
   pub apart : AreApart low rest
   pub same : (page : ℕ) → low ≤ page → page_at whole page ≡ page_at rest page
-  pub done : (page : ℕ) → page < low
-      → next page ≡ bound_spots first pages list firsts (spot_at whole) page
+  pub done : (page : ℕ) → page < low → next page ≡ bound_by asked goal (spot_at whole) page
   pub ahead : (page : ℕ) → low ≤ page → next page ≡ spot_at whole page
 
 -- the count so far and that of the pages from one on are that of all
 abbrev pub CountsTo : (ℕ → Bool) → ℕ → ℕ → Type 0
 CountsTo test low count = count + count_pages test low (2 ^ 35 - low) ≡ count_pages test 0 (2 ^ 35)
 
-module _ (first pages list : ℕ) (firsts : ℕ → Option ℕ) (whole : List (Run Spot)) where
-  pub bound-begins : AreApart 0 whole
-      → IsBoundTo first pages list firsts whole whole (spot_at whole)
+module _ (asked : Asked) (goal : ℕ → Option ℕ) (whole : List (Run Spot)) where
+  pub bound-begins : AreApart 0 whole → IsBoundTo asked goal whole whole (spot_at whole)
   bound-begins apart = record {
     low = 0;
     apart = apart;
@@ -55,331 +104,239 @@ module _ (first pages list : ℕ) (firsts : ℕ → Option ℕ) (whole : List (R
     ahead = λ page le. refl;
   }
 
+  bound-nowhere : (page : ℕ) → spot_at whole page ≡ Nowhere
+      → bound_by asked goal (spot_at whole) page ≡ Nowhere
+  bound-nowhere page none = rw (none, strays-nowhere asked page) refl
+
   module _ (before rest : List (Run Spot)) (run : Run Spot) (next : ℕ → Spot)
-      (steps : before ≡ run ∷ rest) (bound : IsBoundTo first pages list firsts whole before next)
-    where
-      apart-here : AreApart bound.low (run ∷ rest)
-      apart-here = subst (AreApart bound.low) steps bound.apart
+      (steps : before ≡ run ∷ rest) (bound : IsBoundTo asked goal whole before next) where
+    pub apart-here : AreApart bound.low (run ∷ rest)
+    apart-here = subst (AreApart bound.low) steps bound.apart
 
-      at-here : (page : ℕ) → bound.low ≤ page → page_at whole page ≡ page_at (run ∷ rest) page
-      at-here page le = bound.same page le
-          ∙ ap (λ (runs : List (Run Spot)). page_at runs page) steps
+    at-here : (page : ℕ) → bound.low ≤ page → page_at whole page ≡ page_at (run ∷ rest) page
+    at-here page le = bound.same page le
+        ∙ ap (λ (runs : List (Run Spot)). page_at runs page) steps
 
-      pub run-fits : end_of run ≤ 2 ^ 35
-      run-fits = apart-top (end_of run) rest apart-here.3
+    pub run-fits : end_of run ≤ 2 ^ 35
+    run-fits = apart-top (end_of run) rest apart-here.3
 
-      value-here : (page : ℕ) → run.first ≤ page → page < end_of run
-          → spot_at whole page ≡ run.value
-      value-here page low high =
-          let at : page_at (run ∷ rest) page ≡ Some (run.index + (page - run.first), run.value) =
-          rw (in_pages-true run.first run.pages page low high) refl in
-          ap spot_in (at-here page (omega (arith, apart-here.0)) ∙ at)
+    pub value-here : (page : ℕ) → run.first ≤ page → page < end_of run
+        → spot_at whole page ≡ run.value
+    value-here page low high =
+        let at : page_at (run ∷ rest) page ≡ Some (run.index + (page - run.first), run.value) =
+        rw (in_pages-true run.first run.pages page low high) refl in
+        ap spot_in (at-here page (omega (arith, apart-here.0)) ∙ at)
 
-      nowhere-here : (page : ℕ) → bound.low ≤ page → page < run.first → spot_at whole page ≡ Nowhere
-      nowhere-here page low high =
-          let at : page_at (run ∷ rest) page ≡ None =
-          rw (in_pages-below run.first run.pages page high)
-          (page_at-before (end_of run) rest page apart-here.3 (omega arith)) in
-          ap spot_in (at-here page low ∙ at)
+    pub nowhere-here : (page : ℕ) → bound.low ≤ page → page < run.first
+        → spot_at whole page ≡ Nowhere
+    nowhere-here page low high =
+        let at : page_at (run ∷ rest) page ≡ None =
+        rw (in_pages-below run.first run.pages page high)
+        (page_at-before (end_of run) rest page apart-here.3 (omega arith)) in
+        ap spot_in (at-here page low ∙ at)
 
-      behind-here : (page : ℕ) → end_of run ≤ page → page_at whole page ≡ page_at rest page
-      behind-here page le =
-          at-here page (omega (arith, apart-here.0))
-          ∙ rw (in_pages-above run.first run.pages page le) refl
+    behind-here : (page : ℕ) → end_of run ≤ page → page_at whole page ≡ page_at rest page
+    behind-here page le =
+        at-here page (omega (arith, apart-here.0))
+        ∙ rw (in_pages-above run.first run.pages page le) refl
 
-      pub run-same : (page : ℕ) → in_pages run.first run.pages page ≡ true → next page ≡ run.value
-      run-same page t =
-          let ends = inside run.first run.pages page t in
-          bound.ahead page (omega (arith, apart-here.0, ends.0)) ∙ value-here page ends.0 ends.1
+    ahead-here : (page : ℕ) → run.first ≤ page → page < end_of run → next page ≡ run.value
+    ahead-here page low high =
+        bound.ahead page (omega (arith, apart-here.0)) ∙ value-here page low high
 
-      bound-nowhere : (page : ℕ) → spot_at whole page ≡ Nowhere
-          → bound_spots first pages list firsts (spot_at whole) page ≡ Nowhere
-      bound-nowhere page none = elim (cases_Bool (in_pages first pages page)) [
-        | inl t ↦ rw (t, none) refl
-        | inr e ↦ rw (e, none) refl
+    module _ (later : ℕ → Spot) (told more : Bound)
+        (sent : AreSent (λ page. strays asked page run.value) goal run.value run.first (end_of run)
+        next later told more) where
+      bound-here : (page : ℕ) → run.first ≤ page → page < end_of run
+          → later page ≡ bound_by asked goal (spot_at whole) page
+      bound-here page low high =
+          let now = value-here page low high in
+          let was = ahead-here page low high in
+          elim (cases_Bool (strays asked page run.value)) [
+            | inl t ↦ sent.sent page low high t ∙ rw (now, was, t) refl
+            | inr e ↦ sent.kept page low high e ∙ rw (now, was, e) refl
+          ]
+
+      done-next : (page : ℕ) → page < end_of run
+          → later page ≡ bound_by asked goal (spot_at whole) page
+      done-next page lt = elim (cases_lt page run.first) [
+        | inl l ↦ sent.below page l ∙ elim (cases_lt page bound.low) [
+          | inl m ↦ bound.done page m
+          | inr m ↦
+              let none = nowhere-here page m l in
+              bound.ahead page m ∙ none ∙ sym (bound-nowhere page none)
+        ]
+        | inr l ↦ bound-here page l lt
       ]
 
-      module _ (later : ℕ → Spot) (told : (page : ℕ) → later page
-          ≡ (if in_pages first pages page && in_pages run.first run.pages page
-          then bound_spot list (firsts page) (next page) else next page)) where
-        still : (page : ℕ) → in_pages run.first run.pages page ≡ false → later page ≡ next page
-        still page out =
-            let none = and_right (in_pages first pages page) (in_pages run.first run.pages page)
-            out in
-            told page ∙ rw none refl
+      pub bound-next : IsBoundTo asked goal whole rest later
+      bound-next = record {
+        low = end_of run;
+        apart = apart-here.3;
+        same = behind-here;
+        done = done-next;
+        ahead = λ page le. sent.above page le ∙ bound.ahead page (omega (arith, apart-here.0));
+      }
 
-        bound-here : (page : ℕ) → in_pages run.first run.pages page ≡ true
-            → next page ≡ spot_at whole page
-            → later page ≡ bound_spots first pages list firsts (spot_at whole) page
-        bound-here page t now = told page ∙ elim (cases_Bool (in_pages first pages page)) [
-          | inl u ↦ rw (u, t, now) refl
-          | inr u ↦ rw (u, now) refl
-        ]
-
-        done-next : (page : ℕ) → page < end_of run
-            → later page ≡ bound_spots first pages list firsts (spot_at whole) page
-        done-next page lt = elim (cases_lt page run.first) [
-          | inl l ↦ still page (in_pages-below run.first run.pages page l)
-              ∙ elim (cases_lt page bound.low) [
-                | inl m ↦ bound.done page m
-                | inr m ↦
-                    let none = nowhere-here page m l in
-                    bound.ahead page m ∙ none ∙ sym (bound-nowhere page none)
-              ]
-          | inr l ↦ bound-here page (in_pages-true run.first run.pages page l lt)
-              (bound.ahead page (omega (arith, apart-here.0)))
-        ]
-
-        pub bound-next : IsBoundTo first pages list firsts whole rest later
-        bound-next = record {
-          low = end_of run;
-          apart = apart-here.3;
-          same = behind-here;
-          done = done-next;
-          ahead = λ page le. still page (in_pages-above run.first run.pages page le)
-              ∙ bound.ahead page (omega (arith, apart-here.0));
-        }
-
-      -- a run's count takes its pages from those that are left
-      pub counts-next : (test : Test) (count more : ℕ)
-          → CountsTo (passes test first pages list firsts (spot_at whole)) bound.low count
-          → more ≡ count + count_pages (λ page. in_pages first pages page
-          && (is_astray list run.value && test (firsts page) run.value)) run.first run.pages
-          → CountsTo (passes test first pages list firsts (spot_at whole)) (end_of run) more
-      counts-next test count more so_far is =
-          let here : ℕ → Bool = passes test first pages list firsts (spot_at whole) in
-          let low = bound.low in
-          let start = apart-here.0 in
-          let fits = run-fits in
-          let hole = run.first - low in
-          let tail = 2 ^ 35 - end_of run in
-          let cut1 : count_pages here low (2 ^ 35 - low) ≡ count_pages here low hole
-          + count_pages here (low + hole) (run.pages + tail) =
-          count-split here low hole (run.pages + tail) (2 ^ 35 - low)
-          (omega (arith, start, fits)) in
-          let seam : low + hole ≡ run.first = omega (arith, start) in
-          let moved : count_pages here (low + hole) (run.pages + tail)
-          ≡ count_pages here run.first (run.pages + tail) =
-          ap (λ p. count_pages here p (run.pages + tail)) seam in
-          let cut2 : count_pages here run.first (run.pages + tail)
-          ≡ count_pages here run.first run.pages + count_pages here (run.first + run.pages) tail =
-          count-split here run.first run.pages tail (run.pages + tail) refl in
-          let part1 : count_pages here low hole ≡ 0 =
-          count-none here low hole (λ page from to.
-          rw (nowhere-here page from (omega (arith, start)))
-          (and_right (in_pages first pages page) false refl)) in
-          let part2 : count_pages here run.first run.pages ≡ count_pages (λ page.
-          in_pages first pages page && (is_astray list run.value && test (firsts page) run.value))
-          run.first run.pages =
-          count-same here (λ page. in_pages first pages page
-          && (is_astray list run.value && test (firsts page) run.value)) run.first run.pages
-          (λ page from to. ap (λ spot. in_pages first pages page
-          && (is_astray list spot && test (firsts page) spot)) (value-here page from to)) in
-          omega (arith, so_far, is, cut1, moved, cut2, part1, part2)
+    -- a run's count takes its pages from those that are left
+    pub counts-next : (test : Test) (count more : ℕ)
+        → CountsTo (passes test asked goal (spot_at whole)) bound.low count
+        → more ≡ count + count_pages (λ page. strays asked page run.value
+        && test (goal page) run.value) run.first (end_of run - run.first)
+        → CountsTo (passes test asked goal (spot_at whole)) (end_of run) more
+    counts-next test count more so_far is =
+        let here : ℕ → Bool = passes test asked goal (spot_at whole) in
+        let low = bound.low in
+        let start = apart-here.0 in
+        let fits = run-fits in
+        let hole = run.first - low in
+        let size = end_of run - run.first in
+        let tail = 2 ^ 35 - end_of run in
+        let cut1 : count_pages here low (2 ^ 35 - low) ≡ count_pages here low hole
+        + count_pages here (low + hole) (size + tail) =
+        count-split here low hole (size + tail) (2 ^ 35 - low)
+        (omega (arith, start, fits)) in
+        let seam : low + hole ≡ run.first = omega (arith, start) in
+        let moved : count_pages here (low + hole) (size + tail)
+        ≡ count_pages here run.first (size + tail) =
+        ap (λ p. count_pages here p (size + tail)) seam in
+        let cut2 : count_pages here run.first (size + tail)
+        ≡ count_pages here run.first size + count_pages here (run.first + size) tail =
+        count-split here run.first size tail (size + tail) refl in
+        let seam2 : run.first + size ≡ end_of run = omega arith in
+        let moved2 : count_pages here (run.first + size) tail ≡ count_pages here (end_of run) tail =
+        ap (λ p. count_pages here p tail) seam2 in
+        let part1 : count_pages here low hole ≡ 0 =
+        count-none here low hole (λ page from to.
+        rw (nowhere-here page from (omega (arith, start)), strays-nowhere asked page) refl) in
+        let part2 : count_pages here run.first size ≡ count_pages (λ page.
+        strays asked page run.value && test (goal page) run.value) run.first size =
+        count-same here (λ page. strays asked page run.value
+        && test (goal page) run.value) run.first size
+        (λ page from to. ap (λ spot. strays asked page spot && test (goal page) spot)
+        (value-here page from (omega arith))) in
+        omega (arith, so_far, is, cut1, moved, cut2, moved2, part1, part2)
 
   -- no run is left
   module _ (rest : List (Run Spot)) (next : ℕ → Spot) (over : rest ≡ [])
-      (bound : IsBoundTo first pages list firsts whole rest next) where
-    nowhere-left : (page : ℕ) → bound.low ≤ page → spot_at whole page ≡ Nowhere
+      (bound : IsBoundTo asked goal whole rest next) where
+    pub low-ends : bound.low ≤ 2 ^ 35
+    low-ends = apart-top bound.low rest bound.apart
+
+    pub nowhere-left : (page : ℕ) → bound.low ≤ page → spot_at whole page ≡ Nowhere
     nowhere-left page le = ap spot_in (bound.same page le
         ∙ ap (λ (runs : List (Run Spot)). page_at runs page) over)
 
-    pub bound-ends : (page : ℕ) → next page
-        ≡ bound_spots first pages list firsts (spot_at whole) page
+    pub bound-ends : (page : ℕ) → next page ≡ bound_by asked goal (spot_at whole) page
     bound-ends page = elim (cases_lt page bound.low) [
       | inl l ↦ bound.done page l
       | inr l ↦
           let none = nowhere-left page l in
-          bound.ahead page l ∙ none ∙ sym (elim (cases_Bool (in_pages first pages page)) [
-            | inl t ↦ rw (t, none) refl
-            | inr e ↦ rw (e, none) refl
-          ])
+          bound.ahead page l ∙ none ∙ sym (bound-nowhere page none)
     ]
 
     pub counts-end : (test : Test) (count : ℕ)
-        → CountsTo (passes test first pages list firsts (spot_at whole)) bound.low count
-        → count ≡ count_pages (passes test first pages list firsts (spot_at whole)) 0 (2 ^ 35)
+        → CountsTo (passes test asked goal (spot_at whole)) bound.low count
+        → count ≡ count_pages (passes test asked goal (spot_at whole)) 0 (2 ^ 35)
     counts-end test count so_far =
-        let here : ℕ → Bool = passes test first pages list firsts (spot_at whole) in
+        let here : ℕ → Bool = passes test asked goal (spot_at whole) in
         let none : count_pages here bound.low (2 ^ 35 - bound.low) ≡ 0 =
         count-none here bound.low (2 ^ 35 - bound.low) (λ page from to.
-        rw (nowhere-left page from) (and_right (in_pages first pages page) false refl)) in
+        rw (nowhere-left page from, strays-nowhere asked page) refl) in
         omega (arith, so_far, none)
 
 -- ---- the loop over the runs
 
--- what is bound so far, and what was counted
-pub record IsBinding (first pages list : ℕ) (firsts : ℕ → Option ℕ) (whole rest : List (Run Spot))
-    (next : ℕ → Spot) (moved left : ℕ) : Type 0 where
-  pub bound : IsBoundTo first pages list firsts whole rest next
-  pub sent : CountsTo (passes is_sent first pages list firsts (spot_at whole)) bound.low moved
-  pub kept : CountsTo (passes is_kept first pages list firsts (spot_at whole)) bound.low left
+-- what is bound so far, what was counted, and the rooms
+pub record IsBinding (asked : Asked) (room : ℕ → ℕ) (whole rest : List (Run Spot))
+    (next : ℕ → Spot) (walk : Walk) : Type 0 where
+  pub bound : IsBoundTo asked (goals asked (spot_at whole) room) whole rest next
+  pub sent : CountsTo (passes is_sent asked (goals asked (spot_at whole) room) (spot_at whole))
+      bound.low walk.told.moved
+  pub kept : CountsTo (passes is_kept asked (goals asked (spot_at whole) room) (spot_at whole))
+      bound.low walk.told.left
+  pub rooms : AreRooms walk.rooms (room_before asked (spot_at whole) room bound.low)
 
-module _ (first pages list : ℕ) (firsts : ℕ → Option ℕ) (whole : List (Run Spot)) where
-  pub binding-begins : AreApart 0 whole
-      → IsBinding first pages list firsts whole whole (spot_at whole) 0 0
+module _ (asked : Asked) (room : ℕ → ℕ) (whole : List (Run Spot)) where
+  rooms_at : ℕ → ℕ → ℕ
+  rooms_at = room_before asked (spot_at whole) room
+
+  pub binding-begins : (walk : Walk) → walk.told.moved ≡ 0 → walk.told.left ≡ 0
+      → AreRooms walk.rooms room → AreApart 0 whole
+      → IsBinding asked room whole whole (spot_at whole) walk
   unfolding bound-begins
-  binding-begins apart = record {
-    bound = bound-begins first pages list firsts whole apart;
+  binding-begins walk none none' are apart = record {
+    bound = bound-begins asked (goals asked (spot_at whole) room) whole apart;
     sent = omega arith;
     kept = omega arith;
+    rooms = subst (AreRooms walk.rooms) (sym (before-none asked (spot_at whole) room)) are;
   }
 
-  pub binding-next : (before rest : List (Run Spot)) (run : Run Spot) (next later : ℕ → Spot)
-      (moved left moved' left' : ℕ) → before ≡ run ∷ rest
-      → IsBinding first pages list firsts whole before next moved left
-      → ((page : ℕ) → later page
-      ≡ (if in_pages first pages page && in_pages run.first run.pages page
-      then bound_spot list (firsts page) (next page) else next page))
-      → moved' ≡ moved + count_pages (λ page. in_pages first pages page
-      && (is_astray list run.value && is_sent (firsts page) run.value)) run.first run.pages
-      → left' ≡ left + count_pages (λ page. in_pages first pages page
-      && (is_astray list run.value && is_kept (firsts page) run.value)) run.first run.pages
-      → IsBinding first pages list firsts whole rest later moved' left'
-  unfolding bound-next
-  binding-next before rest run next later moved left moved' left' steps binding told more more' =
+  module _ (before rest : List (Run Spot)) (run : Run Spot) (next : ℕ → Spot) (walk : Walk)
+      (steps : before ≡ run ∷ rest) (binding : IsBinding asked room whole before next walk) where
+    -- the pages between the runs change no room
+    gap : room_before asked (spot_at whole) room run.first
+        ≡ room_before asked (spot_at whole) room binding.bound.low
+    gap =
+        let goal = goals asked (spot_at whole) room in
+        let start = (apart-here asked goal whole before rest run next steps binding.bound).0 in
+        rooms-same (room_before asked (spot_at whole) room) binding.bound.low run.first start
+        (λ page low high. before-next asked (spot_at whole) room page
+        ∙ rw (
+          nowhere-here asked goal whole before rest run next steps binding.bound page low high,
+          strays-nowhere asked page,
+        ) refl)
+
+    found : AreFound (λ page. strays asked page run.value) asked.nodes run.value run.first
+        (end_of run) (room_before asked (spot_at whole) room)
+    found page low high =
+        let goal = goals asked (spot_at whole) room in
+        let now = value-here asked goal whole before rest run next steps binding.bound page low
+        high in
+        before-next asked (spot_at whole) room page
+        ∙ ap (λ (spot : Spot). if strays asked page spot
+        then room_sent (room_before asked (spot_at whole) room page)
+        (goal_at asked.nodes (room_before asked (spot_at whole) room) page) spot
+        else room_before asked (spot_at whole) room page) now
+
+    pub binding-next : (later : ℕ → Spot) (walk' : Walk)
+        → Sends (λ page. strays asked page run.value) asked.nodes run.value run.first (end_of run)
+        next later walk walk'
+        → IsBinding asked room whole rest later walk'
+    unfolding bound-next
+    binding-next later walk' sends =
+        let goal = goals asked (spot_at whole) room in
+        let did = sends (room_before asked (spot_at whole) room)
+        (subst (AreRooms walk.rooms) (sym gap) binding.rooms) found in
+        record {
+          bound = bound-next asked goal whole before rest run next steps binding.bound later
+              walk.told walk'.told did.0;
+          sent = counts-next asked goal whole before rest run next steps binding.bound
+              is_sent walk.told.moved walk'.told.moved binding.sent did.0.moved;
+          kept = counts-next asked goal whole before rest run next steps binding.bound
+              is_kept walk.told.left walk'.told.left binding.kept did.0.left;
+          rooms = did.1;
+        }
+
+  pub binding-ends : (rest : List (Run Spot)) (next : ℕ → Spot) (walk : Walk) → rest ≡ []
+      → IsBinding asked room whole rest next walk
+      → IsBound asked (spot_at whole) room next walk.rooms walk.told
+  binding-ends rest next walk over binding =
+      let goal = goals asked (spot_at whole) room in
+      let still : room_before asked (spot_at whole) room (2 ^ 35)
+      ≡ room_before asked (spot_at whole) room binding.bound.low =
+      rooms-same (room_before asked (spot_at whole) room) binding.bound.low (2 ^ 35)
+      (low-ends asked goal whole rest next over binding.bound) (λ page low high.
+      before-next asked (spot_at whole) room page
+      ∙ rw (
+        nowhere-left asked goal whole rest next over binding.bound page low,
+        strays-nowhere asked page,
+      ) refl) in
       record {
-        bound = bound-next first pages list firsts whole before rest run next steps binding.bound
-            later told;
-        sent = counts-next first pages list firsts whole before rest run next steps binding.bound
-            is_sent moved moved' binding.sent more;
-        kept = counts-next first pages list firsts whole before rest run next steps binding.bound
-            is_kept left left' binding.kept more';
+        pages = bound-ends asked goal whole rest next over binding.bound;
+        room = subst (AreRooms walk.rooms) (sym still) binding.rooms;
+        moved = counts-end asked goal whole rest next over binding.bound is_sent walk.told.moved
+            binding.sent;
+        left = counts-end asked goal whole rest next over binding.bound is_kept walk.told.left
+            binding.kept;
       }
-
-  pub binding-few : (rest : List (Run Spot)) (next : ℕ → Spot) (moved left : ℕ)
-      → IsBinding first pages list firsts whole rest next moved left
-      → (moved ≤ 2 ^ 35) × (left ≤ 2 ^ 35)
-  binding-few rest next moved left binding =
-      let sent = binding.sent in
-      let kept = binding.kept in (
-        omega (
-          arith,
-          sent,
-          count-le (passes is_sent first pages list firsts (spot_at whole)) 0 (2 ^ 35),
-        ),
-        omega (
-          arith,
-          kept,
-          count-le (passes is_kept first pages list firsts (spot_at whole)) 0 (2 ^ 35),
-        ),
-      )
-
--- ---- the loop over the pages of a run
-
--- the pages from one up to another were sent, and no others
-pub record AreSent (firsts : ℕ → Option ℕ) (from page : ℕ) (old now : ℕ → Spot) : Type 0 where
-  pub before : (p : ℕ) → p < from → now p ≡ old p
-  pub done : (p : ℕ) → from ≤ p → p < page → now p ≡ sent_spot (firsts p) (old p)
-  pub ahead : (p : ℕ) → page ≤ p → now p ≡ old p
-
-module _ (firsts : ℕ → Option ℕ) (from : ℕ) (old : ℕ → Spot) where
-  pub sent-begins : AreSent firsts from from old old
-  sent-begins = record {
-    before = λ p lt. refl;
-    done = λ p le lt. absurd (omega arith);
-    ahead = λ p le. refl;
-  }
-
-  module _ (page : ℕ) (now later : ℕ → Spot) (le : from ≤ page)
-      (sent : AreSent firsts from page old now)
-      (told : (p : ℕ) → later p ≡ changed_spots page 1 (sent_spot (firsts page)) now p) where
-    other-low : (p : ℕ) → p < page → later p ≡ now p
-    other-low p lt = told p ∙ rw (in_pages-below page 1 p lt) refl
-
-    other-high : (p : ℕ) → page + 1 ≤ p → later p ≡ now p
-    other-high p high = told p ∙ rw (in_pages-above page 1 p high) refl
-
-    itself : later page ≡ sent_spot (firsts page) (old page)
-    itself =
-        let here : later page ≡ sent_spot (firsts page) (now page) =
-        told page ∙ rw (in_pages-true page 1 page (omega arith) (omega arith)) refl in
-        here ∙ ap (sent_spot (firsts page)) (sent.ahead page (omega arith))
-
-    done-here : (p : ℕ) → from ≤ p → p < page + 1 → later p ≡ sent_spot (firsts p) (old p)
-    done-here p low high = elim (cases_lt p page) [
-      | inl l ↦ other-low p l ∙ sent.done p low l
-      | inr l ↦
-          let same : page ≡ p = omega arith in
-          subst (λ (q : ℕ). later q ≡ sent_spot (firsts q) (old q)) same itself
-    ]
-
-    pub sent-next : AreSent firsts from (page + 1) old later
-    sent-next = record {
-      before = λ p lt. other-low p (omega arith) ∙ sent.before p lt;
-      done = done-here;
-      ahead = λ p high. other-high p high ∙ sent.ahead p (omega arith);
-    }
-
-  pub sent-ends : (to : ℕ) (now : ℕ → Spot) → from ≤ to → AreSent firsts from to old now → (p : ℕ)
-      → now p ≡ (if in_pages from (to - from) p then sent_spot (firsts p) (old p) else old p)
-  sent-ends to now rises sent p = elim (cases_lt p from) [
-    | inl l ↦ sent.before p l ∙ rw (in_pages-below from (to - from) p l) refl
-    | inr l ↦ elim (cases_lt p to) [
-      | inl m ↦ sent.done p l m ∙ rw (in_pages-true from (to - from) p l (omega arith)) refl
-      | inr m ↦ sent.ahead p m ∙ rw (in_pages-above from (to - from) p (omega arith)) refl
-    ]
-  ]
-
--- ---- a run
-
-module _ (first pages list : ℕ) (firsts : ℕ → Option ℕ) (run : Run Spot) (old : ℕ → Spot)
-    (same : (page : ℕ) → in_pages run.first run.pages page ≡ true → old page ≡ run.value) where
-  bound-of : ℕ → Spot
-  bound-of page = if in_pages first pages page && in_pages run.first run.pages page
-      then bound_spot list (firsts page) (old page) else old page
-
-  -- where its pages don't lie astray, they stay
-  pub bound-none : is_astray list run.value ≡ false → (page : ℕ) → old page
-      ≡ (if in_pages first pages page && in_pages run.first run.pages page
-      then bound_spot list (firsts page) (old page) else old page)
-  bound-none none page = elim (cases_Bool (in_pages run.first run.pages page)) [
-    | inl t ↦ elim (cases_Bool (in_pages first pages page)) [
-      | inl u ↦ rw (t, u, same page t, none) refl
-      | inr u ↦ rw (t, u) refl
-    ]
-    | inr t ↦ rw (t, and_right (in_pages first pages page) false refl) refl
-  ]
-
-  pub count-not_astray : (test : Test) → is_astray list run.value ≡ false
-      → count_pages (λ page. in_pages first pages page
-      && (is_astray list run.value && test (firsts page) run.value)) run.first run.pages ≡ 0
-  count-not_astray test none =
-      count-none (λ page. in_pages first pages page
-      && (is_astray list run.value && test (firsts page) run.value)) run.first run.pages
-      (λ page low high. rw none (and_right (in_pages first pages page) false refl))
-
-  module _ (from to : ℕ) (shared : IsShared first pages run.first run.pages from to) where
-    -- where none is of the span, they stay
-    pub bound-apart : to ≤ from → (page : ℕ) → old page
-        ≡ (if in_pages first pages page && in_pages run.first run.pages page
-        then bound_spot list (firsts page) (old page) else old page)
-    bound-apart falls page =
-        rw (in-neither first pages run.first run.pages from to shared falls page) refl
-
-    -- where they lie astray, those of the span are sent
-    pub bound-sent : is_astray list run.value ≡ true → from < to → (now : ℕ → Spot)
-        → ((page : ℕ) → now page ≡ (if in_pages from (to - from) page
-        then sent_spot (firsts page) (old page) else old page)) → (page : ℕ) → now page
-        ≡ (if in_pages first pages page && in_pages run.first run.pages page
-        then bound_spot list (firsts page) (old page) else old page)
-    bound-sent astray rises now says page =
-        says page ∙ rw (in-both first pages run.first run.pages from to shared rises page)
-        (elim (cases_Bool (in_pages run.first run.pages page)) [
-          | inl t ↦ elim (cases_Bool (in_pages first pages page)) [
-            | inl u ↦ rw (t, u, same page t, astray) refl
-            | inr u ↦ rw (t, u) refl
-          ]
-          | inr t ↦ rw (t, and_right (in_pages first pages page) false refl) refl
-        ])
-
-    pub count-sent : (test : Test) → is_astray list run.value ≡ true → from < to
-        → count_pages (λ page. in_pages first pages page
-        && (is_astray list run.value && test (firsts page) run.value)) run.first run.pages
-        ≡ count_pages (λ page. test (firsts page) run.value) from (to - from)
-    count-sent test astray rises =
-        count-shared first pages run.first run.pages from to shared
-        (λ page. is_astray list run.value && test (firsts page) run.value) rises
-        ∙ count-same (λ page. is_astray list run.value && test (firsts page) run.value)
-        (λ page. test (firsts page) run.value) from (to - from)
-        (λ page low high. rw astray refl)

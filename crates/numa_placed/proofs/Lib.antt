@@ -7,6 +7,7 @@ pub mod MoveRows
 pub mod MovedNodes
 pub mod Parts
 pub mod Reaching
+pub mod Sending
 pub mod Shared
 pub mod ShiftRows
 pub mod Sources

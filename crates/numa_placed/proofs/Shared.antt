@@ -1,5 +1,5 @@
 -- Pages of two spans, and how many of them pass a test.
-use Rattle.std.proofs.Common.{◌≡◌, ℕ, zero, suc, ◌+◌, ◌-◌, ◌<◌, ◌≤◌, ◌^◌, ◌&&◌, Bool, true, false}
+use Rattle.std.proofs.Common.{◌≡◌, ℕ, zero, suc, ◌+◌, ◌-◌, ◌<◌, ◌≤◌, ◌&&◌, Bool, true, false}
 use Rattle.std.proofs.Common.{refl, sym, ap, ◌∙◌, arith, inl, inr}
 use Rattle.std.specs.Prelude.{if◌then◌else◌}
 use Rattle.std.proofs.lemmas.Bool.{cases_Bool, cases_lt, and_left, and_right}
@@ -63,14 +63,19 @@ module _ (first pages a n from to : ℕ) (shared : IsShared first pages a n from
       let other = in_pages-true a n page (omega arith) (omega arith) in
       rw (one, other) refl
 
-  out-below : (page : ℕ) → page < from → a ≤ page → in_pages first pages page ≡ false
+  pub in-span : (page : ℕ) → from ≤ page → page < to → in_pages first pages page ≡ true
+  in-span page low high =
+      let l = shared.low in let h = shared.high in
+      in_pages-true first pages page (omega arith) (omega arith)
+
+  pub out-below : (page : ℕ) → page < from → a ≤ page → in_pages first pages page ≡ false
   out-below page low high =
       elim (cases_lt page first) [
         | inl l ↦ in_pages-below first pages page l
         | inr l ↦ absurd (omega (arith, shared.least page l high))
       ]
 
-  out-above : (page : ℕ) → to ≤ page → page < a + n → in_pages first pages page ≡ false
+  pub out-above : (page : ℕ) → to ≤ page → page < a + n → in_pages first pages page ≡ false
   out-above page low high =
       elim (cases_lt page (first + pages)) [
         | inl l ↦ absurd (omega (arith, shared.most page l high))
@@ -158,15 +163,6 @@ module _ (first pages a n from to : ℕ) (shared : IsShared first pages a n from
 pub counts-none : (test : ℕ → Bool) (a n count : ℕ) → n ≡ 0
     → count ≡ count + count_pages test a n
 counts-none test a n count none = omega (arith, count-le test a n)
-
-pub add-none : (count more : ℕ) → more ≡ 0 → count ≡ count + more
-add-none count more none = omega arith
-
-pub sent-fits : (test : ℕ → Bool) (from page to old count : ℕ)
-    → count ≡ old + count_pages test from (page - from) → from ≤ page → page < to
-    → old + (to - from) < 2 ^ 64 → count + 1 < 2 ^ 64
-sent-fits test from page to old count is le lt fits =
-    omega (arith, count-le test from (page - from))
 
 pub sent-counted : (test : ℕ → Bool) (from page old count more : ℕ) → from ≤ page
     → count ≡ old + count_pages test from (page - from)

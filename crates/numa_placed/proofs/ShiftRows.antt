@@ -1,11 +1,11 @@
 -- Moves as far as there is room: what stays, and worked rows.
-use Rattle.std.proofs.Common.{◌≡◌, ◌≢◌, ℕ, ◌^◌, Bool, true, false, Some, None, refl, inl, inr, ap}
+use Rattle.std.proofs.Common.{◌≡◌, ◌≢◌, ℕ, ◌^◌, true, Some, None, refl, inl, inr, ap}
 use Rattle.std.proofs.Common.{◌∙◌, ◌+◌}
-use Rattle.std.specs.Prelude.{if◌then◌else◌, nat_lt}
+use Rattle.std.specs.Prelude.{nat_lt}
 use Rattle.std.proofs.lemmas.Bool.{cases_Bool}
 use Rattle.numa_mask.specs.NodeSet.{has, weight_of}
 use Rattle.numa_placed.specs.Moves.{moved_node}
-use Rattle.numa_placed.specs.Shifts.{endless, shift_of, shifted, shifted_spot, source_from}
+use Rattle.numa_placed.specs.Shifts.{shift_of, shifted, shifted_spot, source_from}
 use Rattle.numa_placed.specs.Shifts.{stated_below}
 use Rattle.numa_placed.specs.Spots.{is_placed, pages_where}
 use Rattle.numa_placed.specs.declared.spot.Spot.{Spot}

@@ -1,7 +1,7 @@
 -- The order in which nodes go, and how many pages of each.
-use Rattle.std.proofs.Common.{◌≡◌, ℕ, zero, suc, ◌+◌, ◌*◌, ◌-◌, ◌<◌, ◌≤◌, ◌&&◌, Bool, true, false}
-use Rattle.std.proofs.Common.{not, eqb, Option, Some, None, refl, arith, inl, inr}
-use Rattle.std.specs.Prelude.{min, if◌then◌else◌}
+use Rattle.std.proofs.Common.{◌≡◌, ℕ, zero, suc, ◌+◌, ◌*◌, ◌<◌, ◌≤◌, Bool, true, false}
+use Rattle.std.proofs.Common.{eqb, Option, Some, None, refl, arith, inl, inr}
+use Rattle.std.specs.Prelude.{if◌then◌else◌}
 use Rattle.std.proofs.lemmas.Bool.{cases_Bool, cases_eq, eq-eqb, ne_eqb}
 use Rattle.numa_placed.specs.Shifts.{Going, is_clear, later_of, may_go, source_from, step, stepped}
 use Rattle.numa_placed.specs.Shifts.{stay_on, steps, sum_below}

@@ -1,62 +1,118 @@
 -- Where pages go that lie astray when the policy of a span is set anew (mbind(2), MPOL_MF_MOVE).
-use Rattle.std.specs.Prelude.{◌≡◌, ℕ, ◌^◌, ◌==◌, ◌&&◌, Bool, false, not, is_some, Option, Some}
-use Rattle.std.specs.Prelude.{None, List, slice_get, if◌then◌else◌}
+-- The lowest page goes first, each to the first node of its own list that has room by then.
+use Rattle.std.specs.Prelude.{◌≡◌, ℕ, zero, suc, ◌^◌, ◌==◌, ◌&&◌, Bool, false, true, not, is_some}
+use Rattle.std.specs.Prelude.{Option, Some, None, List, [], ◌∷◌, if◌then◌else◌}
 use Rattle.numa_ranges.specs.Counts.{count_pages}
 use Rattle.numa_ranges.specs.Runs.{in_pages, page_at}
+use Rattle.numa_space.specs.History.{page_of, page_count}
 use Rattle.numa_space.specs.Standing.{SpaceState, list_in, place_refusal_in}
 use Rattle.numa_machine.specs.declared.refusal.PlaceRefusal.{PlaceRefusal}
 use Rattle.numa_placed.specs.Astray.{is_astray}
+use Rattle.numa_placed.specs.Shifts.{AreRooms, room_moved}
 use Rattle.numa_placed.specs.Spots.{stated_spot}
 use Rattle.numa_placed.specs.declared.bound.Bound.{Bound}
+use Rattle.numa_placed.specs.declared.rooms.Rooms.{Rooms}
 use Rattle.numa_placed.specs.declared.spot.Spot.{Spot}
 use Rattle.numa_placed.specs.declared.spot.Spot.TheVariants.{Nowhere, Stated, Held}
 
--- the first node of a list, where nothing stands against asking for it
-abbrev pub first_unless : Option PlaceRefusal → List ℕ → Option ℕ
-first_unless None list = slice_get list 0
-first_unless (Some refusal) list = None
+-- ---- what is asked
 
--- the first node of a page's list, for a fault of the task on the node
-abbrev pub first_in : SpaceState → ℕ → ℕ → ℕ → Option ℕ
-first_in space task cpu page = first_unless
+-- the pages of a span, the list of their policy, and each page's own list of nodes
+pub record Asked : Type 0 where
+  pub first : ℕ
+  pub pages : ℕ
+  pub list : ℕ
+  pub nodes : ℕ → List ℕ
+
+-- a list of nodes, where nothing stands against asking for it
+abbrev pub list_unless : Option PlaceRefusal → List ℕ → List ℕ
+list_unless None list = list
+list_unless (Some refusal) list = []
+
+-- a page's list of nodes, for a fault of the task on the node
+abbrev pub nodes_in : SpaceState → ℕ → ℕ → ℕ → List ℕ
+nodes_in space task cpu page = list_unless
     (place_refusal_in space.machine.nodes (is_some (page_at space.ranges page)) cpu)
     (list_in space task page cpu)
+
+-- so many pages from one on, by pages and by bytes
+abbrev pub asked_in : SpaceState → ℕ → ℕ → ℕ → ℕ → ℕ → Asked
+asked_in space first pages list task cpu =
+    record { first = first; pages = pages; list = list; nodes = nodes_in space task cpu }
+
+abbrev pub asked_of : SpaceState → ℕ → ℕ → ℕ → ℕ → ℕ → Asked
+asked_of space start bytes = asked_in space (page_of start) (page_count bytes)
+
+-- whether a page that lies here is of the span, and astray
+abbrev pub strays : Asked → ℕ → Spot → Bool
+strays asked page spot = in_pages asked.first asked.pages page && is_astray asked.list spot
+
+-- ---- one page
+
+-- the first node of a list that has room
+abbrev pub first_with_room : (ℕ → ℕ) → List ℕ → Option ℕ
+first_with_room room [] = None
+first_with_room room (node ∷ nodes) =
+    if room node == 0 then first_with_room room nodes else Some node
 
 -- a page that goes to a node, if there is one
 abbrev pub sent_spot : Option ℕ → Spot → Spot
 sent_spot None spot = spot
 sent_spot (Some node) spot = stated_spot node spot
 
--- a page whose policy has this list, and whose own node list begins with this node
-abbrev pub bound_spot : ℕ → Option ℕ → Spot → Spot
-bound_spot list first spot = if is_astray list spot then sent_spot first spot else spot
+-- the rooms once a page that lies here went there
+abbrev pub room_sent : (ℕ → ℕ) → Option ℕ → Spot → ℕ → ℕ
+room_sent room None spot = room
+room_sent room (Some node) spot = room_moved room node spot
 
--- the pages of a span bound to a list
-abbrev pub bound_spots : ℕ → ℕ → ℕ → (ℕ → Option ℕ) → (ℕ → Spot) → ℕ → Spot
-bound_spots first pages list firsts spots page = if in_pages first pages page
-    then bound_spot list (firsts page) (spots page) else spots page
-
--- whether a page that is sent to a node, if there is one, goes to another
+-- whether it goes to another node
 abbrev pub is_sent : Option ℕ → Spot → Bool
 is_sent None spot = false
 is_sent (Some node) Nowhere = false
 is_sent (Some node) (Stated from) = not (from == node)
 is_sent (Some node) (Held from) = false
 
--- whether it has another node to go to, and stays
+-- whether it finds no room, or has another node to go to, and stays
 abbrev pub is_kept : Option ℕ → Spot → Bool
-is_kept None spot = false
+is_kept None spot = true
 is_kept (Some node) Nowhere = false
 is_kept (Some node) (Stated from) = false
 is_kept (Some node) (Held from) = not (from == node)
 
--- how many pages of a span lie astray and pass the test
-abbrev pub astray_pages : (Option ℕ → Spot → Bool) → ℕ → ℕ → ℕ → (ℕ → Option ℕ) → (ℕ → Spot) → ℕ
-astray_pages test first pages list firsts spots = count_pages (λ page. in_pages first pages page
-    && (is_astray list (spots page) && test (firsts page) (spots page))) 0 (2 ^ 35)
+-- ---- page by page
 
--- what is told of it
-pub record IsBound (first pages list : ℕ) (firsts : ℕ → Option ℕ) (spots : ℕ → Spot)
-    (told : Bound) : Type 0 where
-  pub moved : told.moved ≡ astray_pages is_sent first pages list firsts spots
-  pub left : told.left ≡ astray_pages is_kept first pages list firsts spots
+-- the node to which each page goes, by the rooms that it finds
+abbrev pub goal_at : (ℕ → List ℕ) → (ℕ → ℕ → ℕ) → ℕ → Option ℕ
+goal_at nodes rooms page = first_with_room (rooms page) (nodes page)
+
+-- the rooms that a page finds: those once the pages below it went
+unfoldable pub room_before : Asked → (ℕ → Spot) → (ℕ → ℕ) → ℕ → ℕ → ℕ
+room_before asked spots room zero = room
+room_before asked spots room (suc page) = if strays asked page (spots page)
+    then room_sent (room_before asked spots room page)
+    (first_with_room (room_before asked spots room page) (asked.nodes page)) (spots page)
+    else room_before asked spots room page
+
+abbrev pub goals : Asked → (ℕ → Spot) → (ℕ → ℕ) → ℕ → Option ℕ
+goals asked spots room = goal_at asked.nodes (room_before asked spots room)
+
+-- where each page lies once it went
+abbrev pub bound_by : Asked → (ℕ → Option ℕ) → (ℕ → Spot) → ℕ → Spot
+bound_by asked goal spots page = if strays asked page (spots page)
+    then sent_spot (goal page) (spots page) else spots page
+
+abbrev pub bound_spots : Asked → (ℕ → Spot) → (ℕ → ℕ) → ℕ → Spot
+bound_spots asked spots room = bound_by asked (goals asked spots room) spots
+
+-- how many pages of the span lie astray and pass the test
+abbrev pub astray_pages : (Option ℕ → Spot → Bool) → Asked → (ℕ → Option ℕ) → (ℕ → Spot) → ℕ
+astray_pages test asked goal spots = count_pages (λ page. strays asked page (spots page)
+    && test (goal page) (spots page)) 0 (2 ^ 35)
+
+-- the pages went, and this is what is told of it
+pub record IsBound (asked : Asked) (spots : ℕ → Spot) (given : ℕ → ℕ) (after : ℕ → Spot)
+    (rooms : Rooms) (told : Bound) : Type 0 where
+  pub pages : (page : ℕ) → after page ≡ bound_spots asked spots given page
+  pub room : AreRooms rooms (room_before asked spots given (2 ^ 35))
+  pub moved : told.moved ≡ astray_pages is_sent asked (goals asked spots given) spots
+  pub left : told.left ≡ astray_pages is_kept asked (goals asked spots given) spots

@@ -1,7 +1,7 @@
 -- Moves where nodes have room for so many more pages each (mm/mempolicy.c, do_migrate_pages). They
 -- go node by node. A node that fills ends a move: the pages that found no room stay, and so do
 -- those of all nodes that were still to go.
-use Rattle.std.specs.Prelude.{◌≡◌, ℕ, zero, suc, ◌+◌, ◌-◌, ◌<◌, ◌^◌, ◌==◌, ◌&&◌, Bool, true, false}
+use Rattle.std.specs.Prelude.{◌≡◌, ℕ, zero, suc, ◌+◌, ◌-◌, ◌<◌, ◌==◌, ◌&&◌, Bool, true, false}
 use Rattle.std.specs.Prelude.{not, nat_lt, min, List, slice_index, Option, Some, None}
 use Rattle.std.specs.Prelude.{if◌then◌else◌}
 use Rattle.numa_mask.specs.NodeSet.{has}

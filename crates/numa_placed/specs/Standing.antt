@@ -1,7 +1,15 @@
 -- What a move that is on its way stands for.
-use Rattle.std.specs.Prelude.{◌≡◌, ℕ, ◌<◌, Bool, List, slice_index, if◌then◌else◌}
+use Rattle.std.specs.Prelude.{◌≡◌, ℕ, ◌+◌, ◌-◌, ◌<◌, ◌≤◌, ◌&&◌, Bool, true, false, List, Option}
+use Rattle.std.specs.Prelude.{slice_index, if◌then◌else◌}
+use Rattle.numa_ranges.specs.Counts.{count_pages}
+use Rattle.numa_placed.specs.Binds.{goal_at, is_kept, is_sent, room_sent, sent_spot}
 use Rattle.numa_placed.specs.Shifts.{ArePages, AreRooms, Going}
+use Rattle.numa_placed.specs.declared.bind.Walk.{Walk}
+use Rattle.numa_placed.specs.declared.bound.Bound.{Bound}
 use Rattle.numa_placed.specs.declared.course.Course.{Course}
+use Rattle.numa_placed.specs.declared.spot.Spot.{Spot}
+
+-- ---- node by node
 
 -- a list has 1 for each node that passes, else 0
 abbrev pub AreWaiting : List ℕ → (ℕ → Bool) → Type 0
@@ -13,3 +21,32 @@ pub record GoesAs (course : Course) (going : Going) : Type 0 where
   pub room : AreRooms course.rooms going.room
   pub gone : ArePages course.gone going.gone
   pub full : course.full ≡ going.full
+
+-- ---- page by page
+
+-- the rooms that each page finds, from one up to another, where those that pass are sent
+abbrev pub AreFound : (ℕ → Bool) → (ℕ → List ℕ) → Spot → ℕ → ℕ → (ℕ → ℕ → ℕ) → Type 0
+AreFound test nodes spot from to rooms = (page : ℕ) → from ≤ page → page < to
+    → rooms (page + 1) ≡ (if test page then room_sent (rooms page) (goal_at nodes rooms page) spot
+    else rooms page)
+
+-- of the pages from one up to another, which lay here, those that pass were sent
+pub record AreSent (test : ℕ → Bool) (goal : ℕ → Option ℕ) (spot : Spot) (from to : ℕ)
+    (old new : ℕ → Spot) (before after : Bound) : Type 0 where
+  pub below : (page : ℕ) → page < from → new page ≡ old page
+  pub sent : (page : ℕ) → from ≤ page → page < to → test page ≡ true
+      → new page ≡ sent_spot (goal page) (old page)
+  pub kept : (page : ℕ) → from ≤ page → page < to → test page ≡ false → new page ≡ old page
+  pub above : (page : ℕ) → to ≤ page → new page ≡ old page
+  pub moved : after.moved ≡ before.moved + count_pages (λ page. test page
+      && is_sent (goal page) spot) from (to - from)
+  pub left : after.left ≡ before.left + count_pages (λ page. test page
+      && is_kept (goal page) spot) from (to - from)
+
+-- each where it found room
+abbrev pub Sends : (ℕ → Bool) → (ℕ → List ℕ) → Spot → ℕ → ℕ → (ℕ → Spot) → (ℕ → Spot) → Walk
+    → Walk → Type 0
+Sends test nodes spot from to old new before after = (rooms : ℕ → ℕ → ℕ)
+    → AreRooms before.rooms (rooms from) → AreFound test nodes spot from to rooms
+    → AreSent test (goal_at nodes rooms) spot from to old new before.told after.told
+    × AreRooms after.rooms (rooms to)

@@ -1,14 +1,15 @@
 //! Moving the pages of a span that lie astray.
-ghost use Rattle.std.specs.Prelude.{◌≡◌, ◌+◌, ◌-◌, ◌<◌, ◌≤◌, ◌^◌, ◌&&◌, ℕ, true, OnOk, IfOk};
-ghost use Rattle.std.specs.Prelude.{MatchResult, OnErr, if◌then◌else◌, false, Ok, Err, IfErr};
-ghost use Rattle.numa_ranges.specs.Counts.{count_pages};
+ghost use Rattle.std.specs.Prelude.{◌≡◌, ◌+◌, ◌-◌, ◌<◌, ◌≤◌, ◌^◌, ◌==◌, ℕ, true, false, OnOk, IfOk};
+ghost use Rattle.std.specs.Prelude.{IfErr, IfSome, OnErr};
 ghost use Rattle.numa_ranges.specs.Maps.{IsSpan};
 ghost use Rattle.numa_ranges.specs.Runs.{end_of, in_pages};
 ghost use Rattle.numa_placed.specs.Astray.{is_astray};
-ghost use Rattle.numa_placed.specs.Binds.{IsBound, astray_pages, bound_spot, bound_spots, first_in};
-ghost use Rattle.numa_placed.specs.Binds.{is_kept, is_sent, sent_spot};
+ghost use Rattle.numa_placed.specs.Binds.{IsBound, asked_in, bound_spots, first_with_room, is_kept};
+ghost use Rattle.numa_placed.specs.Binds.{is_sent, nodes_in, room_sent, sent_spot, strays};
 ghost use Rattle.numa_placed.specs.Refusals.{IsLack};
+ghost use Rattle.numa_placed.specs.Shifts.{AreRooms, room_of};
 ghost use Rattle.numa_placed.specs.Spots.{changed_spots, pages_if, spot_at, too_many};
+ghost use Rattle.numa_placed.specs.Standing.{Sends};
 ghost use Rattle.numa_placed.specs.Wholes.{AreWhole, IsKept};
 
 use crate::astray::is_astray;
@@ -16,6 +17,7 @@ use crate::bound::Bound;
 use crate::change::Change;
 use crate::edit::{change_span, put};
 use crate::refusal::PlacedRefusal;
+use crate::rooms::Rooms;
 use crate::spot::Spot;
 use numa_machine::NoMemory;
 use numa_mask::NodeMask;
@@ -29,23 +31,51 @@ pub(crate) struct FaultingTask {
     pub(crate) cpu: u32,
 }
 
-/// The first node of a page's list.
-fn first_node(space: &Space, page: u64, touch: FaultingTask) -> Option<u8>
-    ensures { result ≡ first_in space.now touch.task touch.cpu page }
+/// How far a walk over pages is that are sent: how many more pages each node takes, and what is
+/// told so far.
+#[derive(Clone, Copy)]
+pub(crate) struct Walk {
+    pub(crate) rooms: Rooms,
+    pub(crate) told: Bound,
+}
+
+/// The first node of a list that has room.
+fn first_with_room(nodes: &[u8], rooms: &Rooms) -> Option<u8>
+    ensures first { (room : ℕ → ℕ) → AreRooms rooms.now room
+        → result ≡ first_with_room room nodes.now }
+    ensures room { IfSome result (λ node. 0 < room_of rooms.now node) }
+{
+    for node in nodes {
+        if !rooms.is_full(*node) {
+            return Some(*node);
+        }
+    }
+    None
+}
+
+/// The first node of a page's list that has room.
+fn goal(space: &Space, page: u64, touch: FaultingTask, rooms: &Rooms) -> Option<u8>
+    ensures first { (room : ℕ → ℕ) → AreRooms rooms.now room
+        → result ≡ first_with_room room (nodes_in space.now touch.task touch.cpu page) }
+    ensures room { IfSome result (λ node. 0 < room_of rooms.now node) }
 {
     let Ok(nodes) = space.list_at(touch.task, page, touch.cpu) else {
         return None;
     };
-    nodes.as_slice().first().copied()
+    first_with_room(nodes.as_slice(), rooms)
 }
 
-/// Counts a page that is sent to a node.
-fn count_sent(told: &mut Bound, spot: Spot, node: u8)
-    requires moved { told.old.moved + 1 < 2 ^ 64 }
-    requires left { told.old.left + 1 < 2 ^ 64 }
-    ensures moved { told.new.moved ≡ told.old.moved + pages_if (is_sent (Some node) spot) 1 }
-    ensures left { told.new.left ≡ told.old.left + pages_if (is_kept (Some node) spot) 1 }
+/// Counts a page that goes to a node, if there is one.
+fn count_sent(told: &mut Bound, spot: Spot, goal: Option<u8>)
+    requires { told.old.moved + told.old.left + 1 < 2 ^ 64 }
+    ensures moved { told.new.moved ≡ told.old.moved + pages_if (is_sent goal spot) 1 }
+    ensures left { told.new.left ≡ told.old.left + pages_if (is_kept goal spot) 1 }
+    ensures few { told.new.moved + told.new.left ≤ told.old.moved + told.old.left + 1 }
 {
+    let Some(node) = goal else {
+        told.left += 1;
+        return;
+    };
     match spot {
         Spot::Nowhere => {}
         Spot::Stated(from) => {
@@ -61,36 +91,46 @@ fn count_sent(told: &mut Bound, spot: Spot, node: u8)
     }
 }
 
-/// Sends a page to the first node of its list.
+/// Sends a page to the first node of its list that has room.
 fn send_page(
     map: &mut RangeMap<Spot>,
     space: &Space,
     page: u64,
     spot: Spot,
     touch: FaultingTask,
-    told: &mut Bound,
+    walk: &mut Walk,
 ) -> Result<(), NoMemory>
     requires span { IsSpan page 1 }
     requires whole { AreWhole map.old.runs }
-    requires moved { told.old.moved + 1 < 2 ^ 64 }
-    requires left { told.old.left + 1 < 2 ^ 64 }
+    requires few { walk.old.told.moved + walk.old.told.left + 1 < 2 ^ 64 }
     ensures whole { OnOk result (AreWhole map.new.runs) }
-    ensures spots { OnOk result ((other : ℕ) → spot_at map.new.runs other ≡ changed_spots page 1
-        (sent_spot (first_in space.now touch.task touch.cpu page)) (spot_at map.old.runs) other) }
-    ensures moved { OnOk result (told.new.moved ≡ told.old.moved
-        + pages_if (is_sent (first_in space.now touch.task touch.cpu page) spot) 1) }
-    ensures left { OnOk result (told.new.left ≡ told.old.left
-        + pages_if (is_kept (first_in space.now touch.task touch.cpu page) spot) 1) }
+    ensures spots { (room : ℕ → ℕ) → AreRooms walk.old.rooms room
+        → OnOk result ((other : ℕ) → spot_at map.new.runs other ≡ changed_spots page 1
+        (sent_spot (first_with_room room (nodes_in space.now touch.task touch.cpu page)))
+        (spot_at map.old.runs) other) }
+    ensures room { (room : ℕ → ℕ) → AreRooms walk.old.rooms room
+        → OnOk result (AreRooms walk.new.rooms (room_sent room
+        (first_with_room room (nodes_in space.now touch.task touch.cpu page)) spot)) }
+    ensures moved { (room : ℕ → ℕ) → AreRooms walk.old.rooms room
+        → OnOk result (walk.new.told.moved ≡ walk.old.told.moved + pages_if (is_sent
+        (first_with_room room (nodes_in space.now touch.task touch.cpu page)) spot) 1) }
+    ensures left { (room : ℕ → ℕ) → AreRooms walk.old.rooms room
+        → OnOk result (walk.new.told.left ≡ walk.old.told.left + pages_if (is_kept
+        (first_with_room room (nodes_in space.now touch.task touch.cpu page)) spot) 1) }
+    ensures few { OnOk result (walk.new.told.moved + walk.new.told.left
+        ≤ walk.old.told.moved + walk.old.told.left + 1) }
     ensures limit { map.new.max_ranges ≡ map.old.max_ranges }
 {
-    let Some(node) = first_node(space, page, touch) else {
+    let goal = goal(space, page, touch, &walk.rooms);
+    count_sent(&mut walk.told, spot, goal);
+    let Some(node) = goal else {
         return Ok(());
     };
-    count_sent(told, spot, node);
+    walk.rooms.pass_one(spot, node);
     change_span(map, page, 1, Change::State(node))
 }
 
-/// Sends the pages from one to another, which lie alike, each to the first node of its list.
+/// Sends the pages from one to another, which lie alike.
 fn send_pages(
     map: &mut RangeMap<Spot>,
     space: &Space,
@@ -98,26 +138,21 @@ fn send_pages(
     to: u64,
     spot: Spot,
     touch: FaultingTask,
-    told: &mut Bound,
+    walk: &mut Walk,
 ) -> Result<(), NoMemory>
     requires rises { from < to }
     requires within { to ≤ 2 ^ 35 }
     requires whole { AreWhole map.old.runs }
-    requires moved { told.old.moved + (to - from) < 2 ^ 64 }
-    requires left { told.old.left + (to - from) < 2 ^ 64 }
+    requires few { walk.old.told.moved + walk.old.told.left + (to - from) < 2 ^ 64 }
     ensures whole { OnOk result (AreWhole map.new.runs) }
-    ensures spots { OnOk result ((page : ℕ) → spot_at map.new.runs page
-        ≡ (if in_pages from (to - from) page
-        then sent_spot (first_in space.now touch.task touch.cpu page) (spot_at map.old.runs page)
-        else spot_at map.old.runs page)) }
-    ensures moved { OnOk result (told.new.moved ≡ told.old.moved + count_pages
-        (λ page. is_sent (first_in space.now touch.task touch.cpu page) spot) from (to - from)) }
-    ensures left { OnOk result (told.new.left ≡ told.old.left + count_pages
-        (λ page. is_kept (first_in space.now touch.task touch.cpu page) spot) from (to - from)) }
+    ensures sent { OnOk result (Sends (λ page. true) (nodes_in space.now touch.task touch.cpu) spot
+        from to (spot_at map.old.runs) (spot_at map.new.runs) walk.old walk.new) }
+    ensures few { OnOk result (walk.new.told.moved + walk.new.told.left
+        ≤ walk.old.told.moved + walk.old.told.left + (to - from)) }
     ensures limit { map.new.max_ranges ≡ map.old.max_ranges }
 {
     for page in from..to {
-        let Ok(()) = send_page(map, space, page, spot, touch, told) else {
+        let Ok(()) = send_page(map, space, page, spot, touch, walk) else {
             return Err(NoMemory);
         };
     }
@@ -151,28 +186,18 @@ fn bind_run(
     pages: u64,
     list: &NodeMask,
     touch: FaultingTask,
-    told: &mut Bound,
+    walk: &mut Walk,
 ) -> Result<(), NoMemory>
     requires within { first + pages ≤ 2 ^ 35 }
     requires run { end_of run.now ≤ 2 ^ 35 }
     requires whole { AreWhole map.old.runs }
-    requires same { (page : ℕ) → in_pages run.now.first run.now.pages page ≡ true
-        → spot_at map.old.runs page ≡ run.now.value }
-    requires moved { told.old.moved ≤ 2 ^ 35 }
-    requires left { told.old.left ≤ 2 ^ 35 }
+    requires few { walk.old.told.moved + walk.old.told.left ≤ run.now.first }
     ensures whole { OnOk result (AreWhole map.new.runs) }
-    ensures spots { OnOk result ((page : ℕ) → spot_at map.new.runs page
-        ≡ (if in_pages first pages page && in_pages run.now.first run.now.pages page
-        then bound_spot list.now (first_in space.now touch.task touch.cpu page)
-        (spot_at map.old.runs page) else spot_at map.old.runs page)) }
-    ensures moved { OnOk result (told.new.moved ≡ told.old.moved + count_pages
-        (λ page. in_pages first pages page && (is_astray list.now run.now.value
-        && is_sent (first_in space.now touch.task touch.cpu page) run.now.value)) run.now.first
-        run.now.pages) }
-    ensures left { OnOk result (told.new.left ≡ told.old.left + count_pages
-        (λ page. in_pages first pages page && (is_astray list.now run.now.value
-        && is_kept (first_in space.now touch.task touch.cpu page) run.now.value)) run.now.first
-        run.now.pages) }
+    ensures sent { OnOk result (Sends
+        (λ page. strays (asked_in space.now first pages list.now touch.task touch.cpu) page
+        run.now.value) (nodes_in space.now touch.task touch.cpu) run.now.value run.now.first
+        (end_of run.now) (spot_at map.old.runs) (spot_at map.new.runs) walk.old walk.new) }
+    ensures few { OnOk result (walk.new.told.moved + walk.new.told.left ≤ end_of run.now) }
     ensures limit { map.new.max_ranges ≡ map.old.max_ranges }
 {
     let spot = run.value;
@@ -184,7 +209,7 @@ fn bind_run(
     if from >= to {
         return Ok(());
     }
-    send_pages(map, space, from, to, spot, touch, told)
+    send_pages(map, space, from, to, spot, touch, walk)
 }
 
 /// Sends the pages of a span that lie astray by the runs of another map, run by run.
@@ -196,27 +221,28 @@ fn bind_runs(
     pages: u64,
     list: &NodeMask,
     touch: FaultingTask,
-) -> Result<Bound, NoMemory>
+    rooms: Rooms,
+) -> Result<Walk, NoMemory>
     requires within { first + pages ≤ 2 ^ 35 }
     requires whole { AreWhole map.old.runs }
     requires same { map.old ≡ old.now }
     ensures whole { OnOk result (AreWhole map.new.runs) }
-    ensures spots { OnOk result ((page : ℕ) → spot_at map.new.runs page ≡ bound_spots first pages
-        list.now (first_in space.now touch.task touch.cpu) (spot_at old.now.runs) page) }
-    ensures told { IfOk result (IsBound first pages list.now
-        (first_in space.now touch.task touch.cpu) (spot_at old.now.runs)) }
+    ensures bound { (room : ℕ → ℕ) → AreRooms rooms room → IfOk result (λ walk. IsBound
+        (asked_in space.now first pages list.now touch.task touch.cpu) (spot_at old.now.runs) room
+        (spot_at map.new.runs) walk.rooms walk.told) }
     ensures limit { map.new.max_ranges ≡ map.old.max_ranges }
 {
-    let mut told = Bound { moved: 0, left: 0 };
+    let told = Bound { moved: 0, left: 0 };
+    let mut walk = Walk { rooms, told };
     for run in old.iter() {
-        let Ok(()) = bind_run(map, space, &run, first, pages, list, touch, &mut told) else {
+        let Ok(()) = bind_run(map, space, &run, first, pages, list, touch, &mut walk) else {
             return Err(NoMemory);
         };
     }
-    Ok(told)
+    Ok(walk)
 }
 
-/// Sends the pages of a span that lie astray, each to the first node of its list.
+/// Sends the pages of a span that lie astray, each to the first node of its list that has room.
 pub(crate) fn bind_span(
     map: &mut RangeMap<Spot>,
     space: &Space,
@@ -224,26 +250,32 @@ pub(crate) fn bind_span(
     pages: u64,
     list: &NodeMask,
     touch: FaultingTask,
+    rooms: &mut Rooms,
 ) -> Result<Bound, PlacedRefusal>
     requires within { first + pages ≤ 2 ^ 35 }
     requires kept { IsKept map.old }
     ensures kept { IsKept map.new }
-    ensures spots { OnOk result ((page : ℕ) → spot_at map.new.runs page ≡ bound_spots first pages
-        list.now (first_in space.now touch.task touch.cpu) (spot_at map.old.runs) page) }
-    ensures told { IfOk result (IsBound first pages list.now
-        (first_in space.now touch.task touch.cpu) (spot_at map.old.runs)) }
-    ensures lack { IfErr result (IsLack (bound_spots first pages list.now
-        (first_in space.now touch.task touch.cpu) (spot_at map.old.runs))) }
+    ensures bound { (room : ℕ → ℕ) → AreRooms rooms.old room → IfOk result (IsBound
+        (asked_in space.now first pages list.now touch.task touch.cpu) (spot_at map.old.runs) room
+        (spot_at map.new.runs) rooms.new) }
+    ensures few { OnOk result (too_many (spot_at map.new.runs) ≡ false) }
+    ensures lack { (room : ℕ → ℕ) → AreRooms rooms.old room → IfErr result (IsLack (bound_spots
+        (asked_in space.now first pages list.now touch.task touch.cpu) (spot_at map.old.runs)
+        room)) }
     ensures unchanged { OnErr result (map.new ≡ map.old) }
+    ensures kept_rooms { OnErr result (rooms.new ≡ rooms.old) }
 {
     let Ok(mut next) = map.copy() else {
         return Err(PlacedRefusal::NoMemory);
     };
-    let Ok(told) = bind_runs(&mut next, map, space, first, pages, list, touch) else {
+    let Ok(walk) = bind_runs(&mut next, map, space, first, pages, list, touch, *rooms) else {
         return Err(PlacedRefusal::NoMemory);
     };
     match put(map, next) {
-        Ok(()) => Ok(told),
+        Ok(()) => {
+            *rooms = walk.rooms;
+            Ok(walk.told)
+        }
         Err(lack) => Err(lack),
     }
 }

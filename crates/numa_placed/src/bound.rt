@@ -5,6 +5,6 @@
 pub struct Bound {
     /// The number of pages that went to another node.
     pub moved: u64,
-    /// The number of pages that had another node to go to, and stayed.
+    /// The number of pages that had another node to go to, or found none with room, and stayed.
     pub left: u64,
 }

@@ -1,9 +1,11 @@
 //! Laws about the definitions that the contracts of this crate cite. The functions do nothing: what
 //! each one ensures is a law.
-ghost use Rattle.std.specs.Prelude.{◌≡◌, ◌≢◌, ◌<◌, ◌≤◌, ◌^◌, ℕ, true, false};
+ghost use Rattle.std.specs.Prelude.{◌≡◌, ◌≢◌, ◌<◌, ◌≤◌, ◌^◌, ℕ, true, false, slice_get};
 ghost use Rattle.numa_mask.specs.NodeSet.{has, weight_of};
+ghost use Rattle.numa_placed.specs.Astray.{is_astray};
+ghost use Rattle.numa_placed.specs.Binds.{Asked, bound_spots, goals};
 ghost use Rattle.numa_placed.specs.Moves.{moved_node, moved_spot};
-ghost use Rattle.numa_placed.specs.Shifts.{shifted};
+ghost use Rattle.numa_placed.specs.Shifts.{endless, shifted};
 ghost use Rattle.numa_placed.specs.Spots.{is_placed, pages_where, run_count};
 ghost use Rattle.numa_placed.specs.declared.spot.Spot.{Spot};
 ghost use Rattle.numa_placed.specs.declared.spot.Spot.TheVariants.{Stated};
@@ -38,4 +40,16 @@ pub fn moves_within_rooms()
     ensures stays { (spots : ℕ → Spot) (old new : ℕ) (room : ℕ → ℕ) (page node : ℕ)
         → weight_of old ≢ weight_of new → has new node ≡ true → spots page ≡ Stated node
         → shifted spots old new room page ≡ Stated node }
+{}
+
+/// A policy's list loses no page by moving them, and those that lie on its nodes stay. Where no node
+/// fills, each of the others goes to the first node of its own list.
+pub fn bindings_keep_pages()
+    ensures pages { (asked : Asked) (spots : ℕ → Spot) (room : ℕ → ℕ)
+        → pages_where is_placed (bound_spots asked spots room) ≡ pages_where is_placed spots }
+    ensures stays { (asked : Asked) (spots : ℕ → Spot) (room : ℕ → ℕ) (page : ℕ)
+        → is_astray asked.list (spots page) ≡ false
+        → bound_spots asked spots room page ≡ spots page }
+    ensures endless { (asked : Asked) (spots : ℕ → Spot) (page : ℕ)
+        → goals asked spots (λ node. endless) page ≡ slice_get (asked.nodes page) 0 }
 {}

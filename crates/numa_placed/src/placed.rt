@@ -5,7 +5,7 @@ ghost use Rattle.numa_mask.specs.NodeSet.{both};
 ghost use Rattle.numa_ranges.specs.Runs.{AreApart, AreMaximal, page_at};
 ghost use Rattle.numa_space.specs.History.{page_of, page_count};
 ghost use Rattle.numa_placed.specs.Astray.{strict_cause};
-ghost use Rattle.numa_placed.specs.Binds.{IsBound, bound_spots, first_in};
+ghost use Rattle.numa_placed.specs.Binds.{IsBound, asked_of, bound_spots};
 ghost use Rattle.numa_placed.specs.Moves.{IsMove, moved_node};
 ghost use Rattle.numa_placed.specs.Refusals.{IsLack, IsRefusal, IsMoveRefusal, state_cause};
 ghost use Rattle.numa_placed.specs.Refusals.{span_cause};
@@ -305,11 +305,11 @@ impl Placed {
         Ok(())
     }
 
-    /// Moves the pages of a span that lie on other nodes than those of a list, each to the first
-    /// node of its own list in the space, as a fault of the task on node `cpu` would put it: as
-    /// mbind(2) does with MPOL_MF_MOVE, once the policy of the span is set. A page that isn't
-    /// mapped stays, and so does each if the machine has no node `cpu`. Start and length are in
-    /// bytes.
+    /// Moves the pages of a span that lie on other nodes than those of a list, as mbind(2) does with
+    /// MPOL_MF_MOVE once the policy of the span is set: the lowest page first, each to the first node
+    /// of its own list in the space that has room by then, as a fault of the task on node `cpu` would
+    /// put it. A page that isn't mapped finds no room, nor does any if the machine has no node `cpu`.
+    /// Start and length are in bytes.
     ///
     /// # Errors
     /// The first of these that applies; nothing has changed: `Unaligned`, `OutOfSpace`,
@@ -323,27 +323,22 @@ impl Placed {
         list: &NodeMask,
         task: u32,
         cpu: u32,
+        rooms: &mut Rooms,
     ) -> Result<Bound, PlacedRefusal>
         ensures accepted { OnOk result (span_cause start length ≡ None) }
-        ensures ok { OnOk result ((page : ℕ) → spot_at self.new page
-            ≡ bound_spots (page_of start) (page_count length) list.now
-            (first_in space.now task cpu) (spot_at self.old) page) }
-        ensures told { IfOk result (IsBound (page_of start) (page_count length) list.now
-            (first_in space.now task cpu) (spot_at self.old)) }
-        ensures err { IfErr result (IsRefusal (span_cause start length) (bound_spots
-            (page_of start) (page_count length) list.now (first_in space.now task cpu)
-            (spot_at self.old))) }
+        ensures ok { (room : ℕ → ℕ) → AreRooms rooms.old room → IfOk result (IsBound
+            (asked_of space.now start length list.now task cpu) (spot_at self.old) room
+            (spot_at self.new) rooms.new) }
+        ensures few { OnOk result (too_many (spot_at self.new) ≡ false) }
+        ensures err { (room : ℕ → ℕ) → AreRooms rooms.old room → IfErr result (IsRefusal
+            (span_cause start length) (bound_spots
+            (asked_of space.now start length list.now task cpu) (spot_at self.old) room)) }
         ensures unchanged { OnErr result (self.new ≡ self.old) }
+        ensures rooms { OnErr result (rooms.new ≡ rooms.old) }
     {
         let (first, pages) = span_of(start, length)?;
-        bind_span(
-            &mut self.map,
-            space,
-            first,
-            pages,
-            list,
-            FaultingTask { task, cpu },
-        )
+        let touch = FaultingTask { task, cpu };
+        bind_span(&mut self.map, space, first, pages, list, touch, rooms)
     }
 
     /// Moves a page to a node, as move_pages(2) does. A page that lies there stays.

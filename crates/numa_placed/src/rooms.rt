@@ -52,6 +52,13 @@ impl Rooms {
         Some(pages)
     }
 
+    /// Whether a node takes no more pages.
+    pub(crate) fn is_full(&self, node: u8) -> bool
+        ensures { (room : ℕ → ℕ) → AreRooms self.now room → result ≡ (room node == 0) }
+    {
+        self.pages[node as usize] == 0
+    }
+
     /// Says how many more pages a node takes; 2^64 - 1 if it never fills.
     pub fn limit(&mut self, node: u8, pages: u64)
         ensures { (room : ℕ → ℕ) → AreRooms self.old room

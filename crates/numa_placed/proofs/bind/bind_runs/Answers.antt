@@ -1,84 +1,67 @@
-use Rattle.std.proofs.Common.{◌≡◌, ℕ, List, Option, ap, refl, subst, sym, ◌∙◌}
+use Rattle.std.proofs.Common.{◌≡◌, List, arith, refl, subst, sym, ◌∙◌}
 use Rattle.numa_ranges.specs.Ranges.{Ranges}
+use Rattle.numa_ranges.specs.Runs.{AreApart, end_of}
 use Rattle.numa_ranges.specs.declared.run.Run.{Run}
-use Rattle.numa_placed.specs.Binds.{first_in, is_kept, is_sent}
+use Rattle.numa_ranges.proofs.Apart.{apart-top}
+use Rattle.numa_placed.specs.Binds.{asked_in}
 use Rattle.numa_placed.specs.Spots.{spot_at}
+use Rattle.numa_placed.specs.declared.bind.Walk.{Walk}
 use Rattle.numa_placed.specs.declared.spot.Spot.{Spot}
-use Rattle.numa_placed.proofs.Binding.{IsBinding, binding-begins, binding-few, binding-next}
-use Rattle.numa_placed.proofs.Binding.{counts-end, run-fits, run-same}
+use Rattle.numa_placed.proofs.Binding.{IsBinding, binding-begins, binding-ends, binding-next}
 use Rattle.numa_placed.proofs.bind.bind_runs.Goals as goal
 
 pub loop-run-init : goal.loop-run-init
 loop-run-init c =
-    let firsts : ℕ → Option ℕ = first_in c.args.space.now c.args.touch.task c.args.touch.cpu in
+    let asked = asked_in c.args.space.now c.args.first c.args.pages c.args.list.now
+    c.args.touch.task c.args.touch.cpu in
     let all : c.into_iter-run-iterator.result ≡ c.args.old.now.runs =
     c.into_iter-run-iterator.ensures.into_iter_gives ∙ c.iter-run-items.ensures.runs in
-    let begun = binding-begins c.args.first c.args.pages c.args.list.now firsts c.args.old.now.runs
-    c.iter-run-items.ensures.rising in
+    let apart = c.iter-run-items.ensures.rising in
+    let walk : Walk = record { rooms = c.args.rooms; told = record { moved = 0; left = 0 } } in
     record {
       whole = c.requires.whole;
       limit = refl;
-      binding =
-          subst (λ (rest : List (Run Spot)). IsBinding c.args.first c.args.pages
-          c.args.list.now firsts
-          c.args.old.now.runs rest (spot_at c.args.map.now.runs) 0 0) (sym all)
-          (subst (λ (map : Ranges Spot). IsBinding c.args.first c.args.pages c.args.list.now firsts
-          c.args.old.now.runs c.args.old.now.runs (spot_at map.runs) 0 0) (sym c.requires.same)
-          begun);
+      few = (0, subst (AreApart 0) (sym all) apart, omega arith);
+      binding = λ room are.
+          subst (λ (rest : List (Run Spot)). IsBinding asked room c.args.old.now.runs rest
+          (spot_at c.args.map.now.runs) walk) (sym all)
+          (subst (λ (map : Ranges Spot). IsBinding asked room c.args.old.now.runs
+          c.args.old.now.runs (spot_at map.runs) walk) (sym c.requires.same)
+          (binding-begins asked room c.args.old.now.runs walk refl refl are apart));
     }
 
 pub bind_run-requires-clause-run : goal.bind_run-requires-clause-run
 bind_run-requires-clause-run c =
-    let firsts : ℕ → Option ℕ = first_in c.args.space.now c.args.touch.task c.args.touch.cpu in
-    run-fits c.args.first c.args.pages c.args.list.now firsts c.args.old.now.runs
-    c.loop-run.run-iterator c.next.new.self c.in-Some.run' (spot_at c.loop-run.map.runs)
-    c.in-Some.ensures.steps c.loop-run.invariant.binding.bound
+    let few = c.loop-run.invariant.few in
+    let apart = subst (AreApart few.0) c.in-Some.ensures.steps few.1 in
+    apart-top (end_of c.in-Some.run') c.next.new.self apart.3
 
-pub bind_run-requires-clause-same : goal.bind_run-requires-clause-same
-bind_run-requires-clause-same c =
-    let firsts : ℕ → Option ℕ = first_in c.args.space.now c.args.touch.task c.args.touch.cpu in
-    run-same c.args.first c.args.pages c.args.list.now firsts c.args.old.now.runs
-    c.loop-run.run-iterator c.next.new.self c.in-Some.run' (spot_at c.loop-run.map.runs)
-    c.in-Some.ensures.steps c.loop-run.invariant.binding.bound
-
-pub bind_run-requires-clause-moved : goal.bind_run-requires-clause-moved
-bind_run-requires-clause-moved c =
-    let firsts : ℕ → Option ℕ = first_in c.args.space.now c.args.touch.task c.args.touch.cpu in
-    (binding-few c.args.first c.args.pages c.args.list.now firsts c.args.old.now.runs
-    c.loop-run.run-iterator (spot_at c.loop-run.map.runs) c.loop-run.told.moved
-    c.loop-run.told.left c.loop-run.invariant.binding).0
-
-pub bind_run-requires-clause-left : goal.bind_run-requires-clause-left
-bind_run-requires-clause-left c =
-    let firsts : ℕ → Option ℕ = first_in c.args.space.now c.args.touch.task c.args.touch.cpu in
-    (binding-few c.args.first c.args.pages c.args.list.now firsts c.args.old.now.runs
-    c.loop-run.run-iterator (spot_at c.loop-run.map.runs) c.loop-run.told.moved
-    c.loop-run.told.left c.loop-run.invariant.binding).1
+pub bind_run-requires-clause-few : goal.bind_run-requires-clause-few
+bind_run-requires-clause-few c =
+    let few = c.loop-run.invariant.few in
+    let apart = subst (AreApart few.0) c.in-Some.ensures.steps few.1 in
+    omega (arith, few.2, apart.0)
 
 pub loop-run-preserved : goal.loop-run-preserved
 loop-run-preserved c =
-    let firsts : ℕ → Option ℕ = first_in c.args.space.now c.args.touch.task c.args.touch.cpu in
+    let asked = asked_in c.args.space.now c.args.first c.args.pages c.args.list.now
+    c.args.touch.task c.args.touch.cpu in
+    let few = c.loop-run.invariant.few in
+    let apart = subst (AreApart few.0) c.in-Some.ensures.steps few.1 in
     record {
       whole = c.in-Ok.ensures.whole;
       limit = c.bind_run.ensures.limit ∙ c.loop-run.invariant.limit;
-      binding = binding-next c.args.first c.args.pages c.args.list.now firsts
-          c.args.old.now.runs c.loop-run.run-iterator c.next.new.self c.in-Some.run'
-          (spot_at c.loop-run.map.runs) (spot_at c.bind_run.new.map.runs) c.loop-run.told.moved
-          c.loop-run.told.left c.bind_run.new.told.moved c.bind_run.new.told.left
-          c.in-Some.ensures.steps c.loop-run.invariant.binding c.in-Ok.ensures.spots
-          c.in-Ok.ensures.moved c.in-Ok.ensures.left;
+      few = (end_of c.in-Some.run', apart.3, c.in-Ok.ensures.few);
+      binding = λ room are. binding-next asked room c.args.old.now.runs c.loop-run.run-iterator
+          c.next.new.self c.in-Some.run' (spot_at c.loop-run.map.runs) c.loop-run.walk
+          c.in-Some.ensures.steps (c.loop-run.invariant.binding room are)
+          (spot_at c.bind_run.new.map.runs) c.bind_run.new.walk c.in-Ok.ensures.sent;
     }
 
-pub returns-clause-told : goal.returns-clause-told
-returns-clause-told c =
-    let firsts : ℕ → Option ℕ = first_in c.args.space.now c.args.touch.task c.args.touch.cpu in
-    let over = c.in-None.ensures.steps.0 in
-    let binding = c.loop-run.invariant.binding in
-    record {
-      moved = counts-end c.args.first c.args.pages c.args.list.now firsts c.args.old.now.runs
-          c.loop-run.run-iterator (spot_at c.loop-run.map.runs) over binding.bound is_sent
-          c.loop-run.told.moved binding.sent;
-      left = counts-end c.args.first c.args.pages c.args.list.now firsts c.args.old.now.runs
-          c.loop-run.run-iterator (spot_at c.loop-run.map.runs) over binding.bound is_kept
-          c.loop-run.told.left binding.kept;
-    }
+pub returns-clause-bound : goal.returns-clause-bound
+returns-clause-bound c room are =
+    let asked = asked_in c.args.space.now c.args.first c.args.pages c.args.list.now
+    c.args.touch.task c.args.touch.cpu in
+    binding-ends asked room c.args.old.now.runs c.loop-run.run-iterator
+    (spot_at c.loop-run.map.runs) c.loop-run.walk c.in-None.ensures.steps.0
+    (c.loop-run.invariant.binding room are)

@@ -1,6 +1,8 @@
 -- What is bound so far, and counted.
-use Rattle.std.proofs.Common.{◌≡◌}
-use Rattle.numa_placed.specs.Binds.{first_in}
+use Rattle.std.proofs.Common.{◌≡◌, ℕ, ◌+◌, ◌≤◌}
+use Rattle.numa_ranges.specs.Runs.{AreApart}
+use Rattle.numa_placed.specs.Binds.{asked_in}
+use Rattle.numa_placed.specs.Shifts.{AreRooms}
 use Rattle.numa_placed.specs.Spots.{spot_at}
 use Rattle.numa_placed.specs.Wholes.{AreWhole}
 use Rattle.numa_placed.proofs.Binding.{IsBinding}
@@ -10,6 +12,8 @@ abbrev pub invariant-loop-run : goal.invariant-loop-run
 invariant-loop-run l = record {
   whole : AreWhole l.map.runs;
   limit : l.map.max_ranges ≡ l.fn.map.max_ranges;
-  binding : IsBinding l.first l.pages l.list (first_in l.space l.touch.task l.touch.cpu) l.old.runs
-      l.run-iterator (spot_at l.map.runs) l.told.moved l.told.left;
+  few : (low : ℕ) × AreApart low l.run-iterator × (l.walk.told.moved + l.walk.told.left ≤ low);
+  binding : (room : ℕ → ℕ) → AreRooms l.fn.rooms room → IsBinding
+      (asked_in l.space l.first l.pages l.list l.touch.task l.touch.cpu) room l.old.runs
+      l.run-iterator (spot_at l.map.runs) l.walk;
 }

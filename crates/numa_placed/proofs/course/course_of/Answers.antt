@@ -1,6 +1,6 @@
-use Rattle.std.proofs.Common.{◌≡◌, ℕ, ◌-◌, ◌+◌, ◌∙◌, Option, None, Some, sym, suc, refl, arith, ap}
+use Rattle.std.proofs.Common.{◌≡◌, ℕ, ◌-◌, ◌+◌, ◌∙◌, sym, suc, refl, arith, ap}
 use Rattle.std.proofs.Common.{◌<◌, slice_index, subst}
-use Rattle.numa_placed.specs.Shifts.{Going, going_from, source_from, step, steps}
+use Rattle.numa_placed.specs.Shifts.{going_from, step, steps}
 use Rattle.numa_placed.specs.Standing.{GoesAs}
 use Rattle.numa_placed.proofs.Sources.{steps-full, steps-none, steps-end, steps-next}
 use Rattle.numa_placed.proofs.course.course_of.Goals as goal

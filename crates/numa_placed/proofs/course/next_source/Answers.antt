@@ -1,4 +1,4 @@
-use Rattle.std.proofs.Common.{◌≡◌, ℕ, ◌-◌, ◌+◌, ◌∙◌, Bool, Option, None, sym, suc, arith, ap}
+use Rattle.std.proofs.Common.{◌≡◌, ℕ, ◌-◌, ◌+◌, ◌∙◌, Bool, Option, sym, suc, arith, ap}
 use Rattle.numa_placed.specs.Shifts.{later_of, source_from}
 use Rattle.numa_placed.proofs.Sources.{source-clear, source-next, source-none}
 use Rattle.numa_placed.proofs.course.next_source.Goals as goal

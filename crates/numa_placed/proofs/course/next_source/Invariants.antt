@@ -1,5 +1,5 @@
 -- The nodes from this one on give the node that all give.
-use Rattle.std.proofs.Common.{◌≡◌, ℕ, ◌-◌, ◌≤◌, Bool, None}
+use Rattle.std.proofs.Common.{◌≡◌, ℕ, ◌-◌, Bool, None}
 use Rattle.numa_placed.specs.Moves.{AreTargets}
 use Rattle.numa_placed.specs.Shifts.{source_from}
 use Rattle.numa_placed.specs.Standing.{AreWaiting}

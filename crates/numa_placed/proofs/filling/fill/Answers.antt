@@ -1,4 +1,4 @@
-use Rattle.std.proofs.Common.{◌≡◌, ℕ, ◌≤◌, ◌∙◌, ap, arith, refl, slice_index, subst}
+use Rattle.std.proofs.Common.{◌≡◌, ℕ, ◌∙◌, ap, arith, refl, subst}
 use Rattle.numa_placed.specs.Moves.{moved_node}
 use Rattle.numa_placed.specs.Refusals.{IsLack}
 use Rattle.numa_placed.specs.Shifts.{going_from, room_of, shift_of, shifted, stated_on}

@@ -1,4 +1,4 @@
-use Rattle.std.proofs.Common.{◌≡◌, ℕ, ◌+◌, ◌≤◌, ◌^◌, ◌∙◌, ap, arith, slice_index, suc, sym}
+use Rattle.std.proofs.Common.{◌≡◌, ℕ, ◌+◌, ◌^◌, ◌∙◌, ap, arith, slice_index, suc, sym}
 use Rattle.numa_placed.specs.Shifts.{stay_on, sum_below}
 use Rattle.numa_placed.proofs.Sources.{stay-few, sum-none, sum-next}
 use Rattle.numa_placed.proofs.filling.stay.Goals as goal

@@ -1,6 +1,6 @@
 -- The sum so far.
 use Rattle.std.proofs.Common.{◌≡◌, ◌*◌, ◌≤◌, ◌^◌, slice_index}
-use Rattle.numa_placed.specs.Shifts.{stay_on, sum_below}
+use Rattle.numa_placed.specs.Shifts.{sum_below}
 use Rattle.numa_placed.proofs.filling.sum.Given as goal
 
 abbrev pub invariant-loop-node : goal.invariant-loop-node

@@ -1,7 +1,7 @@
-use Rattle.std.proofs.Common.{◌≡◌, ℕ, ◌+◌, ◌≤◌, ◌^◌, ◌∙◌, ap, arith, slice_index}
+use Rattle.std.proofs.Common.{◌^◌, ◌∙◌, arith, slice_index}
 use Rattle.numa_placed.specs.Moves.{is_left, moved_node}
-use Rattle.numa_placed.specs.Shifts.{stated_on, stay_on, sum_below}
-use Rattle.numa_placed.specs.Spots.{pages_where, spot_at}
+use Rattle.numa_placed.specs.Shifts.{stated_on, stay_on}
+use Rattle.numa_placed.specs.Spots.{spot_at}
 use Rattle.numa_placed.proofs.Shared.{count-le}
 use Rattle.numa_placed.proofs.Sources.{stay-same, sum-same}
 use Rattle.numa_placed.proofs.filling.tell.Goals as goal

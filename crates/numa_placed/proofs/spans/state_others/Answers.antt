@@ -1,7 +1,7 @@
 use Rattle.std.proofs.Common.{ℕ, Bool, is_some, ap, ◌∙◌}
 use Rattle.numa_ranges.specs.Ranges.{Ranges}
 use Rattle.numa_ranges.specs.Runs.{page_at}
-use Rattle.numa_placed.specs.Spots.{passed_over, spot_at, stated_beside, stated_spots}
+use Rattle.numa_placed.specs.Spots.{passed_over, spot_at, stated_beside}
 use Rattle.numa_placed.specs.declared.spot.Spot.{Spot}
 use Rattle.numa_placed.proofs.Edits.{edit-alike}
 use Rattle.numa_placed.proofs.spans.state_others.Goals as goal

@@ -1,8 +1,7 @@
-use Rattle.std.proofs.Common.{◌≡◌, ℕ, ◌+◌, ◌<◌, ◌≤◌, ◌^◌, ◌∙◌, ap, sym, subst, refl, arith}
+use Rattle.std.proofs.Common.{◌≡◌, ℕ, ◌+◌, ◌≤◌, ap, sym, subst, refl, arith}
 use Rattle.std.proofs.lemmas.Simd.{get_or-replicate}
 use Rattle.numa_ranges.proofs.Counted.{count-agree}
-use Rattle.numa_ranges.specs.Runs.{AreApart}
-use Rattle.numa_placed.specs.Spots.{is_on, pages_within, spot_at, spot_in, part_pages, pages_if}
+use Rattle.numa_placed.specs.Spots.{is_on, spot_at, spot_in}
 use Rattle.numa_placed.proofs.Parts.{part_sum, parts-counted, parts-over}
 use Rattle.numa_placed.proofs.Shared.{count-le}
 use Rattle.numa_placed.proofs.Stating.{AreLeft, left-fits, left-next}

@@ -1,7 +1,5 @@
 -- The pages counted so far, and those of the runs that are left, are those of all runs.
-use Rattle.std.proofs.Common.{◌≡◌, ℕ, ◌+◌, ◌<◌, ◌≤◌, ◌^◌, get_or, List}
-use Rattle.numa_ranges.specs.Runs.{AreApart}
-use Rattle.numa_ranges.specs.declared.run.Run.{Run}
+use Rattle.std.proofs.Common.{◌≡◌, ℕ, ◌+◌, ◌<◌, get_or}
 use Rattle.numa_placed.specs.Spots.{is_on, pages_within, spot_at}
 use Rattle.numa_placed.proofs.Parts.{part_sum}
 use Rattle.numa_placed.proofs.Stating.{AreLeft}

@@ -1,33 +1,32 @@
-use Rattle.std.proofs.Common.{◌≡◌, ℕ, List, Option, IfOk, subst}
+use Rattle.std.proofs.Common.{ℕ, List, IfOk, subst}
 use Rattle.numa_ranges.specs.declared.run.Run.{Run}
-use Rattle.numa_space.specs.History.{page_of, page_count}
-use Rattle.numa_placed.specs.Binds.{IsBound, bound_spots, first_in}
+use Rattle.numa_space.specs.History.{page_of}
+use Rattle.numa_placed.specs.Binds.{Asked, IsBound, asked_in, asked_of, bound_spots}
 use Rattle.numa_placed.specs.Refusals.{span_cause}
 use Rattle.numa_placed.specs.Spots.{spot_at}
 use Rattle.numa_placed.specs.declared.spot.Spot.{Spot}
 use Rattle.numa_placed.proofs.Edits.{lack-refusal}
 use Rattle.numa_placed.proofs.placed.Placed.bind_astray.Goals as goal
 
-pub returns-clause-told : goal.returns-clause-told
-returns-clause-told c =
-    let firsts : ℕ → Option ℕ = first_in c.args.space.now c.args.task c.args.cpu in
+pub returns-clause-ok : goal.returns-clause-ok
+returns-clause-ok c room are =
     let span = c.in_ok-first.ensures.span in
-    let start : ℕ = page_of c.args.start in
-    let size : ℕ = page_count c.args.length in
-    subst (λ (runs : List (Run Spot)). IfOk c.bind_span.result
-    (IsBound start size c.args.list.now firsts (spot_at runs))) c.self.view_is
-    (subst (λ (n : ℕ). IfOk c.bind_span.result
-    (IsBound start n c.args.list.now firsts (spot_at c.self.inside.map.runs))) span.2
-    (subst (λ (n : ℕ). IfOk c.bind_span.result
-    (IsBound n c.in_ok-first.pages c.args.list.now firsts (spot_at c.self.inside.map.runs)))
-    span.1 c.bind_span.ensures.told))
+    let of : ℕ → ℕ → Asked = λ first pages. asked_in c.args.space.now first pages c.args.list.now
+    c.args.task c.args.cpu in
+    let P : Asked → List (Run Spot) → Type 0 = λ asked runs. IfOk c.bind_span.result
+    (IsBound asked (spot_at runs) room (spot_at c.bind_span.new.map.runs) c.bind_span.new.rooms) in
+    subst (P (asked_of c.args.space.now c.args.start c.args.length c.args.list.now c.args.task
+    c.args.cpu)) c.self.view_is
+    (subst (λ (n : ℕ). P (of (page_of c.args.start) n) c.self.inside.map.runs) span.2
+    (subst (λ (n : ℕ). P (of n c.in_ok-first.pages) c.self.inside.map.runs) span.1
+    (c.bind_span.ensures.bound room are)))
 
 pub returns-clause-err : goal.returns-clause-err
-returns-clause-err c =
-    let firsts : ℕ → Option ℕ = first_in c.args.space.now c.args.task c.args.cpu in
+returns-clause-err c room are =
     let span = c.in_ok-first.ensures.span in
     lack-refusal (span_cause c.args.start c.args.length) _
-    (bound_spots (page_of c.args.start) (page_count c.args.length) c.args.list.now firsts
-    (spot_at c.args.self.now)) c.bind_span.result span.0
-    (λ i. bound_spots (span.1 i) (span.2 i) c.args.list.now firsts (spot_at (c.self.view_is i)))
-    c.bind_span.ensures.lack
+    (bound_spots (asked_of c.args.space.now c.args.start c.args.length c.args.list.now c.args.task
+    c.args.cpu) (spot_at c.args.self.now) room) c.bind_span.result span.0
+    (λ i. bound_spots (asked_in c.args.space.now (span.1 i) (span.2 i) c.args.list.now c.args.task
+    c.args.cpu) (spot_at (c.self.view_is i)) room)
+    (c.bind_span.ensures.lack room are)

@@ -1,5 +1,5 @@
-use Rattle.std.proofs.Common.{◌≡◌, ℕ, Option, None, is_some, ap, rules, sym, subst, ◌∙◌}
-use Rattle.std.specs.Prelude.{IfErr, Result}
+use Rattle.std.proofs.Common.{◌≡◌, Option, None, is_some, ap, sym, subst, ◌∙◌}
+use Rattle.std.specs.Prelude.{IfErr}
 use Rattle.numa_ranges.specs.Runs.{page_at}
 use Rattle.numa_placed.specs.Refusals.{IsMoveRefusal, move_cause}
 use Rattle.numa_placed.specs.Shifts.{first_of, room_cause}
