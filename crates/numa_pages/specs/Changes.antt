@@ -1,6 +1,6 @@
 -- What each call does to a core and its pages, and why it is refused.
-use Rattle.std.specs.Prelude.{◌≡◌, ℕ, ◌==◌, Bool, true, false, Option, Some, None, is_some, List}
-use Rattle.std.specs.Prelude.{◌∷◌, Result, Ok, Err, OnOk, OnErr, IfOk, IfErr, if◌then◌else◌}
+use Rattle.std.specs.Prelude.{◌≡◌, ℕ, ◌==◌, ◌&&◌, Bool, true, false, not, Option, Some, None}
+use Rattle.std.specs.Prelude.{is_some, List, ◌∷◌, Result, Ok, Err, OnOk, OnErr, IfOk, IfErr, if◌then◌else◌}
 use Rattle.numa_core.specs.Executions.{CoreStep}
 use Rattle.numa_core.specs.Standing.{CoreState, LeadsTo, core_step_after, setup_of}
 use Rattle.numa_core.specs.Steps.{accept_answer}
@@ -18,6 +18,7 @@ use Rattle.numa_space.specs.declared.event.Event.TheVariants.{Accept}
 use Rattle.numa_space.specs.declared.refusal.Refusal.{Refusal}
 use Rattle.numa_space.specs.declared.refusal.Refusal.TheVariants as refused
 use Rattle.numa_placed.specs.Astray.{strict_cause}
+use Rattle.numa_placed.specs.Binds.{Asked, IsBound, asked_of, bound_spots}
 use Rattle.numa_placed.specs.Refusals.{IsLack, IsMoveRefusal, IsRefusal, lacks_node}
 use Rattle.numa_placed.specs.Refusals.{migrate_cause, move_cause, span_cause, state_cause}
 use Rattle.numa_placed.specs.Shifts.{AreRooms, IsShift, first_of, room_cause, room_moved, shifted}
@@ -29,6 +30,7 @@ use Rattle.numa_placed.specs.declared.refusal.PlacedRefusal.{PlacedRefusal}
 use Rattle.numa_placed.specs.declared.refusal.PlacedRefusal.TheVariants.{NoSuchNode}
 use Rattle.numa_placed.specs.declared.rooms.Rooms.{Rooms}
 use Rattle.numa_placed.specs.declared.spot.Spot.{Spot}
+use Rattle.numa_pages.specs.declared.binding.Rebound.{Rebound}
 use Rattle.numa_pages.specs.declared.refusal.ChangeRefusal.{ChangeRefusal}
 use Rattle.numa_pages.specs.declared.refusal.ChangeRefusal.TheVariants.{OfSpace, OfPages, NoMemory}
 
@@ -144,6 +146,41 @@ pub record BindsStrictly (start bytes : ℕ) (spec : Specification) (before : Pa
   pub err : IfErr answer (IsStrictCause (strict_cause_of (spot_at before.runs) start bytes spec)
       (Mbind start bytes spec) before.core)
   pub unchanged : OnErr answer (after ≡ before)
+
+-- ---- a policy to which pages move
+
+-- the error number that is told though it is set: of a page that stays where it had to go, by
+-- `strict`; `default` drops that word
+abbrev pub late_errno : Bool → Specification → ℕ → ℕ
+late_errno strict spec left =
+    if strict && (not (is_default spec) && not (left == 0)) then 5 else 0
+
+-- the pages, as they are to lie by the list as it is written, and by the nodes of each in this core
+abbrev pub asked_by : CoreState → ℕ → ℕ → Specification → ℕ → ℕ → Asked
+asked_by core start bytes spec task cpu = asked_of core.space start bytes spec.mask task cpu
+
+-- why it is refused: by the core; or it would accept it, and the pages' runs lack
+abbrev pub IsMovingCause : ℕ → ℕ → Specification → ℕ → ℕ → PagesState → ChangeRefusal → Type 0
+IsMovingCause start bytes spec task cpu pages (OfSpace refusal) =
+    Answers pages.core (Mbind start bytes spec) (Err refusal) pages.core
+IsMovingCause start bytes spec task cpu pages (OfPages cause) = (after : CoreState)
+    × Accepted pages.core (Mbind start bytes spec) after
+    × ((room : ℕ → ℕ) → AreRooms pages.rooms room → IsRefusal (span_cause start bytes)
+    (bound_spots (asked_by after start bytes spec task cpu) (spot_at pages.runs) room) cause)
+IsMovingCause start bytes spec task cpu pages NoMemory = Unit {0}
+
+-- a policy was set for a span, and its pages that lay on other nodes went, as far as there was room
+pub record BindsMoving (start bytes : ℕ) (spec : Specification) (strict : Bool) (task cpu : ℕ)
+    (before : PagesState) (answer : Result Rebound ChangeRefusal) (after : PagesState) : Type 0
+  where
+    pub core : OnOk answer (Accepted before.core (Mbind start bytes spec) after.core)
+    pub pages : (room : ℕ → ℕ) → AreRooms before.rooms room → IfOk answer (λ told. IsBound
+        (asked_by after.core start bytes spec task cpu) (spot_at before.runs) room
+        (spot_at after.runs) after.rooms told.bound)
+    pub errno : IfOk answer (λ told. told.errno ≡ late_errno strict spec told.bound.left)
+    pub setup : setup_of after.core ≡ setup_of before.core
+    pub err : IfErr answer (IsMovingCause start bytes spec task cpu before)
+    pub unchanged : OnErr answer (after ≡ before)
 
 -- ---- allowed nodes that pages follow
 

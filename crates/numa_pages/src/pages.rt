@@ -7,11 +7,11 @@ ghost use Rattle.numa_placed.specs.declared.refusal.PlacedRefusal.TheVariants.{N
 ghost use Rattle.numa_placed.specs.declared.spot.Spot.TheVariants.{Nowhere};
 ghost use Rattle.numa_space.specs.declared.command.Command.{Command};
 ghost use Rattle.numa_core.specs.Standing.{setup_of};
-ghost use Rattle.numa_pages.specs.Changes.{Accepted, Accepts, BindsStrictly, IsCause, IsPagesCause};
-ghost use Rattle.numa_pages.specs.Changes.{Limits, Migrates, MovesMems, MovesPage, Places};
-ghost use Rattle.numa_pages.specs.Changes.{unmaps};
+ghost use Rattle.numa_pages.specs.Changes.{Accepted, Accepts, BindsMoving, BindsStrictly, IsCause};
+ghost use Rattle.numa_pages.specs.Changes.{IsPagesCause, Limits, Migrates, MovesMems, MovesPage};
+ghost use Rattle.numa_pages.specs.Changes.{Places, unmaps};
 
-use crate::binding::{judge_strict, refused_strictly};
+use crate::binding::{Rebound, judge_strict, late_errno, move_astray, refused_strictly};
 use crate::refusal::ChangeRefusal;
 use crate::trial::{TrialError, let_go, tried};
 use numa_core::Core;
@@ -255,6 +255,67 @@ impl Pages {
         match self.core.accept(&command) {
             Ok(version) => Ok(version),
             Err(refusal) => Err(ChangeRefusal::OfSpace(refusal)),
+        }
+    }
+
+    /// Sets the policy of a span's pages, and moves those that lie on nodes that aren't in the
+    /// policy's list as it was asked for: mbind(2) with MPOL_MF_MOVE. The lowest goes first, each to
+    /// the first node with room of its own list, as a fault of the task on node `cpu` would put it;
+    /// of these, one that finds no room stays. With `strict` (MPOL_MF_STRICT too) that is told by an
+    /// error number. `DEFAULT` asks for no list: then each page is moved, and `strict` is dropped.
+    ///
+    /// # Errors
+    /// Nothing has changed. `OfSpace`: as [`Core::accept`]. `OfPages`: `TooManyRuns` or `NoMemory`,
+    /// as [`Placed::bind_astray`]. `NoMemory`: out of memory for a copy.
+    pub fn bind_moving(
+        &mut self,
+        start: u64,
+        length: u64,
+        spec: PolicySpec,
+        strict: bool,
+        task: u32,
+        cpu: u32,
+    ) -> Result<Rebound, ChangeRefusal>
+        ensures { BindsMoving start length spec strict task cpu self.old result self.new }
+    {
+        let command = Command::Mbind {
+            start,
+            length,
+            spec,
+        };
+        match tried(&self.core, &command) {
+            Ok(after) => self.rebind(after, start, length, spec, strict, task, cpu),
+            Err(TrialError::Refused(refusal)) => Err(ChangeRefusal::OfSpace(refusal)),
+            Err(TrialError::NoMemory) => Err(ChangeRefusal::NoMemory),
+        }
+    }
+
+    /// Moves the pages to where the core puts them that is to take the old one's place.
+    fn rebind(
+        &mut self,
+        after: Core,
+        start: u64,
+        length: u64,
+        spec: PolicySpec,
+        strict: bool,
+        task: u32,
+        cpu: u32,
+    ) -> Result<Rebound, ChangeRefusal>
+        requires accepted { Accepted self.old.core (Command.Mbind start length spec) after }
+        requires setup { setup_of after ≡ setup_of self.old.core }
+        ensures { BindsMoving start length spec strict task cpu self.old result self.new }
+    {
+        let (placed, rooms) = (&mut self.placed, &mut self.rooms);
+        match move_astray(placed, rooms, &after, start, length, &spec, task, cpu) {
+            Ok(bound) => {
+                let_go(replace(&mut self.core, after));
+                let errno = late_errno(strict, &spec, bound.left);
+                Ok(Rebound { bound, errno })
+            }
+            Err(cause) => {
+                let_go(after);
+                Err(ChangeRefusal::OfPages(cause))
+            }
         }
     }
 
