@@ -3,7 +3,7 @@
  *
  * A core says where a page would go when it is first touched. An np_pages keeps a core together
  * with where its pages lie: a caller states that pages lie on nodes, and then they go where
- * Linux moves them: when the allowed nodes change, by migrate_pages(2), and by move_pages(2).
+ * Linux moves them: when the allowed nodes change, by migrate_pages(2), move_pages(2) and mbind(2).
  * Each command of that core is given to the np_pages, so that what it tells of the pages is of
  * the core as it is: of a page that was unmapped nothing is stated any more.
  *
@@ -34,6 +34,14 @@ typedef struct np_moves {
     uint8_t to[256];
 } np_moves;
 
+/* What a policy did to the pages of its span: how many went to another node; how many had to go
+ * and found no node with room; and the error number that mbind(2) answers all the same, 5 (EIO)
+ * or 0. */
+typedef struct np_bound {
+    uint64_t moved, left;
+    uint32_t error;
+} np_bound;
+
 /* Pages in a row that lie on one node: the number of the first, and how many they are. */
 typedef struct np_page_run {
     uint64_t first, pages;
@@ -45,10 +53,10 @@ typedef struct np_page_run {
 
 #if defined(__cplusplus) && __cplusplus >= 201103L
 static_assert(sizeof(np_pages) == 16 && sizeof(np_page_run) == 24, "a handle, a struct");
-static_assert(sizeof(np_moves) == 2320, "a struct");
+static_assert(sizeof(np_moves) == 2320 && sizeof(np_bound) == 24, "structs");
 #elif defined(__STDC_VERSION__) && __STDC_VERSION__ >= 201112L
 _Static_assert(sizeof(np_pages) == 16 && sizeof(np_page_run) == 24, "a handle, a struct");
-_Static_assert(sizeof(np_moves) == 2320, "a struct");
+_Static_assert(sizeof(np_moves) == 2320 && sizeof(np_bound) == 24, "structs");
 #endif
 
 /* ---- opening and closing */
@@ -151,6 +159,16 @@ uint32_t np_pages_migrate(np_pages *pages, const uint8_t *from, size_t from_leng
  * order: NP_CLOSED; NP_NO_SUCH_TARGET, also for a node without memory; NP_TARGET_NOT_ALLOWED;
  * NP_PAGE_UNMAPPED; NP_NOT_PLACED; NP_NODE_FULL; NP_TOO_MANY_RUNS, NP_NO_MEMORY. */
 uint32_t np_pages_move(np_pages *pages, uint64_t address, uint32_t node);
+
+/* Gives the pages of a span a policy as np_pages_mbind, and moves those that lie on nodes that
+ * aren't in the policy's list as it is written (mbind(2), MPOL_MF_MOVE; "default" and "local":
+ * all): the lowest first, each to the first node with room of its list, as a fault of the task on
+ * the node `cpu` would put it. What they did is written to `bound`, where NP_OK is answered; where
+ * pages stayed and `strict` (MPOL_MF_STRICT too), which "default" drops, with EIO. A faulty word
+ * is told first: 60 to 63, 70 to 74. NP_CLOSED; 10 to 23; NP_TOO_MANY_RUNS, NP_NO_MEMORY. */
+uint32_t np_pages_mbind_moving(np_pages *pages, uint64_t start, uint64_t length,
+                               const uint8_t *policy, size_t policy_length, bool strict,
+                               uint32_t task, uint32_t cpu, np_bound *bound);
 
 #ifdef __cplusplus
 }

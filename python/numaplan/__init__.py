@@ -36,7 +36,7 @@ from ._core_reports import Move, Route
 from ._cores import Core, Explanation, Placement, Policy, Prediction, Range
 from ._hosts import Group, Host, Process
 from ._library import LIBRARY
-from ._pages import Moved, PageRun, Pages
+from ._pages import Bound, Moved, PageRun, Pages
 from ._plans import Plan
 from ._scripts import Script
 from ._seats import Frame, Seat
@@ -44,7 +44,7 @@ from ._values import effective, nodes, nodes_text, policy_text, rebind
 
 __version__ = "0.10.0"
 __all__ = [
-    "Answer", "Core", "Explanation", "Frame", "Group", "Host", "Move", "Moved",
+    "Answer", "Bound", "Core", "Explanation", "Frame", "Group", "Host", "Move", "Moved",
     "PageRun", "Pages", "Placement", "Plan", "Policy", "Prediction", "Process", "Question", "Range",
     "Report", "Route", "Script", "Seat",
     "check", "diff", "effective", "explain", "nodes", "nodes_text", "policy_text", "predict",
@@ -66,8 +66,8 @@ __all__ = [
     "Unknown", "UnknownMode", "Unmapped",
 ]
 # (as users name them, also where they are pickled)
-for _one in (Core, Explanation, Frame, Group, Host, Move, Moved, PageRun, Pages, Placement, Plan,
-             Policy, Prediction, Process, Range, Route, Script, Seat):
+for _one in (Bound, Core, Explanation, Frame, Group, Host, Move, Moved, PageRun, Pages, Placement,
+             Plan, Policy, Prediction, Process, Range, Route, Script, Seat):
     _one.__module__ = __name__
 
 if TYPE_CHECKING:

@@ -67,6 +67,12 @@ class ToldMoves(ctypes.Structure):
                 ("to", c_uint8 * 256)]
 
 
+class ToldBound(ctypes.Structure):
+    """np_bound."""
+
+    _fields_ = [("moved", c_uint64), ("left", c_uint64), ("error", c_uint32)]
+
+
 class TakenFrame(ctypes.Structure):
     """np_frame."""
 
@@ -237,6 +243,8 @@ _SIGNATURES = {
     "pages_move_mems": [_HANDLE, _TEXT, c_size_t, POINTER(ToldMoves)],
     "pages_migrate": [_HANDLE, _TEXT, c_size_t, _TEXT, c_size_t, POINTER(ToldMoves)],
     "pages_move": [_HANDLE, _U64, _U32],
+    "pages_mbind_moving": [_HANDLE, _U64, _U64, _TEXT, c_size_t, c_bool, _U32, _U32,
+                           POINTER(ToldBound)],
     "core_diff": [_HANDLE, _HANDLE, _U32, _U32, POINTER(SpanMove), c_size_t, POINTER(c_size_t)],
     "core_replay": [_HANDLE, POINTER(Access), c_size_t, POINTER(ToldRoute), c_size_t,
                     POINTER(c_size_t)],

@@ -9,7 +9,7 @@ from ._calls import Owner, call, encoded
 from ._causes import NoRoom, NotPlaced
 from ._cores import Core
 from ._judged import list_of, u32, u64
-from ._library import PagesInRow, ToldMoves
+from ._library import PagesInRow, ToldBound, ToldMoves
 
 ENDLESS = 2**64 - 1  # (NP_ENDLESS)
 
@@ -30,6 +30,15 @@ class Moved(NamedTuple):
     moved: int
     left: int
     flows: dict[tuple[int, int], int]
+
+
+class Bound(NamedTuple):
+    """What a policy did to the pages of its span: how many went to another node, how many had to go and
+    found no node with room, and the error number that mbind(2) answers all the same, 5 (EIO) or 0."""
+
+    moved: int
+    left: int
+    errno: int
 
 
 class Pages(Owner):
@@ -179,6 +188,17 @@ class Pages(Owner):
     def move(self, address: int, node: int) -> None:
         """Moves the page of an address to a node (move_pages(2)); a page that lies there stays."""
         call("pages_move", self._at, u64("address", address), u32("node", node))
+
+    def mbind_moving(self, start: int, length: int, policy: str, task: int, cpu: int, *,
+                     strict: bool = False) -> Bound:
+        """Gives pages a policy as `mbind`, and moves those that lie on nodes that aren't in the
+        policy's list as it is written (MPOL_MF_MOVE): the lowest first, each to the first node with
+        room of its list, as a fault of the task on the node `cpu` would put it. If `strict`, that
+        pages stayed is told as EIO (MPOL_MF_STRICT too; "default" drops it)."""
+        told = ToldBound()
+        call("pages_mbind_moving", self._at, u64("start", start), u64("length", length),
+             *encoded(policy), strict, u32("task", task), u32("cpu", cpu), byref(told))
+        return Bound(told.moved, told.left, told.error)
 
 
 def _moved(told: ToldMoves) -> Moved:

@@ -45,6 +45,7 @@ void rattle_dealloc(void *at) {
 static np_core core, taken;
 static np_pages pages, copy;
 static np_moves moves;
+static np_bound bound;
 static np_page_run told[8];
 static size_t count;
 
@@ -108,10 +109,12 @@ static uint32_t call(int which) {
     case 19: return np_pages_set_mems(&pages, TEXT("0-2"));
     case 20: return np_pages_core(&pages, &taken);
     case 21: return np_pages_runs(&pages, told, 8, &count);
+    case 22:
+        return np_pages_mbind_moving(&pages, 0x10000, 0x2000, TEXT("bind:0"), true, 7, 0, &bound);
     default: return NP_UNKNOWN;
     }
 }
-enum { CALLS = 22 };
+enum { CALLS = 23 };
 
 /* Whether the header says that a call needs no memory. */
 static bool is_free(int which) { return which == 6; }
@@ -132,13 +135,14 @@ static long play(void) {
             see(&pages, &before);
             see(&copy, &of_copy);
             memset(&moves, 9, sizeof moves);
+            memset(&bound, 9, sizeof bound);
             left = growth;
             code = call(which);
             left = -1;
             see(&pages, &after);
             see(&copy, &then);
             bool same = is_same(&before, &after) && is_same(&of_copy, &then);
-            bool untold = moves.moved == UINT64_C(0x0909090909090909);
+            bool untold = moves.moved == UINT64_C(0x0909090909090909) && bound.moved == moves.moved;
             bool well = code == NP_NO_MEMORY ? same && untold && !is_free(which) : code == NP_OK;
             if (!well) {
                 printf("call %d, growth %ld: %u, %s\n", which, growth, code,

@@ -291,6 +291,57 @@ static void strictly(void) {
     np_pages_close(&pages);
 }
 
+/* mbind(2) with MPOL_MF_MOVE: set, moved, left, and the error number, in digits. */
+static unsigned moving(np_pages *pages, uint64_t length, const char *word, bool strict,
+                       uint32_t cpu) {
+    np_bound bound = {7, 7, 7};
+    WANT(np_pages_mbind_moving(pages, BASE, length, TEXT(word), strict, 0, cpu, &bound), NP_OK);
+    return (unsigned)(bound.moved * 100 + bound.left * 10 + bound.error);
+}
+
+static void rebound(void) {
+    np_pages pages = {0};
+    np_bound bound = {7, 7, 7};
+    open_pages(&pages, 64, 99);
+    place_all(&pages, "012309");
+    /* what lies on a node of the list stays; the others go to the one next to the CPU */
+    WANT(moving(&pages, 0x6000, "bind:0-1", true, 1), 200);
+    WANT(nodes_of(&pages), 7011109);
+    /* each where its own list finds room: 2 for the even pages, and then 0 */
+    WANT(np_pages_set_room(&pages, 2, 1), NP_OK);
+    WANT(moving(&pages, 0x6000, "interleave:2-3", false, 0), 400);
+    WANT(nodes_of(&pages), 7230309);
+    WANT(room_of(&pages, 2), 0);
+    /* a page that leaves gives its room back */
+    WANT(np_pages_place(&pages, BASE, 0x1000, 0), NP_OK);
+    WANT(np_pages_set_room(&pages, 0, 0), NP_OK);
+    WANT(moving(&pages, 0x5000, "bind:3", false, 0), 300);
+    WANT(room_of(&pages, 0), 3);
+    WANT(nodes_of(&pages), 7333339);
+    /* no node of the list has room: left, and told by EIO where that was asked */
+    WANT(np_pages_set_room(&pages, 1, 1), NP_OK);
+    WANT(moving(&pages, 0x3000, "bind:1", true, 0), 125);
+    WANT(moving(&pages, 0x3000, "bind:1", false, 0), 20);
+    WANT(nodes_of(&pages), 7133339);
+    /* "default" has no list, so all may go; the third to what the first left, the rest stay */
+    for (uint32_t node = 0; node < 4; node++)
+        WANT(np_pages_set_room(&pages, node, node == 0 ? 2 : 0), NP_OK);
+    WANT(moving(&pages, 0x5000, "default", true, 0), 300);
+    WANT(nodes_of(&pages), 7001339);
+    WANT(room_of(&pages, 3), 2);
+    /* all nodes are full; "default" drops the EIO */
+    WANT(np_pages_set_room(&pages, 3, 0), NP_OK);
+    WANT(moving(&pages, 0x5000, "default", true, 0), 50);
+    WANT(moving(&pages, 0x5000, "local", true, 0), 55);
+    /* refused: nothing is told */
+    WANT(np_pages_mbind_moving(&pages, BASE, 0x7000, TEXT("bind:3"), true, 0, 0, &bound), NP_HOLE);
+    WANT(np_pages_mbind_moving(&pages, BASE, 0, TEXT("bend"), true, 0, 0, &bound),
+         NP_UNKNOWN_MODE);
+    WANT(bound.moved + bound.left + bound.error, 21);
+    np_pages_close(&pages);
+    WANT(np_pages_mbind_moving(&pages, BASE, 0, TEXT("bind:0"), true, 0, 0, &bound), NP_CLOSED);
+}
+
 /* Of pages that are unmapped nothing is stated any more. */
 static void unmapped(void) {
     np_pages pages = {0};
@@ -437,6 +488,7 @@ int main(void) {
     ended();
     moved();
     strictly();
+    rebound();
     unmapped();
     copies();
     commands();

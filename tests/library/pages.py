@@ -9,7 +9,7 @@ import sys
 from types import SimpleNamespace
 
 import numaplan
-from numaplan import Core, Moved, PageRun, Pages
+from numaplan import Bound, Core, Moved, PageRun, Pages
 
 sys.path.insert(0, os.path.join(os.path.dirname(os.path.abspath(__file__)), "..", "model"))
 
@@ -62,6 +62,11 @@ def worked():
             assert cause.errno == 5
         else:
             raise AssertionError("a page lay astray")
+        with pages.copy() as after:
+            assert after.mbind_moving(BASE, 0x4000, "bind:1", 0, 0) == Bound(2, 0, 0)
+            after.set_room(2, 1)
+            assert after.mbind_moving(BASE, 0x4000, "bind:2", 0, 0, strict=True) == Bound(1, 3, 5)
+            assert after.runs() == [PageRun(16, 1, 2), PageRun(17, 3, 1), PageRun(20, 1, 2)]
         pages.unmap(BASE, 0x1000)
         pages.map(BASE, 0x1000)
         assert pages.node_of(BASE) is None
@@ -98,7 +103,7 @@ def change(state, follows, name, *arguments):
 def a_call(dice, state):
     """What is asked of the model, and the same of the module."""
     (start, length), node = span(dice), min(dice.randrange(7), dice.randrange(7))
-    some, other, word, kind = some_list(dice), some_list(dice), word_of(dice), dice.randrange(16)
+    some, other, word, kind = some_list(dice), some_list(dice), word_of(dice), dice.randrange(18)
     address, asked, nodes = BASE + dice.randrange(4096 * PAGES), asked_policy(word), frozenset(some)
     if kind < 2:
         return (lambda: change(state, False, "map", start, length, start // 4096),
@@ -126,6 +131,10 @@ def a_call(dice, state):
                 lambda pages: pages.place(start, length, node))
     if kind < 14:
         return lambda: model.move(state, address, node), lambda pages: pages.move(address, node)
+    if kind > 15:
+        task, cpu, strict = dice.randrange(2), dice.randrange(NODES), dice.random() < 0.5
+        return (lambda: model.bind_and_move(state, start, length, asked, task, cpu, strict),
+                lambda pages: pages.mbind_moving(start, length, word, task, cpu, strict=strict))
     return (lambda: model.migrate(state, nodes, frozenset(other)),
             lambda pages: pages.migrate(some, other))
 
@@ -154,9 +163,12 @@ def answer(pages, call):
         return (type(cause).__name__, cause.errno), None
 
 
-def told_by(placed):
+def told_by(placed, told, text):
     """What the model's last move did, as the module tells it."""
-    return Moved(sum(placed.flows.values()), placed.left, dict(placed.flows))
+    moved = sum(placed.flows.values())
+    if isinstance(told, Bound):
+        return Bound(moved, placed.left, 5 if text.endswith(" EIO") else 0)
+    return Moved(moved, placed.left, dict(placed.flows))
 
 
 def is_same(pages, state):
@@ -169,12 +181,13 @@ def is_same(pages, state):
 
 
 def play(dice):
-    """A round. How many calls were refused, and how many pages moved."""
+    """A round. How many calls were refused, how many pages moved, and how many policies told that pages
+    stayed."""
     machine, fault = machine_of(None, NODES, frozenset(MEMORY), [0], ("flat", False))
     assert fault is None
     state = SimpleNamespace(space=Space(machine, LIMITS), placed=model.Placed(),
                             crew=SimpleNamespace(kept={}))
-    refused = moved = 0
+    refused = moved = late = 0
     with opened() as pages:
         change(state, False, "map", BASE, 4096 * PAGES, 16)
         pages.map(BASE, 4096 * PAGES)
@@ -182,17 +195,18 @@ def play(dice):
             of_model, of_module = a_call(dice, state)
             text = of_model()
             cause, told = answer(pages, of_module)
-            if cause != wanted(text) or isinstance(told, Moved) and told != told_by(state.placed):
+            if cause != wanted(text) or told and told != told_by(state.placed, told, text):
                 sys.exit(f"step {step}: {cause} {told}, and the model: {text}")
             if not is_same(pages, state) or pages.version != state.space.version:
                 sys.exit(f"step {step}: after {text} pages lie otherwise: {pages.runs()}")
             refused += cause is not None
-            moved += told.moved if isinstance(told, Moved) else 0
-    return refused, moved
+            moved += told.moved if told else 0
+            late += isinstance(told, Bound) and told.errno != 0
+    return refused, moved, late
 
 
 worked()
 dice = random.Random(SEED)
 rounds = [play(dice) for _ in range(ROUNDS)]
 # (so that the seed asks something)
-assert sum(refused for refused, _ in rounds) > 300 and sum(moved for _, moved in rounds) > 300, rounds
+assert all(sum(them) > least for them, least in zip(zip(*rounds), (300, 300, 20))), rounds

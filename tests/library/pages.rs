@@ -1,6 +1,6 @@
 //! Cores with their pages by the Rust wrapper: the rules of cpusets(7), migrate_pages(2), move_pages(2)
 //! and mbind(2), by hand. Not proved.
-use numaplan::{Core, Flow, Moved, PageRun, Pages, Refused};
+use numaplan::{Bound, Core, Flow, Moved, PageRun, Pages, Refused};
 
 const FLAT: [u8; 16] = [10, 20, 20, 20, 20, 10, 20, 20, 20, 20, 10, 20, 20, 20, 20, 10];
 const BASE: u64 = 0x10000;
@@ -43,6 +43,10 @@ fn main() -> Result<(), Refused> {
     assert_eq!(copy.move_page(BASE + 0x5000, 1), Err(Refused::NOT_PLACED));
     assert_eq!(copy.mbind_strictly(BASE, 0x3000, "bind:2"), Err(Refused::ASTRAY));
     copy.mbind_strictly(BASE, 0x2000, "bind:2")?;
+    copy.set_room(1, Some(1))?;
+    let bound = copy.mbind_moving(BASE, 0x2000, "bind:1", true, 0, 0)?;
+    assert_eq!(bound, Bound { moved: 1, left: 1, errno: 5 });
+    assert_eq!(copy.mbind_moving(BASE, 0x7000, "bind:1", true, 0, 0), Err(Refused::HOLE));
     copy.mbind(BASE, 0x3000, "bind:0")?;
     copy.set_home(BASE, 0x1000, 1)?;
     copy.set_task(1, "bind:1")?;

@@ -1,6 +1,7 @@
 -- What the exported calls of pages that are there answer and do.
 use Rattle.std.specs.Prelude.{◌≡◌, ℕ, Option, Some, None, Result, Ok, Err, List, MatchResult, IfOk}
 use Rattle.numa_pages.specs.Changes.{PagesState}
+use Rattle.numa_pages.specs.declared.binding.Rebound.{Rebound}
 use Rattle.numa_pages.specs.declared.listing.PageRun.{PageRun}
 use Rattle.numa_pages.specs.declared.refusal.ChangeRefusal.{ChangeRefusal}
 use Rattle.numa_pages.specs.declared.refusal.ChangeRefusal.TheVariants as change
@@ -11,6 +12,7 @@ use Rattle.numa_placed.specs.declared.refusal.PlacedRefusal.{PlacedRefusal}
 use Rattle.numa_placed.specs.declared.refusal.PlacedRefusal.TheVariants as placed
 use Rattle.numaplan_c.specs.Codes.{refusal_code}
 use Rattle.numaplan_c.specs.Compared.{IsListed}
+use Rattle.numaplan_c.specs.declared.placed_moves.NpBound.{NpBound}
 use Rattle.numaplan_c.specs.declared.placed_moves.NpMoves.{NpMoves}
 use Rattle.numaplan_placed.specs.Pages.{OfPages}
 
@@ -86,6 +88,18 @@ abbrev pub PagesMove : {E : Type 0} → (E → ℕ)
     → Option PagesState → NpMoves → NpMoves → Type 0
 PagesMove code_of told old code new moves moves-then = PagesTell (done_code code_of)
     (TellsMoved moves moves-then) (moves-then ≡ moves) told old code new
+
+-- what a policy did to the pages that it moved is told; where it is refused, what stood there stays
+abbrev pub TellsBound : NpBound → NpBound → Result Rebound ChangeRefusal → Type 0
+TellsBound old new (Ok done) = (new.moved ≡ done.bound.moved) × (new.left ≡ done.bound.left)
+    × (new.error ≡ done.errno)
+TellsBound old new (Err cause) = new ≡ old
+
+-- a call that moves pages by a policy
+abbrev pub PagesBind : (PagesState → Result Rebound ChangeRefusal → PagesState → Type 0)
+    → Option PagesState → ℕ → Option PagesState → NpBound → NpBound → Type 0
+PagesBind told old code new bound bound-then = PagesTell (done_code change_code)
+    (TellsBound bound bound-then) (bound-then ≡ bound) told old code new
 
 -- ---- questions
 

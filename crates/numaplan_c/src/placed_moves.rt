@@ -1,17 +1,22 @@
 //! Stating where pages lie, and moving them.
 ghost use Rattle.std.specs.Prelude.{◌≡◌, MatchResult};
 ghost use Rattle.numa_mask.specs.Lists.{list_of};
-ghost use Rattle.numa_pages.specs.Changes.{Limits, Migrates, MovesMems, MovesPage, Places};
+ghost use Rattle.numa_pages.specs.Changes.{BindsMoving, Limits, Migrates, MovesMems, MovesPage};
+ghost use Rattle.numa_pages.specs.Changes.{Places};
+ghost use Rattle.numa_script.specs.Policies.{policy_of};
 ghost use Rattle.numa_space.specs.History.{page_of};
-ghost use Rattle.numaplan_c.specs.Codes.{list_code};
-ghost use Rattle.numaplan_c.specs.Placed.{PagesAnswer, PagesMove, TellsMoved, change_code};
-ghost use Rattle.numaplan_c.specs.Placed.{move_code, placed_code};
+ghost use Rattle.numaplan_c.specs.Codes.{list_code, word_code};
+ghost use Rattle.numaplan_c.specs.Placed.{PagesAnswer, PagesBind, PagesMove, TellsBound};
+ghost use Rattle.numaplan_c.specs.Placed.{TellsMoved, change_code, move_code, placed_code};
 ghost use Rattle.numaplan_placed.specs.Handles.{pages_in};
 
-use crate::codes::{Code, list_code};
+use crate::codes::{Code, list_code, word_code};
 use crate::placed_codes::{changed_code, moved_code, set_code};
 use numa_mask::{NodeMask, read_list};
+use numa_mode::PolicySpec;
+use numa_pages::{ChangeRefusal, Rebound};
 use numa_placed::Moved;
+use numa_script::policy::read_policy;
 use numa_space::PAGE_BYTES;
 use numaplan_placed::PagesHandle;
 use std::alloc::Global;
@@ -28,6 +33,31 @@ pub struct NpMoves {
 }
 
 const _: () = prove!(size_of::<NpMoves>() == 2320);
+
+/// What moving pages to where a policy puts them did: how many went, how many had to go and stayed,
+/// and the error number that mbind(2) answers all the same.
+#[repr(C)]
+#[derive(Clone, Copy)]
+pub struct NpBound {
+    pub moved: u64,
+    pub left: u64,
+    pub error: u32,
+}
+
+const _: () = prove!(size_of::<NpBound>() == 24);
+
+/// Writes what moving pages to where a policy puts them did, if it wasn't refused.
+fn tell_bound(answer: &Result<Rebound, ChangeRefusal>, bound: &mut NpBound)
+    ensures { TellsBound bound.old bound.new answer.now }
+{
+    if let Ok(done) = answer {
+        *bound = NpBound {
+            moved: done.bound.moved,
+            left: done.bound.left,
+            error: done.errno,
+        };
+    }
+}
 
 /// Writes what a move did, if it wasn't refused.
 fn tell<E>(answer: &Result<Moved, E>, moves: &mut NpMoves)
@@ -175,4 +205,74 @@ pub extern "C" fn np_pages_move_mems(
         Err(fault) => return list_code(fault),
     };
     follow(alloc, pages, mask, moves)
+}
+
+/// A span, and how a policy is set for it.
+struct Moving {
+    start: u64,
+    length: u64,
+    strict: bool,
+    task: u32,
+    cpu: u32,
+}
+
+/// Sets a policy, and moves the pages that lie on other nodes than it asks for.
+fn rebind(
+    alloc: Global,
+    pages: &mut PagesHandle,
+    moving: &Moving,
+    spec: PolicySpec,
+    bound: &mut NpBound,
+) -> u32
+    ensures { PagesBind (BindsMoving moving.now.start moving.now.length spec moving.now.strict
+        moving.now.task moving.now.cpu) (pages_in pages.old) result (pages_in pages.new)
+        bound.old bound.new }
+{
+    let Moving {
+        start,
+        length,
+        strict,
+        task,
+        cpu,
+    } = *moving;
+    match pages.bind_moving(alloc, start, length, spec, strict, task, cpu) {
+        None => Code::Closed as u32,
+        Some(answer) => {
+            tell_bound(&answer, bound);
+            changed_code(answer)
+        }
+    }
+}
+
+/// Sets the policy of a span's pages, and moves those that lie on other nodes than it asks for.
+#[unsafe(no_mangle)]
+pub extern "C" fn np_pages_mbind_moving(
+    alloc: Global,
+    pages: &mut PagesHandle,
+    start: u64,
+    length: u64,
+    policy: &[u8],
+    strict: bool,
+    task: u32,
+    cpu: u32,
+    bound: &mut NpBound,
+) -> u32
+    ensures { MatchResult (policy_of policy.now) (λ spec. PagesBind
+        (BindsMoving start length spec strict task cpu) (pages_in pages.old) result
+        (pages_in pages.new) bound.old bound.new)
+        (λ fault. (result ≡ word_code fault) × (pages_in pages.new ≡ pages_in pages.old)
+        × (bound.new ≡ bound.old)) }
+{
+    let spec = match read_policy(policy) {
+        Ok(spec) => spec,
+        Err(fault) => return word_code(fault),
+    };
+    let moving = Moving {
+        start,
+        length,
+        strict,
+        task,
+        cpu,
+    };
+    rebind(alloc, pages, &moving, spec, bound)
 }

@@ -1,6 +1,7 @@
 //! Stating where pages lie, and moving them, through a handle.
 ghost use Rattle.std.specs.Prelude.{◌≡◌, Some, true};
-ghost use Rattle.numa_pages.specs.Changes.{Limits, Migrates, MovesMems, MovesPage, Places};
+ghost use Rattle.numa_pages.specs.Changes.{BindsMoving, Limits, Migrates, MovesMems, MovesPage};
+ghost use Rattle.numa_pages.specs.Changes.{Places};
 ghost use Rattle.numaplan_handles.specs.Calls.{Calls};
 ghost use Rattle.numaplan_handles.specs.Kinds.{CallsKept, is_pages, pages_of};
 ghost use Rattle.numaplan_placed.specs.Handles.{pages_in};
@@ -8,7 +9,8 @@ ghost use Rattle.numaplan_placed.specs.Pages.{OfPages};
 
 use crate::pages_handle::PagesHandle;
 use numa_mask::NodeMask;
-use numa_pages::ChangeRefusal;
+use numa_mode::PolicySpec;
+use numa_pages::{ChangeRefusal, Rebound};
 use numa_placed::{MoveRefusal, Moved, PlacedRefusal};
 use numaplan_handles::Kept;
 use std::alloc::Global;
@@ -55,6 +57,26 @@ fn move_kept(kept: &mut Kept, page: u64, node: u32) -> Result<(), MoveRefusal>
 {
     match kept {
         Kept::Pages(pages) => pages.move_page(page, node),
+        _ => unreachable!(),
+    }
+}
+
+/// Sets a policy, and moves the pages that lie on other nodes than it asks for.
+fn rebind_kept(
+    kept: &mut Kept,
+    start: u64,
+    length: u64,
+    spec: PolicySpec,
+    strict: bool,
+    task: u32,
+    cpu: u32,
+) -> Result<Rebound, ChangeRefusal>
+    requires pages { is_pages (Some kept.old) ≡ true }
+    ensures { CallsKept is_pages pages_of (OfPages (BindsMoving start length spec strict task cpu))
+        kept.old result kept.new }
+{
+    match kept {
+        Kept::Pages(pages) => pages.bind_moving(start, length, spec, strict, task, cpu),
         _ => unreachable!(),
     }
 }
@@ -146,6 +168,30 @@ impl PagesHandle {
     {
         let mut kept = self.handle.take(alloc)?;
         let answer = move_kept(&mut kept, page, node);
+        self.handle.put(kept);
+        Some(answer)
+    }
+
+    /// Sets a policy for a span, moves the pages that lie on other nodes than it asks for, as far as
+    /// there is room, and returns how many went. `None` if the handle is closed.
+    ///
+    /// # Errors
+    /// In the `Some`, as [`Pages::bind_moving`](numa_pages::Pages::bind_moving).
+    pub fn bind_moving(
+        &mut self,
+        alloc: Global,
+        start: u64,
+        length: u64,
+        spec: PolicySpec,
+        strict: bool,
+        task: u32,
+        cpu: u32,
+    ) -> Option<Result<Rebound, ChangeRefusal>>
+        ensures { Calls (OfPages (BindsMoving start length spec strict task cpu))
+            (pages_in self.old) result (pages_in self.new) }
+    {
+        let mut kept = self.handle.take(alloc)?;
+        let answer = rebind_kept(&mut kept, start, length, spec, strict, task, cpu);
         self.handle.put(kept);
         Some(answer)
     }

@@ -1,7 +1,7 @@
 //! Cores whose pages are there. Each call of the library is as `calls` says.
 
 use crate::calls::done;
-use crate::raw::{self, Counts, Handle, ToldMoves};
+use crate::raw::{self, Counts, Handle, ToldBound, ToldMoves};
 use crate::{Core, PageRun, Refused};
 
 /// The room of a node that never fills (NP_ENDLESS).
@@ -31,6 +31,15 @@ impl Moved {
         let flows = flows.map(|(from, (&pages, &to))| Flow { from, to, pages });
         Moved { moved: told.moved, left: told.left, flows: flows.collect() }
     }
+}
+
+/// What a policy did to the pages of its span: how many went to another node, how many had to go and found no
+/// node with room, and the error number that mbind(2) answers all the same, 5 (EIO) or 0.
+#[derive(Clone, Copy, Debug, PartialEq, Eq)]
+pub struct Bound {
+    pub moved: u64,
+    pub left: u64,
+    pub errno: u32,
 }
 
 /// A core together with where its pages lie: as it is stated, and then where Linux moves them. It has a
@@ -220,6 +229,37 @@ impl Pages {
             )
         })?;
         Ok(Moved::told(&told))
+    }
+
+    /// Gives pages a policy as `mbind`, and moves those that lie on nodes that aren't in the policy's list as
+    /// it is written (MPOL_MF_MOVE): the lowest first, each to the first node with room of its list, as a
+    /// fault of the task on the node `cpu` would put it. If `strict`, that pages stayed is told as EIO
+    /// (MPOL_MF_STRICT too; "default" drops it).
+    pub fn mbind_moving(
+        &mut self,
+        start: u64,
+        length: u64,
+        policy: &str,
+        strict: bool,
+        task: u32,
+        cpu: u32,
+    ) -> Result<Bound, Refused> {
+        let mut told = ToldBound::default();
+        let text = policy.as_bytes();
+        done(unsafe {
+            raw::np_pages_mbind_moving(
+                &mut self.0,
+                start,
+                length,
+                text.as_ptr(),
+                text.len(),
+                strict,
+                task,
+                cpu,
+                &mut told,
+            )
+        })?;
+        Ok(Bound { moved: told.moved, left: told.left, errno: told.error })
     }
 
     /// Moves the page of an address to a node (move_pages(2)); a page that lies there stays.

@@ -118,6 +118,14 @@ pub struct PageRun {
 }
 
 #[repr(C)]
+#[derive(Default)]
+pub(crate) struct ToldBound {
+    pub moved: u64,
+    pub left: u64,
+    pub error: u32,
+}
+
+#[repr(C)]
 pub(crate) struct ToldMoves {
     pub moved: u64,
     pub left: u64,
@@ -197,6 +205,7 @@ const _: () = assert!(size_of::<ToldReport>() == 24 && size_of::<ToldExplanation
 
 const _: () = assert!(size_of::<ToldGroup>() == 48 && size_of::<Process>() == 8);
 const _: () = assert!(size_of::<PageRun>() == 24 && size_of::<ToldMoves>() == 2320);
+const _: () = assert!(size_of::<ToldBound>() == 24);
 
 #[rustfmt::skip]
 #[link(name = "numaplan", kind = "static")]
@@ -308,6 +317,7 @@ extern "C" {
     pub(crate) fn np_pages_runs(pages: &mut Handle, runs: *mut PageRun, room: usize, count: &mut usize) -> u32;
     pub(crate) fn np_pages_move_mems(pages: &mut Handle, nodes: *const u8, nodes_length: usize, moves: &mut ToldMoves) -> u32;
     pub(crate) fn np_pages_migrate(pages: &mut Handle, old: *const u8, old_length: usize, new: *const u8, new_length: usize, moves: &mut ToldMoves) -> u32;
+    pub(crate) fn np_pages_mbind_moving(pages: &mut Handle, start: u64, length: u64, policy: *const u8, policy_length: usize, strict: bool, task: u32, cpu: u32, bound: &mut ToldBound) -> u32;
     pub(crate) fn np_pages_move(pages: &mut Handle, address: u64, node: u32) -> u32;
     pub(crate) fn np_core_diff(before: &mut Handle, after: &mut Handle, task: u32, cpu: u32, moves: *mut Move, room: usize, count: &mut usize) -> u32;
     pub(crate) fn np_core_replay(core: &mut Handle, trace: *const Access, length: usize, routes: *mut ToldRoute, room: usize, count: &mut usize) -> u32;
