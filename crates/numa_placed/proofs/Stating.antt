@@ -1,12 +1,13 @@
 -- Stating where the mapped pages of a span lie, range by range.
 use Rattle.std.proofs.Common.{◌≡◌, ℕ, ◌+◌, ◌-◌, ◌<◌, ◌≤◌, ◌^◌, ◌&&◌, Bool, true, false, is_some}
-use Rattle.std.proofs.Common.{Option}
+use Rattle.std.proofs.Common.{Option, arith, get_or, length, slice_get, suc, zero, []}
 use Rattle.std.proofs.Common.{Some, None, List, ◌∷◌, refl, sym, ap, ◌∙◌, subst, inl, inr}
 use Rattle.std.specs.Prelude.{if◌then◌else◌}
 use Rattle.std.proofs.lemmas.Bool.{cases_Bool}
+use Rattle.std.proofs.lemmas.Option.{get_or_from_slice_get, slice_get_within}
 use Rattle.numa_ranges.specs.Runs.{page_at, in_pages, end_of, AreApart}
 use Rattle.numa_ranges.specs.declared.run.Run.{Run}
-use Rattle.numa_ranges.proofs.Apart.{apart-top, in_pages-true}
+use Rattle.numa_ranges.proofs.Apart.{apart-top}
 use Rattle.numa_placed.specs.Spots.{changed_spots, stated_spot, stated_spots}
 use Rattle.numa_placed.specs.declared.spot.Spot.{Spot}
 use Rattle.numa_placed.specs.declared.spot.Spot.TheVariants.{Nowhere, Stated, Held}
@@ -71,23 +72,22 @@ module _ {T : Type 0} where
       go true false None = refl
       go true false (Some p) = refl
 
-  -- a page of the first of the ranges is one of all
-  pub some-first : (before rest whole : List (Run T)) (run : Run T) (page : ℕ) → before ≡ run ∷ rest
-      → ((p : ℕ) → is_some (page_at before p) ≡ true → is_some (page_at whole p) ≡ true)
-      → run.first ≤ page → page < end_of run → is_some (page_at whole page) ≡ true
-  some-first before rest whole run page steps among low high =
-      let here : is_some (page_at (run ∷ rest) page) ≡ true =
-      rw (in_pages-true run.first run.pages page low high) refl in
-      among page (ap (λ (runs : List (Run T)). is_some (page_at runs page)) steps ∙ here)
-
-  -- and so is each page of the others
-  pub some-later : (before rest whole : List (Run T)) (run : Run T) → before ≡ run ∷ rest
-      → ((p : ℕ) → is_some (page_at before p) ≡ true → is_some (page_at whole p) ≡ true)
-      → (page : ℕ) → is_some (page_at rest page) ≡ true → is_some (page_at whole page) ≡ true
-  some-later before rest whole run steps among page later =
-      let here : is_some (page_at (run ∷ rest) page) ≡ true =
+  some-at : (runs : List (Run T)) (place : ℕ) (d : Run T) (page : ℕ) → place < length runs
+      → in_pages (get_or runs place d).first (get_or runs place d).pages page ≡ true
+      → is_some (page_at runs page) ≡ true
+  some-at [] place d page within there = absurd (omega arith)
+  some-at (run ∷ runs) zero d page within there = rw there refl
+  some-at (run ∷ runs) (suc place) d page within there =
       elim (cases_Bool (in_pages run.first run.pages page)) [
         | inl t ↦ rw t refl
-        | inr e ↦ rw e later
-      ] in
-      among page (ap (λ (runs : List (Run T)). is_some (page_at runs page)) steps ∙ here)
+        | inr e ↦ rw e (some-at runs place d page (omega arith) there)
+      ]
+
+  -- a page of one of the ranges is one of all
+  pub in-range : (runs : List (Run T)) (place : ℕ) (run : Run T) (page : ℕ)
+      → slice_get runs place ≡ Some run → in_pages run.first run.pages page ≡ true
+      → is_some (page_at runs page) ≡ true
+  in-range runs place run page is there =
+      some-at runs place run page (slice_get_within runs place run is)
+      (subst (λ (r : Run T). in_pages r.first r.pages page ≡ true)
+      (sym (get_or_from_slice_get runs place run run is)) there)

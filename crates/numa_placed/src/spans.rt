@@ -35,22 +35,41 @@ pub(crate) fn span_of(start: u64, length: u64) -> Result<(u64, u64), PlacedRefus
     Ok((start / PAGE_BYTES, pages))
 }
 
+/// The number of ranges that begin at a page or before it, by a binary search over the 65,536 that
+/// there can be. Only speed depends on it.
+fn ranges_up_to(space: &Space, first: u64) -> usize {
+    let mut low = 0usize;
+    let mut high = space.ranges();
+    for _ in 0..17 {
+        if low >= high {
+            return low;
+        }
+        let middle = low.saturating_add(high.saturating_sub(low) / 2);
+        match space.range_at(middle) {
+            Some(range) if range.first <= first => low = middle.saturating_add(1),
+            _ => high = middle,
+        }
+    }
+    low
+}
+
 /// Whether one range of the space has all pages of a span.
 fn is_in_one(space: &Space, first: u64, pages: u64) -> bool
     requires span { IsSpan first pages }
     ensures { result ≡ true → (page : ℕ) → in_pages first pages page ≡ true
         → is_some (page_at space.now.ranges page) ≡ true }
 {
-    let end = first + pages;
-    for range in space.range_iter() {
-        if range.first > first {
-            return false;
-        }
-        if end - range.first <= range.pages {
-            return true;
-        }
+    let place = ranges_up_to(space, first).saturating_sub(1);
+    let Some(range) = space.range_at(place) else {
+        return false;
+    };
+    if range.first > first {
+        return false;
     }
-    false
+    if first + pages - range.first > range.pages {
+        return false;
+    }
+    true
 }
 
 /// States where the pages lie that a range and a span share.
