@@ -3,6 +3,7 @@ pub mod Counting
 pub mod Departing
 pub mod Edits
 pub mod Filtered
+pub mod Going
 pub mod MoveRows
 pub mod MovedNodes
 pub mod Parts

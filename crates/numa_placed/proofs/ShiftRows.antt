@@ -32,7 +32,7 @@ shifts-keep spots old new room =
     (λ page low high. placed-shifted (moved_node old new) (shift_of spots old new room).gone
     (stated_below spots page) (spots page))
 
-same-target : (go gone below : ℕ → ℕ) (node : ℕ) → go node ≡ node
+pub same-target : (go gone below : ℕ → ℕ) (node : ℕ) → go node ≡ node
     → shifted_spot go gone below (Stated node) ≡ Stated node
 same-target go gone below node same =
     elim (cases_Bool (nat_lt (below node) (gone node))) [

@@ -1,8 +1,8 @@
 -- The order in which nodes go, and how many pages of each.
 use Rattle.std.proofs.Common.{◌≡◌, ℕ, zero, suc, ◌+◌, ◌*◌, ◌<◌, ◌≤◌, Bool, true, false}
-use Rattle.std.proofs.Common.{eqb, Option, Some, None, refl, arith, inl, inr}
+use Rattle.std.proofs.Common.{◌∙◌, eqb, Option, Some, None, refl, ap, arith, inl, inr}
 use Rattle.std.specs.Prelude.{if◌then◌else◌}
-use Rattle.std.proofs.lemmas.Bool.{cases_Bool, cases_eq, eq-eqb, ne_eqb}
+use Rattle.std.proofs.lemmas.Bool.{cases_Bool, cases_eq, cases_lt, eq-eqb, ne_eqb}
 use Rattle.numa_placed.specs.Shifts.{Going, is_clear, later_of, may_go, source_from, step, stepped}
 use Rattle.numa_placed.specs.Shifts.{stay_on, steps, sum_below}
 
@@ -113,6 +113,17 @@ sum-few (suc n) most f few =
     let rest = sum-few n most f (λ node lt. few node (omega arith)) in
     let here = few n (omega arith) in
     omega (arith, rest, here)
+
+pub sum-zero : (n : ℕ) (f : ℕ → ℕ) → sum_below n f ≡ 0 → (node : ℕ) → node < n → f node ≡ 0
+unfolding sum_below
+sum-zero zero f none node lt = absurd (omega arith)
+sum-zero (suc n) f none node lt =
+    elim (cases_lt node n) [
+      | inl l ↦ sum-zero n f (omega (arith, none)) node l
+      | inr l ↦
+          let last : node ≡ n = omega (arith, lt, l) in
+          ap f last ∙ omega (arith, none)
+    ]
 
 -- no more pages of a node stay than lie there
 pub stay-few : (go count gone : ℕ → ℕ) (node most : ℕ) → count node ≤ most

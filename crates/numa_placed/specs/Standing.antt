@@ -8,6 +8,11 @@ use Rattle.numa_placed.specs.declared.bind.Walk.{Walk}
 use Rattle.numa_placed.specs.declared.bound.Bound.{Bound}
 use Rattle.numa_placed.specs.declared.course.Course.{Course}
 use Rattle.numa_placed.specs.declared.spot.Spot.{Spot}
+use Rattle.numa_placed.specs.declared.spot.Spot.TheVariants.{Stated}
+
+-- pages that are stated to lie somewhere lie on one of 256 nodes
+abbrev pub AreOnNodes : (ℕ → Spot) → Type 0
+AreOnNodes spots = (page node : ℕ) → spots page ≡ Stated node → node < 256
 
 -- ---- node by node
 

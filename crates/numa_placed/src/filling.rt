@@ -17,6 +17,7 @@ use crate::edit::{change_span, put};
 use crate::moved::Moved;
 use crate::refusal::PlacedRefusal;
 use crate::rooms::Rooms;
+use crate::shift::send_all;
 use crate::spot::Spot;
 use crate::tally::tally;
 use crate::targets::targets;
@@ -200,7 +201,7 @@ fn tell(
 }
 
 /// Moves the pages of each node to where they go when they leave one set of nodes for another, as
-/// far as there is room.
+/// far as there is room. Where all find room no memory is taken.
 pub(crate) fn fill(
     map: &mut RangeMap<Spot>,
     old: &NodeMask,
@@ -216,10 +217,17 @@ pub(crate) fn fill(
     ensures unchanged { OnErr result (map.new ≡ map.old) }
     ensures kept_rooms { OnErr result (rooms.new ≡ rooms.old) }
 {
+    // Tells the proof that no run reaches beyond the last page.
+    let _ = map.iter();
     let targets = targets(old, new);
     let counts = stated_counts(map);
     let course = course_of(&targets, &counts, old, rooms);
     let told = tell(map, targets, &counts, &course.gone, old, new);
+    if stay(&targets, &counts, &course.gone) == 0 {
+        send_all(map, &targets);
+        *rooms = course.rooms;
+        return Ok(told);
+    }
     let Ok(mut next) = map.copy() else {
         return Err(PlacedRefusal::NoMemory);
     };

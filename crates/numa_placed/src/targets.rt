@@ -1,7 +1,8 @@
 //! The nodes to which pages go.
-ghost use Rattle.std.specs.Prelude.{◌≡◌};
+ghost use Rattle.std.specs.Prelude.{◌≡◌, ◌<◌, ℕ};
 ghost use Rattle.numa_mask.specs.NodeSet.{node_after};
 ghost use Rattle.numa_placed.specs.Moves.{moved_node, moved_spot, AreTargets};
+ghost use Rattle.numa_placed.specs.declared.spot.Spot.TheVariants.{Stated};
 
 use crate::spot::Spot;
 use numa_mask::{NodeId, NodeMask};
@@ -51,9 +52,9 @@ pub(crate) fn targets(old: &NodeMask, new: &NodeMask) -> [u8; 256]
 }
 
 /// A page once the pages of each node went to its target.
-pub(crate) fn gone(spot: Spot, targets: &[u8; 256], _old: &NodeMask, _new: &NodeMask) -> Spot
-    requires { AreTargets targets.now (moved_node _old.now _new.now) }
-    ensures { result ≡ moved_spot (moved_node _old.now _new.now) spot }
+pub(crate) fn gone(spot: Spot, targets: &[u8; 256]) -> Spot
+    ensures moved { (go : ℕ → ℕ) → AreTargets targets.now go → result ≡ moved_spot go spot }
+    ensures node { (node : ℕ) → spot ≡ Stated node → node < 256 }
 {
     match spot {
         Spot::Nowhere => Spot::Nowhere,

@@ -1,10 +1,12 @@
-use Rattle.std.proofs.Common.{◌≡◌, ℕ, ◌∙◌, ap, arith, refl, subst}
+use Rattle.std.proofs.Common.{◌≡◌, ℕ, ◌<◌, ◌∙◌, ap, arith, refl, slice_index, subst, sym}
 use Rattle.numa_placed.specs.Moves.{moved_node}
 use Rattle.numa_placed.specs.Refusals.{IsLack}
-use Rattle.numa_placed.specs.Shifts.{going_from, room_of, shift_of, shifted, stated_on}
+use Rattle.numa_placed.specs.Shifts.{going_from, room_of, shift_of, shifted, stated_on, stay_on}
 use Rattle.numa_placed.specs.Spots.{spot_at, too_many}
 use Rattle.numa_placed.specs.declared.spot.Spot.{Spot}
-use Rattle.numa_placed.proofs.Sources.{steps-few}
+use Rattle.numa_placed.proofs.Edits.{few-kept}
+use Rattle.numa_placed.proofs.Going.{all-go, stated-near}
+use Rattle.numa_placed.proofs.Sources.{stay-same, steps-few, sum-zero}
 use Rattle.numa_placed.proofs.filling.fill.Goals as goal
 
 pub tell-told-requires-clause-fewer : goal.tell-told-requires-clause-fewer
@@ -21,6 +23,31 @@ tell-told-requires-clause-fewer c node small =
       c.stated_counts-counts.ensures.pages node small,
       c.stated_counts-counts.ensures.few node small,
     )
+
+pub returns-then-stay-eq0-clause-moved : goal.returns-then-stay-eq0-clause-moved
+returns-then-stay-eq0-clause-moved c room rooms =
+    let spots = spot_at c.args.map.now.runs in
+    let go = moved_node c.args.old.now c.args.new.now in
+    let count = stated_on spots in
+    let goes = c.course_of-course.ensures go count room c.targets-targets.ensures
+    c.stated_counts-counts.ensures.pages rooms in
+    let gone = (shift_of spots c.args.old.now c.args.new.now room).gone in
+    let lists = stay_on (slice_index c.targets-targets.result)
+    (slice_index c.stated_counts-counts.result) (slice_index c.course_of-course.result.gone) in
+    let none : (node : ℕ) → node < 256 → stay_on go count gone node ≡ 0 = λ node small.
+    sym (stay-same (slice_index c.targets-targets.result) go
+    (slice_index c.stated_counts-counts.result) count
+    (slice_index c.course_of-course.result.gone) gone node (c.targets-targets.ensures node small)
+    (c.stated_counts-counts.ensures.pages node small) (goes.gone node small))
+    ∙ sum-zero 256 lists (sym c.stay.ensures.sum ∙ omega (arith, c.if-stay-eq0.true)) node small in
+    record {
+      pages = λ page. c.send_all.ensures.spots go c.targets-targets.ensures page
+          ∙ sym (all-go go gone spots c.send_all.ensures.nodes
+          (λ p n. stated-near c.args.map.now.runs p n c.iter.ensures.rising) none page);
+      few = few-kept c.send_all.new.map c.send_all.new.map.runs refl c.send_all.ensures.kept;
+      room = goes.room;
+      tally = c.tell-told.ensures gone goes.gone;
+    }
 
 pub returns-in-Ok-put-clause-moved : goal.returns-in-Ok-put-clause-moved
 returns-in-Ok-put-clause-moved c room rooms =
