@@ -42,9 +42,8 @@ not-too-many spots le = le-ltb most_runs (run_count spots) le
 pub same-count : (a b : ℕ → Spot) → ((page : ℕ) → a page ≡ b page) → run_count a ≡ run_count b
 same-count a b same = ap run_count (λ i page. same page i)
 
-module _ (same : Spot → Spot → Bool) (exact : (a b : Spot) → same a b ≡ true → a ≡ b)
-    (itself : (a : Spot) → same a a ≡ true) (first pages : ℕ) (change : Spot → Spot)
-    (old new : List (Run Spot)) (within : first + pages ≤ 2 ^ 35) (whole : AreWhole old)
+module _ (first pages : ℕ) (change : Spot → Spot) (old new : List (Run Spot))
+    (within : first + pages ≤ 2 ^ 35) (whole : AreWhole old)
     (shows : Shows new (changed_span first pages change (page_at old))) where
   says : (page : ℕ) → page < 2 ^ 35
       → page_at new page ≡ Some (page, changed_spots first pages change (spot_at old) page)
@@ -54,7 +53,7 @@ module _ (same : Spot → Spot → Bool) (exact : (a b : Spot) → same a b ≡ 
         | inr out ↦ rw out (whole page near)
       ]
 
-  spots-changed : (page : ℕ) → spot_at new page
+  pub spots-changed : (page : ℕ) → spot_at new page
       ≡ changed_spots first pages change (spot_at old) page
   spots-changed page =
       elim (cases_lt page (2 ^ 35)) [
@@ -67,18 +66,31 @@ module _ (same : Spot → Spot → Bool) (exact : (a b : Spot) → same a b ≡ 
         ]
       ]
 
+  pub whole-changed : AreWhole new
+  whole-changed = whole-says new _ says
+
+-- a page of the span changed
+pub in-span : (first pages : ℕ) (change : Spot → Spot) (at : ℕ → Option (ℕ × Spot)) (page : ℕ)
+    → in_pages first pages page ≡ true
+    → changed_span first pages change at page ≡ changed_page change (at page)
+in-span first pages change at page here = rw here refl
+
+module _ (same : Spot → Spot → Bool) (exact : (a b : Spot) → same a b ≡ true → a ≡ b)
+    (itself : (a : Spot) → same a a ≡ true) (first pages : ℕ) (change : Spot → Spot)
+    (old new : List (Run Spot)) (within : first + pages ≤ 2 ^ 35) (whole : AreWhole old)
+    (shows : Shows new (changed_span first pages change (page_at old))) where
   pub changed : AreApart 0 new → AreMaximal new → range_count same (page_at old) ≡ length old
       → range_count same (page_at new) ≡ length new
       → IsChanged first pages change old new
   changed apart maximal size size' =
-      let all : AreWhole new = whole-says new _ says in
+      let all : AreWhole new = whole-changed first pages change old new within whole shows in
       let alike : page_at new ≡ changed_span first pages change (page_at old) =
       λ i page. shows page i in
       let more : range_count same (page_at new) ≤ range_count same (page_at old) + 2 =
       rw alike (count-span same exact itself change first pages (page_at old)) in
       record {
         whole = all;
-        spots = spots-changed;
+        spots = spots-changed first pages change old new within whole shows;
         few = omega (
           arith,
           ap (λ (n : ℕ). n) (run_count-placed new apart maximal all),

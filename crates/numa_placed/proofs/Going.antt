@@ -1,23 +1,27 @@
--- Pages that all go, with all that lie on their node.
-use Rattle.std.proofs.Common.{◌≡◌, ℕ, ◌+◌, ◌-◌, ◌<◌, ◌^◌, Bool, true, refl, sym, ap, ◌∙◌}
-use Rattle.std.proofs.Common.{arith, inl, inr, List, Option, Some, None}
+-- Which pages go: all, or the lowest of each node.
+use Rattle.std.proofs.Common.{◌≡◌, ℕ, ◌+◌, ◌-◌, ◌<◌, ◌≤◌, ◌^◌, Bool, true, false, refl, sym, ap, ◌∙◌}
+use Rattle.std.proofs.Common.{arith, inl, inr, List, Option, Some, None, slice_index, subst}
 use Rattle.std.specs.Prelude.{nat_lt, if◌then◌else◌}
-use Rattle.std.proofs.lemmas.Bool.{cases_eq, cases_lt, eq-eqb, le-ltb, lt-ltb, ne_eqb}
+use Rattle.std.proofs.lemmas.Bool.{and_cases, cases_Bool, cases_eq, cases_lt, eq-eqb, le-ltb}
+use Rattle.std.proofs.lemmas.Bool.{lt-ltb, ltb-false, ltb-true, ne_eqb}
 use Rattle.numa_ranges.specs.Counts.{count_pages}
 use Rattle.numa_ranges.specs.Maps.{changed_page}
 use Rattle.numa_ranges.specs.Runs.{AreApart}
 use Rattle.numa_ranges.specs.declared.run.Run.{Run}
+use Rattle.numa_ranges.proofs.Apart.{in_pages-true, in_pages-below, in_pages-above}
 use Rattle.numa_ranges.proofs.Counted.{count-split}
+use Rattle.numa_ranges.proofs.Joined.{and_split}
 use Rattle.numa_placed.specs.Moves.{moved_spot}
-use Rattle.numa_placed.specs.Shifts.{is_stated, shifted_spot, shifted_spots, stated_below, stated_on}
-use Rattle.numa_placed.specs.Shifts.{stay_on}
-use Rattle.numa_placed.specs.Spots.{pages_if, spot_at, spot_in}
-use Rattle.numa_placed.specs.Standing.{AreOnNodes}
+use Rattle.numa_placed.specs.Shifts.{ArePages, is_stated, shifted_spot, shifted_spots, stated_below}
+use Rattle.numa_placed.specs.Shifts.{stated_on, stay_on}
+use Rattle.numa_placed.specs.Spots.{changed_spots, pages_if, spot_at, spot_in}
+use Rattle.numa_placed.specs.Standing.{AreOnNodes, IsCut, is_split, target_from}
 use Rattle.numa_placed.specs.declared.spot.Spot.{Spot}
 use Rattle.numa_placed.specs.declared.spot.Spot.TheVariants.{Nowhere, Stated, Held}
 use Rattle.numa_placed.proofs.Filtered.{page_at-far}
 use Rattle.numa_placed.proofs.Shared.{count-more}
 use Rattle.numa_placed.proofs.ShiftRows.{same-target}
+use Rattle.numa_placed.proofs.Sources.{same-split}
 
 -- ---- where all find room
 
@@ -101,3 +105,111 @@ module _ (go gone : ℕ → ℕ) (spots : ℕ → Spot) (nodes : AreOnNodes spot
   -- where no page stays that has another node to go to, all go
   pub all-go : (page : ℕ) → shifted_spots go gone spots page ≡ moved_spot go (spots page)
   all-go page = goes-as page (spots page) refl
+
+-- ---- where the pages of some nodes find room
+
+either-way : (first : Bool) (one other node : ℕ) → one ≡ node → other ≡ node
+    → Stated (if first then one else other) ≡ Stated node
+either-way true one other node is is' = ap Stated is
+either-way false one other node is is' = ap Stated is'
+
+module _ (go gone : ℕ → ℕ) (spots : ℕ → Spot) (cut : ℕ)
+    (nodes : (page node : ℕ) → page < 2 ^ 35 → spots page ≡ Stated node → node < 256)
+    (near : (page node : ℕ) → spots page ≡ Stated node → page < 2 ^ 35)
+    (cuts : (node : ℕ) → node < 256 → is_split (stated_on spots) gone node ≡ true
+    → IsCut spots node (gone node) cut) where
+  abbrev below : ℕ → ℕ
+  below = target_from go (λ node. 1) gone
+
+  abbrev behind : ℕ → ℕ
+  behind = target_from go (stated_on spots) gone
+
+  -- a page of a node of which some pages go and some stay
+  goes-split : (page node : ℕ) → spots page ≡ Stated node
+      → is_split (stated_on spots) gone node ≡ true
+      → Stated (if nat_lt page cut then below node else behind node)
+      ≡ shifted_spot go gone (stated_below spots page) (Stated node)
+  goes-split page node is split =
+      let ends = and_split (nat_lt 0 (gone node)) (nat_lt (gone node) (stated_on spots node)) split in
+      let some : nat_lt (gone node) 1 ≡ false =
+      le-ltb (gone node) 1 (omega (arith, ltb-true 0 (gone node) ends.0)) in
+      let same = cuts node (nodes page node (near page node is) is) split page is in
+      elim (cases_Bool (nat_lt page cut)) [
+        | inl t ↦ rw (same, t, some) refl
+        | inr e ↦ rw (same, e, ends.1) refl
+      ]
+
+  -- a page of a node of which none goes, or all
+  goes-whole : (page node : ℕ) → spots page ≡ Stated node
+      → is_split (stated_on spots) gone node ≡ false
+      → Stated (if nat_lt page cut then below node else behind node)
+      ≡ shifted_spot go gone (stated_below spots page) (Stated node)
+  goes-whole page node is whole =
+      let less = below-less spots page (2 ^ 35) node (near page node is) is in
+      elim (and_cases (nat_lt 0 (gone node)) (nat_lt (gone node) (stated_on spots node)) whole) [
+        | inl none ↦
+            let zero = ltb-false 0 (gone node) none in
+            either-way (nat_lt page cut) (below node) (behind node) node
+            (rw (lt-ltb (gone node) 1 (omega (arith, zero))) refl)
+            (rw (lt-ltb (gone node) (stated_on spots node) (omega (arith, zero, less))) refl)
+            ∙ sym (rw (le-ltb (stated_below spots page node) (gone node) (omega (arith, zero))) refl)
+        | inr all ↦
+            let enough = ltb-false (gone node) (stated_on spots node) all in
+            either-way (nat_lt page cut) (below node) (behind node) (go node)
+            (rw (le-ltb (gone node) 1 (omega (arith, enough, less))) refl) (rw all refl)
+            ∙ sym (rw (lt-ltb (stated_below spots page node) (gone node)
+            (omega (arith, enough, less))) refl)
+      ]
+
+  goes-where : (page : ℕ) (spot : Spot) → spots page ≡ spot
+      → moved_spot (λ node. if nat_lt page cut then below node else behind node) spot
+      ≡ shifted_spot go gone (stated_below spots page) spot
+  goes-where page Nowhere is = refl
+  goes-where page (Held node) is = refl
+  goes-where page (Stated node) is =
+      elim (cases_Bool (is_split (stated_on spots) gone node)) [
+        | inl t ↦ goes-split page node is t
+        | inr e ↦ goes-whole page node is e
+      ]
+
+  stays-far : (page : ℕ) (spot : Spot) → spots page ≡ spot → 2 ^ 35 ≤ page
+      → spot ≡ shifted_spot go gone (stated_below spots page) spot
+  stays-far page Nowhere is far = refl
+  stays-far page (Held node) is far = refl
+  stays-far page (Stated node) is far = absurd (omega (arith, near page node is, far))
+
+  -- the pages below the cut were sent as far as any of their node go, the others where all go
+  pub sent-lowest : cut ≤ 2 ^ 35 → (page : ℕ)
+      → changed_spots cut (2 ^ 35 - cut) (moved_spot behind)
+      (changed_spots 0 cut (moved_spot below) spots) page ≡ shifted_spots go gone spots page
+  sent-lowest within page =
+      elim (cases_lt page cut) [
+        | inl l ↦
+            let out = in_pages-below cut (2 ^ 35 - cut) page l in
+            let here = in_pages-true 0 cut page (omega arith) (omega (arith, l)) in
+            rw (out, here) (ap (λ b. moved_spot (λ node. if b then below node else behind node)
+            (spots page)) (sym (lt-ltb page cut l))) ∙ goes-where page (spots page) refl
+        | inr l ↦
+            let out = in_pages-above 0 cut page (omega (arith, l)) in
+            elim (cases_lt page (2 ^ 35)) [
+              | inl m ↦
+                  let here = in_pages-true cut (2 ^ 35 - cut) page l (omega (arith, m, within)) in
+                  rw (here, out) (ap (λ b. moved_spot
+                  (λ node. if b then below node else behind node) (spots page))
+                  (sym (le-ltb page cut l))) ∙ goes-where page (spots page) refl
+              | inr m ↦
+                  let beyond = in_pages-above cut (2 ^ 35 - cut) page (omega (arith, m, within)) in
+                  rw (beyond, out) (stays-far page (spots page) refl m)
+            ]
+      ]
+
+-- a cut by lists of how many pages lie on each node and how many went
+pub listed-cut : (spots : ℕ → Spot) (cut : ℕ) (counts many : List ℕ) (gone : ℕ → ℕ)
+    → ArePages counts (stated_on spots) → ArePages many gone
+    → ((node : ℕ) → node < 256 → is_split (slice_index counts) (slice_index many) node ≡ true
+    → IsCut spots node (slice_index many node) cut) → (node : ℕ) → node < 256
+    → is_split (stated_on spots) gone node ≡ true → IsCut spots node (gone node) cut
+listed-cut spots cut counts many gone are went cuts node small split =
+    subst (λ (pages : ℕ). IsCut spots node pages cut) (went node small)
+    (cuts node small (same-split (slice_index counts) (stated_on spots) (slice_index many) gone node
+    (are node small) (went node small) ∙ split))

@@ -1,9 +1,9 @@
 pub mod Binding
 pub mod Counting
-pub mod Departing
 pub mod Edits
 pub mod Filtered
 pub mod Going
+pub mod Lowest
 pub mod MoveRows
 pub mod MovedNodes
 pub mod Parts

@@ -1,10 +1,12 @@
 -- The order in which nodes go, and how many pages of each.
-use Rattle.std.proofs.Common.{◌≡◌, ℕ, zero, suc, ◌+◌, ◌*◌, ◌<◌, ◌≤◌, Bool, true, false}
-use Rattle.std.proofs.Common.{◌∙◌, eqb, Option, Some, None, refl, ap, arith, inl, inr}
-use Rattle.std.specs.Prelude.{if◌then◌else◌}
-use Rattle.std.proofs.lemmas.Bool.{cases_Bool, cases_eq, cases_lt, eq-eqb, ne_eqb}
+use Rattle.std.proofs.Common.{◌≡◌, ℕ, zero, suc, ◌+◌, ◌*◌, ◌<◌, ◌≤◌, ◌&&◌, Bool, true, false}
+use Rattle.std.proofs.Common.{◌∙◌, eqb, Option, Some, None, refl, sym, subst, ap, arith, inl, inr}
+use Rattle.std.specs.Prelude.{min, nat_lt, if◌then◌else◌}
+use Rattle.std.proofs.lemmas.Bool.{and_right, both_ways, cases_Bool, cases_eq, cases_lt, eq-eqb}
+use Rattle.std.proofs.lemmas.Bool.{le-ltb, lt-ltb, ne_eqb}
 use Rattle.numa_placed.specs.Shifts.{Going, is_clear, later_of, may_go, source_from, step, stepped}
 use Rattle.numa_placed.specs.Shifts.{stay_on, steps, sum_below}
+use Rattle.numa_placed.specs.Standing.{is_split}
 
 -- ---- the next node
 
@@ -85,6 +87,92 @@ module _ (go count : ℕ → ℕ) where
       (λ source. steps n go count (step (count source) source (go source) going)) few
       (λ source. steps-few n (step (count source) source (go source) going)
       (few-step source (go source) going few)))
+
+-- ---- of one node at most some pages go and some stay
+
+module _ (go count : ℕ → ℕ) where
+  abbrev NoneSplit : Going → Type 0
+  NoneSplit going = (node : ℕ) → is_split count going.gone node ≡ false
+
+  abbrev OneSplit : Going → Type 0
+  OneSplit going = (node other : ℕ) → is_split count going.gone node ≡ true
+      → is_split count going.gone other ≡ true → node ≡ other
+
+  none-one : (going : Going) → NoneSplit going → OneSplit going
+  none-one going none node other here there =
+      absurd (both_ways (is_split count going.gone node) (none node) here)
+
+  one-stepped : (next : Option ℕ) (going : Going) (rest : ℕ → Going) → OneSplit going
+      → ((source : ℕ) → OneSplit (rest source)) → OneSplit (stepped next going rest)
+  one-stepped None going rest one more = one
+  one-stepped (Some source) going rest one more = more source
+
+  one-where : (full : Bool) (going rest : Going) → OneSplit going → OneSplit rest
+      → OneSplit (if full then going else rest)
+  one-where true going rest one more = one
+  one-where false going rest one more = more
+
+  not-split : (gone all : ℕ) → all ≤ gone → (nat_lt 0 gone && nat_lt gone all) ≡ false
+  not-split gone all le = and_right (nat_lt 0 gone) (nat_lt gone all) (le-ltb gone all le)
+
+  -- another node than the one that goes isn't split by that
+  split-other : (source target : ℕ) (going : Going) → NoneSplit going → (node : ℕ)
+      → (node ≡ source → ⊥)
+      → is_split count (step (count source) source target going).gone node ≡ false
+  split-other source target going none node other = rw (ne_eqb node source other) (none node)
+
+  -- nor is the one that goes, where there is room for all
+  split-fits : (source target : ℕ) (going : Going) → NoneSplit going
+      → count source ≤ going.room target → NoneSplit (step (count source) source target going)
+  split-fits source target going none fits node =
+      elim (cases_eq node source) [
+        | inl is ↦ rw is (rw (eq-eqb source source refl)
+            (not-split (min (count source) (going.room target)) (count source)
+            (omega (arith, fits))))
+        | inr other ↦ split-other source target going none node other
+      ]
+
+  -- the node that goes alone is, where there is too little
+  split-source : (source target : ℕ) (going : Going) → NoneSplit going
+      → OneSplit (step (count source) source target going)
+  split-source source target going none node other here there =
+      is-source node here ∙ sym (is-source other there)
+    where
+      is-source : (node : ℕ)
+          → is_split count (step (count source) source target going).gone node ≡ true
+          → node ≡ source
+      is-source node here =
+          elim (cases_eq node source) [
+            | inl is ↦ is
+            | inr other ↦ absurd (both_ways
+                (is_split count (step (count source) source target going).gone node)
+                (split-other source target going none node other) here)
+          ]
+
+  -- so at most one is, however many nodes go
+  pub steps-one : (n : ℕ) (going : Going) → NoneSplit going
+      → OneSplit (steps n go count going)
+  unfolding steps
+  steps-one zero going none = none-one going none
+  steps-one (suc n) going none =
+      one-where going.full going (stepped (source_from go going.waits None 0 256) going
+      (λ source. steps n go count (step (count source) source (go source) going)))
+      (none-one going none)
+      (one-stepped (source_from go going.waits None 0 256) going
+      (λ source. steps n go count (step (count source) source (go source) going))
+      (none-one going none)
+      (λ source. elim (cases_lt (going.room (go source)) (count source)) [
+        | inl full ↦ subst OneSplit
+            (sym (steps-full go count n (step (count source) source (go source) going)
+            (lt-ltb (going.room (go source)) (count source) full)))
+            (split-source source (go source) going none)
+        | inr fits ↦ steps-one n (step (count source) source (go source) going)
+            (split-fits source (go source) going none fits)
+      ]))
+
+pub same-split : (count count' gone gone' : ℕ → ℕ) (node : ℕ) → count node ≡ count' node
+    → gone node ≡ gone' node → is_split count gone node ≡ is_split count' gone' node
+same-split count count' gone gone' node same same' = rw (same, same') refl
 
 -- ---- sums
 

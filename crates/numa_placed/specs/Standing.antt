@@ -1,9 +1,9 @@
 -- What a move that is on its way stands for.
 use Rattle.std.specs.Prelude.{◌≡◌, ℕ, ◌+◌, ◌-◌, ◌<◌, ◌≤◌, ◌&&◌, Bool, true, false, List, Option}
-use Rattle.std.specs.Prelude.{slice_index, if◌then◌else◌}
+use Rattle.std.specs.Prelude.{nat_lt, slice_index, if◌then◌else◌}
 use Rattle.numa_ranges.specs.Counts.{count_pages}
 use Rattle.numa_placed.specs.Binds.{goal_at, is_kept, is_sent, room_sent, sent_spot}
-use Rattle.numa_placed.specs.Shifts.{ArePages, AreRooms, Going}
+use Rattle.numa_placed.specs.Shifts.{ArePages, AreRooms, Going, stated_below}
 use Rattle.numa_placed.specs.declared.bind.Walk.{Walk}
 use Rattle.numa_placed.specs.declared.bound.Bound.{Bound}
 use Rattle.numa_placed.specs.declared.course.Course.{Course}
@@ -26,6 +26,26 @@ pub record GoesAs (course : Course) (going : Going) : Type 0 where
   pub room : AreRooms course.rooms going.room
   pub gone : ArePages course.gone going.gone
   pub full : course.full ≡ going.full
+
+-- ---- the lowest pages
+
+-- where the pages of a node go, if at least so many of each node went
+abbrev pub target_from : (ℕ → ℕ) → (ℕ → ℕ) → (ℕ → ℕ) → ℕ → ℕ
+target_from go least gone node = if nat_lt (gone node) (least node) then node else go node
+
+-- whether some pages of a node went, and some stay
+abbrev pub is_split : (ℕ → ℕ) → (ℕ → ℕ) → ℕ → Bool
+is_split count gone node = nat_lt 0 (gone node) && nat_lt (gone node) (count node)
+
+-- of one node at most
+abbrev pub IsAlone : (ℕ → ℕ) → (ℕ → ℕ) → Type 0
+IsAlone count gone = (node other : ℕ) → node < 256 → other < 256
+    → is_split count gone node ≡ true → is_split count gone other ≡ true → node ≡ other
+
+-- so many of the lowest pages of a node are those below a page
+abbrev pub IsCut : (ℕ → Spot) → ℕ → ℕ → ℕ → Type 0
+IsCut spots node pages cut = (page : ℕ) → spots page ≡ Stated node
+    → nat_lt (stated_below spots page node) pages ≡ nat_lt page cut
 
 -- ---- page by page
 

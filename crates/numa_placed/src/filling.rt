@@ -1,26 +1,25 @@
 //! Moving the pages of each node as far as there is room.
 ghost use Rattle.std.specs.Prelude.{◌≡◌, ◌+◌, ◌-◌, ◌<◌, ◌≤◌, ◌^◌, ℕ, true, OnOk, OnErr, IfOk, IfErr};
-ghost use Rattle.std.specs.Prelude.{◌*◌, ◌==◌, min, slice_index, if◌then◌else◌};
-ghost use Rattle.numa_ranges.specs.Runs.{end_of, in_pages};
-ghost use Rattle.numa_placed.specs.Moves.{AreTargets, IsTally, moved_node};
+ghost use Rattle.std.specs.Prelude.{◌*◌, IfNone, IfSome, false, slice_index};
+ghost use Rattle.numa_ranges.specs.Runs.{in_pages};
+ghost use Rattle.numa_placed.specs.Moves.{AreTargets, IsTally, moved_node, moved_spot};
 ghost use Rattle.numa_placed.specs.Refusals.{IsLack};
 ghost use Rattle.numa_placed.specs.Shifts.{ArePages, AreRooms, IsShift, IsShiftTally, is_stated};
-ghost use Rattle.numa_placed.specs.Shifts.{shift_of, shifted, shifted_spot, shifted_spots, stated_on};
-ghost use Rattle.numa_placed.specs.Shifts.{stay_on, sum_below};
-ghost use Rattle.numa_placed.specs.Spots.{changed_spots, pages_if, spot_at, stated_spot};
-ghost use Rattle.numa_placed.specs.Standing.{GoesAs};
+ghost use Rattle.numa_placed.specs.Shifts.{shift_of, shifted, stated_on, stay_on, sum_below};
+ghost use Rattle.numa_placed.specs.Spots.{changed_spots, pages_if, spot_at};
+ghost use Rattle.numa_placed.specs.Standing.{GoesAs, IsAlone, IsCut, is_split, target_from};
 ghost use Rattle.numa_placed.specs.Wholes.{AreWhole, IsKept};
+ghost use Rattle.numa_placed.specs.declared.spot.Spot.TheVariants.{Stated};
 
-use crate::change::Change;
-use crate::course::{Course, course_of};
-use crate::edit::{change_span, put};
+use crate::course::course_of;
+use crate::edit::put;
 use crate::moved::Moved;
 use crate::refusal::PlacedRefusal;
 use crate::rooms::Rooms;
 use crate::shift::send_all;
 use crate::spot::Spot;
 use crate::tally::tally;
-use crate::targets::targets;
+use crate::targets::{gone, targets};
 use numa_machine::NoMemory;
 use numa_mask::NodeMask;
 use numa_ranges::{RangeMap, Run};
@@ -48,91 +47,159 @@ fn add_stated(counts: &mut [u64; 256], run: &Run<Spot>)
     }
 }
 
-/// Takes as many of so many pages as are still to go from a node.
-fn take_pages(gone: &mut [u64; 256], node: u8, pages: u64) -> u64
-    ensures taken { result ≡ min pages (slice_index gone.old node) }
-    ensures left { (other : ℕ) → other < 256 → slice_index gone.new other
-        ≡ (if other == node then slice_index gone.old other - pages
-        else slice_index gone.old other) }
+/// The number of pages of a run, if they are stated to lie on a node.
+fn stated_pages(run: &Run<Spot>, node: u8) -> u64
+    ensures { result ≡ pages_if (is_stated node run.now.value) run.now.pages }
 {
-    let taken = pages.min(gone[node as usize]);
-    gone[node as usize] -= taken;
-    taken
+    match run.value {
+        Spot::Stated(other) if other == node => run.pages,
+        _ => 0,
+    }
 }
 
-/// Sends so many of the lowest pages of a run to a node.
-fn send_pages(
+/// The page up to which pages of a node go, if so many of the lowest go.
+fn cut_of(map: &RangeMap<Spot>, node: u8, pages: u64) -> u64
+    ensures cut { IsCut (spot_at map.now.runs) node pages result }
+    ensures end { result ≤ 2 ^ 35 }
+{
+    let mut left = pages;
+    for run in map.iter() {
+        let here = stated_pages(&run, node);
+        if left <= here {
+            return run.first + left;
+        }
+        left -= here;
+    }
+    1 << 35
+}
+
+/// Whether some pages of a node go, and some stay.
+fn is_split(counts: &[u64; 256], gone: &[u64; 256], node: u8) -> bool
+    ensures { result ≡ is_split (slice_index counts.now) (slice_index gone.now) node }
+{
+    0 < gone[node as usize] && gone[node as usize] < counts[node as usize]
+}
+
+/// The node of which some pages go and some stay, if there is one.
+fn split_node(counts: &[u64; 256], gone: &[u64; 256]) -> Option<u8>
+    ensures some { IfSome result (λ node.
+        is_split (slice_index counts.now) (slice_index gone.now) node ≡ true) }
+    ensures none { IfNone result ((node : ℕ) → node < 256
+        → is_split (slice_index counts.now) (slice_index gone.now) node ≡ false) }
+{
+    for node in 0..256usize {
+        let node = node as u8;
+        if is_split(counts, gone, node) {
+            return Some(node);
+        }
+    }
+    None
+}
+
+/// The page up to which pages go of the one node of which some stay.
+fn cut_page(map: &RangeMap<Spot>, counts: &[u64; 256], gone: &[u64; 256]) -> u64
+    requires alone { IsAlone (slice_index counts.now) (slice_index gone.now) }
+    ensures cut { (node : ℕ) → node < 256
+        → is_split (slice_index counts.now) (slice_index gone.now) node ≡ true
+        → IsCut (spot_at map.now.runs) node (slice_index gone.now node) result }
+    ensures end { result ≤ 2 ^ 35 }
+{
+    match split_node(counts, gone) {
+        Some(node) => cut_of(map, node, gone[node as usize]),
+        None => 0,
+    }
+}
+
+/// A page of each node.
+fn ones() -> [u64; 256]
+    ensures { ArePages result (λ node. 1) }
+{
+    [1; 256]
+}
+
+/// The target of a node, if at least so many of its pages go; else the node.
+fn target_from(targets: &[u8; 256], least: &[u64; 256], gone: &[u64; 256], node: u8) -> u8
+    ensures { result ≡ target_from (slice_index targets.now) (slice_index least.now)
+        (slice_index gone.now) node }
+{
+    if gone[node as usize] < least[node as usize] {
+        return node;
+    }
+    targets[node as usize]
+}
+
+/// The targets of the nodes of which at least so many pages go; of the others the nodes themselves.
+fn targets_from(targets: &[u8; 256], least: &[u64; 256], gone: &[u64; 256]) -> [u8; 256]
+    ensures { AreTargets result (target_from (slice_index targets.now) (slice_index least.now)
+        (slice_index gone.now)) }
+{
+    let mut sent = [0; 256];
+    for node in 0..256usize {
+        sent[node] = target_from(targets, least, gone, node as u8);
+    }
+    sent
+}
+
+/// Sends the pages of a span, those of each node to its target.
+fn send_span(
     map: &mut RangeMap<Spot>,
-    run: &Run<Spot>,
+    first: u64,
     pages: u64,
-    target: u8,
+    targets: &[u8; 256],
 ) -> Result<(), NoMemory>
-    requires run { end_of run.now ≤ 2 ^ 35 }
-    requires pages { pages ≤ run.now.pages }
+    requires span { first + pages ≤ 2 ^ 35 }
     requires whole { AreWhole map.old.runs }
     ensures whole { OnOk result (AreWhole map.new.runs) }
-    ensures spots { OnOk result ((page : ℕ) → spot_at map.new.runs page
-        ≡ changed_spots run.now.first pages (stated_spot target) (spot_at map.old.runs) page) }
+    ensures spots { (go : ℕ → ℕ) → AreTargets targets.now go → OnOk result ((page : ℕ)
+        → spot_at map.new.runs page
+        ≡ changed_spots first pages (moved_spot go) (spot_at map.old.runs) page) }
+    ensures nodes { OnOk result ((page node : ℕ) → in_pages first pages page ≡ true
+        → spot_at map.old.runs page ≡ Stated node → node < 256) }
     ensures limit { map.new.max_ranges ≡ map.old.max_ranges }
 {
     if pages == 0 {
         return Ok(());
     }
-    change_span(map, run.first, pages, Change::State(target))
+    let targets = *targets;
+    let go = |spot: &Spot| -> Spot
+        ensures moved { (go : ℕ → ℕ) → AreTargets targets go → result ≡ moved_spot go spot.now }
+        ensures node { (node : ℕ) → spot.now ≡ Stated node → node < 256 }
+    { gone(*spot, &targets) };
+    let Ok(()) = map.update_span(first, pages, go) else {
+        return Err(NoMemory);
+    };
+    Ok(())
 }
 
-/// Sends the lowest pages of a run to the target of its node, as many as are still to go from it.
-fn send_run(
+/// Sends the pages below a page to the targets of nodes of which any go, the others to those of
+/// nodes of which all go.
+fn send_lowest(
     map: &mut RangeMap<Spot>,
-    run: &Run<Spot>,
+    cut: u64,
     targets: &[u8; 256],
-    gone: &mut [u64; 256],
+    counts: &[u64; 256],
+    gone: &[u64; 256],
 ) -> Result<(), NoMemory>
-    requires run { end_of run.now ≤ 2 ^ 35 }
+    requires end { cut ≤ 2 ^ 35 }
     requires whole { AreWhole map.old.runs }
-    requires same { (page : ℕ) → in_pages run.now.first run.now.pages page ≡ true
-        → spot_at map.old.runs page ≡ run.now.value }
     ensures whole { OnOk result (AreWhole map.new.runs) }
-    ensures spots { (go pages : ℕ → ℕ) → AreTargets targets.now go → ArePages gone.old pages
-        → OnOk result ((page : ℕ) → spot_at map.new.runs page
-        ≡ (if in_pages run.now.first run.now.pages page
-        then shifted_spot go pages (λ node. page - run.now.first) run.now.value
-        else spot_at map.old.runs page)) }
-    ensures left { OnOk result ((node : ℕ) → node < 256 → slice_index gone.new node
-        ≡ slice_index gone.old node - pages_if (is_stated node run.now.value) run.now.pages) }
+    ensures spots { (go count many : ℕ → ℕ) → AreTargets targets.now go
+        → ArePages counts.now count → ArePages gone.now many → OnOk result ((page : ℕ)
+        → spot_at map.new.runs page ≡ changed_spots cut (2 ^ 35 - cut)
+        (moved_spot (target_from go count many)) (changed_spots 0 cut
+        (moved_spot (target_from go (λ node. 1) many)) (spot_at map.old.runs)) page) }
+    ensures nodes { OnOk result ((page node : ℕ) → page < 2 ^ 35
+        → spot_at map.old.runs page ≡ Stated node → node < 256) }
     ensures limit { map.new.max_ranges ≡ map.old.max_ranges }
 {
-    match run.value {
-        Spot::Nowhere => Ok(()),
-        Spot::Held(_) => Ok(()),
-        Spot::Stated(node) => {
-            let pages = take_pages(gone, node, run.pages);
-            send_pages(map, run, pages, targets[node as usize])
-        }
-    }
-}
-
-/// Sends the lowest pages of each node to its target, as many as go.
-fn send_runs(
-    map: &mut RangeMap<Spot>,
-    old: &RangeMap<Spot>,
-    targets: &[u8; 256],
-    gone: [u64; 256],
-) -> Result<(), NoMemory>
-    requires whole { AreWhole map.old.runs }
-    requires same { map.old ≡ old.now }
-    ensures whole { OnOk result (AreWhole map.new.runs) }
-    ensures spots { (go pages : ℕ → ℕ) → AreTargets targets.now go → ArePages gone pages
-        → OnOk result ((page : ℕ) → spot_at map.new.runs page
-        ≡ shifted_spots go pages (spot_at old.now.runs) page) }
-    ensures limit { map.new.max_ranges ≡ map.old.max_ranges }
-{
-    let mut left = gone;
-    for run in old.iter() {
-        let Ok(()) = send_run(map, &run, targets, &mut left) else {
-            return Err(NoMemory);
-        };
-    }
+    let below = targets_from(targets, &ones(), gone);
+    let Ok(()) = send_span(map, 0, cut, &below) else {
+        return Err(NoMemory);
+    };
+    let behind = targets_from(targets, counts, gone);
+    let Ok(()) = send_span(map, cut, (1 << 35) - cut, &behind) else {
+        return Err(NoMemory);
+    };
     Ok(())
 }
 
@@ -231,7 +298,8 @@ pub(crate) fn fill(
     let Ok(mut next) = map.copy() else {
         return Err(PlacedRefusal::NoMemory);
     };
-    let Ok(()) = send_runs(&mut next, map, &targets, course.gone) else {
+    let cut = cut_page(map, &counts, &course.gone);
+    let Ok(()) = send_lowest(&mut next, cut, &targets, &counts, &course.gone) else {
         return Err(PlacedRefusal::NoMemory);
     };
     match put(map, next) {
