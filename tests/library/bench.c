@@ -7,6 +7,7 @@
  * Each time is the best of several rounds. Not proved. */
 #define _POSIX_C_SOURCE 199309L
 #include "numaplan.h"
+#include "numaplan_placed.h"
 
 #include <stdio.h>
 #include <stdlib.h>
@@ -16,9 +17,11 @@
 #define RANGES 65536 /* of 3 pages, each with a hole of one page behind it */
 #define ROUND 100000 /* look-ups in a round, which jump over all ranges */
 #define FILLED 1048576
+#define PAGE 4096
 #define TEXT(words) (const uint8_t *)(words), strlen(words)
 
 static np_plan spread, whole;
+static np_pages pages;
 static uint8_t nodes[FILLED], other[FILLED];
 static struct row {
     uint64_t first, pages, index, rule;
@@ -61,6 +64,17 @@ static void make_plans(void) {
     must(np_core_map(&core, 0, (uint64_t)1 << 47, 0));
     must(np_core_compile(&core, &whole));
     np_core_close(&core);
+}
+
+/* RANGES runs of two pages, in turn on nodes 0 to 2, which are allowed. */
+static void place_pages(void) {
+    np_core core = {0};
+    open_core(&core);
+    must(np_core_map(&core, 0, 2 * (uint64_t)RANGES * PAGE, 0));
+    must(np_core_set_mems(&core, TEXT("0-2")));
+    must(np_pages_open(&pages, &core));
+    for (uint64_t k = 0; k < RANGES; k++)
+        must(np_pages_place(&pages, 2 * k * PAGE, 2 * PAGE, (uint32_t)(k % 3)));
 }
 
 /* ---- what is measured: a round of each */
@@ -107,6 +121,15 @@ static void fill_in_turn(void) { must(np_plan_fill(&whole, 1, 2, 4099, nodes, FI
 
 static void fill_local(void) { must(np_plan_fill(&whole, 2, 2, 4099, nodes, FILLED)); }
 
+/* Moves all pages of nodes 0 to 2 to nodes 1 to 3, and back. */
+static void move_pages(void) {
+    static np_moves moves;
+    must(np_pages_move_mems(&pages, TEXT("1-3"), &moves));
+    kept += moves.moved;
+    must(np_pages_move_mems(&pages, TEXT("0-2"), &moves));
+    kept += moves.moved;
+}
+
 static void copy(void) {
     memcpy(nodes, other, FILLED);
     kept += nodes[kept % FILLED];
@@ -146,7 +169,10 @@ int main(void) {
     compare("np_plan_version", versions, "np_plan_choice", choices, 20, ROUND);
     compare("np_plan_fill, 1 MiB, in turn", fill_in_turn, "memcpy", copy, 400, 1);
     compare("np_plan_fill, 1 MiB, one node", fill_local, "memset", set, 400, 1);
+    place_pages();
+    compare("np_pages_move_mems, 65,536 runs", move_pages, "memcpy, 1 MiB", copy, 40, 2);
     np_plan_close(&spread);
     np_plan_close(&whole);
+    np_pages_close(&pages);
     return 0;
 }
