@@ -17,8 +17,8 @@ from compare import opening, read_seen, run, short
 
 ROWS = {
     "untouched": "move of a page that was never touched (6.1)",
-    "unknown": "lines by which pages left a full node and others came or stayed there; none behind",
-    "again": "lines by which a page found room on a filled node, where some was free again; none behind",
+    "unknown": "lines by which pages left a full node and others came or stayed there: as they then lay",
+    "again": "lines by which a page found room on a filled node, where some was free again",
     "hole": "mbind with strict, pages astray before a hole",
 }
 
@@ -72,9 +72,16 @@ class Follower:
     def nodes(self):
         return self.state.placed.stated
 
+    def take(self, nodes):
+        """Pages lie as on the kernel from here on."""
+        self.state.placed.stated = nodes
+
 
 def cause(line, mine, seen, is_full):
-    """The row that a difference of answers falls under, or None."""
+    """The row that a difference of answers falls under, or None; `mine` is None where how much room
+    there was isn't known."""
+    if mine is None:
+        return "unknown" if seen in ("ok", "ENOMEM", "EIO") else None
     had_no_room = mine.startswith(("moved ", "ok ", "refused NoRoom "))
     if is_full and had_no_room and seen.startswith(("ok", "node ")):
         return "again"
@@ -86,9 +93,9 @@ def cause(line, mine, seen, is_full):
 
 
 def compare(machine, script, counts):
-    """One script: the model beside the kernel, up to the first difference."""
+    """One script: the model beside the kernel, up to the first difference that falls under no row."""
     name, lines = script
-    follower, own, before = Follower(machine), [], None
+    follower, own, mine, before = Follower(machine), [], None, None
     if lines.pop()[0] != "end":
         counts["new"] += 1
         print(f"{name}: not played to its end")
@@ -96,28 +103,34 @@ def compare(machine, script, counts):
         if line == "own":
             own = [int(word) for word in seen.split()]
         elif line == "lie":
-            counts["read-backs"] += 1
-            wanted, got = follower.nodes(), pages_of(seen)
-            counts["pages"] += len(got)
-            if came_to_full(follower, wanted, got):
-                counts["again"] += 1
-                return
-            if tell_pages(f"{name}: behind {before}", wanted, got):
-                counts["new"] += 1
+            if tell_lie(f"{name}: behind {before}", follower, mine, pages_of(seen), counts):
                 return
         else:
             counts["lines"] += 1
             before, mine, own = line, follower.play(line, own), []
-            if mine is None:
-                counts["unknown"] += 1
-                return
-            if short_of_move(mine) != seen:
+            if mine is None or short_of_move(mine) != seen:
                 row = cause(line, mine, seen, bool(follower.state.placed.rooms))
                 counts[row or "new"] += 1
                 if row is None:
                     print(f"{name}: {line}: the model {mine}, the kernel {seen}")
-                if row in (None, "again"):
                     return
+                mine = None if row == "again" else mine
+
+
+def tell_lie(where, follower, mine, got, counts):
+    """Where pages lie behind a line, beside where they should; whether they differ and no row says
+    why. Where a row does, and where how much room there was isn't known (`mine` is None), they are
+    taken as they are."""
+    wanted = follower.nodes()
+    is_again = mine is not None and came_to_full(follower, wanted, got)
+    if mine is None or is_again:
+        counts["again"] += is_again
+        follower.take(got)
+        return False
+    counts["read-backs"] += 1
+    counts["pages"] += len(got)
+    counts["new"] += wanted != got
+    return tell_pages(where, wanted, got)
 
 
 def came_to_full(follower, wanted, got):
@@ -134,11 +147,22 @@ def tell_pages(where, wanted, got):
     return bool(pages)
 
 
-def compare_program(program, machine, script, counts):
-    """One script, without what happens to pages of the player: the program beside the model, with the
-    listing behind each line that may have moved pages."""
+def knows_flags(program):
+    """Whether the program's language has `mbind` with flags."""
+    return run(program, ["machine 1 0 8 flat", "mbind 0 0 local strict"])[-1] != "bad words"
+
+
+def has_flags(line):
+    return line.startswith("mbind ") and len(line.split()) > 4
+
+
+def compare_program(program, flags, machine, script, counts):
+    """One script, without what happens to pages of the player, and without flags where the program
+    knows none: the program beside the model, with the listing behind each line that may have moved
+    pages."""
     name, lines = script
-    asked = [it for line, _ in lines for it in (["maps 1"] if line == "lie" else [line]) if it != "own"]
+    asked = ["maps 1" if line == "lie" else line for line, _ in lines if line != "own"]
+    asked = [line for line in asked if flags or not has_flags(line)]
     lines = ["rules linux", *opening(machine), *asked]
     said, state = iter(run(program, lines)), model.State()
     for line in lines:
@@ -155,6 +179,7 @@ def main():
     program = None
     if paths[0].startswith("--program="):
         program = paths.pop(0).removeprefix("--program=")
+        flags = knows_flags(program)
     counts, scripts = collections.Counter(), 0
     for path in paths:
         machine, _, seen = read_seen(path)
@@ -162,7 +187,7 @@ def main():
         for script in seen:
             compare(machine, script, counts)
             if program:
-                compare_program(program, machine, script, counts)
+                compare_program(program, flags, machine, script, counts)
     for row, what in ROWS.items():
         if counts[row]:
             print(f"{counts[row]} {what}")
