@@ -17,7 +17,7 @@ from compare import opening, read_seen, run, short
 
 ROWS = {
     "untouched": "move of a page that was never touched (6.1)",
-    "unknown": "lines by which pages left a full node and others came or stayed there: as they then lay",
+    "unknown": "lines by which pages left a full node and others came or stayed, taken as they lay",
     "again": "lines by which a page found room on a filled node, where some was free again",
     "hole": "mbind with strict, pages astray before a hole",
 }
@@ -93,7 +93,7 @@ def cause(line, mine, seen, is_full):
 
 
 def compare(machine, script, counts):
-    """One script: the model beside the kernel, up to the first difference that falls under no row."""
+    """One script: the model beside the kernel, up to the first difference without a row."""
     name, lines = script
     follower, own, mine, before = Follower(machine), [], None, None
     if lines.pop()[0] != "end":
