@@ -1,12 +1,15 @@
 #!/usr/bin/env python3
-"""Random scripts of pages that are there: placed_scripts.py MACHINE FIRST COUNT [--without-weights]
+"""Random scripts of pages that are there:
+
+    placed_scripts.py MACHINE FIRST COUNT [--without-weights] [--holes]
 
 Each script states where pages lie, and then moves them: by the allowed nodes, by migrate_pages(2) and
 move_pages(2), and by mbind(2) with MPOL_MF_STRICT and MPOL_MF_MOVE; between these come commands of
 every kind. In half of them nodes are full from some line on. There is one task, number 1, since a
 kernel moves pages once for each thread. Pages are stated on allowed nodes alone, as a kernel puts
 them nowhere else. Where nodes are full, neither the task's policy nor the allowed nodes leave it no
-other node: a kernel would end it. Not proved."""
+other node: a kernel would end it. With --holes most lines are `mbind` with flags over holes. Not
+proved."""
 
 import sys
 
@@ -15,8 +18,10 @@ from scripts import FIRST_PAGE, PAGE, PAGES, Script
 
 
 class PlacedScript(Script):
+    kind = "placed"
+
     def __init__(self, machine, seed, weights):
-        super().__init__(machine, f"placed {seed}", weights)
+        super().__init__(machine, f"{self.kind} {seed}", weights)
         self.turn = seed
         self.allowed = set(self.memory)
         self.full = []
@@ -109,12 +114,40 @@ class PlacedScript(Script):
         return self.lines
 
 
+class HoleScript(PlacedScript):
+    """Spans that go on over several areas, mostly to a hole and beyond; no node is full."""
+
+    kind = "holes"
+
+    def wide(self):
+        first, length = self.random.choice(sorted(self.mapped)), self.random.randint(3, 16)
+        policy = "default"
+        while policy.startswith(("default", "local")):
+            policy = self.policy()
+        flags = self.random.choice(["strict"] * 5 + ["strict move", "move"])
+        if "move" in flags:
+            flags += f" 1 {self.random.choice(sorted(self.machine.with_cpus))}"
+        self.say("mbind", *self.bytes(first, length), policy, flags)
+
+    def write(self):
+        self.say("memory-migrate", "on")
+        while len(self.mapped) < 24:
+            self.map()
+        for _ in range(6):
+            self.at()
+        others = [self.mbind, self.mbind, self.at, self.map, self.unmap, self.migrate]
+        for _ in range(34):
+            self.random.choice([self.wide] * 6 + others)()
+        return self.lines
+
+
 def main():
     machine, first, count = sys.argv[1], int(sys.argv[2]), int(sys.argv[3])
     weights = "--without-weights" not in sys.argv
+    writer = HoleScript if "--holes" in sys.argv else PlacedScript
     for number in range(first, first + count):
-        print(f"script {machine}-placed-{number}")
-        print("\n".join(PlacedScript(machine, number, weights).write()))
+        print(f"script {machine}-{writer.kind}-{number}")
+        print("\n".join(writer(machine, number, weights).write()))
 
 
 if __name__ == "__main__":
