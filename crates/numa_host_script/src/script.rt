@@ -8,6 +8,7 @@ ghost use Rattle.numa_host_script.specs.Judged.{IsAlone, IsHost, IsHostIn, IsScr
 ghost use Rattle.numa_host_script.specs.Judged.{begun_fault, session_fault};
 ghost use Rattle.numa_run.specs.Answers.{State};
 ghost use Rattle.numa_run.specs.Scripts.{ScriptStandsFor};
+ghost use Rattle.numa_script.specs.Lines.{line_of};
 ghost use Rattle.numa_host_script.specs.Standing.{StandsIn};
 
 use crate::fault::LineFault;
@@ -130,15 +131,34 @@ impl HostScript {
             × Said W.contents output.old output.new (session_answer refused session line.now)
             × (IsTrue result ↔ (Starves refused session line.now)) }
     {
+        self.serve_parsed(alloc, line, &parse(line), output)
+    }
+
+    /// Carries out a line, as `serve_line`, which comes with what it says in a script of one
+    /// process.
+    pub fn serve_parsed<W: Write>(
+        &mut self,
+        alloc: Global,
+        line: &[u8],
+        said: &Line<'_>,
+        output: &mut Watched<W>,
+    ) -> bool
+        requires { said.now ≡ line_of line.now }
+        ensures { (session : Session) → StandsIn self.old.script self.old.limits self.old.host
+            session → (refused : Bool)
+            × StandsIn self.new.script self.new.limits self.new.host
+            (session_after refused session line.now)
+            × Said W.contents output.old output.new (session_answer refused session line.now)
+            × (IsTrue result ↔ (Starves refused session line.now)) }
+    {
         if is_begin(line) {
             return self.begin(alloc, output);
         }
         if let Some(host) = &mut self.host {
             return serve(host, alloc, &parse_host(line), output);
         }
-        let said = parse(line);
-        self.limits = limits_after(&self.script, self.limits, &said);
-        self.script.serve_line(alloc, &said, output)
+        self.limits = limits_after(&self.script, self.limits, said);
+        self.script.serve_line(alloc, said, output)
     }
 
     /// The script, while it is one process's.

@@ -11,7 +11,10 @@ use Rattle.numa_machine.specs.Machine.{Hardware}
 use Rattle.numa_space.specs.Standing.{SpaceState, StandsFor}
 use Rattle.numa_space.specs.declared.command.Command.{Command}
 use Rattle.numa_placed.specs.declared.refusal.PlacedRefusal.TheVariants as cause
+use Rattle.numa_script.specs.Causes.{is_malformed}
+use Rattle.numa_script.specs.Lines.{line_of}
 use Rattle.numa_script.specs.Texts.{text_of}
+use Rattle.numa_script.specs.declared.line.Line.{Line}
 use Rattle.numa_maps.specs.Residents.{Kept}
 use Rattle.numa_host_script.specs.Sessions.{Session}
 use Rattle.numa_host_script.specs.Standing.{StandsIn as IsIn}
@@ -21,7 +24,7 @@ use Rattle.numa_placed_script.specs.Processes.{IsAlone, alone_in, process_of}
 use Rattle.numa_placed_script.specs.Outcomes.{Outcome, placed_by, placed_outcome, refused_with}
 use Rattle.numa_placed_script.specs.Scenes.{Scene, Served, early_reply, placed_on, placed_served}
 use Rattle.numa_placed_script.specs.Lines.{placed_line_of}
-use Rattle.numa_placed_script.specs.Scenes.{plain_served, scene_served}
+use Rattle.numa_placed_script.specs.Scenes.{plain_served, scene_served, unknown_served}
 use Rattle.numa_placed_script.specs.Lines.{is_plain}
 use Rattle.numa_placed_script.specs.Scenes.{with_outcome}
 use Rattle.numa_placed_script.specs.Standing.{Lies, LiesAs, ServesScene, StandsIn}
@@ -146,25 +149,38 @@ kept-lies beside beside_then kept is all lying lies =
 
 -- ---- every line
 
-scene-plain : (refused : Bool) (scene : Scene) (bytes : List ℕ)
+unknown-plain : (refused : Bool) (scene : Scene) (bytes : List ℕ)
     → is_plain (placed_line_of bytes) ≡ true
+    → unknown_served refused scene bytes ≡ plain_served refused scene bytes
+unknown-plain refused scene bytes is = rw is refl
+
+unknown-placed : (refused : Bool) (scene : Scene) (bytes : List ℕ)
+    → is_plain (placed_line_of bytes) ≡ false → unknown_served refused scene bytes
+    ≡ placed_served refused scene (placed_line_of bytes)
+unknown-placed refused scene bytes is = rw is refl
+
+scene-unknown : (refused : Bool) (scene : Scene) (bytes : List ℕ)
+    → is_malformed (line_of bytes) ≡ true
+    → scene_served refused scene bytes ≡ unknown_served refused scene bytes
+unfolding scene_served
+scene-unknown refused scene bytes is = rw is refl
+
+scene-plain : (refused : Bool) (scene : Scene) (bytes : List ℕ)
+    → is_malformed (line_of bytes) ≡ false
     → scene_served refused scene bytes ≡ plain_served refused scene bytes
 unfolding scene_served
 scene-plain refused scene bytes is = rw is refl
 
-scene-placed : (refused : Bool) (scene : Scene) (bytes : List ℕ)
-    → is_plain (placed_line_of bytes) ≡ false → scene_served refused scene bytes
-    ≡ placed_served refused scene (placed_line_of bytes)
-unfolding scene_served
-scene-placed refused scene bytes is = rw is refl
-
 module _ {W : Type 0} (contents : W → Option (List ℕ)) (script script_then : HostScript)
-    (beside beside_then : Option Beside) (output output_then : Watched W) (bytes : List ℕ)
-    (said : PlacedLine) (same : said ≡ placed_line_of bytes) where
+    (beside beside_then : Option Beside) (output output_then : Watched W) (bytes : List ℕ) where
+  -- a line was answered so
+  abbrev pub ServesSo : (Bool → Scene → Served) → Type 0
+  ServesSo serve =
+      ServesScene contents script beside output script_then beside_then output_then serve
+
   serves-so : (one other : Bool → Scene → Served)
       → ((refused : Bool) (scene : Scene) → other refused scene ≡ one refused scene)
-      → ServesScene contents script beside output script_then beside_then output_then one
-      → ServesScene contents script beside output script_then beside_then output_then other
+      → ServesSo one → ServesSo other
   serves-so one other alike serves scene stands =
       let served = serves scene stands in
       let is = alike served.0 scene in (
@@ -173,21 +189,33 @@ module _ {W : Type 0} (contents : W → Option (List ℕ)) (script script_then :
         said_same contents output output_then _ _ (ap (λ (s : Served). s.text) (sym is)) served.2,
       )
 
-  pub serves-plain : is_plain said ≡ true
-      → ServesScene contents script beside output script_then beside_then output_then
-      (λ refused scene. plain_served refused scene bytes)
-      → ServesScene contents script beside output script_then beside_then output_then
-      (λ refused scene. scene_served refused scene bytes)
-  serves-plain is = serves-so (λ refused scene. plain_served refused scene bytes)
-      (λ refused scene. scene_served refused scene bytes)
-      (λ refused scene. scene-plain refused scene bytes (sym (ap is_plain same) ∙ is))
+  module _ (about : PlacedLine) (same : about ≡ placed_line_of bytes) where
+    pub serves-none : is_plain about ≡ true
+        → ServesSo (λ refused scene. plain_served refused scene bytes)
+        → ServesSo (λ refused scene. unknown_served refused scene bytes)
+    serves-none is = serves-so (λ refused scene. plain_served refused scene bytes)
+        (λ refused scene. unknown_served refused scene bytes)
+        (λ refused scene. unknown-plain refused scene bytes (sym (ap is_plain same) ∙ is))
 
-  pub serves-placed : is_plain said ≡ false
-      → ServesScene contents script beside output script_then beside_then output_then
-      (λ refused scene. placed_served refused scene said)
-      → ServesScene contents script beside output script_then beside_then output_then
-      (λ refused scene. scene_served refused scene bytes)
-  serves-placed is = serves-so (λ refused scene. placed_served refused scene said)
-      (λ refused scene. scene_served refused scene bytes)
-      (λ refused scene. scene-placed refused scene bytes (sym (ap is_plain same) ∙ is)
-      ∙ ap (λ (l : PlacedLine). placed_served refused scene l) (sym same))
+    pub serves-placed : is_plain about ≡ false
+        → ServesSo (λ refused scene. placed_served refused scene about)
+        → ServesSo (λ refused scene. unknown_served refused scene bytes)
+    serves-placed is = serves-so (λ refused scene. placed_served refused scene about)
+        (λ refused scene. unknown_served refused scene bytes)
+        (λ refused scene. unknown-placed refused scene bytes (sym (ap is_plain same) ∙ is)
+        ∙ ap (λ (l : PlacedLine). placed_served refused scene l) (sym same))
+
+  module _ (said : Line) (same : said ≡ line_of bytes) where
+    pub serves-unknown : is_malformed said ≡ true
+        → ServesSo (λ refused scene. unknown_served refused scene bytes)
+        → ServesSo (λ refused scene. scene_served refused scene bytes)
+    serves-unknown is = serves-so (λ refused scene. unknown_served refused scene bytes)
+        (λ refused scene. scene_served refused scene bytes)
+        (λ refused scene. scene-unknown refused scene bytes (sym (ap is_malformed same) ∙ is))
+
+    pub serves-plain : is_malformed said ≡ false
+        → ServesSo (λ refused scene. plain_served refused scene bytes)
+        → ServesSo (λ refused scene. scene_served refused scene bytes)
+    serves-plain is = serves-so (λ refused scene. plain_served refused scene bytes)
+        (λ refused scene. scene_served refused scene bytes)
+        (λ refused scene. scene-plain refused scene bytes (sym (ap is_malformed same) ∙ is))

@@ -5,6 +5,7 @@ use Rattle.std.proofs.Common.{sym, ◌∙◌, ap, arith}
 use Rattle.std.proofs.lemmas.List.{take_all, length-take-le}
 use Rattle.std.proofs.lemmas.Bool.Decides.{nat_tests}
 use Rattle.numa_lines.specs.Lines.{given_part}
+use Rattle.numa_script.specs.Causes.{is_malformed}
 use Rattle.numa_script.specs.Lines.{line_of}
 use Rattle.numa_script.specs.declared.line.Line.{Line}
 use Rattle.numa_script.proofs.Seeing.{line_of_seen}
@@ -13,7 +14,7 @@ use Rattle.numa_host_script.proofs.Seen.{served_seen}
 use Rattle.numa_placed_script.specs.Lines.{placed_line_of}
 use Rattle.numa_placed_script.specs.Scenes.{Scene, Served, concern_of, concerned, follow_between}
 use Rattle.numa_placed_script.specs.Scenes.{forget_between, mems_served, passed, plain_served}
-use Rattle.numa_placed_script.specs.Scenes.{unmap_unless}
+use Rattle.numa_placed_script.specs.Scenes.{unknown_served, unmap_unless}
 use Rattle.std.specs.Prelude.{Option, Some, None}
 use Rattle.numa_placed_script.specs.Lying.{Process}
 use Rattle.numa_placed_script.specs.Scenes.{maps_on}
@@ -44,10 +45,17 @@ long-says bytes many =
     let over : nat_lt 4096 (length bytes) ≡ true = grind (arith, nat_tests) in
     rw over refl
 
+long-unknown : (unknown refused : Bool) (scene : Scene) (bytes : List ℕ) → 4096 < length bytes
+    → (if unknown then unknown_served refused scene bytes else plain_served refused scene bytes)
+    ≡ plain_served refused scene bytes
+long-unknown true refused scene bytes many = rw (long-says bytes many) refl
+long-unknown false refused scene bytes many = refl
+
 scene-long : (refused : Bool) (scene : Scene) (bytes : List ℕ) → 4096 < length bytes
     → scene_served refused scene bytes ≡ plain_served refused scene bytes
 unfolding scene_served
-scene-long refused scene bytes many = rw (long-says bytes many) refl
+scene-long refused scene bytes many =
+    long-unknown (is_malformed (line_of bytes)) refused scene bytes many
 
 maps-seen : (process : Option Process) (refused : Bool) (scene : Scene) (bytes : List ℕ)
     (task : ℕ) → maps_on process refused scene (given_part bytes) task

@@ -7,6 +7,7 @@ use Rattle.std.specs.Option.{option_map}
 use Rattle.numa_machine.specs.declared.rules.Rules.{Rules}
 use Rattle.numa_space.specs.declared.command.Command.TheVariants.{SetMems, Unmap}
 use Rattle.numa_placed.specs.Spots.{is_placed}
+use Rattle.numa_script.specs.Causes.{is_malformed}
 use Rattle.numa_script.specs.Lines.{line_of}
 use Rattle.numa_script.specs.Texts.{refused_text, text_of}
 use Rattle.numa_script.specs.declared.line.Line.{Line}
@@ -142,10 +143,16 @@ plain_served refused scene bytes = concerned (concern_of (line_of bytes)) refuse
 
 -- ---- every line
 
-unfoldable pub scene_served : Bool → Scene → List ℕ → Served
-scene_served refused scene bytes = if is_plain (placed_line_of bytes)
+-- a line that is malformed in a script without pages may be one about pages
+abbrev pub unknown_served : Bool → Scene → List ℕ → Served
+unknown_served refused scene bytes = if is_plain (placed_line_of bytes)
     then plain_served refused scene bytes
     else placed_served refused scene (placed_line_of bytes)
+
+unfoldable pub scene_served : Bool → Scene → List ℕ → Served
+scene_served refused scene bytes = if is_malformed (line_of bytes)
+    then unknown_served refused scene bytes
+    else plain_served refused scene bytes
 
 abbrev pub scene_answer : Bool → Scene → List ℕ → List ℕ
 scene_answer refused scene bytes = (scene_served refused scene bytes).text

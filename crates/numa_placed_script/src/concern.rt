@@ -1,6 +1,7 @@
 //! What a line of every script has to do with pages that are there.
 ghost use Rattle.std.specs.Prelude.{◌≡◌};
 ghost use Rattle.numa_placed_script.specs.Scenes.{concern_of};
+ghost use Rattle.numa_script.specs.Causes.{is_malformed};
 
 use numa_script::{Line, Work};
 use numa_space::Command;
@@ -34,4 +35,11 @@ pub(crate) fn concern_of(line: &Line<'_>) -> Concern
         Line::Maps(task) => Concern::Maps(*task),
         _ => Concern::Nothing,
     }
+}
+
+/// Whether a line is none that scripts have without lines about pages.
+pub(crate) fn is_malformed(line: &Line<'_>) -> bool
+    ensures { result ≡ is_malformed line.now }
+{
+    matches!(line, Line::Malformed)
 }

@@ -9,14 +9,14 @@ ghost use Rattle.numa_placed_script.specs.Outcomes.{is_astray_cause, is_no_memor
 ghost use Rattle.numa_placed_script.specs.Scenes.{concern_of, early_reply};
 ghost use Rattle.numa_placed_script.specs.Scenes.{maps_served, mems_served, passed, placed_served};
 ghost use Rattle.numa_placed_script.specs.Scenes.{plain_served, scene_by, scene_served};
-ghost use Rattle.numa_placed_script.specs.Scenes.{touch_served, unmap_served};
+ghost use Rattle.numa_placed_script.specs.Scenes.{touch_served, unknown_served, unmap_served};
 ghost use Rattle.numa_placed_script.specs.Standing.{Forgets, Lies, LiesAs, Replaces};
 ghost use Rattle.numa_placed_script.specs.Standing.{ServesScene, StandsIn};
 ghost use Rattle.numa_maps.specs.Residents.{Kept};
 ghost use Rattle.numa_script.specs.Lines.{line_of};
 
 use crate::beside::{Beside, is_no_memory};
-use crate::concern::{Concern, concern_of};
+use crate::concern::{Concern, concern_of, is_malformed};
 use crate::line::{PlacedLine, is_plain, parse_placed};
 use crate::listing::say_pages;
 use crate::process::{allowed_in, kept_in, process, version_in};
@@ -27,9 +27,9 @@ use numa_machine::Rules;
 use numa_maps::Resident;
 use numa_mask::NodeMask;
 use numa_placed::{Placed, PlacedRefusal};
-use numa_script::Reply;
 use numa_script::line::parse;
 use numa_script::tell::say_reply;
+use numa_script::{Line, Reply};
 use std::alloc::Global;
 use std::io::Write;
 use std::mem;
@@ -196,12 +196,19 @@ impl PlacedScript {
     }
 
     /// Answers a line as without lines about pages. Returns whether memory ran out.
-    fn pass<W: Write>(&mut self, alloc: Global, line: &[u8], output: &mut Watched<W>) -> bool
+    fn pass<W: Write>(
+        &mut self,
+        alloc: Global,
+        line: &[u8],
+        said: &Line<'_>,
+        output: &mut Watched<W>,
+    ) -> bool
+        requires { said.now ≡ line_of line.now }
         ensures { ServesScene W.contents self.old.script self.old.beside output.old self.new.script
             self.new.beside output.new (λ refused scene. passed refused scene line.now
             scene.lying) }
     {
-        self.script.serve_line(alloc, line, output)
+        self.script.serve_parsed(alloc, line, said, output)
     }
 
     /// Answers a line that touches a page. Returns whether memory ran out.
@@ -209,9 +216,11 @@ impl PlacedScript {
         &mut self,
         alloc: Global,
         line: &[u8],
+        said: &Line<'_>,
         page: u64,
         output: &mut Watched<W>,
     ) -> bool
+        requires { said.now ≡ line_of line.now }
         ensures { ServesScene W.contents self.old.script self.old.beside output.old self.new.script
             self.new.beside output.new (λ refused scene. touch_served refused scene line.now
             page) }
@@ -220,19 +229,26 @@ impl PlacedScript {
             say_placed(output);
             return false;
         }
-        self.pass(alloc, line, output)
+        self.pass(alloc, line, said, output)
     }
 
     /// Answers a line `mems`; if it is accepted, pages follow the allowed nodes. Returns whether
     /// memory ran out.
-    fn mems<W: Write>(&mut self, alloc: Global, line: &[u8], output: &mut Watched<W>) -> bool
-        requires { concern_of (line_of line.now) ≡ Concern.Mems }
+    fn mems<W: Write>(
+        &mut self,
+        alloc: Global,
+        line: &[u8],
+        said: &Line<'_>,
+        output: &mut Watched<W>,
+    ) -> bool
+        requires said { said.now ≡ line_of line.now }
+        requires mems { concern_of said.now ≡ Concern.Mems }
         ensures { ServesScene W.contents self.old.script self.old.beside output.old self.new.script
             self.new.beside output.new (λ refused scene. mems_served refused scene line.now) }
     {
         let old = allowed_in(&self.script);
         let before = version_in(&self.script);
-        let starved = self.script.serve_line(alloc, line, output);
+        let starved = self.script.serve_parsed(alloc, line, said, output);
         let new = allowed_in(&self.script);
         let after = version_in(&self.script);
         if before == after {
@@ -248,17 +264,19 @@ impl PlacedScript {
         &mut self,
         alloc: Global,
         line: &[u8],
+        said: &Line<'_>,
         start: u64,
         length: u64,
         output: &mut Watched<W>,
     ) -> bool
-        requires { concern_of (line_of line.now) ≡ Concern.Unmap start length }
+        requires said { said.now ≡ line_of line.now }
+        requires unmap { concern_of said.now ≡ Concern.Unmap start length }
         ensures { ServesScene W.contents self.old.script self.old.beside output.old self.new.script
             self.new.beside output.new (λ refused scene. unmap_served refused scene line.now
             start length) }
     {
         let Some(_) = process(&self.script) else {
-            return self.pass(alloc, line, output);
+            return self.pass(alloc, line, said, output);
         };
         let forgotten = match without_span(&self.beside, start, length) {
             Ok(forgotten) => forgotten,
@@ -268,10 +286,10 @@ impl PlacedScript {
             }
         };
         let Some(after) = forgotten else {
-            return self.pass(alloc, line, output);
+            return self.pass(alloc, line, said, output);
         };
         let before = version_in(&self.script);
-        let starved = self.script.serve_line(alloc, line, output);
+        let starved = self.script.serve_parsed(alloc, line, said, output);
         let later = version_in(&self.script);
         if before == later {
             return starved;
@@ -286,15 +304,17 @@ impl PlacedScript {
         &mut self,
         alloc: Global,
         line: &[u8],
+        said: &Line<'_>,
         task: u32,
         output: &mut Watched<W>,
     ) -> bool
+        requires { said.now ≡ line_of line.now }
         ensures { ServesScene W.contents self.old.script self.old.beside output.old self.new.script
             self.new.beside output.new (λ refused scene. maps_served refused scene line.now
             task) }
     {
         let Some(found) = process(&self.script) else {
-            return self.pass(alloc, line, output);
+            return self.pass(alloc, line, said, output);
         };
         // Tells the proof that the ranges are in ascending order and maximal.
         let _ = found.0.range_iter();
@@ -303,17 +323,64 @@ impl PlacedScript {
     }
 
     /// Answers a line of every script. Returns whether memory ran out.
-    fn serve_plain<W: Write>(&mut self, alloc: Global, line: &[u8], output: &mut Watched<W>) -> bool
+    fn serve_plain<W: Write>(
+        &mut self,
+        alloc: Global,
+        line: &[u8],
+        said: &Line<'_>,
+        output: &mut Watched<W>,
+    ) -> bool
+        requires { said.now ≡ line_of line.now }
         ensures { ServesScene W.contents self.old.script self.old.beside output.old self.new.script
             self.new.beside output.new (λ refused scene. plain_served refused scene line.now) }
     {
-        match concern_of(&parse(line)) {
-            Concern::Mems => self.mems(alloc, line, output),
-            Concern::Unmap { start, length } => self.unmap(alloc, line, start, length, output),
-            Concern::Touch(page) => self.touch(alloc, line, page, output),
-            Concern::Maps(task) => self.maps(alloc, line, task, output),
-            Concern::Nothing => self.pass(alloc, line, output),
+        match concern_of(said) {
+            Concern::Mems => self.mems(alloc, line, said, output),
+            Concern::Unmap { start, length } => {
+                self.unmap(alloc, line, said, start, length, output)
+            }
+            Concern::Touch(page) => self.touch(alloc, line, said, page, output),
+            Concern::Maps(task) => self.maps(alloc, line, said, task, output),
+            Concern::Nothing => self.pass(alloc, line, said, output),
         }
+    }
+
+    /// Answers a line that is none of every script. Returns whether memory ran out.
+    fn serve_unknown<W: Write>(
+        &mut self,
+        alloc: Global,
+        line: &[u8],
+        said: &Line<'_>,
+        output: &mut Watched<W>,
+    ) -> bool
+        requires { said.now ≡ line_of line.now }
+        ensures { ServesScene W.contents self.old.script self.old.beside output.old self.new.script
+            self.new.beside output.new (λ refused scene. unknown_served refused scene line.now) }
+    {
+        let about = parse_placed(line);
+        if is_plain(&about) {
+            return self.serve_plain(alloc, line, said, output);
+        }
+        serve_placed(&self.script, &mut self.beside, alloc, &about, output)
+    }
+
+    /// Answers a line, which comes with what it says in every script. Returns whether memory ran
+    /// out.
+    fn serve_parsed<W: Write>(
+        &mut self,
+        alloc: Global,
+        line: &[u8],
+        said: &Line<'_>,
+        output: &mut Watched<W>,
+    ) -> bool
+        requires { said.now ≡ line_of line.now }
+        ensures { ServesScene W.contents self.old.script self.old.beside output.old self.new.script
+            self.new.beside output.new (λ refused scene. scene_served refused scene line.now) }
+    {
+        if is_malformed(said) {
+            return self.serve_unknown(alloc, line, said, output);
+        }
+        self.serve_plain(alloc, line, said, output)
     }
 
     /// Carries out a line, and writes its answer. Returns whether memory ran out.
@@ -326,11 +393,7 @@ impl PlacedScript {
         ensures { ServesScene W.contents self.old.script self.old.beside output.old self.new.script
             self.new.beside output.new (λ refused scene. scene_served refused scene line.now) }
     {
-        let said = parse_placed(line);
-        if is_plain(&said) {
-            return self.serve_plain(alloc, line, output);
-        }
-        serve_placed(&self.script, &mut self.beside, alloc, &said, output)
+        self.serve_parsed(alloc, line, &parse(line), output)
     }
 }
 

@@ -2,6 +2,7 @@ use Rattle.std.proofs.Common.{◌≡◌, Some, None, Bool, Option, ap, sym, subs
 use Rattle.numa_host_script.specs.Sessions.{session_after}
 use Rattle.numa_placed_script.specs.Outcomes.{has_stated}
 use Rattle.numa_placed_script.specs.Processes.{process_of}
+use Rattle.numa_placed_script.specs.Scenes.{concern_of}
 use Rattle.numa_placed_script.proofs.Played.{process-here, process-none}
 use Rattle.numa_placed_script.proofs.Unmapping.{unmap-denied, unmap-passed, unmap-served}
 use Rattle.numa_placed_script.proofs.Unmapping.{forgets-nothing, forgets-that, lies-still}
@@ -37,37 +38,39 @@ returns-in_default-forgotten g c = λ scene stands.
 
 pub returns-then-before-later : goal.returns-then-before-later
 returns-then-before-later g c = λ scene stands.
-    let served = c.serve_line-starved.ensures scene.session stands.0 in
+    let served = c.serve_parsed-starved.ensures scene.session stands.0 in
     let later = session_after served.0 scene.session c.args.line.now in
     let one = c.version_in-before.ensures scene.session stands.0 in
     let other = c.version_in-later.ensures later served.1 in
     let forgets = forgets-that c.args.self.now.beside c.args.start c.args.length
     c.in-Ok.forgotten c.in-Some-forgotten.after c.in-Some-forgotten.is c.in-Ok.ensures
     scene.lying stands.1 in
-    unmap-served g.W.Write.contents c.args.self.now.script c.serve_line-starved.new.self
-    c.args.output.now c.serve_line-starved.new.output scene c.args.line.now c.args.start
+    unmap-served g.W.Write.contents c.args.self.now.script c.serve_parsed-starved.new.self
+    c.args.output.now c.serve_parsed-starved.new.output scene c.args.line.now c.args.start
     c.args.length
     (ap is_some (process-here scene.session _ _ (c.in-Some.ensures scene.session stands.0)))
     forgets.0 c.args.self.now.beside served.0 forgets.2
-    (unmap-line c.args.line.now c.args.start c.args.length c.requires) served.1 served.2
+    (unmap-line c.args.line.now c.args.start c.args.length
+    (sym (ap concern_of c.requires.said) ∙ c.requires.unmap)) served.1 served.2
     (lies-still scene later _ c.args.self.now.beside
     (sym one ∙ c.if-before-later.true ∙ other) stands.1)
 
 pub returns : goal.returns
 returns g c = λ scene stands.
-    let served = c.serve_line-starved.ensures scene.session stands.0 in
+    let served = c.serve_parsed-starved.ensures scene.session stands.0 in
     let later = session_after served.0 scene.session c.args.line.now in
     let one = c.version_in-before.ensures scene.session stands.0 in
     let other = c.version_in-later.ensures later served.1 in
     let forgets = forgets-that c.args.self.now.beside c.args.start c.args.length
     c.in-Ok.forgotten c.in-Some-forgotten.after c.in-Some-forgotten.is c.in-Ok.ensures
     scene.lying stands.1 in
-    unmap-served g.W.Write.contents c.args.self.now.script c.serve_line-starved.new.self
-    c.args.output.now c.serve_line-starved.new.output scene c.args.line.now c.args.start
+    unmap-served g.W.Write.contents c.args.self.now.script c.serve_parsed-starved.new.self
+    c.args.output.now c.serve_parsed-starved.new.output scene c.args.line.now c.args.start
     c.args.length
     (ap is_some (process-here scene.session _ _ (c.in-Some.ensures scene.session stands.0)))
     forgets.0 c.replace.new.beside served.0 forgets.2
-    (unmap-line c.args.line.now c.args.start c.args.length c.requires) served.1 served.2
+    (unmap-line c.args.line.now c.args.start c.args.length
+    (sym (ap concern_of c.requires.said) ∙ c.requires.unmap)) served.1 served.2
     (lies-then scene later _ c.replace.new.beside
     (λ same. c.if-before-later.false (one ∙ same ∙ sym other))
     (c.replace.ensures scene.lying _ stands.1 forgets.1 forgets.3))

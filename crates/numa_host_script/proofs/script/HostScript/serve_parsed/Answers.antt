@@ -1,6 +1,6 @@
 use Rattle.std.proofs.Common.{◌∙◌, sym}
 use Rattle.numa_host_script.proofs.Begun.{answered-alone, answered-begin, answered-hosted}
-use Rattle.numa_host_script.proofs.script.HostScript.serve_line.Goals as goal
+use Rattle.numa_host_script.proofs.script.HostScript.serve_parsed.Goals as goal
 
 pub returns-then-is_begin : goal.returns-then-is_begin
 returns-then-is_begin g c = λ session stands.
@@ -24,6 +24,6 @@ returns g c =
     (λ session stands.
     answered-alone g.W.Write.contents c.args.self.now.script c.args.self.now.limits
     c.args.output.now c.serve_line.new.output c.args.line.now c.serve_line.result
-    c.serve_line.new.self c.limits_after-self.result c.parse-said.result session
-    (sym c.is_begin.ensures ∙ c.if-is_begin.false) c.parse-said.ensures c.limits_after-self.ensures
+    c.serve_line.new.self c.limits_after-self.result c.args.said.now session
+    (sym c.is_begin.ensures ∙ c.if-is_begin.false) c.requires c.limits_after-self.ensures
     c.serve_line.ensures stands)
