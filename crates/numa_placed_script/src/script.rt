@@ -234,6 +234,7 @@ impl PlacedScript {
 
     /// Answers a line `mems`; if it is accepted, pages follow the allowed nodes. Returns whether
     /// memory ran out.
+    #[inline(never)]
     fn mems<W: Write>(
         &mut self,
         alloc: Global,
@@ -260,6 +261,7 @@ impl PlacedScript {
 
     /// Answers a line `unmap`; if it is accepted, nothing is stated any more of its pages. Returns
     /// whether memory ran out.
+    #[inline(never)]
     fn unmap<W: Write>(
         &mut self,
         alloc: Global,
@@ -300,6 +302,7 @@ impl PlacedScript {
 
     /// Answers a line `maps`, with the pages that were stated to lie somewhere. Returns whether
     /// memory ran out.
+    #[inline(never)]
     fn maps<W: Write>(
         &mut self,
         alloc: Global,
@@ -346,6 +349,7 @@ impl PlacedScript {
     }
 
     /// Answers a line that is none of every script. Returns whether memory ran out.
+    #[inline(never)]
     fn serve_unknown<W: Write>(
         &mut self,
         alloc: Global,
