@@ -1,7 +1,7 @@
 //! Answering a script line by line, into texts.
-use numa_host_script::HostScript;
 use numa_lines::{Respond, Watched};
 use numa_machine::Rules;
+use numa_placed_script::PlacedScript;
 use std::alloc::{AllocError, Global};
 use std::io::Write;
 use std::mem;
@@ -12,7 +12,7 @@ pub struct Answering {
     alloc: Global,
     // The rules that apply unless a line says otherwise.
     rules: Rules,
-    script: HostScript,
+    script: PlacedScript,
 }
 
 impl Answering {
@@ -21,7 +21,7 @@ impl Answering {
         Answering {
             alloc,
             rules,
-            script: HostScript::by(rules),
+            script: PlacedScript::by(rules),
         }
     }
 }
@@ -29,7 +29,7 @@ impl Answering {
 /// Answers a line, and returns whether memory ran out. (It is a function of its own so that the
 /// contract of `serve_line`, which isn't needed here, stays out of every goal.)
 fn serve<W: Write>(
-    script: &mut HostScript,
+    script: &mut PlacedScript,
     alloc: Global,
     line: &[u8],
     output: &mut Watched<W>,
@@ -43,7 +43,7 @@ impl Respond for Answering {
     ghost is_fault = { says_fault };
 
     fn begin(&mut self) {
-        drop(mem::replace(&mut self.script, HostScript::by(self.rules)));
+        drop(mem::replace(&mut self.script, PlacedScript::by(self.rules)));
     }
 
     fn respond(&mut self, line: &[u8], answer: &mut Vec<u8>) -> Result<(), AllocError> {

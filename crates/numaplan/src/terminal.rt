@@ -5,6 +5,7 @@ use crate::shell::{SHELL_LINES, answer_to, asked_of};
 use numa_diagnose::{judge, say_line};
 use numa_host_script::HostScript;
 use numa_lines::{Lines, Respond, RunFault, TakeLine, read_all};
+use numa_placed_script::{is_plain, parse_placed};
 use numa_words::Scripts;
 use std::alloc::Global;
 use std::io;
@@ -40,6 +41,12 @@ begin W TASK ADDR CPU          a worker begins to look for a frame; its single s
 look W WORD                      a look at 64 frames of its current node,
 try W NODE FRAME                 one try at a frame, and
 give W NODE FRAME                to give a frame back
+at START LENGTH NODE           says that mapped pages lie on a node
+room NODE PAGES                so many more pages that lie somewhere find room there
+memory-migrate on or off       whether such pages follow the allowed nodes
+migrate FROM TO                such pages leave the nodes of a list for those of another
+move ADDR NODE                 one of them goes to a node
+moved                          asks what the last move did
 host                           from here on a host's lines, as man numaplan-script tells
 ";
 
@@ -95,6 +102,12 @@ fn find(
     }
 }
 
+/// Whether what is wrong with a line isn't looked for: a line about pages that are there, or one
+/// that such a page refuses, says it all by its answer.
+fn says_all(line: &[u8], answer: &[u8]) -> bool {
+    !is_plain(&parse_placed(line)) || answer == b"refused Placed\n".as_slice()
+}
+
 impl<W: Write, T: Write> Typed<W, T> {
     /// Writes what is wrong with a line.
     fn tell(&mut self, name: &str, place: u64, line: &[u8]) -> Result<(), RunFault> {
@@ -111,6 +124,9 @@ impl<W: Write, T: Write> Typed<W, T> {
             return Err(RunFault::Memory);
         }
         put(&mut self.output, self.text.as_slice())?;
+        if says_all(line, self.text.as_slice()) {
+            return Ok(());
+        }
         self.tell(name, place, line)
     }
 
@@ -119,6 +135,9 @@ impl<W: Write, T: Write> Typed<W, T> {
         self.text.clear();
         if let Err(_) = self.answering.respond(line, &mut self.text) {
             return Err(RunFault::Memory);
+        }
+        if says_all(line, self.text.as_slice()) {
+            return Ok(());
         }
         self.tell(name, place, line)
     }
