@@ -242,9 +242,9 @@ def answer_in(host, words, ask):
     if is_silent(line):
         raise BadWords
     name, arguments = line_of(line)
-    if name in NOT_IN:
+    if name in NOT_IN + PLACES:
         raise BadWords
-    if name in WORKS + PLACES:
+    if name in WORKS:
         return "bad state"
     fault = next((it for it in arguments if isinstance(it, Fault)), None)
     if fault and not (host.machine.is_linux and is_found_late(name, arguments)):

@@ -13,6 +13,8 @@ from scripts import BASE, PAGE, PAGES
 class MoveScript(scripts.Script):
     """The lines of one script, and what stands after them."""
 
+    binds = True  # whether there are lines `mbind` with flags, which a kernel is asked and no program
+
     def __init__(self, seed):
         super().__init__(f"of moves {seed}")
 
@@ -87,7 +89,8 @@ class MoveScript(scripts.Script):
         self.opening()
         self.follows()
         told = [self.at] * 8 + [self.room] * 3 + [self.follows] * self.likely(0.2)
-        moves = [self.mems] * 4 + [self.migrate] * 6 + [self.move] * 4 + [self.mbind_with] * 7
+        moves = [self.mems] * 4 + [self.migrate] * 6 + [self.move] * 4
+        moves += [self.mbind_with] * 7 * self.binds
         moves += [self.squeeze] * 3
         commands = [self.map] * 4 + [self.mbind] * 3 + [self.task] * 2 + [self.unmap, self.weight]
         asked = [self.maps] * 5 + [self.moved] * 4 + [self.place, self.publish]
@@ -95,6 +98,12 @@ class MoveScript(scripts.Script):
         while len(self.lines) < length:
             self.dice.choice(told + moves + commands + asked + work + [self.odd] * self.likely(0.1))()
         return ("\n".join(self.lines) + "\n").encode("latin-1")
+
+
+class LineScript(MoveScript):
+    """The same of the lines that the program's language has."""
+
+    binds = False
 
 
 if __name__ == "__main__":

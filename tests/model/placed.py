@@ -9,7 +9,7 @@ from collections import Counter
 
 from commands import COMMANDS, accept, lacks_pages, refused, span_cause, span_of
 from space import lacks_nodes, page_of, piece_at
-from workers import list_of_page, place_cause, touch as take_frame, worker_cause
+from workers import list_of_page, touch as take_frame
 
 MOVE_ERRNO = {
     "NoSuchNode": "ENODEV",
@@ -198,7 +198,7 @@ def move(state, address, node):
     return f"node {node}"
 
 
-# ---- mbind with flags
+# ---- mbind with flags: lines of a kernel's calls, which the program's language hasn't
 
 
 def astray(state, start, length, asked):
@@ -273,12 +273,10 @@ def forget(placed, first, end):
 
 
 def touch(state, worker, task, address, cpu):
-    """`touch` of a page that is stated to lie somewhere is refused, once the rest is judged."""
-    crew = state.crew
-    cause = worker_cause(crew, worker, False) or place_cause(crew.published, address, cpu)
-    if not cause and page_of(address) in state.placed.stated:
+    """`touch` of a page that is stated to lie somewhere is refused, before all else is judged."""
+    if page_of(address) in state.placed.stated:
         return "refused Placed"
-    return take_frame(crew, worker, task, address, cpu)
+    return take_frame(state.crew, worker, task, address, cpu)
 
 
 def moved(state):

@@ -31,11 +31,21 @@ def read(path):
     return (b"".join(it + b"\n" for it in script), b"".join(it + b"\n" for it in answers))
 
 
+def is_of_pages(path):
+    """Whether a script has lines about pages that are there."""
+    with open(path, "rb") as file:
+        return b"\nat 0x" in file.read()
+
+
 def paths(hosts=False):
-    """The files, by name; those of hosts, which `run` and `expect` alone know, where they are wanted."""
+    """The files, by name; those of hosts and those about pages that are there, which `run` and
+    `expect` alone know, where they are wanted."""
     files = glob.glob(TOP + "/tests/worked/scripts/*.answers") + glob.glob(TOP + "/examples/*.answers")
     if hosts:
         files += glob.glob(TOP + "/tests/worked/hosts/*.answers")
+        files += glob.glob(TOP + "/tests/worked/placed/*.answers")
+    else:
+        files = [it for it in files if not is_of_pages(it)]
     return {os.path.basename(it)[: -len(".answers")]: it for it in sorted(files)}
 
 
