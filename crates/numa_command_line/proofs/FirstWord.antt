@@ -75,6 +75,12 @@ mapped_name make named names None what e = cc
 mapped_name make named names (Some x) what e = ap asking_name (sym (some_is (make x) what e))
     ∙ names x
 
+-- a question that some test refuses
+given_is : (refused : Bool) (asking what : Asking) → cond refused None (Some asking) ≡ Some what
+    → asking ≡ what
+given_is true asking what e = cc
+given_is false asking what e = some_is asking what e
+
 moves_name : (make : List FreePages → Doing)
     → ((free : List FreePages) → doing_name (make free) ≡ codes "moves")
     → (free : Option (List FreePages)) (doing : Doing) → option_map make free ≡ Some doing
@@ -92,9 +98,9 @@ work_name word.Predict rows doing e =
     asked_name (touch_in rows) (is_on (codes "lenient") rows) _ (codes "predict") doing
     (mapped_name (predict (format_in rows)) (codes "predict") (λ free. refl) (frees_in rows)) e
 work_name word.Diff rows doing e =
-    asked_name (touch_in rows) (is_on (codes "lenient") rows)
-    (Some (diff (texts_at (codes "then") rows) (format_in rows))) (codes "diff") doing
-    (λ what is. ap asking_name (sym (some_is _ what is))) e
+    asked_name (touch_in rows) (is_on (codes "lenient") rows) _ (codes "diff") doing
+    (λ what is. ap asking_name (sym (given_is _
+    (diff (texts_at (codes "at") rows) (texts_at (codes "then") rows) (format_in rows)) what is))) e
 work_name word.Moves rows doing e = moves_name _ (λ free. refl) (frees_in rows) doing e
 work_name word.Explain rows doing e =
     asked_name (touch_in rows) (is_on (codes "lenient") rows) _ (codes "explain") doing

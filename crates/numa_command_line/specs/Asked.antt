@@ -1,12 +1,14 @@
 -- What a command line asks for, by its words alone.
-use Rattle.std.specs.Prelude.{◌≡◌, ◌≢◌, ◌⊎◌, ⊤, List, [], Option, Some, None, Result}
-use Rattle.std.specs.Prelude.{MatchResult}
+use Rattle.std.specs.Prelude.{◌≡◌, ◌≢◌, ◌⊎◌, ◌&&◌, ⊤, Bool, true, false, List, [], Option, Some}
+use Rattle.std.specs.Prelude.{None, Result, MatchResult, length, nat_lt}
 use Rattle.std.specs.Prelude.{codes, option_and_then, option_map, slice_get, if◌then◌else◌}
 use Rattle.std.specs.Str.{bytes_eq}
 use Rattle.clap.specs.Words.{App, IsAmong, Row, fault_of, kind_of, subcommand_of}
 use Rattle.clap.specs.declared.error.Error.{Error}
 use Rattle.clap.specs.declared.error.kind.ErrorKind.{ErrorKind}
 use Rattle.clap.specs.declared.error.kind.ErrorKind.TheVariants as kind
+use Rattle.numa_reports.specs.declared.sheet.Format.{Format}
+use Rattle.numa_reports.specs.declared.sheet.Format.TheVariants.{Svg, Html}
 use Rattle.numa_command_line.specs.Grammar.{IsProgram}
 use Rattle.numa_command_line.specs.Jobs.{Asking, Doing, Doings, Text, ask, check, diff, doings_of}
 use Rattle.numa_command_line.specs.Jobs.{expect, explain, moves, predict, replay, run, scripts}
@@ -39,6 +41,17 @@ abbrev pub asked_in : List Row → Option Asking → Option Doing
 asked_in rows question = option_and_then (λ what. option_map (λ touch.
     ask touch what (is_on (codes "lenient") rows)) (touch_in rows)) question
 
+-- pictures and pages
+abbrev pub is_drawn : Format → Bool
+is_drawn (Svg number) = true
+is_drawn (Html number) = true
+is_drawn other = false
+
+-- a difference, with what becomes of pages that are there where a file states them: no drawn one
+abbrev pub diff_by : List Text → List Text → Format → Option Asking
+diff_by at lines format =
+    if nat_lt 0 (length at) && is_drawn format then None else Some (diff at lines format)
+
 -- what a word asks to be done with scripts, by what the parse found of its arguments
 abbrev pub work_asked : Subcommand → List Row → Option Doing
 work_asked word.Run rows = Some (run (is_on (codes "echo") rows) (format_in rows))
@@ -47,8 +60,8 @@ work_asked word.Expect rows = Some (expect (format_in rows) (is_on (codes "ignor
     (is_on (codes "update") rows))
 work_asked word.Predict rows =
     asked_in rows (option_map (predict (format_in rows)) (frees_in rows))
-work_asked word.Diff rows =
-    asked_in rows (Some (diff (texts_at (codes "then") rows) (format_in rows)))
+work_asked word.Diff rows = asked_in rows
+    (diff_by (texts_at (codes "at") rows) (texts_at (codes "then") rows) (format_in rows))
 work_asked word.Moves rows = option_map (λ free. moves (texts_at (codes "at") rows)
     (texts_at (codes "then") rows) (touch_in rows) free (format_in rows)
     (is_on (codes "lenient") rows)) (frees_in rows)
@@ -87,7 +100,7 @@ doings_asked program words = doings_found words (subcommand_of program words)
 -- the name of the word that asks for this
 abbrev pub asking_name : Asking → Text
 asking_name (predict format free) = codes "predict"
-asking_name (diff lines format) = codes "diff"
+asking_name (diff at lines format) = codes "diff"
 asking_name (explain page pages format) = codes "explain"
 
 abbrev pub doing_name : Doing → Text

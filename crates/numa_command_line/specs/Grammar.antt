@@ -80,8 +80,8 @@ predict_arguments formats =
 
 abbrev pub diff_arguments : Names → List Rule
 diff_arguments formats =
-    task ∷ node ∷ needed true (options (codes "then")) ∷ process ∷ format formats ∷ largest
-    ∷ lenient ∷ files ∷ []
+    task ∷ node ∷ needed true (options (codes "then")) ∷ option (codes "at") ∷ process
+    ∷ format formats ∷ largest ∷ lenient ∷ files ∷ []
 
 abbrev pub moves_arguments : Names → List Rule
 moves_arguments formats =

@@ -28,7 +28,7 @@ Text = List ℕ
 
 pub data Asking : Type 0 where
   predict : Format → List FreePages → Asking
-  diff : List Text → Format → Asking
+  diff : List Text → List Text → Format → Asking
   explain : ℕ → Option ℕ → Format → Asking
 
 -- with the rules that count where the scripts say nothing of them
@@ -47,7 +47,8 @@ pub data Doings : Type 0 where
 
 abbrev pub question_of : PageQuestion → Asking
 question_of (Predict format free) = predict format free.items
-question_of (Diff lines format) = diff (map string_bytes lines.items) format
+question_of (Diff at lines format) =
+    diff (map string_bytes at.items) (map string_bytes lines.items) format
 question_of (Explain page pages format) = explain page pages format
 
 abbrev pub work_of : ScriptJob → Doing

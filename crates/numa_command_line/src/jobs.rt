@@ -13,8 +13,10 @@ pub enum PageQuestion {
         format: Format,
         free: Vec<FreePages>,
     },
-    /// Which pages would go elsewhere after these further lines.
+    /// Which pages would go elsewhere after these further lines. With a file `at`, what becomes of
+    /// the pages that are there, too.
     Diff {
+        at: Vec<String>,
         lines: Vec<String>,
         format: Format,
     },

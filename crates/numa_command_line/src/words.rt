@@ -1,5 +1,6 @@
 //! The subcommands, a file for each, with its help and its job.
 pub mod asked;
+pub mod at;
 pub mod check;
 pub mod diff;
 pub mod expect;

@@ -18,6 +18,8 @@ pub enum MoveLine {
     Bad,
     /// A line of a script that changes which nodes are allowed: `mems`, `cgroup-mems`, `attach`.
     Nodes,
+    /// A line of a script that takes pages away: `unmap`, `exit`.
+    Away,
     /// Something else.
     Other,
 }
@@ -44,6 +46,14 @@ fn changes_nodes(first: &[u8]) -> bool {
     first == b"attach".as_slice()
 }
 
+/// Whether lines that begin with the word take pages away.
+fn takes_pages(first: &[u8]) -> bool {
+    if first == b"unmap".as_slice() {
+        return true;
+    }
+    first == b"exit".as_slice()
+}
+
 /// What a line moves.
 pub fn read_move(line: &[u8]) -> MoveLine {
     let mut rest = words(line);
@@ -52,6 +62,9 @@ pub fn read_move(line: &[u8]) -> MoveLine {
     };
     if changes_nodes(first) {
         return MoveLine::Nodes;
+    }
+    if takes_pages(first) {
+        return MoveLine::Away;
     }
     if first != b"migrate".as_slice() {
         return MoveLine::Other;

@@ -47,7 +47,7 @@ struct ProcessOutlook {
 
 /// What a difference is asked of: the states before.
 #[derive(Drop)]
-struct Before {
+pub struct StatesBefore {
     // Whether the states are those of all processes of a host.
     is_each: bool,
     outlooks: Vec<ProcessOutlook>,
@@ -55,10 +55,13 @@ struct Before {
 
 /// A difference that is asked for.
 #[derive(Clone, Copy)]
-pub(crate) struct Asked {
-    pub(crate) process: Option<u32>,
-    pub(crate) touch: Touch,
-    pub(crate) format: Format,
+pub struct DiffAsked {
+    /// The process of a host, if not all are asked for.
+    pub process: Option<u32>,
+    /// How pages are touched.
+    pub touch: Touch,
+    /// Text, JSON, SVG or HTML.
+    pub format: Format,
 }
 
 /// The object of a state, if a page is asked for.
@@ -66,7 +69,7 @@ pub(crate) fn view_in(
     alloc: Global,
     space: &Space,
     outlook: &Outlook,
-    asked: Asked,
+    asked: DiffAsked,
 ) -> Result<Vec<u8>, Halt> {
     let Format::Html(number) = asked.format else {
         return Ok(Vec::new(alloc));
@@ -90,7 +93,7 @@ fn outlook_of_process(
     alloc: Global,
     process: u32,
     space: &Space,
-    asked: Asked,
+    asked: DiffAsked,
 ) -> Result<ProcessOutlook, Halt> {
     let outlook = outlook_in(alloc, space)?;
     match view_in(alloc, space, &outlook, asked) {
@@ -112,7 +115,7 @@ fn add_outlook(
     outlooks: &mut Vec<ProcessOutlook>,
     process: u32,
     space: &Space,
-    asked: Asked,
+    asked: DiffAsked,
 ) -> Result<(), Halt> {
     let one = outlook_of_process(alloc, process, space, asked)?;
     match outlooks.push(one) {
@@ -122,10 +125,10 @@ fn add_outlook(
 }
 
 /// The state of the one space.
-fn before_of_one(alloc: Global, space: &Space, asked: Asked) -> Result<Before, Halt> {
+fn before_of_one(alloc: Global, space: &Space, asked: DiffAsked) -> Result<StatesBefore, Halt> {
     let mut outlooks = Vec::new(alloc);
     match add_outlook(alloc, &mut outlooks, 0, space, asked) {
-        Ok(()) => Ok(Before {
+        Ok(()) => Ok(StatesBefore {
             is_each: false,
             outlooks,
         }),
@@ -141,7 +144,7 @@ fn add_outlooks(
     alloc: Global,
     processes: &[Process],
     outlooks: &mut Vec<ProcessOutlook>,
-    asked: Asked,
+    asked: DiffAsked,
 ) -> Result<(), Halt> {
     for process in processes {
         add_outlook(alloc, outlooks, process.id, &process.space, asked)?;
@@ -150,10 +153,10 @@ fn add_outlooks(
 }
 
 /// The states of all processes.
-fn before_of_each(alloc: Global, host: &Host, asked: Asked) -> Result<Before, Halt> {
+fn before_of_each(alloc: Global, host: &Host, asked: DiffAsked) -> Result<StatesBefore, Halt> {
     let mut outlooks = Vec::new(alloc);
     match add_outlooks(alloc, host.processes(), &mut outlooks, asked) {
-        Ok(()) => Ok(Before {
+        Ok(()) => Ok(StatesBefore {
             is_each: true,
             outlooks,
         }),
@@ -186,10 +189,10 @@ pub(crate) fn difference_to<P: Watch>(
     space: &Space,
     after: &Outlook,
     nodes: u32,
-    asked: Asked,
+    asked: DiffAsked,
     watch: &mut P,
 ) -> Result<Vec<u8>, Halt> {
-    let Asked { touch, format, .. } = asked;
+    let DiffAsked { touch, format, .. } = asked;
     let text = match difference_text(alloc, before, after, nodes, touch, format, watch) {
         Ok(text) => text,
         Err(fault) => return Err(halt_of(fault, nodes)),
@@ -205,9 +208,9 @@ pub(crate) fn difference_to<P: Watch>(
 /// The difference to the state of the one space.
 fn difference_of_one<P: Watch>(
     alloc: Global,
-    before: &Before,
+    before: &StatesBefore,
     space: &Space,
-    asked: Asked,
+    asked: DiffAsked,
     watch: &mut P,
 ) -> Result<Vec<u8>, Halt> {
     let Some(one) = before.outlooks.first() else {
@@ -236,12 +239,12 @@ fn difference_in<P: Watch>(
     one: &ProcessOutlook,
     space: &Space,
     after: &Outlook,
-    asked: Asked,
+    asked: DiffAsked,
     sum: &mut MoveSum,
     watch: &mut P,
 ) -> Result<Vec<u8>, Halt> {
     let nodes = space.machine().nodes();
-    let Asked { touch, format, .. } = asked;
+    let DiffAsked { touch, format, .. } = asked;
     let before = &one.outlook;
     let text = match difference_more(alloc, before, after, nodes, touch, format, sum, watch) {
         Ok(text) => text,
@@ -259,7 +262,7 @@ fn add_difference<P: Watch>(
     alloc: Global,
     one: &ProcessOutlook,
     now: &Process,
-    asked: Asked,
+    asked: DiffAsked,
     answers: &mut ByProcess,
     sum: &mut MoveSum,
     watch: &mut P,
@@ -282,7 +285,7 @@ fn add_differences<P: Watch>(
     alloc: Global,
     before: &[ProcessOutlook],
     host: &Host,
-    asked: Asked,
+    asked: DiffAsked,
     answers: &mut ByProcess,
     sum: &mut MoveSum,
     watch: &mut P,
@@ -300,7 +303,7 @@ fn differences<P: Watch>(
     alloc: Global,
     before: &[ProcessOutlook],
     host: &Host,
-    asked: Asked,
+    asked: DiffAsked,
     answers: &mut ByProcess,
     watch: &mut P,
 ) -> Result<Vec<u8>, Halt> {
@@ -314,9 +317,9 @@ fn differences<P: Watch>(
 /// The difference to the states of all processes, by process and in all.
 fn difference_of_each<P: Watch>(
     alloc: Global,
-    before: &Before,
+    before: &StatesBefore,
     host: &Host,
-    asked: Asked,
+    asked: DiffAsked,
     watch: &mut P,
 ) -> Result<Vec<u8>, Halt> {
     let nodes = host.machine().nodes();
@@ -343,8 +346,8 @@ fn difference_of_each<P: Watch>(
 fn states_of<T: Write>(
     alloc: Global,
     findings: &Findings<T>,
-    asked: Asked,
-) -> Result<Before, Halt> {
+    asked: DiffAsked,
+) -> Result<StatesBefore, Halt> {
     match subject_of(findings.script(), asked.process) {
         Ok(Subject::One(space)) => before_of_one(alloc, space, asked),
         Ok(Subject::Each(host)) => before_of_each(alloc, host, asked),
@@ -352,13 +355,16 @@ fn states_of<T: Write>(
     }
 }
 
-/// The states to which the script led. If they can't be had, what is wrong with the script is
-/// written first.
-fn states_before<T: Write>(
+/// The states to which the script led, with which [`difference_since`] compares. If they can't be
+/// had, what is wrong with the script is written first.
+///
+/// # Errors
+/// Why there is no answer.
+pub fn states_before<T: Write>(
     alloc: Global,
     findings: &mut Findings<T>,
-    asked: Asked,
-) -> Result<Before, Halt> {
+    asked: DiffAsked,
+) -> Result<StatesBefore, Halt> {
     match states_of(alloc, findings, asked) {
         Ok(before) => Ok(before),
         Err(halt) => match findings.end() {
@@ -368,18 +374,17 @@ fn states_before<T: Write>(
     }
 }
 
-/// Plays the lines, and returns which pages go elsewhere after them, as a text.
-fn difference_from<T: Write, P: Watch>(
+/// Which pages go elsewhere by the lines that were played since these states, as a text.
+///
+/// # Errors
+/// Why there is no answer.
+pub fn difference_since<T: Write, P: Watch>(
     alloc: Global,
-    before: &Before,
-    findings: &mut Findings<T>,
-    lines: &[String],
-    asked: Asked,
+    before: &StatesBefore,
+    findings: &Findings<T>,
+    asked: DiffAsked,
     watch: &mut P,
 ) -> Result<Vec<u8>, Halt> {
-    if let Err(why) = play_lines(findings, lines) {
-        return Err(Halt::Stopped(why));
-    }
     match subject_of(findings.script(), asked.process) {
         Ok(Subject::One(space)) => difference_of_one(alloc, before, space, asked, watch),
         Ok(Subject::Each(host)) => difference_of_each(alloc, before, host, asked, watch),
@@ -387,12 +392,27 @@ fn difference_from<T: Write, P: Watch>(
     }
 }
 
+/// Plays the lines, and returns which pages go elsewhere after them, as a text.
+fn difference_from<T: Write, P: Watch>(
+    alloc: Global,
+    before: &StatesBefore,
+    findings: &mut Findings<T>,
+    lines: &[String],
+    asked: DiffAsked,
+    watch: &mut P,
+) -> Result<Vec<u8>, Halt> {
+    if let Err(why) = play_lines(findings, lines) {
+        return Err(Halt::Stopped(why));
+    }
+    difference_since(alloc, before, findings, asked, watch)
+}
+
 /// Which pages go elsewhere after the lines, as a text.
 fn difference<T: Write, P: Watch>(
     alloc: Global,
     findings: &mut Findings<T>,
     lines: &[String],
-    asked: Asked,
+    asked: DiffAsked,
     watch: &mut P,
 ) -> Result<Vec<u8>, Halt> {
     let before = match states_before(alloc, findings, asked) {
@@ -427,7 +447,7 @@ pub fn diff<R: Read + Drop, W: Write, T: Write + Drop, P: Watch>(
         rules,
         process,
     } = scripts;
-    let asked = Asked {
+    let asked = DiffAsked {
         process,
         touch: asked,
         format,

@@ -25,7 +25,7 @@ mod replaying;
 mod spaces;
 
 pub use asking::{predict, predicted};
-pub use differing::diff;
+pub use differing::{DiffAsked, StatesBefore, diff, difference_since, states_before};
 pub use explaining::{AskedPages, explain, explained};
 pub use faults::tells_fault;
 pub use findings::{Ended, Findings, Look};

@@ -1,6 +1,6 @@
 //! The same answers about spaces, without scripts.
 use crate::asking::prediction_in;
-use crate::differing::{Asked, difference_to, outlook_in, view_in};
+use crate::differing::{DiffAsked, difference_to, outlook_in, view_in};
 use crate::each::lacking_node;
 use crate::explaining::{explanation_of, reasons_in};
 use crate::halt::Halt;
@@ -36,7 +36,7 @@ fn difference_from(
     view: &[u8],
     after: &Space,
     nodes: u32,
-    asked: Asked,
+    asked: DiffAsked,
 ) -> Result<Vec<u8>, Halt> {
     let outlook = outlook_in(alloc, after)?;
     let text = difference_to(alloc, before, view, after, &outlook, nodes, asked, &mut ());
@@ -51,7 +51,7 @@ fn difference_between(
     outlook: &Outlook,
     after: &Space,
     nodes: u32,
-    asked: Asked,
+    asked: DiffAsked,
 ) -> Result<Vec<u8>, Halt> {
     let view = view_in(alloc, before, outlook, asked)?;
     let text = difference_from(alloc, outlook, view.as_slice(), after, nodes, asked);
@@ -75,7 +75,7 @@ pub fn diff_spaces(
     if touch.cpu >= nodes.min(others) {
         return Err(Halt::NoNode(nodes.min(others)));
     }
-    let asked = Asked {
+    let asked = DiffAsked {
         process: None,
         touch,
         format,

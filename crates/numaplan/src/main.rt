@@ -102,7 +102,7 @@ where
             asked,
             question,
             lenient,
-        } => Ok(asked::answer(rt, scripts, *asked, question, *lenient, tells)),
+        } => asked::answer(rt, scripts, *asked, question, *lenient, tells),
         ScriptJob::Moves {
             at,
             lines,

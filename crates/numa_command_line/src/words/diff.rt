@@ -1,10 +1,11 @@
 //! `numaplan diff --task T --node N --then LINE [FILE]..`: reports which pages would go elsewhere.
-ghost use Rattle.std.specs.Prelude.{codes, true};
+ghost use Rattle.std.specs.Prelude.{◌≡◌, codes, map, true};
+ghost use Rattle.std.specs.String.{string_bytes};
 ghost use Rattle.numa_command_line.specs.Grammar.{AreNames, IsWord, diff_arguments, diff_formats};
 ghost use Rattle.numa_command_line.specs.Usage.{Names};
 ghost use Rattle.clap.specs.Words.{found_of, rows_of};
-ghost use Rattle.numa_command_line.specs.Asked.{work_asked};
-ghost use Rattle.numa_command_line.specs.Jobs.{IsMade, work_of};
+ghost use Rattle.numa_command_line.specs.Asked.{diff_by, is_drawn, work_asked};
+ghost use Rattle.numa_command_line.specs.Jobs.{IsMade, question_of, work_of};
 ghost use Rattle.numa_command_line.specs.declared.command.Subcommand.TheVariants as word;
 
 use crate::found::texts_at;
@@ -12,11 +13,16 @@ use crate::jobs::{JobFault, PageQuestion, ScriptJob};
 use crate::usage::{Argument, FILES, SubcommandHelp, Takes};
 use crate::words::asked;
 use crate::words::asked::{NODE, TASK};
+use crate::words::at::AT;
 use crate::words::format::{LARGEST, format_in};
 use crate::words::lenient::LENIENT;
 use crate::words::process::PROCESS;
 use clap::ArgMatches;
+use numa_reports::Format;
 use std::alloc::Global;
+
+/// The message for pages that are there in a picture or a page.
+const NOT_DRAWN: &str = "error: '--at <FILE>' wants '--format text' or '--format json'\n";
 
 /// The option `--then LINE`.
 const THEN: Argument = Argument {
@@ -43,14 +49,18 @@ static WORD: SubcommandHelp = SubcommandHelp {
     about: "Tells which pages would go to another node if script lines were added to the scripts, \
 and a task touched each of them on a CPU of one node: for each span of pages of which some do, \
 how many from which node to which, and in all. Pages that are mapped only before or only after \
-are left out. Of a host it tells that by process and in all, or with --process of process P alone. \
+are left out. With --at it tells behind that what becomes of pages that are there, as `moves` \
+does: they lie as lines `at START LENGTH NODE` of the scripts and of that file state, and lines \
+`migrate FROM TO` move them too. Of a host it tells that by process and in all, or with --process of process P alone. \
 Lines that are faulty or refused are told on standard error as by `check`, and \
 passed over. The status is 3 where some are, unless --lenient is given, and where no machine is \
 ready after the scripts.",
     more: "Example, from the top of the repository:\n  ./numaplan diff --task 1 --node 0 --then \
 'mems 0' examples/interleaved-range.numaplan",
     reads_lines: true,
-    arguments: &[TASK, NODE, THEN, PROCESS, FORMAT, LARGEST, LENIENT, FILES],
+    arguments: &[
+        TASK, NODE, THEN, AT, PROCESS, FORMAT, LARGEST, LENIENT, FILES,
+    ],
 };
 
 /// The subcommand.
@@ -61,14 +71,47 @@ pub fn word() -> &'static SubcommandHelp
     &WORD
 }
 
+/// Whether a format is a picture or a page.
+fn is_drawn(format: Format) -> bool
+    ensures { result ≡ is_drawn format }
+{
+    match format {
+        Format::Svg(_) => true,
+        Format::Html(_) => true,
+        _ => false,
+    }
+}
+
+/// The question by these options.
+fn question(
+    alloc: Global,
+    at: Vec<String>,
+    lines: Vec<String>,
+    format: Format,
+) -> Result<PageQuestion, JobFault>
+    ensures { IsMade question_of (diff_by (map string_bytes at.items)
+        (map string_bytes lines.items) format) result }
+{
+    if !at.is_empty() && is_drawn(format) {
+        drop(at);
+        drop(lines);
+        return Err(JobFault::usage(alloc, NOT_DRAWN));
+    }
+    Ok(PageQuestion::Diff { at, lines, format })
+}
+
 /// The job of a command line with this subcommand.
 ///
 /// # Errors
-/// `Usage`: `--task` or `--node` has no number. `NoMemory`: out of memory.
+/// `Usage`: `--task` or `--node` has no number, or `--at` wants another format. `NoMemory`: out of
+/// memory.
 pub fn work(alloc: Global, matches: &ArgMatches<'_>) -> Result<ScriptJob, JobFault>
     ensures { IsMade work_of (work_asked word.Diff (rows_of (found_of matches.now))) result }
 {
+    let at = texts_at(alloc, matches, "at")?;
     let lines = texts_at(alloc, matches, "then")?;
-    let format = format_in(matches);
-    asked::work(alloc, matches, PageQuestion::Diff { lines, format })
+    match question(alloc, at, lines, format_in(matches)) {
+        Ok(question) => asked::work(alloc, matches, question),
+        Err(fault) => Err(fault),
+    }
 }

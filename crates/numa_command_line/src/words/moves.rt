@@ -11,21 +11,13 @@ use crate::found::{is_on, texts_at};
 use crate::jobs::{JobFault, ScriptJob};
 use crate::usage::{Argument, FILES, SubcommandHelp, Takes};
 use crate::words::asked::touch_in;
+use crate::words::at::AT;
 use crate::words::format::{LARGEST, format_in};
 use crate::words::free::named;
 use crate::words::lenient::LENIENT;
 use crate::words::process::PROCESS;
 use clap::ArgMatches;
 use std::alloc::Global;
-
-/// The option `--at FILE`.
-const AT: Argument = Argument {
-    name: "at",
-    value: "FILE",
-    help: "A file with further lines at START LENGTH NODE; - is standard input",
-    is_required: false,
-    takes: Takes::Text,
-};
 
 /// The option `--task T`.
 const TASK: Argument = Argument {

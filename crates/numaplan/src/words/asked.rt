@@ -1,18 +1,19 @@
 //! Subcommands that ask about pages that a task would touch.
 use crate::endings::{StandardError, answered, fail};
 use crate::progress::{PacedPages, with_progress};
-use numa_command_line::{Outlet, PageQuestion};
+use crate::words::differing;
+use crate::words::differing::Differing;
+use numa_command_line::{JobFault, Outlet, PageQuestion};
 use numa_lines::RunFault;
 use numa_reports::{Touch, Watch};
 use numa_words::{AskedPages, Scripts, diff, explain, predict};
 use std::io;
-use std::io::Read;
+use std::io::{IsTerminal, Read};
 use std::process::ExitCode;
 use std::rt::{Clock, Files};
 
-/// Answers a question about the state that scripts lead to. With `tells`, standard error shows how
-/// far reading and counting are.
-pub fn answer<R, S>(
+/// Answers a question about the state that scripts lead to.
+fn answer_by<R, S>(
     rt: &R,
     scripts: Scripts<S>,
     asked: Touch,
@@ -78,7 +79,7 @@ where
                 watch,
             )
         }
-        PageQuestion::Diff { lines, format } => {
+        PageQuestion::Diff { lines, format, .. } => {
             let watch = &mut watch;
             diff(
                 alloc,
@@ -106,4 +107,37 @@ where
     drop(output);
     watch.end();
     answered(rt, asked, answer, lenient, &outlet)
+}
+
+/// Answers a question about the state that scripts lead to. With `tells`, standard error shows how
+/// far reading and counting are.
+///
+/// # Errors
+/// `Usage`: a file can't be opened. `NoMemory`: out of memory.
+pub fn answer<R, S>(
+    rt: &R,
+    scripts: Scripts<S>,
+    asked: Touch,
+    question: &PageQuestion,
+    lenient: bool,
+    tells: bool,
+) -> Result<ExitCode, JobFault>
+where
+    R: Clock + Files + Input + Print + Eprint + AllocGlobal,
+    R::Reader: IsTerminal,
+    S: Read + Drop,
+{
+    match question {
+        PageQuestion::Diff { at, lines, format } if !at.is_empty() => {
+            let differing = Differing {
+                at: at.as_slice(),
+                lines: lines.as_slice(),
+                touch: asked,
+                format: *format,
+                lenient,
+            };
+            differing::answer(rt, scripts, differing, tells)
+        }
+        _ => Ok(answer_by(rt, scripts, asked, question, lenient, tells)),
+    }
 }
