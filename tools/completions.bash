@@ -13,8 +13,8 @@ _numaplan() {
         check:--process | predict:--task | predict:--node | predict:--process | predict:--largest | predict:--free | diff:--task | diff:--node | diff:--then | diff:--process | diff:--largest | moves:--task | moves:--node | moves:--then | moves:--free | moves:--process | moves:--largest | explain:--task | explain:--node | explain:--pages | explain:--process | replay:--process | replay:--largest | shell:--process | storm:--workers) : ;;
         expect:--format) words='text json tap' ;;
         predict:--format) words='text json csv svg html' ;;
+        diff:--at | moves:--at | replay:--trace) files=yes ;;
         diff:--format) words='text json svg html' ;;
-        moves:--at | replay:--trace) files=yes ;;
         moves:--format) words='text json svg' ;;
         replay:--format) words='text json html' ;;
         *)
@@ -24,7 +24,7 @@ _numaplan() {
                 check) words='--format --process --rules --help' files=yes ;;
                 expect) words='--format --ignore-versions --update --rules --help' files=yes ;;
                 predict) words='--task --node --process --format --largest --free --lenient --rules --help' files=yes ;;
-                diff) words='--task --node --then --process --format --largest --lenient --rules --help' files=yes ;;
+                diff) words='--task --node --then --at --process --format --largest --lenient --rules --help' files=yes ;;
                 moves) words='--at --task --node --then --free --process --format --largest --lenient --rules --help' files=yes ;;
                 explain) words='--task --node --pages --process --format --lenient --rules --help' files=yes ;;
                 replay) words='--trace --process --format --largest --lenient --rules --help' files=yes ;;

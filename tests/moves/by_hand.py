@@ -1,0 +1,123 @@
+"""Rows of `numaplan moves` and of `numaplan diff --at` worked out by hand. Not proved."""
+
+import os
+
+TOP = os.path.dirname(os.path.dirname(os.path.dirname(os.path.abspath(__file__))))
+
+EXAMPLE = TOP + "/examples/interleaved-range"
+
+ROWS = [
+    # node 2 goes: its pages go to the first of the two nodes that are left (place 2 modulo 2 is 0)
+    (["--then", "mems 0-1"],
+     "00030000-00034000 placed=3 moved=2 N2->N0=2 stays=1 N0=1\n"
+     "00040000-00042000 placed=2 moved=2 N2->N0=2\n"
+     "total placed=5 moved=4 N2->N0=4 stays=1 N0=1\n"),
+    # with room for three of them: the lowest go
+    (["--free", "0=3", "--then", "mems 0-1"],
+     "00030000-00034000 placed=3 moved=2 N2->N0=2 stays=1 N0=1\n"
+     "00040000-00042000 placed=2 moved=1 N2->N0=1 noroom=1 N2=1\n"
+     "total placed=5 moved=3 N2->N0=3 stays=1 N0=1 noroom=1 N2=1\nleft N0=0\n"),
+    # sets of the same size: each page goes to the node of the same place
+    (["--then", "migrate 0,2 1,3"],
+     "00030000-00034000 placed=3 moved=3 N0->N1=1 N2->N3=2\n"
+     "00040000-00042000 placed=2 moved=2 N2->N3=2\n"
+     "total placed=5 moved=5 N0->N1=1 N2->N3=4\n"),
+]
+
+
+# What would go elsewhere, before what becomes of the pages that are there. Of interleave:0-2 node 2,
+# whose place is 2, becomes the node of place 2 modulo 2 once two nodes are left: 0. So pages of the
+# indexes 48 to 51, and 2 and 3, are on 0 1 2 0 and 2 0 before, and on 0 1 0 1 and 0 1 after.
+DIFFERENCES = [
+    (["--then", "mems 0-1"],
+     "00030000-00034000 moved=2 N0->N1=1 N2->N0=1\n"
+     "00040000-00042000 moved=2 N0->N1=1 N2->N0=1\n"
+     "total moved=4 N0->N1=2 N2->N0=2\n"
+     "pages that are there\n" + ROWS[0][1]),
+    # a policy moves nothing that is there, and migrate nothing that isn't
+    (["--then", "mbind 0x40000 0x2000 bind:1", "--then", "migrate 2 3"],
+     "00040000-00042000 moved=2 N0->N1=1 N2->N1=1\n"
+     "total moved=2 N0->N1=1 N2->N1=1\n"
+     "pages that are there\n"
+     "then mbind 0x40000 0x2000 bind:1\n"
+     "00030000-00034000 placed=3 moved=0 stays=3 N0=1 N2=2\n"
+     "00040000-00042000 placed=2 moved=0 stays=2 N2=2\n"
+     "total placed=5 moved=0 stays=5 N0=1 N2=4\n"
+     "then migrate 2 3\n"
+     "00030000-00034000 placed=3 moved=2 N2->N3=2 stays=1 N0=1\n"
+     "00040000-00042000 placed=2 moved=2 N2->N3=2\n"
+     "total placed=5 moved=4 N2->N3=4 stays=1 N0=1\n"),
+]
+
+
+def try_rows(call, tell):
+    good = True
+    touch = ["--task", "1", "--node", "3"]
+    for front, rows in (["moves"], ROWS), (["diff", *touch], DIFFERENCES):
+        for words, want in rows:
+            status, text, errors = call(*front, "--at", EXAMPLE + ".at", *words,
+                                        EXAMPLE + ".numaplan")
+            good &= tell((status, text, errors) == (0, want, ""), f"the row {front[0]} "
+                         + " ".join(words) + ("" if text == want else f": {text} {errors}"))
+    return good
+
+
+# Lines that aren't as they have to be, and what is told of them.
+FAULTS = [
+    ("at 0x30000 0x1000", [], "AT:1: bad words; write at START LENGTH NODE, in a host in P at START"
+     " LENGTH NODE\n"),
+    ("at 0x30001 0x1000 0", [], "AT:1: refused Unaligned EINVAL: the start isn't a multiple of"
+     " 4,096\n"),
+    ("at 0x800000000000 0x1000 0", [], "AT:1: refused OutOfSpace ENOMEM: the span ends above address"
+     " 2^47\n"),
+    ("at 0x30000 0x1000 4", [], "AT:1: refused NoSuchNode EINVAL: the machine has no such node with"
+     " memory\n"),
+    ("in 3 at 0x30000 0x1000 0", [], "AT:1: refused NoSuchProcess ESRCH: there is no such process; in"
+     " a host write in P at ..\n"),
+    ("", ["migrate 0"], "--then:1: bad words; write migrate FROM TO, each a list of nodes as"
+     " 0-1,3\n"),
+    ("", ["task 1 bind:0"], "--then:1: moves takes lines mems, migrate, cgroup-mems and attach\n"),
+    ("", ["mems 0", "migrate 0 1"], "--then:2: refused NodesNotAllowed EINVAL: no node of TO is"
+     " allowed\n"),
+    ("", ["in 3 migrate 0 1"], "--then:1: refused NoSuchProcess ESRCH: there is no such process;"
+     " write in P migrate ..\n"),
+    ("", ["mems 9"], "--then:1: refused NoSuchNode EINVAL: the machine lacks the node; its nodes are"
+     " 0 to 3\n"),
+]
+
+
+# The same of a difference.
+LINES = [
+    ("unmap 0x30000 0x1000", "--then:1: diff --at takes no line that takes pages away\n"),
+    ("exit 1", "--then:1: diff --at takes no line that takes pages away\n"),
+    ("migrate 0", FAULTS[5][2]),
+    ("mems 9", FAULTS[9][2]),
+]
+
+
+def try_lines(call, tell):
+    good = True
+    words = ["diff", "--task", "1", "--node", "0", "--at", EXAMPLE + ".at"]
+    for line, want in LINES:
+        status, text, errors = call(*words, "--then", line, EXAMPLE + ".numaplan")
+        is_so = (status, errors) == (3, want) and "stays=5" in text and "moved=0" in text
+        good &= tell(is_so, f"the fault of {line} in a difference" + ("" if is_so else f": {errors}"))
+    for form in "svg", "html":
+        status, text, errors = call(*words, "--then", "mems 0", "--format", form)
+        is_so = (status, text) == (2, "") and errors.startswith("error: '--at <FILE>' wants")
+        good &= tell(is_so, f"no difference with pages that are there as {form}")
+    return good
+
+
+def try_faults(call, tell, room):
+    good = try_lines(call, tell)
+    for line, lines, want in FAULTS:
+        with open(room + "/at", "w", encoding="utf-8") as file:
+            file.write(line + "\n")
+        words = [it for one in lines or ["mems 0-3"] for it in ("--then", one)]
+        status, _, errors = call("moves", "--at", room + "/at", *words, EXAMPLE + ".numaplan")
+        errors = errors.replace(room + "/at", "AT")
+        lenient = call("moves", "--lenient", "--at", room + "/at", *words, EXAMPLE + ".numaplan")[0]
+        is_so = (status, errors, lenient) == (3, want, 0)
+        good &= tell(is_so, f"the fault of {line or lines}" + ("" if is_so else f": {errors}"))
+    return good
