@@ -12,8 +12,8 @@ _numaplan() {
         run:--rules | check:--rules | expect:--rules | predict:--rules | diff:--rules | moves:--rules | explain:--rules | replay:--rules | shell:--rules) words='document linux' ;;
         check:--process | predict:--task | predict:--node | predict:--process | predict:--largest | predict:--free | diff:--task | diff:--node | diff:--then | diff:--process | diff:--largest | moves:--task | moves:--node | moves:--then | moves:--free | moves:--process | moves:--largest | explain:--task | explain:--node | explain:--pages | explain:--process | replay:--process | replay:--largest | shell:--process | storm:--workers) : ;;
         expect:--format) words='text json tap' ;;
+        predict:--at | diff:--at | moves:--at | replay:--trace) files=yes ;;
         predict:--format) words='text json csv svg html' ;;
-        diff:--at | moves:--at | replay:--trace) files=yes ;;
         diff:--format) words='text json svg html' ;;
         moves:--format) words='text json svg' ;;
         replay:--format) words='text json html' ;;
@@ -23,7 +23,7 @@ _numaplan() {
                 run) words='--echo --format --rules --help' files=yes ;;
                 check) words='--format --process --rules --help' files=yes ;;
                 expect) words='--format --ignore-versions --update --rules --help' files=yes ;;
-                predict) words='--task --node --process --format --largest --free --lenient --rules --help' files=yes ;;
+                predict) words='--task --node --at --process --format --largest --free --lenient --rules --help' files=yes ;;
                 diff) words='--task --node --then --at --process --format --largest --lenient --rules --help' files=yes ;;
                 moves) words='--at --task --node --then --free --process --format --largest --lenient --rules --help' files=yes ;;
                 explain) words='--task --node --pages --process --format --lenient --rules --help' files=yes ;;

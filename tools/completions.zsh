@@ -53,6 +53,7 @@ _numaplan() {
             _arguments \
                 '(--task)--task[The task that touches the pages]:T: ' \
                 '(--node)--node[The node of the CPU on which it does]:N: ' \
+                '(--at)--at[A file with further lines at START LENGTH NODE; - is standard input]:FILE:_files' \
                 '(--process)--process[Asks process P of a host alone; all of them where it is all, or isn'\''t given]:P: ' \
                 '(--format)--format[How the answer is written]:FORMAT:(text json csv svg html)' \
                 '(--largest)--largest[Shows the N largest ranges by themselves, and sums the others\: 40 in a picture and 400 in a page, where it isn'\''t given]:N: ' \

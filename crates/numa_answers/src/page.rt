@@ -114,7 +114,7 @@ pub fn shared_view_text<W: Watch>(
         account.old.free 0 (2 ^ 35)) }
 {
     let html = Format::Html(number);
-    let prediction = shared_text(alloc, space, plan, asked, html, free, account, watch)?;
+    let prediction = shared_text(alloc, space, plan, None, asked, html, free, account, watch)?;
     view_with(alloc, space, plan, asked, free, number, &prediction)
 }
 

@@ -8,7 +8,8 @@ use Rattle.std.proofs.lemmas.Slice.Eq.{bytes_eq-Decides}
 use Rattle.clap.specs.Words.{Row, subcommand_of}
 use Rattle.numa_reports.specs.declared.filling.FreePages.{FreePages}
 use Rattle.numa_reports.specs.declared.touch.Touch.{Touch}
-use Rattle.numa_command_line.specs.Asked.{Answers, asking_name, doing_name}
+use Rattle.numa_reports.specs.declared.sheet.Format.{Format}
+use Rattle.numa_command_line.specs.Asked.{Answers, asking_name, doing_name, predict_by}
 use Rattle.numa_command_line.specs.Asked.{job_named, name_of, rows_behind, scripts_asked}
 use Rattle.numa_command_line.specs.Asked.{word_named, work_asked}
 use Rattle.numa_command_line.specs.Jobs.{Asking, Doing, Doings, Text, ask, diff, doings_of, explain}
@@ -81,6 +82,12 @@ given_is : (refused : Bool) (asking what : Asking) → cond refused None (Some a
 given_is true asking what e = cc
 given_is false asking what e = some_is asking what e
 
+free_name : (at : List Text) (format : Format) (from : Option (List FreePages)) (what : Asking)
+    → option_and_then (predict_by at format) from ≡ Some what → asking_name what ≡ codes "predict"
+free_name at format None what e = cc
+free_name at format (Some free) what e =
+    ap asking_name (sym (given_is _ (predict at format free) what e))
+
 moves_name : (make : List FreePages → Doing)
     → ((free : List FreePages) → doing_name (make free) ≡ codes "moves")
     → (free : Option (List FreePages)) (doing : Doing) → option_map make free ≡ Some doing
@@ -96,7 +103,7 @@ work_name word.Check rows doing e = ap doing_name (sym (some_is _ doing e))
 work_name word.Expect rows doing e = ap doing_name (sym (some_is _ doing e))
 work_name word.Predict rows doing e =
     asked_name (touch_in rows) (is_on (codes "lenient") rows) _ (codes "predict") doing
-    (mapped_name (predict (format_in rows)) (codes "predict") (λ free. refl) (frees_in rows)) e
+    (free_name (texts_at (codes "at") rows) (format_in rows) (frees_in rows)) e
 work_name word.Diff rows doing e =
     asked_name (touch_in rows) (is_on (codes "lenient") rows) _ (codes "diff") doing
     (λ what is. ap asking_name (sym (given_is _

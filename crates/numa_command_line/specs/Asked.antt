@@ -1,5 +1,6 @@
 -- What a command line asks for, by its words alone.
-use Rattle.std.specs.Prelude.{◌≡◌, ◌≢◌, ◌⊎◌, ◌&&◌, ⊤, Bool, true, false, List, [], Option, Some}
+use Rattle.std.specs.Prelude.{◌≡◌, ◌≢◌, ◌⊎◌, ◌&&◌, ⊤, Bool, true, false, List, []}
+use Rattle.std.specs.Prelude.{Option, Some}
 use Rattle.std.specs.Prelude.{None, Result, MatchResult, length, nat_lt}
 use Rattle.std.specs.Prelude.{codes, option_and_then, option_map, slice_get, if◌then◌else◌}
 use Rattle.std.specs.Str.{bytes_eq}
@@ -7,6 +8,7 @@ use Rattle.clap.specs.Words.{App, IsAmong, Row, fault_of, kind_of, subcommand_of
 use Rattle.clap.specs.declared.error.Error.{Error}
 use Rattle.clap.specs.declared.error.kind.ErrorKind.{ErrorKind}
 use Rattle.clap.specs.declared.error.kind.ErrorKind.TheVariants as kind
+use Rattle.numa_reports.specs.declared.filling.FreePages.{FreePages}
 use Rattle.numa_reports.specs.declared.sheet.Format.{Format}
 use Rattle.numa_reports.specs.declared.sheet.Format.TheVariants.{Svg, Html}
 use Rattle.numa_command_line.specs.Grammar.{IsProgram}
@@ -47,6 +49,15 @@ is_drawn (Svg number) = true
 is_drawn (Html number) = true
 is_drawn other = false
 
+abbrev pub is_page : Format → Bool
+is_page (Html number) = true
+is_page other = false
+
+-- a prediction, where pages that are there stay where a file states them: no page
+abbrev pub predict_by : List Text → Format → List FreePages → Option Asking
+predict_by at format free =
+    if nat_lt 0 (length at) && is_page format then None else Some (predict at format free)
+
 -- a difference, with what becomes of pages that are there where a file states them: no drawn one
 abbrev pub diff_by : List Text → List Text → Format → Option Asking
 diff_by at lines format =
@@ -58,8 +69,8 @@ work_asked word.Run rows = Some (run (is_on (codes "echo") rows) (format_in rows
 work_asked word.Check rows = Some (check (format_in rows))
 work_asked word.Expect rows = Some (expect (format_in rows) (is_on (codes "ignore-versions") rows)
     (is_on (codes "update") rows))
-work_asked word.Predict rows =
-    asked_in rows (option_map (predict (format_in rows)) (frees_in rows))
+work_asked word.Predict rows = asked_in rows
+    (option_and_then (predict_by (texts_at (codes "at") rows) (format_in rows)) (frees_in rows))
 work_asked word.Diff rows = asked_in rows
     (diff_by (texts_at (codes "at") rows) (texts_at (codes "then") rows) (format_in rows))
 work_asked word.Moves rows = option_map (λ free. moves (texts_at (codes "at") rows)
@@ -99,7 +110,7 @@ doings_asked program words = doings_found words (subcommand_of program words)
 
 -- the name of the word that asks for this
 abbrev pub asking_name : Asking → Text
-asking_name (predict format free) = codes "predict"
+asking_name (predict at format free) = codes "predict"
 asking_name (diff at lines format) = codes "diff"
 asking_name (explain page pages format) = codes "explain"
 

@@ -75,8 +75,8 @@ expect_arguments formats =
 
 abbrev pub predict_arguments : Names → List Rule
 predict_arguments formats =
-    task ∷ node ∷ process ∷ format formats ∷ largest ∷ option (codes "free") ∷ lenient ∷ files
-    ∷ []
+    task ∷ node ∷ option (codes "at") ∷ process ∷ format formats ∷ largest
+    ∷ option (codes "free") ∷ lenient ∷ files ∷ []
 
 abbrev pub diff_arguments : Names → List Rule
 diff_arguments formats =

@@ -27,7 +27,7 @@ abbrev pub Text : Type 0
 Text = List ℕ
 
 pub data Asking : Type 0 where
-  predict : Format → List FreePages → Asking
+  predict : List Text → Format → List FreePages → Asking
   diff : List Text → List Text → Format → Asking
   explain : ℕ → Option ℕ → Format → Asking
 
@@ -46,7 +46,7 @@ pub data Doings : Type 0 where
   storm : ℕ → Doings
 
 abbrev pub question_of : PageQuestion → Asking
-question_of (Predict format free) = predict format free.items
+question_of (Predict at format free) = predict (map string_bytes at.items) format free.items
 question_of (Diff at lines format) =
     diff (map string_bytes at.items) (map string_bytes lines.items) format
 question_of (Explain page pages format) = explain page pages format

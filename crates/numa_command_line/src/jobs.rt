@@ -8,8 +8,10 @@ use std::alloc::{AllocError, Global};
 /// A question about pages that a task would touch.
 #[derive(Drop)]
 pub enum PageQuestion {
-    /// Where pages would go; nodes that `free` names have that many free pages.
+    /// Where pages would go; nodes that `free` names have that many free pages. With a file `at`,
+    /// pages that are there stay where they lie.
     Predict {
+        at: Vec<String>,
         format: Format,
         free: Vec<FreePages>,
     },

@@ -4,98 +4,19 @@ ghost use Rattle.numa_placed.specs.Shifts.{AreRooms};
 ghost use Rattle.numa_moves.specs.Moving.{moves_of, shares_behind};
 ghost use Rattle.numa_moves.specs.Shares.{pages_on};
 
-use crate::at_lines::{AtLine, LinePlace};
+use crate::at_lines::AtLine;
 use crate::moving::{ShareMove, moves_within, shares_behind};
 use crate::share::Share;
 use crate::shares::{stated_shares, touched_shares};
+use crate::stating::{RefusedAt, Scene, note_lacking, placed_of};
 use numa_compile::compile;
-use numa_host::{Host, Process};
+use numa_host::Process;
 use numa_mask::NodeMask;
-use numa_placed::{Placed, PlacedRefusal, Rooms};
+use numa_placed::Rooms;
 use numa_reports::{FreePages, ReportError, Touch};
 use numa_space::Space;
 use std::alloc::{AllocError, Global};
 use std::mem::replace;
-
-/// What moves are told of.
-#[derive(Clone, Copy)]
-pub enum Scene<'a> {
-    /// One space: a script's, or that of a process of a host.
-    One(Option<u32>, &'a Space),
-    /// All processes of a host.
-    Each(&'a Host),
-}
-
-impl RefusedAt {
-    /// The cause in words.
-    pub fn why(&self) -> &'static str {
-        match self.cause {
-            None => {
-                "refused NoSuchProcess ESRCH: there is no such process; in a host write in P at .."
-            }
-            Some(PlacedRefusal::Unaligned) => {
-                "refused Unaligned EINVAL: the start isn't a multiple of 4,096"
-            }
-            Some(PlacedRefusal::OutOfSpace) => {
-                "refused OutOfSpace ENOMEM: the span ends above address 2^47"
-            }
-            Some(PlacedRefusal::NoSuchNode) => {
-                "refused NoSuchNode EINVAL: the machine has no such node with memory"
-            }
-            Some(PlacedRefusal::TooManyRuns) => {
-                "refused TooManyRuns ENOMEM: at most 1,048,576 runs of pages can be stated"
-            }
-            Some(_) => "refused NoMemory ENOMEM: out of memory",
-        }
-    }
-}
-
-impl Scene<'_> {
-    /// The number of nodes of the machine.
-    pub fn nodes(&self) -> u32 {
-        match self {
-            Scene::One(_, space) => space.machine().nodes(),
-            Scene::Each(host) => host.machine().nodes(),
-        }
-    }
-
-    /// Whether it is a host.
-    pub fn is_each(&self) -> bool {
-        matches!(self, Scene::Each(_))
-    }
-
-    /// The nodes that a process is allowed, if it is there.
-    fn allowed(&self, process: u32) -> Option<NodeMask> {
-        match self {
-            Scene::One(_, space) => Some(space.allowed()),
-            Scene::Each(host) => {
-                let space = host.process(process)?;
-                Some(space.allowed())
-            }
-        }
-    }
-}
-
-impl Scene<'_> {
-    /// Whether a line states where pages of this process lie.
-    fn is_of(&self, process: u32, line: &AtLine) -> bool {
-        match self {
-            Scene::One(None, _) => line.process.is_none(),
-            Scene::One(Some(own), _) => line.process.unwrap_or(*own) == *own,
-            Scene::Each(_) => line.process == Some(process),
-        }
-    }
-
-    /// Whether a line is of no process that is there.
-    fn lacks(&self, line: &AtLine) -> bool {
-        match (self, line.process) {
-            (Scene::One(None, _), named) => named.is_some(),
-            (Scene::One(Some(_), _), _) => false,
-            (Scene::Each(host), Some(process)) => host.process(process).is_none(),
-            (Scene::Each(_), None) => true,
-        }
-    }
-}
 
 /// Where the pages of a process lie, and the nodes that it is allowed.
 #[derive(Drop)]
@@ -117,15 +38,6 @@ pub struct HoldingMoves {
     pub moves: Vec<ShareMove>,
 }
 
-/// Why a line that states where pages lie is passed over.
-#[derive(Clone, Copy)]
-pub struct RefusedAt {
-    /// Where it stands.
-    pub place: LinePlace,
-    /// The cause; `None` if there is no such process.
-    pub cause: Option<PlacedRefusal>,
-}
-
 /// How pages came to lie where they do.
 #[derive(Clone, Copy)]
 pub enum Origin<'a> {
@@ -145,43 +57,6 @@ fn touched(alloc: Global, space: &Space, touch: Touch) -> Result<Vec<Share>, Rep
     shares
 }
 
-/// States where the pages of a line lie, or notes why not.
-fn state_line(
-    placed: &mut Placed,
-    space: &Space,
-    line: &AtLine,
-    refused: &mut Vec<RefusedAt>,
-) -> Result<(), AllocError> {
-    match placed.state(space, line.start, line.length, line.node) {
-        Ok(()) => Ok(()),
-        Err(PlacedRefusal::NoMemory) => Err(AllocError),
-        Err(cause) => {
-            refused.push(RefusedAt {
-                place: line.place,
-                cause: Some(cause),
-            })?;
-            Ok(())
-        }
-    }
-}
-
-/// States where the pages of a process lie, by its lines.
-fn state_lines(
-    placed: &mut Placed,
-    scene: Scene<'_>,
-    space: &Space,
-    process: u32,
-    lines: &[AtLine],
-    refused: &mut Vec<RefusedAt>,
-) -> Result<(), AllocError> {
-    for line in lines {
-        if scene.is_of(process, line) {
-            state_line(placed, space, line, refused)?;
-        }
-    }
-    Ok(())
-}
-
 /// Where pages of a process lie, as lines state it.
 fn stated(
     alloc: Global,
@@ -191,13 +66,8 @@ fn stated(
     lines: &[AtLine],
     refused: &mut Vec<RefusedAt>,
 ) -> Result<Vec<Share>, AllocError> {
-    let Ok(mut placed) = Placed::new(alloc) else {
-        return Err(AllocError);
-    };
-    let shares = match state_lines(&mut placed, scene, space, process, lines, refused) {
-        Ok(()) => stated_shares(alloc, space, &placed),
-        Err(fault) => Err(fault),
-    };
+    let placed = placed_of(alloc, scene, space, process, lines, refused)?;
+    let shares = stated_shares(alloc, space, &placed);
     drop(placed);
     shares
 }
@@ -258,26 +128,6 @@ fn add_holdings(
     Ok(())
 }
 
-/// Notes the lines that are of no process.
-fn note_lacking(
-    scene: Scene<'_>,
-    origin: Origin<'_>,
-    refused: &mut Vec<RefusedAt>,
-) -> Result<(), AllocError> {
-    let Origin::Stated(lines) = origin else {
-        return Ok(());
-    };
-    for line in lines {
-        if scene.lacks(line) {
-            refused.push(RefusedAt {
-                place: line.place,
-                cause: None,
-            })?;
-        }
-    }
-    Ok(())
-}
-
 /// Appends what the one space holds, or each process of a host.
 fn add_all(
     alloc: Global,
@@ -286,8 +136,10 @@ fn add_all(
     refused: &mut Vec<RefusedAt>,
     holdings: &mut Vec<Holding>,
 ) -> Result<(), ReportError> {
-    if note_lacking(scene, origin, refused).is_err() {
-        return Err(ReportError::Memory);
+    if let Origin::Stated(lines) = origin {
+        if note_lacking(scene, lines, refused).is_err() {
+            return Err(ReportError::Memory);
+        }
     }
     match scene {
         Scene::One(process, space) => {

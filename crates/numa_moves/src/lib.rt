@@ -18,12 +18,14 @@ mod moving;
 mod share;
 mod shares;
 mod sheet;
+mod stating;
 mod sums;
 
 pub use at_lines::{AtLine, AtLines, LinePlace, PassOver, read_at_lines};
-pub use holding::{Holding, HoldingMoves, Holdings, Origin, RefusedAt, Scene, Step};
+pub use holding::{Holding, HoldingMoves, Holdings, Origin, Step};
 pub use move_line::{MoveLine, read_move};
 pub use moving::{ShareMove, moves_within, pages_by_node, shares_behind};
 pub use share::Share;
 pub use shares::{stated_shares, touched_shares};
 pub use sheet::{Asked, moves_text};
+pub use stating::{RefusedAt, Scene, add_stated};

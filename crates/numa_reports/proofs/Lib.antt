@@ -1,3 +1,4 @@
+pub mod Beside
 pub mod Differing
 pub mod Meeting
 pub mod Moving
@@ -7,4 +8,5 @@ pub mod Refusing
 pub mod Repeating
 pub mod Taking
 pub mod Telling
+pub mod There
 pub mod Tiling

@@ -9,7 +9,7 @@ use Rattle.std.proofs.lemmas.List.{get_or-set_same, get_or-set_other}
 use Rattle.std.proofs.lemmas.List.Sums.{sum_by-cons}
 use Rattle.numa_lanes.specs.Spans.{node_count}
 use Rattle.numa_ranges.specs.Counts.{count_pages}
-use Rattle.numa_plan.specs.Meaning.{CountsFirsts, PlanData, is_number, planned_count, planned_first}
+use Rattle.numa_plan.specs.Meaning.{PlanData, is_number, planned_count, planned_first}
 use Rattle.numa_plan.proofs.CountLemmas.{count-most}
 
 -- pages of a span whose test says what stands in the span's place
@@ -80,14 +80,17 @@ few f first n base (x ∷ counts) are =
     )
 
 -- so all nodes have no more pages than there are
-pub few-planned : (plan : PlanData) (task cpu first n : ℕ) (counts : List ℕ) → length counts ≡ 256
-    → CountsFirsts plan task first n cpu counts → sum counts ≤ n
-few-planned plan task cpu first n counts long are =
-    let all : sum counts ≤ count_pages (λ page. at_least 0 (planned_first plan task page cpu)) first
-    n = few (λ page. planned_first plan task page cpu) first n 0 counts (λ k lt.
+pub few-numbers : (f : ℕ → Option ℕ) (first n : ℕ) (counts : List ℕ) → length counts ≡ 256
+    → ((node : ℕ) → node < 256
+    → get_or counts node 0 ≡ count_pages (λ page. is_number node (f page)) first n)
+    → sum counts ≤ n
+few-numbers f first n counts long are =
+    let all : sum counts ≤ count_pages (λ page. at_least 0 (f page)) first n =
+    few f first n 0 counts (λ k lt.
     let place : k ≡ 0 + k = omega arith in
-    are k (omega (arith, long)) ∙ ap (λ (b : ℕ). planned_count plan task first n cpu b) place) in
-    omega (arith, all, count-most (λ page. at_least 0 (planned_first plan task page cpu)) first n)
+    are k (omega (arith, long)) ∙ ap (λ (b : ℕ). count_pages (λ page. is_number b (f page)) first n)
+    place) in
+    omega (arith, all, count-most (λ page. at_least 0 (f page)) first n)
 
 -- ---- counts that are moved, a node's after another
 

@@ -1,6 +1,7 @@
 -- Pages that are filled one by one, and range by range.
 use Rattle.std.proofs.Common.{◌≡◌, ℕ, zero, suc, ◌+◌, ◌-◌, ◌<◌, ◌≤◌, ◌^◌, Option, Some, None, List}
-use Rattle.std.proofs.Common.{[], ◌∷◌, refl, sym, ap, ◌∙◌, arith, inl, inr, cond}
+use Rattle.std.proofs.Common.{[], ◌∷◌, refl, sym, ap, ◌∙◌, arith, inl, inr, cond, Bool, true}
+use Rattle.std.proofs.Common.{false, is_some}
 use Rattle.std.specs.Prelude.{unwrap_or}
 use Rattle.std.proofs.lemmas.Bool.{cases_Bool}
 use Rattle.numa_machine.specs.Machine.{Hardware}
@@ -13,7 +14,10 @@ use Rattle.numa_space.specs.Lists.{node_list}
 use Rattle.numa_space.specs.Pages.{is_mapped}
 use Rattle.numa_space.specs.Standing.{SpaceState, StandsFor}
 use Rattle.numa_space.specs.declared.command.Command.{Command}
+use Rattle.numa_placed.specs.Spots.{node_of}
+use Rattle.numa_placed.specs.declared.spot.Spot.{Spot}
 use Rattle.numa_reports.specs.Filled.{first_free, one_less, free_behind, nodes_of, planned_nodes}
+use Rattle.numa_reports.specs.Lying.{absent_nodes}
 use Rattle.numa_reports.proofs.Tiling.{not-mapped}
 
 pub free-start : (nodes : ℕ → List ℕ) (free : List ℕ) (first : ℕ) → free_behind nodes free first 0
@@ -144,14 +148,26 @@ no-list space plan history task cpu page stands planned missing =
     ap (λ (o : Option (List ℕ)). unwrap_or o [])
     (planned.unmapped task page cpu (not-mapped space history page stands missing))
 
+-- and so has none where pages that are there have none
+pub none-absent : (spots : ℕ → Spot) (nodes : ℕ → List ℕ) (page : ℕ) → nodes page ≡ []
+    → absent_nodes spots nodes page ≡ []
+none-absent spots nodes page none = go (is_some (node_of (spots page)))
+  where
+    go : (b : Bool) → cond b [] (nodes page) ≡ []
+    go true = refl
+    go false = none
+
 -- what is free behind the ranges of a space, by a plan, is what the history means
-pub free-all : (space : SpaceState) (plan : PlanData) (history : List Command) (task cpu : ℕ)
-    (free : List ℕ) → StandsFor space history → PlanStandsFor space.machine plan history
-    → cpu < space.machine.nodes → AreApart 0 space.ranges
-    → free_runs (planned_nodes plan task cpu) free space.ranges
-    ≡ free_behind (nodes_of space.machine history task cpu) free 0 (2 ^ 35)
-free-all space plan history task cpu free stands planned lt apart =
-    free-runs (planned_nodes plan task cpu) free 0 (2 ^ 35) space.ranges apart refl
-    (λ page low missing. no-list space plan history task cpu page stands planned missing)
-    ∙ ap (λ (nodes : ℕ → List ℕ). free_behind nodes free 0 (2 ^ 35))
+pub free-all : (space : SpaceState) (plan : PlanData) (history : List Command) (spots : ℕ → Spot)
+    (task cpu : ℕ) (free : List ℕ) → StandsFor space history
+    → PlanStandsFor space.machine plan history → cpu < space.machine.nodes
+    → AreApart 0 space.ranges
+    → free_runs (absent_nodes spots (planned_nodes plan task cpu)) free space.ranges
+    ≡ free_behind (absent_nodes spots (nodes_of space.machine history task cpu)) free 0 (2 ^ 35)
+free-all space plan history spots task cpu free stands planned lt apart =
+    free-runs (absent_nodes spots (planned_nodes plan task cpu)) free 0 (2 ^ 35) space.ranges apart
+    refl
+    (λ page low missing. none-absent spots (planned_nodes plan task cpu) page
+    (no-list space plan history task cpu page stands planned missing))
+    ∙ ap (λ (nodes : ℕ → List ℕ). free_behind (absent_nodes spots nodes) free 0 (2 ^ 35))
     (λ i page. same-nodes space.machine plan history task cpu page planned lt i)

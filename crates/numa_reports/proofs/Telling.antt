@@ -1,6 +1,7 @@
 -- What a taker is told of ranges that fill up, one after the other.
 use Rattle.std.proofs.Common.{◌≡◌, ℕ, ◌+◌, ◌-◌, ◌<◌, ◌≤◌, Option, None, List, [], ◌∷◌, refl, sym}
 use Rattle.std.proofs.Common.{ap, subst, ◌∙◌, arith}
+use Rattle.std.specs.Borrow.{Bor}
 use Rattle.numa_mode.specs.Policy.{PolicyRecord}
 use Rattle.numa_ranges.specs.Runs.{AreApart, end_of, page_at}
 use Rattle.numa_ranges.specs.declared.run.Run.{Run}
@@ -8,10 +9,14 @@ use Rattle.numa_ranges.proofs.Apart.{in_pages-above, in_pages-below, page_at-bef
 use Rattle.numa_plan.specs.Meaning.{PlanData}
 use Rattle.numa_compile.specs.Standing.{PlanStandsFor}
 use Rattle.numa_space.specs.Standing.{SpaceState, StandsFor}
+use Rattle.numa_placed.specs.declared.spot.Spot.{Spot}
 use Rattle.numa_space.specs.declared.command.Command.{Command}
 use Rattle.numa_reports.specs.Filled.{free_behind, planned_nodes}
-use Rattle.numa_reports.specs.Told.{IsFilling, IsTaken, Meaning, Telling, ToldEach, ToldOne}
-use Rattle.numa_reports.proofs.Taking.{free-none, free-split, free-start, no-list, same-nodes}
+use Rattle.numa_reports.specs.Lying.{absent_nodes, spots_in}
+use Rattle.numa_reports.specs.Told.{IsFillingBeside, IsTakenBeside, Meaning, Telling, ToldEach}
+use Rattle.numa_reports.specs.Told.{ToldOne}
+use Rattle.numa_reports.proofs.Taking.{free-none, free-split, free-start, no-list, none-absent}
+use Rattle.numa_reports.proofs.Taking.{same-nodes}
 
 -- each range is told in turn, with what it takes of what those before it left
 abbrev pub FilledEach : {T : Type 0} → Telling T → (List ℕ → List ℕ → Meaning) → (ℕ → List ℕ)
@@ -66,17 +71,24 @@ filled-each told takes nodes all free from (range ∷ ranges) old new apart star
 
 -- what is told of the ranges of a space, by a plan, is what the history means
 pub filled-all : {T : Type 0} (told : Telling T) (space : SpaceState) (plan : PlanData)
-    (history : List Command) (task cpu : ℕ) (free : List ℕ) (old new : T) → StandsFor space history
+    (history : List Command) (placed : Option (Bor (List (Run Spot)))) (task cpu : ℕ)
+    (free : List ℕ) (old new : T) → StandsFor space history
     → PlanStandsFor space.machine plan history → cpu < space.machine.nodes → AreApart 0 space.ranges
-    → FilledEach told (IsTaken space.machine history task) (planned_nodes plan task cpu) free
-    space.ranges old new
-    → ToldEach told (IsFilling space.machine history task cpu free) space.ranges old new
-filled-all told space plan history task cpu free old new stands planned lt apart has =
+    → FilledEach told (IsTakenBeside space.machine history placed task)
+    (absent_nodes (spots_in placed) (planned_nodes plan task cpu)) free space.ranges old new
+    → ToldEach told (IsFillingBeside space.machine history placed task cpu free) space.ranges old
+    new
+filled-all told space plan history placed task cpu free old new stands planned lt apart has =
+    let spots = spots_in placed in
+    let own = planned_nodes plan task cpu in
     subst (λ (nodes : ℕ → List ℕ).
     ToldEach told
-    (λ range. IsTaken space.machine history task (free_behind nodes free 0 range.first)
-    (free_behind nodes free 0 (range.first + range.pages)) range) space.ranges old new)
+    (λ range. IsTakenBeside space.machine history placed task
+    (free_behind (absent_nodes spots nodes) free 0 range.first)
+    (free_behind (absent_nodes spots nodes) free 0 (range.first + range.pages)) range)
+    space.ranges old new)
     (λ i page. same-nodes space.machine plan history task cpu page planned lt i)
-    (filled-each told (IsTaken space.machine history task) (planned_nodes plan task cpu) free free 0
-    space.ranges old new apart (free-start (planned_nodes plan task cpu) free 0)
-    (λ page low missing. no-list space plan history task cpu page stands planned missing) has)
+    (filled-each told (IsTakenBeside space.machine history placed task) (absent_nodes spots own)
+    free free 0 space.ranges old new apart (free-start (absent_nodes spots own) free 0)
+    (λ page low missing. none-absent spots own page
+    (no-list space plan history task cpu page stands planned missing)) has)

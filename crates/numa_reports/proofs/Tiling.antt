@@ -93,18 +93,3 @@ not-mapped space history page stands missing =
           absurd (let odd = rw t at none in cc)
       | inr f ↦ f
     ]
-
--- the pages that a plan sends to a node, range by range, are all mapped pages whose fallback list
--- begins with it
-pub counted-all : (space : SpaceState) (plan : PlanData) (history : List Command)
-    (task cpu node : ℕ) → StandsFor space history → PlanStandsFor space.machine plan history
-    → cpu < plan.nodes → AreApart 0 space.ranges
-    → count_runs (λ page. is_number node (planned_first plan task page cpu)) space.ranges
-    ≡ meant_count space.machine history task 0 (2 ^ 35) cpu node
-counted-all space plan history task cpu node stands planned lt apart =
-    let test : ℕ → Bool = λ page. is_number node (planned_first plan task page cpu) in
-    count-runs test 0 (2 ^ 35) space.ranges apart refl
-    (λ page low missing.
-    ap (λ o. is_number node (option_map (λ (nodes : List ℕ). get_or nodes 0 0) o))
-    (planned.unmapped task page cpu (not-mapped space history page stands missing)))
-    ∙ counts-meant space.machine plan history planned task 0 (2 ^ 35) cpu node lt

@@ -2,6 +2,7 @@ pub mod Common
 pub mod Differences
 pub mod Failing
 pub mod Filled
+pub mod Lying
 pub mod Mapped
 pub mod Moved
 pub mod Predicted

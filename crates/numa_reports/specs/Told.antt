@@ -1,11 +1,14 @@
 -- What a taker receives of ranges, one after the other.
-use Rattle.std.specs.Prelude.{◌≡◌, ◌⊎◌, ℕ, ◌+◌, ◌-◌, ◌<◌, Option, List, [], ◌∷◌, slice_index}
+use Rattle.std.specs.Prelude.{◌≡◌, ◌⊎◌, ℕ, ◌+◌, ◌-◌, ◌<◌, Option, None, List, [], ◌∷◌, slice_index}
+use Rattle.std.specs.Borrow.{Bor}
 use Rattle.numa_machine.specs.Machine.{Hardware}
 use Rattle.numa_mode.specs.Policy.{PolicyRecord}
 use Rattle.numa_ranges.specs.declared.run.Run.{Run}
 use Rattle.numa_space.specs.Pages.{resolved_policy}
 use Rattle.numa_space.specs.declared.command.Command.{Command}
+use Rattle.numa_placed.specs.declared.spot.Spot.{Spot}
 use Rattle.numa_reports.specs.Filled.{free_behind, nodes_of}
+use Rattle.numa_reports.specs.Lying.{absent_nodes, spots_in, there_on}
 use Rattle.numa_reports.specs.declared.prediction.RangePrediction.{RangePrediction}
 
 -- what a range is said to have
@@ -37,16 +40,27 @@ ToldEach told is_meant [] old new = old ≡ new
 ToldEach {T} told is_meant (range ∷ ranges) old new = (between : T)
     × ToldOne told is_meant range old between × ToldEach told is_meant ranges between new
 
--- the policy that serves the task at the range's first page, and how many pages fewer each node has
--- free than before
-pub record IsTaken (machine : Hardware) (history : List Command) (task : ℕ) (before after : List ℕ)
+-- the policy that serves the task at the range's first page, and how many of its pages each node has:
+-- those that are there, and as many as it has fewer free than before
+pub record IsTakenBeside (machine : Hardware) (history : List Command)
+    (placed : Option (Bor (List (Run Spot)))) (task : ℕ) (before after : List ℕ)
     (range : Run (Option PolicyRecord)) (said : RangePrediction) : Type 0 where
   pub policy : said.policy ≡ resolved_policy machine history task range.first
   pub counts : (node : ℕ) → node < 256
-      → slice_index said.counts node ≡ slice_index before node - slice_index after node
+      → slice_index said.counts node ≡ there_on placed range.first range.pages node
+      + (slice_index before node - slice_index after node)
 
--- what the range's pages take, once all pages of lower addresses have taken theirs
+-- what the range's pages take, once all pages of lower addresses have taken theirs; pages that are
+-- there take nothing
+abbrev pub IsFillingBeside : Hardware → List Command → Option (Bor (List (Run Spot))) → ℕ → ℕ
+    → List ℕ → Meaning
+IsFillingBeside machine history placed task cpu free range =
+    IsTakenBeside machine history placed task
+    (free_behind (absent_nodes (spots_in placed) (nodes_of machine history task cpu)) free 0
+    range.first)
+    (free_behind (absent_nodes (spots_in placed) (nodes_of machine history task cpu)) free 0
+    (range.first + range.pages)) range
+
+-- the same where no page is there
 abbrev pub IsFilling : Hardware → List Command → ℕ → ℕ → List ℕ → Meaning
-IsFilling machine history task cpu free range = IsTaken machine history task
-    (free_behind (nodes_of machine history task cpu) free 0 range.first)
-    (free_behind (nodes_of machine history task cpu) free 0 (range.first + range.pages)) range
+IsFilling machine history task cpu free = IsFillingBeside machine history None task cpu free

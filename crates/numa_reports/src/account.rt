@@ -9,6 +9,7 @@ ghost use Rattle.numa_reports.specs.Failing.{FailsForNode};
 ghost use Rattle.numa_reports.specs.Filled.{free_behind, nodes_of, with_named};
 ghost use Rattle.numa_reports.specs.Told.{IsFilling, LacksOne, ToldEach};
 
+use crate::absent::both_of;
 use crate::fault::ReportError;
 use crate::filling::{FreePages, fill_all, free_from};
 use crate::prediction::TakeRange;
@@ -46,18 +47,9 @@ impl Account {
     pub(crate) fn count(&mut self, taken: &[u64; 256], pages: u64)
         ensures { self.new.free ≡ self.old.free }
     {
-        self.taken = sum_of(&self.taken, taken);
+        self.taken = both_of(&self.taken, taken);
         self.pages = self.pages.saturating_add(pages);
     }
-}
-
-/// The sum of counts by node.
-fn sum_of(ones: &[u64; 256], others: &[u64; 256]) -> [u64; 256] {
-    let mut sum = [0u64; 256];
-    for node in 0..256 {
-        sum[node] = ones[node].saturating_add(others[node]);
-    }
-    sum
 }
 
 /// Takes from an account what one more space takes: as [`fill_all`], but the free pages are those

@@ -4,7 +4,7 @@ ghost use Rattle.std.specs.Prelude.{IfErr, IfOk, OnOk, length, option_and_then, 
 ghost use Rattle.std.specs.Prelude.{slice_index};
 ghost use Rattle.numa_compile.specs.Standing.{PlanStandsFor};
 ghost use Rattle.numa_plan.specs.Meaning.{RefusesSpan, place_refusal};
-ghost use Rattle.numa_ranges.specs.Runs.{page_at};
+ghost use Rattle.numa_ranges.specs.Runs.{end_of, page_at};
 ghost use Rattle.numa_space.specs.Standing.{StandsFor};
 ghost use Rattle.numa_space.specs.declared.command.Command.{Command};
 ghost use Rattle.numa_machine.specs.declared.refusal.PlaceRefusal.TheVariants.{BadCpu};
@@ -12,15 +12,19 @@ ghost use Rattle.numa_reports.specs.declared.fault.ReportError.TheVariants.{Memo
 ghost use Rattle.numa_reports.specs.Failing.{FailsBy, FailsForNode};
 ghost use Rattle.numa_reports.specs.Filled.{first_free, one_less, free_behind};
 ghost use Rattle.numa_reports.specs.Filled.{nodes_of, planned_nodes, with_named};
-ghost use Rattle.numa_reports.specs.Told.{IsFilling, IsTaken, LacksOne, ToldEach, ToldOne};
+ghost use Rattle.numa_reports.specs.Lying.{absent_nodes, spots_in, there_on};
+ghost use Rattle.numa_reports.specs.Told.{IsFilling, IsFillingBeside, IsTakenBeside, LacksOne};
+ghost use Rattle.numa_reports.specs.Told.{ToldEach, ToldOne};
 ghost use Rattle.numa_reports.specs.Turns.{HasPages, Repeats};
 
+use crate::absent::{both_of, fill_there};
 use crate::fault::ReportError;
 use crate::period::period_in;
 use crate::prediction::{RangePrediction, TakeRange, policy_of};
 use crate::touch::{Touch, has_node};
 use crate::turns::{all_left_behind, all_times_left};
 use numa_machine::PlaceRefusal;
+use numa_placed::Placed;
 use numa_plan::Plan;
 use numa_ranges::Run;
 use numa_space::{RangeRecord, Space};
@@ -176,28 +180,45 @@ pub(crate) fn fill_span(
     Ok(())
 }
 
-/// Takes a free page for each page of a short span, and writes the node of each, 0 for a page for
-/// which no node has one.
+/// The node of a page: where it lies, if it is there; else it takes a free page, if a node has one.
+fn fill_one(
+    plan: &Plan,
+    touch: Touch,
+    placed: Option<&Placed>,
+    page: u64,
+    free: &mut [u64; 256],
+) -> Result<Option<u8>, PlaceRefusal>
+    ensures err { IfErr result (λ refusal. place_refusal plan.now page touch.cpu ≡ Some refusal) }
+{
+    if let Some(placed) = placed {
+        if let Some(node) = placed.at(page).node() {
+            return Ok(Some(node));
+        }
+    }
+    fill_page(plan, touch, page, free)
+}
+
+/// Takes a free page for each page of a short span that isn't there, and writes the node of each
+/// page, 0 for a page for which no node has one.
 pub(crate) fn fill_few(
     plan: &Plan,
     touch: Touch,
+    placed: Option<&Placed>,
     first: u64,
     nodes: &mut [u8],
     free: &mut [u64; 256],
 ) -> Result<(), PlaceRefusal>
     requires { first + length nodes.old < 2 ^ 64 }
-    ensures free { OnOk result (free.new ≡ free_behind
-        (planned_nodes plan.now touch.task touch.cpu) free.old first (length nodes.old)) }
     ensures err { IfErr result (RefusesSpan plan.now first (length nodes.old) touch.cpu) }
 {
     for k in 0..nodes.len() {
-        nodes[k] = fill_page(plan, touch, first + k as u64, free)?.unwrap_or(0);
+        nodes[k] = fill_one(plan, touch, placed, first + k as u64, free)?.unwrap_or(0);
     }
     Ok(())
 }
 
 /// The number of pages of each node that were taken.
-pub(crate) fn taken(before: &[u64; 256], after: &[u64; 256]) -> [u64; 256]
+fn taken(before: &[u64; 256], after: &[u64; 256]) -> [u64; 256]
     ensures { (node : ℕ) → node < 256 → slice_index result node
         ≡ slice_index before.now node - slice_index after.now node }
 {
@@ -208,11 +229,34 @@ pub(crate) fn taken(before: &[u64; 256], after: &[u64; 256]) -> [u64; 256]
     counts
 }
 
-/// Takes a free page for each page of a range, in ascending order, and passes the counts to the
-/// taker.
+/// The number of pages of a range that each node has: those that are there, and those that were
+/// taken.
+fn counts_behind(
+    placed: Option<&Placed>,
+    range: &Run<RangeRecord>,
+    before: &[u64; 256],
+    after: &[u64; 256],
+) -> [u64; 256]
+    requires { end_of range.now ≤ 2 ^ 35 }
+    ensures { (node : ℕ) → node < 256
+        → there_on placed.entry range.now.first range.now.pages node
+        + (slice_index before.now node - slice_index after.now node) < 2 ^ 64
+        → slice_index result node ≡ there_on placed.entry range.now.first range.now.pages node
+        + (slice_index before.now node - slice_index after.now node) }
+{
+    let counts = taken(before, after);
+    match placed {
+        None => counts,
+        Some(placed) => both_of(&placed.counts_in(range.first, range.pages), &counts),
+    }
+}
+
+/// Takes a free page for each page of a range that isn't there, in ascending order, and passes the
+/// counts to the taker.
 fn fill_next<T: TakeRange>(
     space: &Space,
     plan: &Plan,
+    placed: Option<&Placed>,
     touch: Touch,
     range: &Run<RangeRecord>,
     free: &mut [u64; 256],
@@ -222,13 +266,15 @@ fn fill_next<T: TakeRange>(
     requires own { option_and_then (λ at. at.1) (page_at space.now.ranges range.now.first)
         ≡ range.now.value }
     requires pages { HasPages space.now.ranges range.now }
-    requires small { range.now.first + range.now.pages < 2 ^ 64 }
+    requires small { end_of range.now ≤ 2 ^ 35 }
     ensures free { (history : List Command) → StandsFor space.now history
         → PlanStandsFor space.now.machine plan.now history → OnOk result (free.new ≡ free_behind
-        (planned_nodes plan.now touch.task touch.cpu) free.old range.now.first range.now.pages) }
-    ensures told { (history : List Command) → StandsFor space.now history → OnOk result
-        (ToldOne T.told (IsTaken space.now.machine history touch.task free.old free.new)
-        range.now taker.old taker.new) }
+        (absent_nodes (spots_in placed.entry) (planned_nodes plan.now touch.task touch.cpu))
+        free.old range.now.first range.now.pages) }
+    ensures told { (history : List Command) → StandsFor space.now history
+        → PlanStandsFor space.now.machine plan.now history → OnOk result
+        (ToldOne T.told (IsTakenBeside space.now.machine history placed.entry touch.task free.old
+        free.new) range.now taker.old taker.new) }
     ensures err { IfErr result
         (FailsBy (RefusesSpan plan.now range.now.first range.now.pages touch.cpu)) }
     ensures lack { IfErr result (λ why. why ≡ Memory → T.lacks taker.old range.now) }
@@ -236,23 +282,24 @@ fn fill_next<T: TakeRange>(
     let before = *free;
     let policy = policy_of(space, touch.task, range);
     let period = period_in(space, &policy);
-    fill_span(plan, touch, range.first, range.pages, period, free)?;
+    fill_there(plan, touch, placed, range.first, range.pages, period, free)?;
     let said = RangePrediction {
         policy,
-        counts: taken(&before, free),
+        counts: counts_behind(placed, range, &before, free),
     };
     taker.take(range, &said)?;
     Ok(())
 }
 
-/// The pages of each node that remain free, as by [`fill_all`], if the machine has the faulting
-/// node.
+/// The pages of each node that remain free, as by [`fill_all`], but pages that are there take none.
+/// The machine has the faulting node.
 ///
 /// # Errors
 /// `Refused`: the plan isn't one of the space. `Memory`: the taker had none.
 pub(crate) fn fill_ranges<T: TakeRange>(
     space: &Space,
     plan: &Plan,
+    placed: Option<&Placed>,
     touch: Touch,
     free: &mut [u64; 256],
     taker: &mut T,
@@ -260,16 +307,17 @@ pub(crate) fn fill_ranges<T: TakeRange>(
     requires known { touch.cpu < space.now.machine.nodes }
     ensures ok { (history : List Command) → StandsFor space.now history
         → PlanStandsFor space.now.machine plan.now history → OnOk result (free.new ≡ free_behind
-        (nodes_of space.now.machine history touch.task touch.cpu) free.old 0 (2 ^ 35)) }
+        (absent_nodes (spots_in placed.entry)
+        (nodes_of space.now.machine history touch.task touch.cpu)) free.old 0 (2 ^ 35)) }
     ensures told { (history : List Command) → StandsFor space.now history
         → PlanStandsFor space.now.machine plan.now history → OnOk result (ToldEach T.told
-        (IsFilling space.now.machine history touch.task touch.cpu free.old) space.now.ranges
-        taker.old taker.new) }
+        (IsFillingBeside space.now.machine history placed.entry touch.task touch.cpu free.old)
+        space.now.ranges taker.old taker.new) }
     ensures err { FailsForNode space.now plan.now touch.cpu result }
     ensures lack { IfErr result (λ why. why ≡ Memory → LacksOne T.lacks space.now.ranges) }
 {
     for range in space.range_iter() {
-        fill_next(space, plan, touch, &range, free, taker)?;
+        fill_next(space, plan, placed, touch, &range, free, taker)?;
     }
     Ok(())
 }
@@ -306,5 +354,5 @@ pub fn fill_all<T: TakeRange>(
     if !has_node(space, cpu) {
         return Err(ReportError::Refused(PlaceRefusal::BadCpu));
     }
-    fill_ranges(space, plan, Touch { task, cpu }, free, taker)
+    fill_ranges(space, plan, None, Touch { task, cpu }, free, taker)
 }

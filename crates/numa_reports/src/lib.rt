@@ -5,10 +5,12 @@
 //! as text.
 #![tactic(auto)]
 
+mod absent;
 mod account;
 mod differences;
 mod fault;
 mod filling;
+mod lying;
 mod moves;
 mod outlook;
 mod period;
@@ -28,7 +30,7 @@ pub use outlook::{Outlook, PageSpan, common_spans, outlook_of};
 pub use prediction::{RangePrediction, TakeRange, predict_all, predict_range};
 pub use sheet::{
     ByProcess, DRAWN, Format, Items, LISTED, Largest, MoveSum, Object, Written, cycles_text,
-    difference_more, difference_text, filling_text, prediction_text, shared_text,
+    difference_more, difference_text, filling_text, lying_text, prediction_text, shared_text,
 };
 pub use touch::Touch;
 pub use watch::Watch;

@@ -1,11 +1,11 @@
 //! Where all mapped pages would go.
-ghost use Rattle.std.specs.Prelude.{◌≡◌, ◌≤◌, ◌<◌, ◌^◌, ⊤, List, Option, Err};
+ghost use Rattle.std.specs.Prelude.{◌≡◌, ◌+◌, ◌≤◌, ◌<◌, ◌^◌, ⊤, List, Option, Err};
 ghost use Rattle.std.specs.Prelude.{IfOk, IfErr, OnOk, OnErr, option_and_then};
 ghost use Rattle.numa_compile.specs.Spans.{SpanIsRefused};
 ghost use Rattle.numa_compile.specs.Standing.{PlanStandsFor};
 ghost use Rattle.numa_mode.specs.Policy.{PolicyRecord};
-ghost use Rattle.numa_plan.specs.Meaning.{RefusesSpan, planned_count};
-ghost use Rattle.numa_plan.specs.Tally.{HasRoom};
+ghost use Rattle.numa_plan.specs.Meaning.{RefusesSpan};
+ghost use Rattle.numa_plan.specs.Tally.{Adds, HasRoom};
 ghost use Rattle.numa_ranges.specs.Runs.{page_at};
 ghost use Rattle.numa_ranges.specs.declared.run.Run.{Run};
 ghost use Rattle.numa_space.specs.Pages.{resolved_policy};
@@ -14,14 +14,18 @@ ghost use Rattle.numa_space.specs.declared.command.Command.{Command};
 ghost use Rattle.numa_machine.specs.declared.refusal.PlaceRefusal.TheVariants.{BadCpu};
 ghost use Rattle.numa_reports.specs.declared.fault.ReportError.TheVariants.{Memory, Refused};
 ghost use Rattle.numa_reports.specs.Failing.{FailsBy, FailsForNode};
-ghost use Rattle.numa_reports.specs.Predicted.{AddsSpan, AreFirsts, AreNone, IsPrediction};
+ghost use Rattle.numa_reports.specs.Lying.{AreLying, planned_pages, spots_in};
+ghost use Rattle.numa_reports.specs.Predicted.{AreFirsts, AreNone, IsLying, IsPrediction};
 ghost use Rattle.numa_reports.specs.Told.{LacksOne, ToldEach, ToldOne};
+ghost use Rattle.numa_reports.specs.Turns.{HasPages};
 
 use crate::fault::ReportError;
-use crate::tally::{count_range, move_counts};
+use crate::lying::count_there;
+use crate::tally::move_counts;
 use crate::touch::{Touch, has_node};
 use numa_machine::PlaceRefusal;
 use numa_mode::Record;
+use numa_placed::Placed;
 use numa_plan::Plan;
 use numa_ranges::Run;
 use numa_space::{RangeRecord, Space};
@@ -113,6 +117,7 @@ pub(crate) fn policy_of(space: &Space, task: u32, range: &Run<RangeRecord>) -> O
 fn predict_next<T: TakeRange>(
     space: &Space,
     plan: &Plan,
+    placed: Option<&Placed>,
     touch: Touch,
     range: &Run<RangeRecord>,
     taker: &mut T,
@@ -121,47 +126,50 @@ fn predict_next<T: TakeRange>(
 ) -> Result<(), ReportError>
     requires own { option_and_then (λ at. at.1) (page_at space.now.ranges range.now.first)
         ≡ range.now.value }
+    requires pages { HasPages space.now.ranges range.now }
+    requires small { range.now.first + range.now.pages < 2 ^ 64 }
     requires known { touch.cpu < space.now.machine.nodes }
     requires none { AreNone said.old.counts }
-    requires room { HasRoom all.old
-        (planned_count plan.now touch.task range.now.first range.now.pages touch.cpu) }
+    requires room { HasRoom all.old (planned_pages plan.now (spots_in placed) touch.task
+        range.now.first range.now.pages touch.cpu) }
     ensures none { OnOk result (AreNone said.new.counts) }
-    ensures all { OnOk result (AddsSpan plan.now touch.task range.now.first
-        range.now.pages touch.cpu all.old all.new) }
+    ensures all { OnOk result (Adds all.old all.new (planned_pages plan.now (spots_in placed.entry)
+        touch.task range.now.first range.now.pages touch.cpu)) }
     ensures told { (history : List Command) → StandsFor space.now history
-        → PlanStandsFor space.now.machine plan.now history → OnOk result
-        (ToldOne T.told (IsPrediction space.now.machine history touch.task touch.cpu)
+        → PlanStandsFor space.now.machine plan.now history → OnOk result (ToldOne T.told
+        (IsLying space.now.machine history (spots_in placed.entry) touch.task touch.cpu)
         range.now taker.old taker.new) }
     ensures err { IfErr result
         (FailsBy (RefusesSpan plan.now range.now.first range.now.pages touch.cpu)) }
     ensures lack { IfErr result (λ why. why ≡ Memory → T.lacks taker.old range.now) }
 {
-    count_range(plan, touch, range, &mut said.counts)?;
+    count_there(plan, touch, placed, range, &mut said.counts)?;
     said.policy = policy_of(space, touch.task, range);
     taker.take(range, said)?;
     move_counts(&mut said.counts, range.pages, all);
     Ok(())
 }
 
-/// The number of mapped pages that would go to each node, as by [`predict_all`], if the machine has
-/// the faulting node.
+/// The number of mapped pages that lie on each node once they are touched, as by [`predict_all`],
+/// but those that are there stay where they lie. The machine has the faulting node.
 ///
 /// # Errors
 /// `Refused`: the plan isn't one of the space. `Memory`: the taker had none.
 pub(crate) fn predict_ranges<T: TakeRange>(
     space: &Space,
     plan: &Plan,
+    placed: Option<&Placed>,
     touch: Touch,
     taker: &mut T,
 ) -> Result<[u64; 256], ReportError>
     requires known { touch.cpu < space.now.machine.nodes }
     ensures ok { (history : List Command) → StandsFor space.now history
-        → PlanStandsFor space.now.machine plan.now history
-        → IfOk result (AreFirsts space.now.machine history touch.task 0 (2 ^ 35) touch.cpu) }
+        → PlanStandsFor space.now.machine plan.now history → IfOk result (AreLying
+        space.now.machine history (spots_in placed.entry) touch.task 0 (2 ^ 35) touch.cpu) }
     ensures told { (history : List Command) → StandsFor space.now history
         → PlanStandsFor space.now.machine plan.now history → OnOk result (ToldEach T.told
-        (IsPrediction space.now.machine history touch.task touch.cpu) space.now.ranges
-        taker.old taker.new) }
+        (IsLying space.now.machine history (spots_in placed.entry) touch.task touch.cpu)
+        space.now.ranges taker.old taker.new) }
     ensures err { FailsForNode space.now plan.now touch.cpu result }
     ensures lack { IfErr result (λ why. why ≡ Memory → LacksOne T.lacks space.now.ranges) }
 {
@@ -171,7 +179,7 @@ pub(crate) fn predict_ranges<T: TakeRange>(
     };
     let mut all = [0u64; 256];
     for range in space.range_iter() {
-        predict_next(space, plan, touch, &range, taker, &mut said, &mut all)?;
+        predict_next(space, plan, placed, touch, &range, taker, &mut said, &mut all)?;
     }
     Ok(all)
 }
@@ -204,5 +212,5 @@ pub fn predict_all<T: TakeRange>(
     if !has_node(space, cpu) {
         return Err(ReportError::Refused(PlaceRefusal::BadCpu));
     }
-    predict_ranges(space, plan, Touch { task, cpu }, taker)
+    predict_ranges(space, plan, None, Touch { task, cpu }, taker)
 }

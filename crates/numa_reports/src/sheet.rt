@@ -33,7 +33,7 @@ pub use cycles::cycles_text;
 pub use items::Items;
 pub use largest::Largest;
 pub use object::Object;
-pub use parts::{filling_text, prediction_text};
+pub use parts::{filling_text, lying_text, prediction_text};
 pub use shared::shared_text;
 pub use written::Written;
 

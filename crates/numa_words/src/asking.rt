@@ -8,22 +8,28 @@ use numa_answers::{PageData, page_of, view_text};
 use numa_compile::compile;
 use numa_host_script::HostScript;
 use numa_lines::RunFault;
+use numa_placed::Placed;
 use numa_plan::Plan;
-use numa_reports::{Format, FreePages, ReportError, Touch, Watch, filling_text};
+use numa_reports::{Format, FreePages, ReportError, Touch, Watch, filling_text, lying_text};
 use numa_space::Space;
 use std::alloc::Global;
 use std::io::{Read, Write};
 
-/// Where all mapped pages of a space would go by its plan, as a text, or as a page.
+/// Where all mapped pages of a space would go by its plan, as a text, or as a page. Pages that are
+/// there stay where they lie, of which there is no page.
 fn prediction_by<P: Watch>(
     alloc: Global,
     space: &Space,
     plan: &Plan,
+    placed: Option<&Placed>,
     asked: Touch,
     format: Format,
     free: &[FreePages],
     watch: &mut P,
 ) -> Result<Vec<u8>, ReportError> {
+    if let Some(_) = placed {
+        return lying_text(alloc, space, plan, placed, asked, format, free, watch);
+    }
     if let Format::Html(number) = format {
         let view = view_text(alloc, space, plan, asked, free, number, watch)?;
         let mut data = PageData::new(alloc);
@@ -38,6 +44,7 @@ fn prediction_by<P: Watch>(
 pub(crate) fn prediction_in<P: Watch>(
     alloc: Global,
     space: &Space,
+    placed: Option<&Placed>,
     asked: Touch,
     format: Format,
     free: &[FreePages],
@@ -46,7 +53,7 @@ pub(crate) fn prediction_in<P: Watch>(
     let Ok(plan) = compile(alloc, space) else {
         return Err(Halt::Stopped(RunFault::Memory));
     };
-    let text = prediction_by(alloc, space, &plan, asked, format, free, watch);
+    let text = prediction_by(alloc, space, &plan, placed, asked, format, free, watch);
     drop(plan);
     match text {
         Ok(text) => Ok(text),
@@ -70,7 +77,13 @@ fn prediction_of<P: Watch>(
     if let Some(node) = lacking_node(asked.free, nodes) {
         return Err(Halt::NoFreeNode(node, nodes));
     }
-    prediction_in(alloc, space, asked.touch, asked.format, asked.free, watch)
+    let EachAsked {
+        touch,
+        format,
+        free,
+        there,
+    } = asked;
+    prediction_in(alloc, space, there.first(), touch, format, free, watch)
 }
 
 /// Where all mapped pages would go now, if they were touched, as lines: of a process, or of all of
@@ -88,9 +101,39 @@ pub fn predicted(
         touch: asked,
         format: Format::Text,
         free: &[],
+        there: &[],
     };
     match subject_of(script, process) {
         Ok(subject) => prediction_of(alloc, subject, asked, &mut ()),
+        Err(halt) => Err(halt),
+    }
+}
+
+/// Where all mapped pages would go after the lines so far, if they were touched now, but that those
+/// that are there stay where they lie, as a text. `there` is where they lie in the one space, or in
+/// each process of a host if none is named, in the order in which they were made. The format is
+/// none of a page.
+///
+/// # Errors
+/// Why there is no answer.
+pub fn prediction_there<T: Write, P: Watch>(
+    alloc: Global,
+    findings: &Findings<T>,
+    process: Option<u32>,
+    asked: Touch,
+    format: Format,
+    free: &[FreePages],
+    there: &[Placed],
+    watch: &mut P,
+) -> Result<Vec<u8>, Halt> {
+    let asked = EachAsked {
+        touch: asked,
+        format,
+        free,
+        there,
+    };
+    match subject_of(findings.script(), process) {
+        Ok(subject) => prediction_of(alloc, subject, asked, watch),
         Err(halt) => Err(halt),
     }
 }
@@ -138,6 +181,7 @@ pub fn predict<R: Read + Drop, W: Write, T: Write + Drop, P: Watch>(
         touch: asked,
         format,
         free,
+        there: &[],
     };
     let mut findings = play(alloc, texts, Findings::new(alloc, rules, PLAIN, told))?;
     let text = prediction(alloc, &mut findings, process, asked, watch);

@@ -4,12 +4,14 @@ ghost use Rattle.numa_compile.specs.Standing.{PlanStandsFor};
 ghost use Rattle.numa_space.specs.Standing.{StandsFor};
 ghost use Rattle.numa_space.specs.declared.command.Command.{Command};
 ghost use Rattle.numa_reports.specs.Filled.{free_behind, nodes_of};
+ghost use Rattle.numa_reports.specs.Lying.{absent_nodes, spots_in};
 
 use crate::halt::{Halt, halt_of};
 use numa_answers::{PageData, page_of, shared_view_text};
 use numa_compile::compile;
 use numa_host::{Host, Process};
 use numa_lines::RunFault;
+use numa_placed::Placed;
 use numa_plan::Plan;
 use numa_reports::{Account, ByProcess, Format, FreePages, ReportError, Touch, Watch, shared_text};
 use numa_space::Space;
@@ -21,6 +23,8 @@ pub(crate) struct EachAsked<'a> {
     pub(crate) touch: Touch,
     pub(crate) format: Format,
     pub(crate) free: &'a [FreePages],
+    /// Where pages lie that are there, by process; nothing if none is there.
+    pub(crate) there: &'a [Placed],
 }
 
 /// An answer about all processes, which a page has as its data.
@@ -61,28 +65,37 @@ fn data_of<P: Watch>(
     Ok(data.end()?)
 }
 
-/// Where the pages of a process would go, by what the ones before it have left, in any format.
+/// Where the pages of a process would go, by what the ones before it have left, in any format, but
+/// in no page where some are there: these stay where they lie.
 fn text_of<P: Watch>(
     alloc: Global,
     space: &Space,
     plan: &Plan,
+    placed: Option<&Placed>,
     asked: EachAsked<'_>,
     account: &mut Account,
     watch: &mut P,
 ) -> Result<Vec<u8>, ReportError>
     ensures { (history : List Command) → StandsFor space.now history
         → PlanStandsFor space.now.machine plan.now history → asked.entry.free.now ≢ []
-        → OnOk result (account.new.free ≡ free_behind (nodes_of space.now.machine history
-        asked.entry.touch.task asked.entry.touch.cpu) account.old.free 0 (2 ^ 35)) }
+        → OnOk result (account.new.free ≡ free_behind (absent_nodes (spots_in placed.entry)
+        (nodes_of space.now.machine history asked.entry.touch.task asked.entry.touch.cpu))
+        account.old.free 0 (2 ^ 35)) }
 {
     let EachAsked {
         touch,
         format,
         free,
+        ..
     } = asked;
+    if let Some(_) = placed {
+        return shared_text(
+            alloc, space, plan, placed, touch, format, free, account, watch,
+        );
+    }
     match format {
         Format::Html(number) => data_of(alloc, space, plan, asked, number, account, watch),
-        _ => shared_text(alloc, space, plan, touch, format, free, account, watch),
+        _ => shared_text(alloc, space, plan, None, touch, format, free, account, watch),
     }
 }
 
@@ -90,18 +103,20 @@ fn text_of<P: Watch>(
 fn prediction_of<P: Watch>(
     alloc: Global,
     space: &Space,
+    placed: Option<&Placed>,
     asked: EachAsked<'_>,
     account: &mut Account,
     watch: &mut P,
 ) -> Result<Vec<u8>, Halt>
     ensures { (history : List Command) → StandsFor space.now history → asked.entry.free.now ≢ []
-        → OnOk result (account.new.free ≡ free_behind (nodes_of space.now.machine history
-        asked.entry.touch.task asked.entry.touch.cpu) account.old.free 0 (2 ^ 35)) }
+        → OnOk result (account.new.free ≡ free_behind (absent_nodes (spots_in placed.entry)
+        (nodes_of space.now.machine history asked.entry.touch.task asked.entry.touch.cpu))
+        account.old.free 0 (2 ^ 35)) }
 {
     let Ok(plan) = compile(alloc, space) else {
         return Err(Halt::Stopped(RunFault::Memory));
     };
-    let text = text_of(alloc, space, &plan, asked, account, watch);
+    let text = text_of(alloc, space, &plan, placed, asked, account, watch);
     drop(plan);
     match text {
         Ok(text) => Ok(text),
@@ -113,6 +128,7 @@ fn prediction_of<P: Watch>(
 fn predict_one<P: Watch>(
     alloc: Global,
     process: &Process,
+    placed: Option<&Placed>,
     asked: EachAsked<'_>,
     account: &mut Account,
     answers: &mut ByProcess,
@@ -120,10 +136,11 @@ fn predict_one<P: Watch>(
 ) -> Result<(), Halt>
     ensures { (history : List Command) → StandsFor process.now.space history
         → asked.entry.free.now ≢ [] → OnOk result (account.new.free
-        ≡ free_behind (nodes_of process.now.space.machine history asked.entry.touch.task
-        asked.entry.touch.cpu) account.old.free 0 (2 ^ 35)) }
+        ≡ free_behind (absent_nodes (spots_in placed.entry) (nodes_of
+        process.now.space.machine history asked.entry.touch.task asked.entry.touch.cpu))
+        account.old.free 0 (2 ^ 35)) }
 {
-    match prediction_of(alloc, &process.space, asked, account, watch) {
+    match prediction_of(alloc, &process.space, placed, asked, account, watch) {
         Ok(text) => {
             answers.add(process.id, process.group, text.as_slice());
             drop(text);
@@ -143,8 +160,11 @@ fn predict_all<P: Watch>(
     answers: &mut ByProcess,
     watch: &mut P,
 ) -> Result<(), Halt> {
+    let mut place = 0usize;
     for process in processes {
-        predict_one(alloc, process, asked, account, answers, watch)?;
+        let placed = asked.there.get(place);
+        predict_one(alloc, process, placed, asked, account, answers, watch)?;
+        place = place.saturating_add(1);
     }
     Ok(())
 }

@@ -24,7 +24,7 @@ mod question;
 mod replaying;
 mod spaces;
 
-pub use asking::{predict, predicted};
+pub use asking::{predict, predicted, prediction_there};
 pub use differing::{DiffAsked, StatesBefore, diff, difference_since, states_before};
 pub use explaining::{AskedPages, explain, explained};
 pub use faults::tells_fault;

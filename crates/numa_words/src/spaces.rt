@@ -26,7 +26,7 @@ pub fn predict_space(
     if let Some(node) = lacking_node(free, nodes) {
         return Err(Halt::NoFreeNode(node, nodes));
     }
-    prediction_in(alloc, space, asked, format, free, &mut ())
+    prediction_in(alloc, space, None, asked, format, free, &mut ())
 }
 
 /// The difference from a state to a space, on machines with up to so many nodes.

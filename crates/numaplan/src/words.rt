@@ -4,6 +4,7 @@ pub mod check;
 pub mod differing;
 pub mod expect;
 pub mod moves;
+pub mod predicting;
 pub mod replay;
 pub mod run;
 pub mod storm;

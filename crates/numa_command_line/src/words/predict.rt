@@ -1,24 +1,31 @@
 //! `numaplan predict --task T --node N [--free NODE=PAGES,..] [FILE]..`: reports where pages would
 //! go after scripts.
-ghost use Rattle.std.specs.Prelude.{codes, true};
+ghost use Rattle.std.specs.Prelude.{◌≡◌, codes, map, true};
+ghost use Rattle.std.specs.String.{string_bytes};
 ghost use Rattle.numa_command_line.specs.Grammar.{AreNames, IsWord, predict_arguments};
 ghost use Rattle.numa_command_line.specs.Grammar.{predict_formats};
 ghost use Rattle.numa_command_line.specs.Usage.{Names};
 ghost use Rattle.clap.specs.Words.{found_of, rows_of};
-ghost use Rattle.numa_command_line.specs.Asked.{work_asked};
-ghost use Rattle.numa_command_line.specs.Jobs.{IsMade, work_of};
+ghost use Rattle.numa_command_line.specs.Asked.{is_page, predict_by, work_asked};
+ghost use Rattle.numa_command_line.specs.Jobs.{IsMade, question_of, work_of};
 ghost use Rattle.numa_command_line.specs.declared.command.Subcommand.TheVariants as word;
 
+use crate::found::texts_at;
 use crate::jobs::{JobFault, PageQuestion, ScriptJob};
 use crate::usage::{Argument, FILES, SubcommandHelp, Takes};
 use crate::words::asked::{NODE, TASK};
+use crate::words::at::AT;
 use crate::words::format::{LARGEST, format_in};
 use crate::words::free::FREE;
 use crate::words::lenient::LENIENT;
 use crate::words::process::PROCESS;
 use crate::words::{asked, free};
 use clap::ArgMatches;
+use numa_reports::{Format, FreePages};
 use std::alloc::Global;
+
+/// The message for pages that are there in a page.
+const NO_PAGE: &str = "error: '--at <FILE>' doesn't go with '--format html'\n";
 
 /// The option `--format FORMAT`.
 const FORMAT: Argument = Argument {
@@ -35,6 +42,8 @@ static WORD: SubcommandHelp = SubcommandHelp {
     line: "Tells where pages would go after scripts, if a task touched them",
     about: "Tells where all mapped pages would go after the scripts, if a task touched each of \
 them now on a CPU of one node: the first node of each page's list, range by range and in all. \
+With --at pages that are there stay: they are counted where lines `at START LENGTH NODE` of the \
+scripts and of that file state that they lie, and take no free page. \
 With --free the named nodes have so many free pages, and the others never run out: each page, the \
 lowest first, goes to the first node of its list that has one left; the answer tells how many \
 pages find none (exhausted=) and what is left on the named nodes. Of a host it tells that by \
@@ -46,7 +55,9 @@ are, unless --lenient is given, and where no machine is ready after the scripts.
     more: "Example, from the top of the repository:\n  ./numaplan predict --task 1 --node 0 \
 examples/interleaved-range.numaplan",
     reads_lines: true,
-    arguments: &[TASK, NODE, PROCESS, FORMAT, LARGEST, FREE, LENIENT, FILES],
+    arguments: &[
+        TASK, NODE, AT, PROCESS, FORMAT, LARGEST, FREE, LENIENT, FILES,
+    ],
 };
 
 /// The subcommand.
@@ -57,14 +68,52 @@ pub fn word() -> &'static SubcommandHelp
     &WORD
 }
 
+/// Whether a format is a page.
+fn is_page(format: Format) -> bool
+    ensures { result ≡ is_page format }
+{
+    match format {
+        Format::Html(_) => true,
+        _ => false,
+    }
+}
+
+/// The question by these options.
+fn question(
+    alloc: Global,
+    at: Vec<String>,
+    format: Format,
+    free: Vec<FreePages>,
+) -> Result<PageQuestion, JobFault>
+    ensures { IsMade question_of
+        (predict_by (map string_bytes at.items) format free.items) result }
+{
+    if !at.is_empty() && is_page(format) {
+        drop(at);
+        drop(free);
+        return Err(JobFault::usage(alloc, NO_PAGE));
+    }
+    Ok(PageQuestion::Predict { at, format, free })
+}
+
 /// The job of a command line with this subcommand.
 ///
 /// # Errors
-/// `Usage`: an option has no number, or `--free` is invalid. `NoMemory`: out of memory.
+/// `Usage`: an option has no number, `--free` is invalid, or `--at` doesn't go with another option.
+/// `NoMemory`: out of memory.
 pub fn work(alloc: Global, matches: &ArgMatches<'_>) -> Result<ScriptJob, JobFault>
     ensures { IsMade work_of (work_asked word.Predict (rows_of (found_of matches.now))) result }
 {
-    let format = format_in(matches);
-    let free = free::named(alloc, matches)?;
-    asked::work(alloc, matches, PageQuestion::Predict { format, free })
+    let at = texts_at(alloc, matches, "at")?;
+    let free = match free::named(alloc, matches) {
+        Ok(free) => free,
+        Err(fault) => {
+            drop(at);
+            return Err(fault);
+        }
+    };
+    match question(alloc, at, format_in(matches), free) {
+        Ok(question) => asked::work(alloc, matches, question),
+        Err(fault) => Err(fault),
+    }
 }

@@ -4,12 +4,14 @@ ghost use Rattle.std.specs.Prelude.{◌+◌, ◌<◌, ◌^◌, IfErr};
 ghost use Rattle.numa_plan.specs.Meaning.{RefusesSpan};
 ghost use Rattle.numa_reports.specs.Failing.{FailsForNode};
 
+use crate::absent::fill_there;
 use crate::fault::ReportError;
-use crate::filling::{FreePages, fill_few, fill_span, free_of};
+use crate::filling::{FreePages, fill_few, free_of};
 use crate::period::period_in;
 use crate::sheet::written::Written;
 use crate::touch::Touch;
 use numa_machine::PlaceRefusal;
+use numa_placed::Placed;
 use numa_plan::Plan;
 use numa_ranges::Run;
 use numa_space::{RangeRecord, Space};
@@ -18,11 +20,21 @@ use std::alloc::Global;
 /// The most pages of a range that have a cell.
 pub(crate) const CELLS: usize = 64;
 
+/// Puts the nodes of pages that are there in place of those to which they would go.
+fn put_there(placed: &Placed, first: u64, nodes: &mut [u8]) {
+    for k in 0..nodes.len() {
+        if let Some(node) = placed.at(first.saturating_add(k as u64)).node() {
+            nodes[k] = node;
+        }
+    }
+}
+
 /// Writes the nodes of the first [`CELLS`] pages of a range; places past its last page are 0, and
 /// so are those of pages that find no free page. If free pages are counted, each page takes one.
 fn put_cells(
     space: &Space,
     plan: &Plan,
+    placed: Option<&Placed>,
     touch: Touch,
     range: &Run<RangeRecord>,
     free: &mut Option<[u64; 256]>,
@@ -36,9 +48,17 @@ fn put_cells(
     let behind = range.first + pages;
     match free {
         Some(free) => {
-            fill_few(plan, touch, range.first, &mut nodes[..pages as usize], free)?;
+            fill_few(
+                plan,
+                touch,
+                placed,
+                range.first,
+                &mut nodes[..pages as usize],
+                free,
+            )?;
             let period = period_in(space, &space.policy_at(touch.task, range.first));
-            fill_span(plan, touch, behind, range.pages - pages, period, free)?;
+            let rest = range.pages - pages;
+            fill_there(plan, touch, placed, behind, rest, period, free)?;
         }
         None => plan.fill(
             touch.task,
@@ -46,6 +66,9 @@ fn put_cells(
             touch.cpu,
             &mut nodes[..pages as usize],
         )?,
+    }
+    if let Some(placed) = placed {
+        put_there(placed, range.first, &mut nodes[..pages as usize]);
     }
     cells.put(&nodes);
     Ok(())
@@ -65,6 +88,7 @@ pub(crate) fn first_cells(
     alloc: Global,
     space: &Space,
     plan: &Plan,
+    placed: Option<&Placed>,
     touch: Touch,
     free: Option<[u64; 256]>,
 ) -> Result<Vec<u8>, ReportError>
@@ -73,7 +97,7 @@ pub(crate) fn first_cells(
     let mut left = free;
     let mut cells = Written::new(alloc);
     for range in space.range_iter() {
-        put_cells(space, plan, touch, &range, &mut left, &mut cells)?;
+        put_cells(space, plan, placed, touch, &range, &mut left, &mut cells)?;
     }
     Ok(cells.take()?)
 }

@@ -4,8 +4,9 @@ ghost use Rattle.numa_machine.specs.declared.refusal.PlaceRefusal.TheVariants.{B
 ghost use Rattle.numa_reports.specs.declared.fault.ReportError.TheVariants.{Refused};
 ghost use Rattle.numa_reports.specs.Failing.{FailsForNode};
 
+use crate::absent::both_of;
 use crate::fault::ReportError;
-use crate::filling::{FreePages, fill_ranges, free_of, taken};
+use crate::filling::{FreePages, fill_ranges, free_of};
 use crate::prediction::{RangePrediction, TakeRange, predict_ranges};
 use crate::sheet::cells::{CELLS, first_cells, free_where_named};
 use crate::sheet::drawing::Drawing;
@@ -18,6 +19,7 @@ use crate::sheet::{Format, lines, objects, pictures, records};
 use crate::touch::{Touch, has_node};
 use crate::watch::Watch;
 use numa_machine::PlaceRefusal;
+use numa_placed::Placed;
 use numa_plan::Plan;
 use numa_ranges::Run;
 use numa_space::{RangeRecord, Space};
@@ -32,10 +34,11 @@ pub(crate) struct PredictionWriter {
     policies: PolicyTexts,
     // Whether pages that find no free page are counted.
     fills: bool,
-    // The number of ranges written and of their pages, and for each range as many bytes as a
-    // picture has cells.
+    // The number of ranges written and of their pages, in all and by node, and for each range as
+    // many bytes as a picture has cells.
     ranges: usize,
     pages: u64,
+    sum: [u64; 256],
     cells: Vec<u8>,
     // The ranges of a picture or a page.
     drawing: Drawing,
@@ -103,6 +106,11 @@ impl PredictionWriter {
         self.pages
     }
 
+    /// The number of these pages on each node, if free pages are counted.
+    pub(crate) fn sum(&self) -> [u64; 256] {
+        self.sum
+    }
+
     /// Takes the whole text out.
     pub(crate) fn take_text(&mut self) -> Result<Vec<u8>, AllocError> {
         self.text.take()
@@ -150,16 +158,20 @@ impl TakeRange for PredictionWriter {
         }
         self.ranges = self.ranges.saturating_add(1);
         self.pages = self.pages.saturating_add(range.pages);
+        if self.fills {
+            self.sum = both_of(&self.sum, &said.counts);
+        }
         self.text.checked()
     }
 }
 
 /// A request: where the pages of a space go by a plan, if they are touched so and named nodes have
-/// these free pages.
+/// these free pages. Those that are there stay where they lie.
 #[derive(Clone, Copy)]
 pub(crate) struct PredictionRequest<'a> {
     pub(crate) space: &'a Space,
     pub(crate) plan: &'a Plan,
+    pub(crate) placed: Option<&'a Placed>,
     pub(crate) touch: Touch,
     pub(crate) free: &'a [FreePages],
 }
@@ -200,7 +212,14 @@ pub(crate) fn begin(
         asked.entry.touch.cpu result }
 {
     let cells = match format {
-        Format::Svg(_) => first_cells(alloc, asked.space, asked.plan, asked.touch, free)?,
+        Format::Svg(_) => first_cells(
+            alloc,
+            asked.space,
+            asked.plan,
+            asked.placed,
+            asked.touch,
+            free,
+        )?,
         _ => Vec::new(alloc),
     };
     let drawing = drawing_of(alloc, asked.space, format)?;
@@ -211,6 +230,7 @@ pub(crate) fn begin(
         fills: !asked.free.is_empty(),
         ranges: 0,
         pages: 0,
+        sum: [0; 256],
         cells,
         listed: Vec::new(alloc),
         text: head(alloc, asked, format, &drawing),
@@ -267,20 +287,20 @@ fn write_filled<W: Watch>(
     ensures err { FailsForNode asked.entry.space.now asked.entry.plan.now
         asked.entry.touch.cpu result }
 {
-    let before = free_of(asked.free);
-    let mut after = before;
+    let mut free = free_of(asked.free);
     watch.begin(sum_of(asked.space));
     let mut watched = WatchedWriter { parts, watch };
     fill_ranges(
         asked.space,
         asked.plan,
+        asked.placed,
         asked.touch,
-        &mut after,
+        &mut free,
         &mut watched,
     )?;
     watch.end();
-    let left = left_on(parts.text.alloc(), asked.free, &after)?;
-    parts.put_total(&taken(&before, &after), &left);
+    let left = left_on(parts.text.alloc(), asked.free, &free)?;
+    parts.put_total(&parts.sum(), &left);
     Ok(())
 }
 
@@ -295,7 +315,7 @@ fn write_all<W: Watch>(
         asked.entry.touch.cpu result }
 {
     if asked.free.is_empty() {
-        let counts = predict_ranges(asked.space, asked.plan, asked.touch, parts)?;
+        let counts = predict_ranges(asked.space, asked.plan, asked.placed, asked.touch, parts)?;
         parts.put_total(&counts, &[]);
     } else {
         write_filled(parts, asked, watch)?;
@@ -303,19 +323,21 @@ fn write_all<W: Watch>(
     Ok(parts.text.take()?)
 }
 
-/// Where all mapped pages would go, if the task touched each of them now on a CPU of node `cpu`, in
-/// ascending order, and named nodes had these free pages; others never run out. The text has the
-/// number of pages that find no free page (`exhausted`), and the free pages left on named nodes.
-/// The plan is one of the space. The time depends on the number of ranges and, if nodes are named,
-/// on the cycles of their policies, and is then watched.
+/// Where all mapped pages would lie, if the task touched each of them now on a CPU of node `cpu`,
+/// in ascending order, and named nodes had these free pages; others never run out. Pages that are
+/// there stay where they lie, and take none. The text has the number of pages that find no free
+/// page (`exhausted`), and the free pages left on named nodes. The plan is one of the space. The
+/// time depends on the number of ranges and of runs of pages that are there and, if nodes are
+/// named, on the cycles of their policies, and is then watched.
 ///
 /// # Errors
 /// `Refused(BadCpu)`: the machine has no node `cpu`. `Refused(Unmapped)`: the plan isn't one of the
 /// space. `Memory`: there is no memory for the text.
-pub fn filling_text<W: Watch>(
+pub fn lying_text<W: Watch>(
     alloc: Global,
     space: &Space,
     plan: &Plan,
+    placed: Option<&Placed>,
     touch: Touch,
     format: Format,
     free: &[FreePages],
@@ -330,6 +352,7 @@ pub fn filling_text<W: Watch>(
     let asked = PredictionRequest {
         space,
         plan,
+        placed,
         touch,
         free,
     };
@@ -337,6 +360,25 @@ pub fn filling_text<W: Watch>(
     let text = write_all(&mut parts, asked, watch);
     drop(parts);
     text
+}
+
+/// Where all mapped pages would go, as [`lying_text`], where none is there.
+///
+/// # Errors
+/// As [`lying_text`].
+pub fn filling_text<W: Watch>(
+    alloc: Global,
+    space: &Space,
+    plan: &Plan,
+    touch: Touch,
+    format: Format,
+    free: &[FreePages],
+    watch: &mut W,
+) -> Result<Vec<u8>, ReportError>
+    ensures err { FailsForNode space.now plan.now touch.cpu result }
+    ensures bad_cpu { space.now.machine.nodes ≤ touch.cpu → result ≡ Err (Refused BadCpu) }
+{
+    lying_text(alloc, space, plan, None, touch, format, free, watch)
 }
 
 /// Where all mapped pages would go, if the task touched each of them now on a CPU of node `cpu`, as

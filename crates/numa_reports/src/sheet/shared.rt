@@ -7,16 +7,18 @@ ghost use Rattle.numa_machine.specs.declared.refusal.PlaceRefusal.TheVariants.{B
 ghost use Rattle.numa_reports.specs.declared.fault.ReportError.TheVariants.{Refused};
 ghost use Rattle.numa_reports.specs.Failing.{FailsForNode};
 ghost use Rattle.numa_reports.specs.Filled.{free_behind, nodes_of};
+ghost use Rattle.numa_reports.specs.Lying.{absent_nodes, spots_in};
 
 use crate::account::Account;
 use crate::fault::ReportError;
-use crate::filling::{FreePages, fill_ranges, taken};
+use crate::filling::{FreePages, fill_ranges};
 use crate::prediction::predict_ranges;
 use crate::sheet::Format;
 use crate::sheet::parts::{PredictionRequest, PredictionWriter, WatchedWriter, begin, sum_of};
 use crate::touch::{Touch, has_node};
 use crate::watch::Watch;
 use numa_machine::PlaceRefusal;
+use numa_placed::Placed;
 use numa_plan::Plan;
 use numa_space::Space;
 use std::alloc::Global;
@@ -31,23 +33,24 @@ fn write_shared<W: Watch>(
     requires known { asked.touch.cpu < asked.space.now.machine.nodes }
     ensures free { (history : List Command) → StandsFor asked.entry.space.now history
         → PlanStandsFor asked.entry.space.now.machine asked.entry.plan.now history
-        → OnOk result (account.new.free ≡ free_behind (nodes_of asked.entry.space.now.machine
-        history asked.entry.touch.task asked.entry.touch.cpu) account.old.free 0 (2 ^ 35)) }
+        → OnOk result (account.new.free ≡ free_behind (absent_nodes (spots_in asked.entry.placed)
+        (nodes_of asked.entry.space.now.machine history asked.entry.touch.task
+        asked.entry.touch.cpu)) account.old.free 0 (2 ^ 35)) }
     ensures err { FailsForNode asked.entry.space.now asked.entry.plan.now
         asked.entry.touch.cpu result }
 {
-    let before = account.free;
     watch.begin(sum_of(asked.space));
     let mut watched = WatchedWriter { parts, watch };
     fill_ranges(
         asked.space,
         asked.plan,
+        asked.placed,
         asked.touch,
         &mut account.free,
         &mut watched,
     )?;
     watch.end();
-    let counts = taken(&before, &account.free);
+    let counts = parts.sum();
     parts.put_total(&counts, &[]);
     account.count(&counts, parts.pages());
     Ok(())
@@ -63,7 +66,7 @@ fn write_unshared(
     ensures err { FailsForNode asked.entry.space.now asked.entry.plan.now
         asked.entry.touch.cpu result }
 {
-    let counts = predict_ranges(asked.space, asked.plan, asked.touch, parts)?;
+    let counts = predict_ranges(asked.space, asked.plan, asked.placed, asked.touch, parts)?;
     parts.put_total(&counts, &[]);
     account.count(&counts, parts.pages());
     Ok(())
@@ -80,8 +83,9 @@ fn write_by<W: Watch>(
     ensures free { (history : List Command) → StandsFor asked.entry.space.now history
         → PlanStandsFor asked.entry.space.now.machine asked.entry.plan.now history
         → asked.entry.free.now ≢ [] → OnOk result (account.new.free
-        ≡ free_behind (nodes_of asked.entry.space.now.machine history asked.entry.touch.task
-        asked.entry.touch.cpu) account.old.free 0 (2 ^ 35)) }
+        ≡ free_behind (absent_nodes (spots_in asked.entry.placed) (nodes_of
+        asked.entry.space.now.machine history asked.entry.touch.task asked.entry.touch.cpu))
+        account.old.free 0 (2 ^ 35)) }
     ensures err { FailsForNode asked.entry.space.now asked.entry.plan.now
         asked.entry.touch.cpu result }
 {
@@ -100,7 +104,7 @@ fn free_in(account: &Account, named: &[FreePages]) -> Option<[u64; 256]> {
 }
 
 /// The text of one of several predictions. If nodes are named in `free`, its pages take those that
-/// the ones before have left.
+/// the ones before have left. Pages that are there stay where they lie, and take none.
 ///
 /// # Errors
 /// As [`crate::filling_text`].
@@ -108,6 +112,7 @@ pub fn shared_text<W: Watch>(
     alloc: Global,
     space: &Space,
     plan: &Plan,
+    placed: Option<&Placed>,
     touch: Touch,
     format: Format,
     free: &[FreePages],
@@ -116,8 +121,8 @@ pub fn shared_text<W: Watch>(
 ) -> Result<Vec<u8>, ReportError>
     ensures free { (history : List Command) → StandsFor space.now history
         → PlanStandsFor space.now.machine plan.now history → free.now ≢ [] → OnOk result
-        (account.new.free ≡ free_behind (nodes_of space.now.machine history touch.task touch.cpu)
-        account.old.free 0 (2 ^ 35)) }
+        (account.new.free ≡ free_behind (absent_nodes (spots_in placed.entry)
+        (nodes_of space.now.machine history touch.task touch.cpu)) account.old.free 0 (2 ^ 35)) }
     ensures err { FailsForNode space.now plan.now touch.cpu result }
     ensures bad_cpu { space.now.machine.nodes ≤ touch.cpu → result ≡ Err (Refused BadCpu) }
 {
@@ -127,6 +132,7 @@ pub fn shared_text<W: Watch>(
     let asked = PredictionRequest {
         space,
         plan,
+        placed,
         touch,
         free,
     };

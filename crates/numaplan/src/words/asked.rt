@@ -1,8 +1,9 @@
 //! Subcommands that ask about pages that a task would touch.
 use crate::endings::{StandardError, answered, fail};
 use crate::progress::{PacedPages, with_progress};
-use crate::words::differing;
 use crate::words::differing::Differing;
+use crate::words::predicting::Predicting;
+use crate::words::{differing, predicting};
 use numa_command_line::{JobFault, Outlet, PageQuestion};
 use numa_lines::RunFault;
 use numa_reports::{Touch, Watch};
@@ -66,7 +67,7 @@ where
     let told = StandardError { rt };
     let mut watch = PacedPages::new(rt, tells);
     let answer = match question {
-        PageQuestion::Predict { format, free } => {
+        PageQuestion::Predict { format, free, .. } => {
             let watch = &mut watch;
             predict(
                 alloc,
@@ -128,6 +129,16 @@ where
     S: Read + Drop,
 {
     match question {
+        PageQuestion::Predict { at, format, free } if !at.is_empty() => {
+            let predicting = Predicting {
+                at: at.as_slice(),
+                touch: asked,
+                free: free.as_slice(),
+                format: *format,
+                lenient,
+            };
+            predicting::answer(rt, scripts, predicting, tells)
+        }
         PageQuestion::Diff { at, lines, format } if !at.is_empty() => {
             let differing = Differing {
                 at: at.as_slice(),

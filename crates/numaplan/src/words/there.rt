@@ -7,9 +7,10 @@ use numa_host_script::HostScript;
 use numa_lines::{RunFault, TakeLine};
 use numa_mask::NodeMask;
 use numa_moves::{
-    Asked, AtLines, Holdings, MoveLine, Origin, PassOver, RefusedAt, Scene, Step, moves_text,
-    read_at_lines, read_move,
+    Asked, AtLines, Holdings, MoveLine, Origin, PassOver, RefusedAt, Scene, Step, add_stated,
+    moves_text, read_at_lines, read_move,
 };
+use numa_placed::Placed;
 use numa_reports::{Format, FreePages, ReportError};
 use numa_words::{Ended, Findings, Halt, Look, Scripts};
 use std::alloc::Global;
@@ -115,6 +116,30 @@ fn tell_at<R: Eprint>(rt: &R, faults: &mut u64, at: &AtLines<PassOver>, refused:
             one.place.line,
             one.why(),
         );
+    }
+}
+
+/// Appends where pages lie after scripts, of the one space or of each process in the order in which
+/// they were made. What is wrong with lines that state it is told.
+///
+/// # Errors
+/// `NoMachine`, `NoHost`, `NoProcess`, or `Stopped`: out of memory.
+pub fn stated_after<R: Eprint + AllocGlobal, T: Write>(
+    rt: &R,
+    findings: &Findings<T>,
+    at: &AtLines<PassOver>,
+    process: Option<u32>,
+    faults: &mut u64,
+    there: &mut Vec<Placed>,
+) -> Result<(), Halt> {
+    let scene = scene_in(findings, process, Format::Text)?;
+    let mut refused = Vec::new(rt.alloc());
+    let stated = add_stated(rt.alloc(), scene, at.lines.as_slice(), &mut refused, there);
+    tell_at(rt, faults, at, refused.as_slice());
+    drop(refused);
+    match stated {
+        Ok(()) => Ok(()),
+        Err(_) => Err(Halt::Stopped(RunFault::Memory)),
     }
 }
 
@@ -283,7 +308,8 @@ const LOOK: Look = Look {
     format: Format::Text,
 };
 
-/// Plays scripts, and keeps the lines that state where pages lie: theirs, and those of further texts.
+/// Plays scripts, and keeps the lines that state where pages lie: theirs, and those of further
+/// texts.
 ///
 /// # Errors
 /// `Read` or `Write`: a read or a write failed. `Memory`: out of memory.

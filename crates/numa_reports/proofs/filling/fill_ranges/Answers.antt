@@ -3,7 +3,8 @@ use Rattle.std.proofs.lemmas.Result.{err_from_is_err_and}
 use Rattle.numa_mode.specs.Policy.{PolicyRecord}
 use Rattle.numa_ranges.specs.declared.run.Run.{Run}
 use Rattle.numa_reports.specs.Filled.{planned_nodes}
-use Rattle.numa_reports.specs.Told.{IsTaken, LacksOne, ToldOne}
+use Rattle.numa_reports.specs.Lying.{absent_nodes, spots_in}
+use Rattle.numa_reports.specs.Told.{IsTakenBeside, LacksOne, ToldOne}
 use Rattle.numa_reports.proofs.Refusing.{left-all, left-end, left-next, left-pages, left-value}
 use Rattle.numa_reports.proofs.Refusing.{range-fails}
 use Rattle.numa_reports.proofs.Taking.{free_runs, free-all, runs-left}
@@ -12,7 +13,9 @@ use Rattle.numa_reports.proofs.filling.fill_ranges.Goals as goal
 
 pub loop-range-init : goal.loop-range-init
 loop-range-init g c =
-    let nodes = planned_nodes c.args.plan.now c.args.touch.task c.args.touch.cpu in
+    let nodes =
+    absent_nodes (spots_in c.args.placed)
+    (planned_nodes c.args.plan.now c.args.touch.task c.args.touch.cpu) in
     let runs : c.into_iter-range-iterator.result ≡ c.args.space.now.ranges =
     c.into_iter-range-iterator.ensures.into_iter_gives
     ∙ c.range_iter-range-items.ensures.runs in
@@ -30,7 +33,7 @@ loop-range-init g c =
           runs has;
       told = λ history stands planned end has.
           subst (λ (runs : List (Run (Option PolicyRecord))). FilledEach g.T.TakeRange.told
-          (IsTaken c.args.space.now.machine history c.args.touch.task) nodes c.args.free.now runs
+          (IsTakenBeside c.args.space.now.machine history c.args.placed c.args.touch.task) nodes c.args.free.now runs
           c.args.taker.now end) runs has;
     }
 
@@ -46,16 +49,15 @@ fill_next-requires-clause-pages g c = left-pages c.loop-range.range-iterator c.a
     c.next.new.self c.in-Some.range c.loop-range.invariant.rest c.in-Some.ensures.steps
 
 pub fill_next-requires-clause-small : goal.fill_next-requires-clause-small
-fill_next-requires-clause-small g c =
-    omega (
-      arith,
-      left-end c.loop-range.range-iterator c.args.space.now.ranges c.next.new.self
-          c.in-Some.range c.loop-range.invariant.rest c.in-Some.ensures.steps,
-    )
+fill_next-requires-clause-small g c = left-end c.loop-range.range-iterator
+    c.args.space.now.ranges c.next.new.self c.in-Some.range c.loop-range.invariant.rest
+    c.in-Some.ensures.steps
 
 pub loop-range-preserved : goal.loop-range-preserved
 loop-range-preserved g c =
-    let nodes = planned_nodes c.args.plan.now c.args.touch.task c.args.touch.cpu in
+    let nodes =
+    absent_nodes (spots_in c.args.placed)
+    (planned_nodes c.args.plan.now c.args.touch.task c.args.touch.cpu) in
     record {
       left = λ history stands planned.
           runs-left nodes (free_runs nodes c.args.free.now c.args.space.now.ranges)
@@ -71,13 +73,14 @@ loop-range-preserved g c =
           (subst (λ (runs : List (Run (Option PolicyRecord))). LacksOne g.T.TakeRange.lacks runs)
           (sym c.in-Some.ensures.steps) (inr has));
       told = λ history stands planned end has.
-          let takes = IsTaken c.args.space.now.machine history c.args.touch.task in
+          let takes =
+          IsTakenBeside c.args.space.now.machine history c.args.placed c.args.touch.task in
           let both =
           subst (λ (f : List ℕ). ToldOne g.T.TakeRange.told (takes c.loop-range.free f)
           c.in-Some.range c.loop-range.taker c.fill_next.new.taker
           × FilledEach g.T.TakeRange.told takes nodes f c.next.new.self c.fill_next.new.taker
           end) (c.in_ok-fill_next.ensures.free history stands planned)
-          (c.in_ok-fill_next.ensures.told history stands, has) in
+          (c.in_ok-fill_next.ensures.told history stands planned, has) in
           c.loop-range.invariant.told history stands planned end
           (subst (λ (runs : List (Run (Option PolicyRecord))). FilledEach g.T.TakeRange.told takes
           nodes c.loop-range.free runs c.loop-range.taker end) (sym c.in-Some.ensures.steps)
@@ -88,22 +91,25 @@ pub returns-clause-ok : goal.returns-clause-ok
 returns-clause-ok g c history stands planned =
     let lt : c.args.touch.cpu < c.args.space.now.machine.nodes = c.requires.known in
     sym (ap (λ (runs : List (Run (Option PolicyRecord))).
-    free_runs (planned_nodes c.args.plan.now c.args.touch.task c.args.touch.cpu)
+    free_runs (absent_nodes (spots_in c.args.placed)
+    (planned_nodes c.args.plan.now c.args.touch.task c.args.touch.cpu))
     c.loop-range.free runs) c.in-None.ensures.steps.0)
     ∙ c.loop-range.invariant.left history stands planned
-    ∙ free-all c.args.space.now c.args.plan.now history c.args.touch.task c.args.touch.cpu
-    c.args.free.now stands planned lt c.loop-range.invariant.apart
+    ∙ free-all c.args.space.now c.args.plan.now history (spots_in c.args.placed)
+    c.args.touch.task c.args.touch.cpu c.args.free.now stands planned lt
+    c.loop-range.invariant.apart
 
 pub returns-clause-told : goal.returns-clause-told
 returns-clause-told g c history stands planned =
     let lt : c.args.touch.cpu < c.args.space.now.machine.nodes = c.requires.known in
-    filled-all g.T.TakeRange.told c.args.space.now c.args.plan.now history c.args.touch.task
-    c.args.touch.cpu c.args.free.now c.args.taker.now c.loop-range.taker stands planned lt
+    filled-all g.T.TakeRange.told c.args.space.now c.args.plan.now history c.args.placed
+    c.args.touch.task c.args.touch.cpu c.args.free.now c.args.taker.now c.loop-range.taker stands planned lt
     c.loop-range.invariant.apart
     (c.loop-range.invariant.told history stands planned c.loop-range.taker
     (subst (λ (runs : List (Run (Option PolicyRecord))). FilledEach g.T.TakeRange.told
-    (IsTaken c.args.space.now.machine history c.args.touch.task)
-    (planned_nodes c.args.plan.now c.args.touch.task c.args.touch.cpu) c.loop-range.free runs
+    (IsTakenBeside c.args.space.now.machine history c.args.placed c.args.touch.task)
+    (absent_nodes (spots_in c.args.placed)
+    (planned_nodes c.args.plan.now c.args.touch.task c.args.touch.cpu)) c.loop-range.free runs
     c.loop-range.taker c.loop-range.taker) (sym c.in-None.ensures.steps.0) refl))
 
 pub returns-in_err-fill_next-clause-err : goal.returns-in_err-fill_next-clause-err

@@ -6,11 +6,14 @@ use Rattle.std.proofs.lemmas.List.Sums.{sum_by-cons}
 use Rattle.numa_mode.specs.Policy.{PolicyRecord}
 use Rattle.numa_ranges.specs.Counts.{count_pages}
 use Rattle.numa_ranges.specs.declared.run.Run.{Run}
-use Rattle.numa_plan.specs.Meaning.{is_number, planned_first}
-use Rattle.numa_reports.specs.Predicted.{IsPrediction}
+use Rattle.numa_plan.specs.Meaning.{is_number}
+use Rattle.numa_reports.specs.Lying.{planned_node, spots_in}
+use Rattle.numa_reports.specs.Predicted.{IsLying}
 use Rattle.numa_reports.specs.Told.{LacksOne, ToldEach}
-use Rattle.numa_reports.proofs.Refusing.{left-all, left-next, left-value, range-fails}
-use Rattle.numa_reports.proofs.Tiling.{count_runs, runs-most, runs-none, counted-all}
+use Rattle.numa_reports.proofs.Refusing.{left-all, left-end, left-next, left-pages, left-value}
+use Rattle.numa_reports.proofs.Refusing.{range-fails}
+use Rattle.numa_reports.proofs.There.{all-lie}
+use Rattle.numa_reports.proofs.Tiling.{count_runs, runs-most, runs-none}
 use Rattle.numa_reports.proofs.prediction.predict_ranges.Goals as goal
 
 pub loop-range-init : goal.loop-range-init
@@ -23,8 +26,8 @@ loop-range-init g c =
       all = λ node small.
           let test : ℕ → Bool =
           λ page.
-          is_number node
-          (planned_first c.args.plan.now c.args.touch.task page c.args.touch.cpu) in
+          is_number node (planned_node c.args.plan.now (spots_in c.args.placed) c.args.touch.task
+          c.args.touch.cpu page) in
           omega (
             arith,
             get_or-replicate {A = ℕ} 256 node 0 0 small,
@@ -40,7 +43,8 @@ loop-range-init g c =
       long = refl;
       told = λ history stands planned end has.
           subst (λ (runs : List (Run (Option PolicyRecord))). ToldEach g.T.TakeRange.told
-          (IsPrediction c.args.space.now.machine history c.args.touch.task c.args.touch.cpu) runs
+          (IsLying c.args.space.now.machine history (spots_in c.args.placed) c.args.touch.task
+      c.args.touch.cpu) runs
           c.args.taker.now end) runs has;
     }
 
@@ -48,7 +52,8 @@ pub predict_next-requires-clause-room : goal.predict_next-requires-clause-room
 predict_next-requires-clause-room g c node small =
     let test : ℕ → Bool =
     λ page.
-    is_number node (planned_first c.args.plan.now c.args.touch.task page c.args.touch.cpu) in
+    is_number node (planned_node c.args.plan.now (spots_in c.args.placed) c.args.touch.task
+    c.args.touch.cpu page) in
     let step = ap (λ (runs : List (Run (Option PolicyRecord))). count_runs test runs)
     c.in-Some.ensures.steps in
     omega (
@@ -62,6 +67,19 @@ predict_next-requires-clause-room g c node small =
 pub predict_next-requires-clause-known : goal.predict_next-requires-clause-known
 predict_next-requires-clause-known g c = c.requires.known
 
+pub predict_next-requires-clause-pages : goal.predict_next-requires-clause-pages
+predict_next-requires-clause-pages g c = left-pages c.loop-range.range-iterator
+    c.args.space.now.ranges c.next.new.self c.in-Some.range c.loop-range.invariant.rest
+    c.in-Some.ensures.steps
+
+pub predict_next-requires-clause-small : goal.predict_next-requires-clause-small
+predict_next-requires-clause-small g c =
+    omega (
+      arith,
+      left-end c.loop-range.range-iterator c.args.space.now.ranges c.next.new.self
+          c.in-Some.range c.loop-range.invariant.rest c.in-Some.ensures.steps,
+    )
+
 pub predict_next-requires-clause-own : goal.predict_next-requires-clause-own
 predict_next-requires-clause-own g c = left-value c.loop-range.range-iterator
     c.args.space.now.ranges c.next.new.self c.in-Some.range c.loop-range.invariant.rest
@@ -73,7 +91,8 @@ loop-range-preserved g c = record {
   all = λ node small.
       let test : ℕ → Bool =
       λ page.
-      is_number node (planned_first c.args.plan.now c.args.touch.task page c.args.touch.cpu) in
+      is_number node (planned_node c.args.plan.now (spots_in c.args.placed) c.args.touch.task
+      c.args.touch.cpu page) in
       let step = ap (λ (runs : List (Run (Option PolicyRecord))). count_runs test runs)
       c.in-Some.ensures.steps in
       omega (
@@ -94,32 +113,34 @@ loop-range-preserved g c = record {
   long = omega arith;
   told = λ history stands planned end has. c.loop-range.invariant.told history stands planned end
       (subst (λ (runs : List (Run (Option PolicyRecord))). ToldEach g.T.TakeRange.told
-      (IsPrediction c.args.space.now.machine history c.args.touch.task c.args.touch.cpu) runs
+      (IsLying c.args.space.now.machine history (spots_in c.args.placed) c.args.touch.task
+      c.args.touch.cpu) runs
       c.loop-range.taker end) (sym c.in-Some.ensures.steps)
       (c.predict_next.new.taker, c.in_ok-predict_next.ensures.told history stands planned, has));
 }
 
 pub returns-clause-ok : goal.returns-clause-ok
 returns-clause-ok g c history stands planned node small =
-    let known : c.args.touch.cpu < c.args.space.now.machine.nodes = c.requires.known in
-    let lt : c.args.touch.cpu < c.args.plan.now.nodes = omega (arith, planned.nodes) in
     let test : ℕ → Bool =
     λ page.
-    is_number node (planned_first c.args.plan.now c.args.touch.task page c.args.touch.cpu) in
+    is_number node (planned_node c.args.plan.now (spots_in c.args.placed) c.args.touch.task
+    c.args.touch.cpu page) in
     omega (
       arith,
       c.loop-range.invariant.all node small,
       runs-none test c.loop-range.range-iterator
           (ap length c.in-None.ensures.steps.0),
-      counted-all c.args.space.now c.args.plan.now history
-          c.args.touch.task c.args.touch.cpu node stands planned lt c.loop-range.invariant.apart,
+      all-lie c.args.space.now c.args.plan.now history (spots_in c.args.placed)
+          c.args.touch.task c.args.touch.cpu node stands planned c.requires.known
+          c.loop-range.invariant.apart,
     )
 
 pub returns-clause-told : goal.returns-clause-told
 returns-clause-told g c history stands planned = c.loop-range.invariant.told history stands planned
     c.loop-range.taker
     (subst (λ (runs : List (Run (Option PolicyRecord))). ToldEach g.T.TakeRange.told
-    (IsPrediction c.args.space.now.machine history c.args.touch.task c.args.touch.cpu) runs
+    (IsLying c.args.space.now.machine history (spots_in c.args.placed) c.args.touch.task
+      c.args.touch.cpu) runs
     c.loop-range.taker c.loop-range.taker) (sym c.in-None.ensures.steps.0) refl)
 
 pub returns-in_err-predict_next-clause-err : goal.returns-in_err-predict_next-clause-err

@@ -1,10 +1,11 @@
 use Rattle.std.proofs.Common.{◌≡◌, ℕ, ◌+◌, ◌<◌, List, get_or, length}
-use Rattle.numa_plan.specs.Meaning.{is_number, planned_first}
+use Rattle.numa_plan.specs.Meaning.{is_number}
 use Rattle.numa_ranges.specs.Runs.{AreApart}
 use Rattle.numa_space.specs.Standing.{StandsFor}
 use Rattle.numa_space.specs.declared.command.Command.{Command}
 use Rattle.numa_compile.specs.Standing.{PlanStandsFor}
-use Rattle.numa_reports.specs.Predicted.{AreNone, IsPrediction}
+use Rattle.numa_reports.specs.Lying.{planned_node, spots_in}
+use Rattle.numa_reports.specs.Predicted.{AreNone, IsLying}
 use Rattle.numa_reports.specs.Told.{LacksOne, ToldEach}
 use Rattle.numa_reports.proofs.Refusing.{AreLeft}
 use Rattle.numa_reports.proofs.Tiling.{count_runs}
@@ -15,8 +16,10 @@ invariant-loop-range g l = record {
   none : AreNone l.said.counts;
   all : (node : ℕ) → node < 256
       → get_or l.all node 0 + count_runs
-      (λ page. is_number node (planned_first l.plan l.touch.task page l.touch.cpu)) l.range-iterator
-      ≡ count_runs (λ page. is_number node (planned_first l.plan l.touch.task page l.touch.cpu))
+      (λ page. is_number node
+      (planned_node l.plan (spots_in l.placed) l.touch.task l.touch.cpu page)) l.range-iterator
+      ≡ count_runs (λ page. is_number node
+      (planned_node l.plan (spots_in l.placed) l.touch.task l.touch.cpu page))
       l.space.ranges;
   apart : AreApart 0 l.space.ranges;
   rest : AreLeft l.range-iterator l.space.ranges;
@@ -25,8 +28,10 @@ invariant-loop-range g l = record {
   long : length l.all ≡ 256;
   told : (history : List Command) → StandsFor l.space history
       → PlanStandsFor l.space.machine l.plan history → (end : g.row.T.Denot)
-      → ToldEach g.T.TakeRange.told (IsPrediction l.space.machine history l.touch.task l.touch.cpu)
+      → ToldEach g.T.TakeRange.told (IsLying l.space.machine history (spots_in l.placed) l.touch.task
+      l.touch.cpu)
       l.range-iterator l.taker end
-      → ToldEach g.T.TakeRange.told (IsPrediction l.space.machine history l.touch.task l.touch.cpu)
+      → ToldEach g.T.TakeRange.told (IsLying l.space.machine history (spots_in l.placed) l.touch.task
+      l.touch.cpu)
       l.space.ranges l.fn.taker end;
 }
