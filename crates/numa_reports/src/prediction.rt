@@ -179,7 +179,9 @@ pub(crate) fn predict_ranges<T: TakeRange>(
     };
     let mut all = [0u64; 256];
     for range in space.range_iter() {
-        predict_next(space, plan, placed, touch, &range, taker, &mut said, &mut all)?;
+        predict_next(
+            space, plan, placed, touch, &range, taker, &mut said, &mut all,
+        )?;
     }
     Ok(all)
 }

@@ -95,7 +95,9 @@ fn text_of<P: Watch>(
     }
     match format {
         Format::Html(number) => data_of(alloc, space, plan, asked, number, account, watch),
-        _ => shared_text(alloc, space, plan, None, touch, format, free, account, watch),
+        _ => shared_text(
+            alloc, space, plan, None, touch, format, free, account, watch,
+        ),
     }
 }
 

@@ -15,7 +15,7 @@ move_counts-requires-clause-room c node small =
       arith,
       c.in-Ok.ensures.ok.2 node small,
       count-most (λ page. is_number node
-      (planned_first c.args.plan.now c.args.touch.task page c.args.touch.cpu)) c.args.first
+          (planned_first c.args.plan.now c.args.touch.task page c.args.touch.cpu)) c.args.first
           c.args.pages,
       c.requires.room node small,
     )

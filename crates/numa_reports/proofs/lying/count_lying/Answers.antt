@@ -25,7 +25,7 @@ add_alike-requires c = record {
     arith,
     c.loop-left.invariant.counts node small,
     count-le (λ page. is_number node (planned_node c.args.plan.now (spot_at c.args.placed.now)
-    c.args.touch.task c.args.touch.cpu page)) c.args.first (c.args.pages - c.loop-left.left),
+        c.args.touch.task c.args.touch.cpu page)) c.args.first (c.args.pages - c.loop-left.left),
     c.alike_from-alike.ensures.few,
     c.loop-left.invariant.few,
     c.requires,

@@ -44,7 +44,7 @@ loop-range-init g c =
       told = λ history stands planned end has.
           subst (λ (runs : List (Run (Option PolicyRecord))). ToldEach g.T.TakeRange.told
           (IsLying c.args.space.now.machine history (spots_in c.args.placed) c.args.touch.task
-      c.args.touch.cpu) runs
+          c.args.touch.cpu) runs
           c.args.taker.now end) runs has;
     }
 
@@ -140,7 +140,7 @@ returns-clause-told g c history stands planned = c.loop-range.invariant.told his
     c.loop-range.taker
     (subst (λ (runs : List (Run (Option PolicyRecord))). ToldEach g.T.TakeRange.told
     (IsLying c.args.space.now.machine history (spots_in c.args.placed) c.args.touch.task
-      c.args.touch.cpu) runs
+    c.args.touch.cpu) runs
     c.loop-range.taker c.loop-range.taker) (sym c.in-None.ensures.steps.0) refl)
 
 pub returns-in_err-predict_next-clause-err : goal.returns-in_err-predict_next-clause-err
