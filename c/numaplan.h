@@ -432,9 +432,10 @@ uint32_t np_policy_text(const uint8_t *policy, size_t policy_length, const uint8
 
 /* ---- scripts: the language of `numaplan run`, docs/SCRIPT.md */
 
-/* Answers a whole script, from a fresh start: writes what `numaplan run` prints in front of
- * `answers`, and how many bytes that are to `written`. NP_NO_ROOM where `room` is less: then
- * `written` is what is needed, and `answers` is as it was. NP_NO_MEMORY. */
+/* Answers a whole script of one process, from a fresh start: writes what `numaplan run` prints in
+ * front of `answers`, and how many bytes that are to `written`. The line `host` and lines about
+ * pages that are there are `bad words` here. NP_NO_ROOM where `room` is less: then `written` is
+ * what is needed, and `answers` is as it was. NP_NO_MEMORY. */
 uint32_t np_script_run(const uint8_t *script, size_t length, uint8_t *answers, size_t room,
                        size_t *written);
 

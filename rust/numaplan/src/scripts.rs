@@ -26,7 +26,8 @@ impl Script {
         Ok(script)
     }
 
-    /// The answers to a whole script, as `numaplan run` prints them.
+    /// The answers to a whole script, as `numaplan run` prints them. It is one process's: the line
+    /// `host` and lines about pages that are there are `bad words`.
     pub fn run(script: &str) -> Result<String, Refused> {
         written(65_536, |answers, length| unsafe {
             raw::np_script_run(
