@@ -103,7 +103,7 @@ def change(state, follows, name, *arguments):
 def a_call(dice, state):
     """What is asked of the model, and the same of the module."""
     (start, length), node = span(dice), min(dice.randrange(7), dice.randrange(7))
-    some, other, word, kind = some_list(dice), some_list(dice), word_of(dice), dice.randrange(18)
+    some, other, word, kind = some_list(dice), some_list(dice), word_of(dice), dice.randrange(20)
     address, asked, nodes = BASE + dice.randrange(4096 * PAGES), asked_policy(word), frozenset(some)
     if kind < 2:
         return (lambda: change(state, False, "map", start, length, start // 4096),
@@ -132,7 +132,9 @@ def a_call(dice, state):
     if kind < 14:
         return lambda: model.move(state, address, node), lambda pages: pages.move(address, node)
     if kind > 15:
-        task, cpu, strict = dice.randrange(2), dice.randrange(NODES), dice.random() < 0.5
+        task, cpu, strict = dice.randrange(2), dice.randrange(NODES), dice.random() < 0.7
+        word = word if dice.random() < 0.5 else f"bind:{dice.randrange(3)}"
+        asked = asked_policy(word)
         return (lambda: model.bind_and_move(state, start, length, asked, task, cpu, strict),
                 lambda pages: pages.mbind_moving(start, length, word, task, cpu, strict=strict))
     return (lambda: model.migrate(state, nodes, frozenset(other)),
