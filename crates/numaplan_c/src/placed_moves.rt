@@ -208,6 +208,7 @@ pub extern "C" fn np_pages_move_mems(
 }
 
 /// A span, and how a policy is set for it.
+#[derive(Clone, Copy, Drop)]
 struct Moving {
     start: u64,
     length: u64,
