@@ -65,9 +65,38 @@ fn data_of<P: Watch>(
     Ok(data.end()?)
 }
 
+/// Where the pages of a process would go, of which none is there, by what the ones before it have
+/// left, in any format.
+fn text_of<P: Watch>(
+    alloc: Global,
+    space: &Space,
+    plan: &Plan,
+    asked: EachAsked<'_>,
+    account: &mut Account,
+    watch: &mut P,
+) -> Result<Vec<u8>, ReportError>
+    ensures { (history : List Command) → StandsFor space.now history
+        → PlanStandsFor space.now.machine plan.now history → asked.entry.free.now ≢ []
+        → OnOk result (account.new.free ≡ free_behind (nodes_of space.now.machine history
+        asked.entry.touch.task asked.entry.touch.cpu) account.old.free 0 (2 ^ 35)) }
+{
+    let EachAsked {
+        touch,
+        format,
+        free,
+        ..
+    } = asked;
+    match format {
+        Format::Html(number) => data_of(alloc, space, plan, asked, number, account, watch),
+        _ => shared_text(
+            alloc, space, plan, None, touch, format, free, account, watch,
+        ),
+    }
+}
+
 /// Where the pages of a process would go, by what the ones before it have left, in any format, but
 /// in no page where some are there: these stay where they lie.
-fn text_of<P: Watch>(
+fn text_beside<P: Watch>(
     alloc: Global,
     space: &Space,
     plan: &Plan,
@@ -88,15 +117,10 @@ fn text_of<P: Watch>(
         free,
         ..
     } = asked;
-    if let Some(_) = placed {
-        return shared_text(
+    match placed {
+        None => text_of(alloc, space, plan, asked, account, watch),
+        Some(_) => shared_text(
             alloc, space, plan, placed, touch, format, free, account, watch,
-        );
-    }
-    match format {
-        Format::Html(number) => data_of(alloc, space, plan, asked, number, account, watch),
-        _ => shared_text(
-            alloc, space, plan, None, touch, format, free, account, watch,
         ),
     }
 }
@@ -118,7 +142,7 @@ fn prediction_of<P: Watch>(
     let Ok(plan) = compile(alloc, space) else {
         return Err(Halt::Stopped(RunFault::Memory));
     };
-    let text = text_of(alloc, space, &plan, placed, asked, account, watch);
+    let text = text_beside(alloc, space, &plan, placed, asked, account, watch);
     drop(plan);
     match text {
         Ok(text) => Ok(text),
