@@ -1,6 +1,6 @@
 -- What becomes of the pages beside a script that answers a line about them.
-use Rattle.std.proofs.Common.{◌≡◌, ℕ, Bool, true, false, Option, Some, None, List, refl, sym, ap}
-use Rattle.std.proofs.Common.{subst, ◌∙◌}
+use Rattle.std.proofs.Common.{◌≡◌, ℕ, Bool, true, false, Option, List, refl, sym}
+use Rattle.std.proofs.Common.{subst}
 use Rattle.std.proofs.lemmas.Bool.{both_ways}
 use Rattle.numa_lines.specs.Written.{Said}
 use Rattle.numa_lines.specs.declared.watched.Watched.{Watched}

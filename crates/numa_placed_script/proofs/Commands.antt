@@ -1,8 +1,7 @@
 -- What a command comes to where a growth may have been refused: the same, or nothing at all.
-use Rattle.std.proofs.Common.{◌≡◌, ℕ, Bool, true, false, Option, Some, None, List, codes, refl, sym}
-use Rattle.std.proofs.Common.{ap, subst, ◌∙◌, inl, inr, ◌⊎◌}
+use Rattle.std.proofs.Common.{◌≡◌, ℕ, Bool, true, false, Option, Some, None, List, refl, sym}
+use Rattle.std.proofs.Common.{ap, ◌∙◌, inl, inr, ◌⊎◌}
 use Rattle.std.specs.Prelude.{if◌then◌else◌, Result, Ok, Err}
-use Rattle.std.proofs.lemmas.Bool.{cases_Bool}
 use Rattle.numa_machine.specs.Machine.{Hardware}
 use Rattle.numa_space.specs.declared.command.Command.{Command}
 use Rattle.numa_space.specs.declared.event.CoreRefusal.{CoreRefusal}
@@ -15,7 +14,6 @@ use Rattle.numa_core.specs.Steps.{answer_of, world_after}
 use Rattle.numa_script.specs.Lines.{line_of}
 use Rattle.numa_script.specs.Replies.{reply_to}
 use Rattle.numa_script.specs.Texts.{text_of}
-use Rattle.numa_script.specs.declared.line.Line.{Line}
 use Rattle.numa_script.specs.declared.line.Line.TheVariants as plain
 use Rattle.numa_script.specs.declared.reply.Reply.TheVariants as reply
 use Rattle.numa_run.specs.Answers.{State}
@@ -24,7 +22,7 @@ use Rattle.numa_run.specs.Replies.{with_reply}
 use Rattle.numa_run.specs.Replies.{served_by as state_served}
 use Rattle.numa_run.specs.States.{setup_with}
 use Rattle.numa_run.specs.Work.{needs_room, unless_wanting}
-use Rattle.numa_host_script.specs.Sessions.{Session, Single, is_begin, served_by}
+use Rattle.numa_host_script.specs.Sessions.{Single, is_begin, served_by}
 use Rattle.numa_host_script.specs.Sessions.{Served as Answered}
 use Rattle.numa_placed.specs.declared.refusal.PlacedRefusal.TheVariants.{NoMemory}
 use Rattle.numa_placed_script.specs.Texts.{cause_name, refusal_line}

@@ -1,10 +1,9 @@
 -- What `mems` makes of a script and of the pages beside it: whether a growth was refused doesn't
 -- tell in its answer.
 use Rattle.std.proofs.Common.{◌≡◌, ◌≢◌, ℕ, Bool, true, false, Option, Some, None, List, codes, refl}
-use Rattle.std.proofs.Common.{sym, ap, subst, ◌∙◌, inl, inr, eqb}
+use Rattle.std.proofs.Common.{sym, ap, subst, ◌∙◌, inl, inr}
 use Rattle.std.specs.Prelude.{if◌then◌else◌, Ok, Err, length}
 use Rattle.std.specs.Option.{option_map}
-use Rattle.numa_space.specs.declared.command.Command.{Command}
 use Rattle.std.proofs.lemmas.Bool.{cases_Bool, both_ways, eq-eqb, ne_eqb}
 use Rattle.std.proofs.lemmas.Slice.Eq.{bytes_eq-Decides}
 use Rattle.numa_lines.specs.Written.{Said}
@@ -26,12 +25,11 @@ use Rattle.numa_host_script.specs.Sessions.{session_answer}
 use Rattle.numa_host_script.specs.Sessions.{Served as Answered}
 use Rattle.numa_host_script.specs.declared.script.HostScript.{HostScript}
 use Rattle.numa_host_script.specs.Standing.{StandsIn as IsIn}
-use Rattle.numa_maps.specs.Residents.{Kept}
 use Rattle.numa_placed_script.specs.Lying.{Lying, Process, ground_of}
 use Rattle.numa_placed_script.specs.Outcomes.{followed}
 use Rattle.numa_placed_script.specs.Processes.{allowed_in, alone_in, kept_in, process_of}
 use Rattle.numa_placed_script.specs.Processes.{version_in}
-use Rattle.numa_placed_script.specs.Scenes.{Scene, Served, concern_of, follow_between}
+use Rattle.numa_placed_script.specs.Scenes.{concern_of, follow_between}
 use Rattle.numa_placed_script.specs.Scenes.{mems_served}
 use Rattle.numa_placed_script.specs.Standing.{Lies, StandsIn}
 use Rattle.numa_placed_script.specs.declared.beside.Beside.{Beside}

@@ -1,7 +1,7 @@
 -- Pages that follow the allowed nodes.
 use Rattle.std.proofs.Common.{◌≡◌, ℕ, Bool, true, false, not, Option, Some, None, List, refl, sym}
-use Rattle.std.proofs.Common.{ap, subst, ◌∙◌, inl, inr}
-use Rattle.std.proofs.lemmas.Bool.{both_ways, cases_Bool}
+use Rattle.std.proofs.Common.{ap, subst, ◌∙◌}
+use Rattle.std.proofs.lemmas.Bool.{both_ways}
 use Rattle.numa_ranges.specs.declared.run.Run.{Run}
 use Rattle.numa_placed.specs.Spots.{spot_at}
 use Rattle.numa_placed.specs.declared.moved.Moved.{Moved}

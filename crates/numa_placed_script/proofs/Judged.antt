@@ -1,9 +1,8 @@
 -- Which cause a line about pages is refused for, and what is answered then.
-use Rattle.std.proofs.Common.{◌≡◌, ℕ, Bool, true, false, Option, Some, None, refl, sym, ap, ◌∙◌}
-use Rattle.std.proofs.Common.{subst}
-use Rattle.numa_placed.specs.Refusals.{IsLack, IsRefusal, IsMoveLack, IsMoveRefusal, first_of}
+use Rattle.std.proofs.Common.{◌≡◌, ℕ, false, Option, Some, None, refl, sym, ap}
+use Rattle.numa_placed.specs.Refusals.{IsLack, IsRefusal, IsMoveLack, IsMoveRefusal}
 use Rattle.numa_placed.specs.Shifts.{first_of as first_move}
-use Rattle.numa_placed.specs.Spots.{spot_at, too_many}
+use Rattle.numa_placed.specs.Spots.{too_many}
 use Rattle.numa_placed.specs.declared.refusal.MoveRefusal.{MoveRefusal}
 use Rattle.numa_placed.specs.declared.refusal.MoveRefusal.TheVariants as move
 use Rattle.numa_placed.specs.declared.refusal.PlacedRefusal.{PlacedRefusal}

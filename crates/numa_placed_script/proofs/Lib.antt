@@ -5,6 +5,7 @@ pub mod Following
 pub mod Follows
 pub mod HeldPages
 pub mod Judged
+pub mod Judging
 pub mod Mapped
 pub mod Migrating
 pub mod Moving
@@ -13,5 +14,6 @@ pub mod Rows
 pub mod Seen
 pub mod Served
 pub mod Singles
+pub mod Strictly
 pub mod There
 pub mod Unmapping

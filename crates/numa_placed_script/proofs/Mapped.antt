@@ -1,5 +1,5 @@
 -- What `maps` shows of a script and of the pages beside it.
-use Rattle.std.proofs.Common.{◌≡◌, ℕ, Bool, false, Option, Some, None, List, sym, ap, subst, ◌∙◌}
+use Rattle.std.proofs.Common.{◌≡◌, ℕ, Bool, false, Option, Some, None, List, sym, ap, subst}
 use Rattle.numa_lines.specs.Written.{Said}
 use Rattle.numa_lines.specs.declared.watched.Watched.{Watched}
 use Rattle.numa_lines.proofs.Adding.{said_same}

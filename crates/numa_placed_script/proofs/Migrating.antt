@@ -1,5 +1,5 @@
 -- Pages that leave a set of nodes for another, with rooms or without.
-use Rattle.std.proofs.Common.{◌≡◌, ℕ, zero, suc, ◌+◌, ◌*◌, ◌<◌, ◌≤◌, ◌^◌, ◌==◌, Bool, true, false}
+use Rattle.std.proofs.Common.{◌≡◌, ℕ, zero, suc, ◌+◌, ◌*◌, ◌<◌, ◌≤◌, ◌^◌, ◌==◌, Bool, false}
 use Rattle.std.proofs.Common.{Option, Some, None, List, refl}
 use Rattle.std.proofs.Common.{sym, ap, subst, ◌∙◌, arith, inl, inr}
 use Rattle.std.proofs.lemmas.Bool.{cases_Bool}
@@ -16,9 +16,8 @@ use Rattle.numa_placed.specs.declared.moved.Moved.{Moved}
 use Rattle.numa_placed.specs.declared.refusal.PlacedRefusal.{PlacedRefusal}
 use Rattle.numa_placed.specs.declared.rooms.Rooms.{Rooms}
 use Rattle.numa_placed.specs.declared.spot.Spot.{Spot}
-use Rattle.numa_placed_script.specs.Lying.{filling_motion, free_motion, motion}
-use Rattle.numa_placed_script.specs.Outcomes.{is_no_memory, lack_in, lack_of}
-use Rattle.numa_placed_script.specs.Standing.{HaveRoom, Migrates, Moves, TellsOf}
+use Rattle.numa_placed_script.specs.Lying.{filling_motion, free_motion}
+use Rattle.numa_placed_script.specs.Standing.{Migrates, Moves}
 use Rattle.numa_placed_script.proofs.Judged.{cause-none, cause-told}
 
 -- nothing stands against a move

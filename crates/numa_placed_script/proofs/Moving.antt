@@ -12,7 +12,7 @@ use Rattle.numa_placed.specs.declared.refusal.MoveRefusal.{MoveRefusal}
 use Rattle.numa_placed.specs.declared.refusal.MoveRefusal.TheVariants as move
 use Rattle.numa_placed.specs.declared.rooms.Rooms.{Rooms}
 use Rattle.numa_placed.specs.declared.spot.Spot.{Spot}
-use Rattle.numa_placed_script.specs.Lying.{Ground, Lying}
+use Rattle.numa_placed_script.specs.Lying.{Ground}
 use Rattle.numa_placed_script.specs.Outcomes.{move_spots, room_cause_in, room_moved_in}
 use Rattle.numa_placed_script.specs.Standing.{HaveRoom, MovesPage}
 use Rattle.numa_placed_script.proofs.Judged.{move-none, move-told}

@@ -1,13 +1,12 @@
 -- What a line makes of a script and of the pages beside it.
 use Rattle.std.proofs.Common.{◌≡◌, ℕ, Bool, true, false, Option, Some, None, List, length, refl}
 use Rattle.std.proofs.Common.{sym, ap, subst, ◌∙◌, inl, inr, is_some}
-use Rattle.std.specs.Prelude.{not, ◌&&◌, IsSomeAnd, if◌then◌else◌}
+use Rattle.std.specs.Prelude.{not, ◌&&◌, IsSomeAnd}
 use Rattle.std.specs.Option.{option_map}
 use Rattle.std.proofs.lemmas.Bool.{cases_Bool, and_parts}
 use Rattle.numa_lines.specs.Written.{Said}
 use Rattle.numa_lines.specs.declared.watched.Watched.{Watched}
 use Rattle.numa_lines.proofs.Adding.{said_same}
-use Rattle.numa_machine.specs.Machine.{Hardware}
 use Rattle.numa_space.specs.Standing.{SpaceState, StandsFor}
 use Rattle.numa_space.specs.declared.command.Command.{Command}
 use Rattle.numa_placed.specs.declared.refusal.PlacedRefusal.TheVariants as cause
@@ -24,7 +23,9 @@ use Rattle.numa_placed_script.specs.Processes.{IsAlone, alone_in, process_of}
 use Rattle.numa_placed_script.specs.Outcomes.{Outcome, placed_by, placed_outcome, refused_with}
 use Rattle.numa_placed_script.specs.Scenes.{Scene, Served, early_reply, placed_on, placed_served}
 use Rattle.numa_placed_script.specs.Lines.{placed_line_of}
-use Rattle.numa_placed_script.specs.Scenes.{plain_served, scene_served, unknown_served}
+use Rattle.numa_placed_script.specs.Scenes.{plain_served, scene_served, served_where}
+use Rattle.numa_placed_script.specs.Scenes.{strict_served, unknown_served}
+use Rattle.numa_placed_script.specs.Lines.{strict_of}
 use Rattle.numa_placed_script.specs.Lines.{is_plain}
 use Rattle.numa_placed_script.specs.Scenes.{with_outcome}
 use Rattle.numa_placed_script.specs.Standing.{Lies, LiesAs, ServesScene, StandsIn}
@@ -150,8 +151,8 @@ kept-lies beside beside_then kept is all lying lies =
 -- ---- every line
 
 unknown-plain : (refused : Bool) (scene : Scene) (bytes : List ℕ)
-    → is_plain (placed_line_of bytes) ≡ true
-    → unknown_served refused scene bytes ≡ plain_served refused scene bytes
+    → is_plain (placed_line_of bytes) ≡ true → unknown_served refused scene bytes
+    ≡ served_where (strict_of bytes) refused scene bytes
 unknown-plain refused scene bytes is = rw is refl
 
 unknown-placed : (refused : Bool) (scene : Scene) (bytes : List ℕ)
@@ -191,9 +192,9 @@ module _ {W : Type 0} (contents : W → Option (List ℕ)) (script script_then :
 
   module _ (about : PlacedLine) (same : about ≡ placed_line_of bytes) where
     pub serves-none : is_plain about ≡ true
-        → ServesSo (λ refused scene. plain_served refused scene bytes)
+        → ServesSo (λ refused scene. served_where (strict_of bytes) refused scene bytes)
         → ServesSo (λ refused scene. unknown_served refused scene bytes)
-    serves-none is = serves-so (λ refused scene. plain_served refused scene bytes)
+    serves-none is = serves-so (λ refused scene. served_where (strict_of bytes) refused scene bytes)
         (λ refused scene. unknown_served refused scene bytes)
         (λ refused scene. unknown-plain refused scene bytes (sym (ap is_plain same) ∙ is))
 
@@ -204,6 +205,21 @@ module _ {W : Type 0} (contents : W → Option (List ℕ)) (script script_then :
         (λ refused scene. unknown_served refused scene bytes)
         (λ refused scene. unknown-placed refused scene bytes (sym (ap is_plain same) ∙ is)
         ∙ ap (λ (l : PlacedLine). placed_served refused scene l) (sym same))
+
+  -- a line that says nothing of pages alone
+  pub serves-other : strict_of bytes ≡ None
+      → ServesSo (λ refused scene. plain_served refused scene bytes)
+      → ServesSo (λ refused scene. served_where (strict_of bytes) refused scene bytes)
+  serves-other none = serves-so (λ refused scene. plain_served refused scene bytes)
+      (λ refused scene. served_where (strict_of bytes) refused scene bytes)
+      (λ refused scene. ap (λ (o : Option (List ℕ)). served_where o refused scene bytes) none)
+
+  pub serves-strict : (command : List ℕ) → strict_of bytes ≡ Some command
+      → ServesSo (λ refused scene. strict_served refused scene command)
+      → ServesSo (λ refused scene. served_where (strict_of bytes) refused scene bytes)
+  serves-strict command some = serves-so (λ refused scene. strict_served refused scene command)
+      (λ refused scene. served_where (strict_of bytes) refused scene bytes)
+      (λ refused scene. ap (λ (o : Option (List ℕ)). served_where o refused scene bytes) some)
 
   module _ (said : Line) (same : said ≡ line_of bytes) where
     pub serves-unknown : is_malformed said ≡ true

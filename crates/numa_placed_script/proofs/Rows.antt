@@ -1,19 +1,18 @@
 -- Worked rows: what lines say, what they are answered, and what is told of moves.
-use Rattle.std.proofs.Common.{◌≡◌, ℕ, ◌==◌, Bool, true, false, Option, Some, None, List, [], ◌∷◌}
+use Rattle.std.proofs.Common.{◌≡◌, ℕ, ◌==◌, true, Some, [], ◌∷◌}
 use Rattle.std.proofs.Common.{codes, refl}
 use Rattle.std.specs.Prelude.{if◌then◌else◌}
 use Rattle.numa_space.specs.declared.placement.Placement.{Placement}
-use Rattle.numa_machine.specs.declared.frame.Frame.{Frame}
 use Rattle.numa_placed.specs.declared.refusal.MoveRefusal.TheVariants as move
 use Rattle.numa_placed.specs.declared.refusal.PlacedRefusal.TheVariants as cause
-use Rattle.numa_placed.specs.declared.spot.Spot.TheVariants.{Held, Nowhere, Stated}
+use Rattle.numa_placed.specs.declared.spot.Spot.TheVariants.{Stated}
 use Rattle.numa_script.specs.Numbers.{in_64_bits, number_of, numeral_of}
 use Rattle.numa_placed_script.specs.Lines.{placed_keyword_of, placed_line_of}
-use Rattle.numa_placed_script.specs.Lying.{Lying, Told, held_left, nothing, still, with_held}
-use Rattle.numa_placed_script.specs.Outcomes.{has_stated, held_move_unless, memory_migrate_outcome}
+use Rattle.numa_placed_script.specs.Lying.{held_left, nothing, still}
+use Rattle.numa_placed_script.specs.Outcomes.{held_move_unless}
 use Rattle.numa_placed_script.specs.Outcomes.{told_of, with_text}
-use Rattle.numa_placed_script.specs.Texts.{arrow_text, cause_name, flow_text, move_name, moved_line}
-use Rattle.numa_placed_script.specs.Texts.{node_line, refusal_line}
+use Rattle.numa_placed_script.specs.Texts.{cause_name, flow_text, move_name}
+use Rattle.numa_placed_script.specs.Texts.{refusal_line}
 use Rattle.numa_placed_script.specs.declared.line.PlacedLine.TheVariants as line
 
 -- ---- lines

@@ -9,26 +9,23 @@ use Rattle.numa_script.specs.Causes.{is_malformed}
 use Rattle.numa_script.specs.Lines.{line_of}
 use Rattle.numa_script.specs.declared.line.Line.{Line}
 use Rattle.numa_script.proofs.Seeing.{line_of_seen}
-use Rattle.numa_host_script.specs.Sessions.{Served as Answered, served_by}
+use Rattle.numa_host_script.specs.Sessions.{Served as Answered}
 use Rattle.numa_host_script.proofs.Seen.{served_seen}
-use Rattle.numa_placed_script.specs.Lines.{placed_line_of}
+use Rattle.numa_placed_script.specs.Lines.{placed_line_of, strict_of}
 use Rattle.numa_placed_script.specs.Scenes.{Scene, Served, concern_of, concerned, follow_between}
-use Rattle.numa_placed_script.specs.Scenes.{forget_between, mems_served, passed, plain_served}
+use Rattle.numa_placed_script.specs.Scenes.{forget_between, plain_served}
 use Rattle.numa_placed_script.specs.Scenes.{unknown_served, unmap_unless}
 use Rattle.std.specs.Prelude.{Option, Some, None}
 use Rattle.numa_placed_script.specs.Lying.{Process}
 use Rattle.numa_placed_script.specs.Scenes.{maps_on}
 use Rattle.numa_placed_script.specs.Processes.{alone_in, process_of}
 use Rattle.numa_placed_script.specs.Outcomes.{forgotten, has_stated, lack_of}
-use Rattle.numa_placed_script.specs.Texts.{cause_name, refusal_line}
-use Rattle.numa_placed.specs.declared.refusal.PlacedRefusal.{PlacedRefusal}
 use Rattle.numa_placed_script.specs.Scenes.{scene_served}
 use Rattle.std.specs.Prelude.{codes}
 use Rattle.numa_script.specs.Texts.{refused_text}
 use Rattle.numa_placed.specs.Spots.{is_placed}
 use Rattle.numa_placed_script.specs.declared.concern.Concern.{Concern}
 use Rattle.numa_placed_script.specs.declared.concern.Concern.TheVariants as concern
-use Rattle.numa_placed_script.specs.declared.line.PlacedLine.{PlacedLine}
 use Rattle.numa_placed_script.specs.declared.line.PlacedLine.TheVariants as line
 
 short : (line : List ℕ) → length line ≤ 4097 → given_part line ≡ line
@@ -45,10 +42,17 @@ long-says bytes many =
     let over : nat_lt 4096 (length bytes) ≡ true = grind (arith, nat_tests) in
     rw over refl
 
+long-strict : (bytes : List ℕ) → 4096 < length bytes → strict_of bytes ≡ None
+unfolding strict_of
+long-strict bytes many =
+    let over : nat_lt 4096 (length bytes) ≡ true = grind (arith, nat_tests) in
+    rw over refl
+
 long-unknown : (unknown refused : Bool) (scene : Scene) (bytes : List ℕ) → 4096 < length bytes
     → (if unknown then unknown_served refused scene bytes else plain_served refused scene bytes)
     ≡ plain_served refused scene bytes
-long-unknown true refused scene bytes many = rw (long-says bytes many) refl
+long-unknown true refused scene bytes many =
+    rw (long-says bytes many, long-strict bytes many) refl
 long-unknown false refused scene bytes many = refl
 
 scene-long : (refused : Bool) (scene : Scene) (bytes : List ℕ) → 4096 < length bytes

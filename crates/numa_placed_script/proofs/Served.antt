@@ -1,10 +1,10 @@
 -- What each line about pages makes of them.
-use Rattle.std.proofs.Common.{◌≡◌, ℕ, ◌<◌, Bool, true, false, Option, Some, None, List, refl, sym}
+use Rattle.std.proofs.Common.{◌≡◌, ℕ, true, false, Option, Some, None, List, refl, sym}
 use Rattle.std.proofs.Common.{ap, subst, codes, ◌∙◌, ◌++◌}
-use Rattle.std.specs.Prelude.{Result, Ok, Err, IfErr, IfOk, OnErr, OnOk, if◌then◌else◌, ◌==◌}
+use Rattle.std.specs.Prelude.{if◌then◌else◌, ◌==◌}
 use Rattle.numa_lines.specs.Written.{Said}
 use Rattle.numa_lines.specs.declared.watched.Watched.{Watched}
-use Rattle.numa_placed.specs.Refusals.{IsRefusal, first_of, lacks_node, migrate_cause, state_cause}
+use Rattle.numa_placed.specs.Refusals.{IsRefusal, first_of, lacks_node, state_cause}
 use Rattle.numa_placed.specs.Shifts.{AreRooms}
 use Rattle.numa_placed.specs.Spots.{spot_at, too_many}
 use Rattle.numa_ranges.specs.declared.run.Run.{Run}
@@ -16,12 +16,12 @@ use Rattle.numa_placed.specs.declared.rooms.Rooms.{Rooms}
 use Rattle.numa_placed.specs.declared.spot.Spot.{Spot}
 use Rattle.numa_machine.specs.Machine.{Hardware}
 use Rattle.numa_maps.specs.Residents.{Kept}
-use Rattle.numa_placed_script.specs.Lying.{Ground, Lying, Motion, Told, motion, still, with_held}
+use Rattle.numa_placed_script.specs.Lying.{Ground, Lying, Motion, still, with_held}
 use Rattle.numa_placed_script.specs.Lying.{with_motion}
-use Rattle.numa_placed_script.specs.Outcomes.{Outcome, at_outcome, at_spots, cause_by, is_lack}
-use Rattle.numa_placed_script.specs.Outcomes.{is_no_memory, lack_in, migrate_outcome}
-use Rattle.numa_placed_script.specs.Outcomes.{move_cause_by, move_outcome, move_spots, move_unless}
-use Rattle.numa_placed_script.specs.Outcomes.{moved_outcome, refused_with, room_moved_in, rooms_of}
+use Rattle.numa_placed_script.specs.Outcomes.{Outcome, at_outcome, at_spots, is_lack}
+use Rattle.numa_placed_script.specs.Outcomes.{is_no_memory, lack_in}
+use Rattle.numa_placed_script.specs.Outcomes.{move_cause_by, move_spots, move_unless}
+use Rattle.numa_placed_script.specs.Outcomes.{moved_outcome, room_moved_in, rooms_of}
 use Rattle.numa_placed_script.specs.Outcomes.{held_move_unless, room_outcome, with_text}
 use Rattle.numa_placed_script.specs.Outcomes.{told_of, unless_refused}
 use Rattle.numa_placed_script.specs.Standing.{HaveRoom, LiesAs, Moves, TellsOf}

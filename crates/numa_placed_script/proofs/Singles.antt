@@ -1,6 +1,6 @@
 -- One page that went from a node, and the rooms once a line says one.
-use Rattle.std.proofs.Common.{◌≡◌, ◌≢◌, ℕ, ◌<◌, eqb, List, length, get_or, slice_index, Option, Some, None}
-use Rattle.std.proofs.Common.{refl, ap, ◌∙◌, subst, arith, inl, inr, replicate}
+use Rattle.std.proofs.Common.{◌≡◌, ◌≢◌, ℕ, ◌<◌, eqb, List, length, get_or, Option, Some, None}
+use Rattle.std.proofs.Common.{refl, ◌∙◌, arith, inl, inr, replicate}
 use Rattle.std.proofs.lemmas.List.{length-replicate}
 use Rattle.std.specs.Prelude.{if◌then◌else◌}
 use Rattle.std.proofs.Math.ListN.{set}

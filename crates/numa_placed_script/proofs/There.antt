@@ -1,6 +1,6 @@
 -- The listing of the pages that are there, line by line.
-use Rattle.std.proofs.Common.{◌≡◌, ℕ, zero, suc, ◌+◌, ◌<◌, ◌^◌, ◌==◌, Option, Some, None, List, []}
-use Rattle.std.proofs.Common.{◌∷◌, ◌++◌, codes, decimal, length, refl, sym, ap, ◌∙◌, arith}
+use Rattle.std.proofs.Common.{◌≡◌, ℕ, zero, suc, ◌+◌, ◌<◌, ◌^◌, ◌==◌, Option, List, []}
+use Rattle.std.proofs.Common.{◌∷◌, ◌++◌, codes, decimal, refl, sym, ap, ◌∙◌, arith}
 use Rattle.std.proofs.Common.{append_assoc, subst, ◌≤◌}
 use Rattle.std.specs.Prelude.{if◌then◌else◌}
 use Rattle.numa_mode.specs.Policy.{PolicyRecord}
@@ -23,7 +23,6 @@ use Rattle.numa_placed.specs.declared.spot.Spot.{Spot}
 use Rattle.numa_run.proofs.Listed.{joined-singles}
 use Rattle.numa_run.specs.Ranges.{ranges_of}
 use Rattle.numa_placed_script.specs.Listings.{there_line, there_lines, there_listing}
-use Rattle.numa_placed_script.specs.Lying.{Process}
 
 -- ---- nodes
 

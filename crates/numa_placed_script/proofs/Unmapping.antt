@@ -1,7 +1,7 @@
 -- What `unmap` makes of a script and of the pages beside it.
 use Rattle.std.proofs.Common.{◌≡◌, ◌≢◌, ℕ, Bool, true, false, Option, Some, None, List, codes, refl}
-use Rattle.std.proofs.Common.{sym, ap, subst, ◌∙◌, inl, inr, ◌&&◌, is_some, eqb}
-use Rattle.std.specs.Prelude.{if◌then◌else◌, Ok, Err, Result, IsSome, not, nat_lt, ◌%◌, ◌*◌, ◌+◌, ◌^◌, ◌==◌}
+use Rattle.std.proofs.Common.{sym, ap, subst, ◌∙◌, inl, inr, ◌&&◌, is_some}
+use Rattle.std.specs.Prelude.{if◌then◌else◌, Ok, Err, not, nat_lt, ◌%◌, ◌*◌, ◌+◌, ◌^◌, ◌==◌}
 use Rattle.std.proofs.lemmas.Bool.{cases_Bool, both_ways, eq-eqb, ne_eqb}
 use Rattle.std.proofs.lemmas.Slice.Eq.{bytes_eq-Decides}
 use Rattle.numa_lines.specs.Written.{Said}
@@ -24,14 +24,14 @@ use Rattle.numa_script.specs.declared.line.Line.{Line}
 use Rattle.numa_script.specs.declared.line.Line.TheVariants as plain
 use Rattle.numa_script.specs.declared.work.Work.TheVariants as work
 use Rattle.numa_run.specs.Answers.{State}
-use Rattle.numa_host_script.specs.Sessions.{Hosting, Session, Single, Hosted, is_begin, served_by}
+use Rattle.numa_host_script.specs.Sessions.{Session, Single, Hosted, is_begin, served_by}
 use Rattle.numa_host_script.specs.Sessions.{session_after, session_answer}
 use Rattle.numa_host_script.specs.Sessions.{Served as Answered}
 use Rattle.numa_host_script.specs.declared.script.HostScript.{HostScript}
 use Rattle.numa_host_script.specs.Standing.{StandsIn as IsIn}
 use Rattle.std.specs.Prelude.{length}
 use Rattle.std.specs.Option.{option_map}
-use Rattle.numa_placed_script.specs.Lying.{Ground, Lying, Process, ground_of, nothing}
+use Rattle.numa_placed_script.specs.Lying.{Ground, Lying, Process, ground_of}
 use Rattle.numa_placed_script.specs.Outcomes.{forgotten, has_stated, is_astray_cause, is_no_memory}
 use Rattle.numa_placed_script.specs.Outcomes.{lack_of}
 use Rattle.numa_placed_script.specs.Processes.{process_of, process_on, version_in}
@@ -108,7 +108,7 @@ astray-first : (first : Option PlacedRefusal) (found : Bool) → is_astray_cause
 astray-first None found clear is = refl
 astray-first (Some why) found clear is = absurd (both_ways (is_astray_cause (Some why)) clear is)
 
-span-clear : (start bytes : ℕ) → is_astray_cause (span_cause start bytes) ≡ false
+pub span-clear : (start bytes : ℕ) → is_astray_cause (span_cause start bytes) ≡ false
 span-clear start bytes =
     elim (cases_Bool (not (start % 4096 == 0))) [
       | inl t ↦ rw t refl
@@ -123,7 +123,7 @@ pub stated-span : (spots : ℕ → Spot) (start bytes : ℕ) → has_stated spot
     → span_cause start bytes ≡ None
 stated-span spots start bytes is = astray-first (span_cause start bytes) _ (span-clear start bytes) is
 
-clear-first : (first : Option PlacedRefusal) → is_astray_cause first ≡ false
+pub clear-first : (first : Option PlacedRefusal) → is_astray_cause first ≡ false
     → is_astray_cause (first_of first None) ≡ false
 clear-first None clear = refl
 clear-first (Some why) clear = clear

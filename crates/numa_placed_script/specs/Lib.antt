@@ -5,4 +5,5 @@ pub mod Outcomes
 pub mod Processes
 pub mod Scenes
 pub mod Standing
+pub mod Strict
 pub mod Texts

@@ -1,8 +1,7 @@
 -- What a line about pages that are there says.
-use Rattle.std.specs.Prelude.{ℕ, ◌+◌, ◌==◌, ◌||◌, Bool, true, false, List, [], ◌∷◌, length, codes}
-use Rattle.std.specs.Prelude.{if◌then◌else◌, nat_lt, take, drop, position, is_some}
+use Rattle.std.specs.Prelude.{ℕ, ◌-◌, ◌&&◌, min, Bool, true, false, List, [], ◌∷◌, length, codes}
+use Rattle.std.specs.Prelude.{if◌then◌else◌, nat_lt, take, drop}
 use Rattle.std.specs.Prelude.{Option, Some, None, option_and_then, unwrap_or, Result, Ok, Err}
-use Rattle.std.specs.Option.{option_map}
 use Rattle.std.specs.Str.{bytes_eq}
 use Rattle.numa_mask.specs.Lists.{list_of}
 use Rattle.numa_mask.specs.declared.list.ListFault.{ListFault}
@@ -102,3 +101,19 @@ placed_line_of bytes = if nat_lt 4096 (length bytes) then line.Plain
 abbrev pub is_plain : PlacedLine → Bool
 is_plain line.Plain = true
 is_plain _ = false
+
+-- ---- mbind .. strict
+
+-- the text begins so, and ends so
+abbrev pub begins_with : List ℕ → List ℕ → Bool
+begins_with words text = bytes_eq (take (min (length text) (length words)) text) words
+
+abbrev pub ends_with : List ℕ → List ℕ → Bool
+ends_with words text = bytes_eq (drop (length text - length words) text) words
+
+-- the command of a line `mbind .. strict`
+unfoldable pub strict_of : List ℕ → Option (List ℕ)
+strict_of bytes =
+    if nat_lt 4096 (length bytes) then None
+    else if begins_with (codes "mbind ") bytes && ends_with (codes " strict") bytes
+    then Some (take (length bytes - 7) bytes) else None

@@ -1,7 +1,6 @@
 -- Where pages lie that are there, beside a script of one process, and what is told of the last move.
-use Rattle.std.specs.Prelude.{◌≡◌, ℕ, ◌+◌, ◌==◌, Bool, false, List, Option, Some, None, is_some}
-use Rattle.std.specs.Prelude.{count_by, if◌then◌else◌, not}
-use Rattle.numa_mask.specs.NodeSet.{has}
+use Rattle.std.specs.Prelude.{ℕ, ◌+◌, ◌==◌, Bool, false, List, Option, Some, None, is_some}
+use Rattle.std.specs.Prelude.{count_by, not}
 use Rattle.numa_machine.specs.Machine.{Hardware}
 use Rattle.numa_maps.specs.Residents.{Kept}
 use Rattle.numa_ranges.specs.Runs.{page_at}
@@ -11,7 +10,7 @@ use Rattle.numa_space.specs.Policies.{allowed_nodes}
 use Rattle.numa_space.specs.Standing.{SpaceState}
 use Rattle.numa_space.specs.declared.command.Command.{Command}
 use Rattle.numa_placed.specs.Moves.{goes, goes_from, is_left, moved_node, moved_spot}
-use Rattle.numa_placed.specs.Shifts.{Going, shift_of, shifted, stated_on, stay_on, sum_below}
+use Rattle.numa_placed.specs.Shifts.{shift_of, shifted, stated_on, stay_on, sum_below}
 use Rattle.numa_placed.specs.Spots.{pages_where}
 use Rattle.numa_placed.specs.declared.spot.Spot.{Spot}
 use Rattle.numa_placed.specs.declared.spot.Spot.TheVariants.{Nowhere}

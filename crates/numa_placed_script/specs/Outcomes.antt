@@ -1,9 +1,8 @@
 -- What each line about pages is answered, and where pages lie after it. `refused` says whether a
 -- growth was refused while the line was served.
-use Rattle.std.specs.Prelude.{◌≡◌, ℕ, ◌==◌, Bool, true, false, Option, Some, None, List, codes}
+use Rattle.std.specs.Prelude.{ℕ, ◌==◌, Bool, true, false, Option, Some, None, List, codes}
 use Rattle.std.specs.Prelude.{◌&&◌, not, if◌then◌else◌}
 use Rattle.numa_mask.specs.NodeSet.{both}
-use Rattle.numa_mask.specs.declared.list.ListFault.{ListFault}
 use Rattle.numa_space.specs.History.{page_of, page_count}
 use Rattle.numa_placed.specs.Refusals.{first_of, lacks_node, migrate_cause, move_cause, state_cause}
 use Rattle.numa_placed.specs.Shifts.{endless, first_of as first_move, room_cause, room_moved}

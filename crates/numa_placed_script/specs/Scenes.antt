@@ -3,7 +3,6 @@
 -- served.
 use Rattle.std.specs.Prelude.{ℕ, ◌==◌, Bool, true, false, Option, Some, None, List, length}
 use Rattle.std.specs.Prelude.{codes, if◌then◌else◌, is_some, ◌&&◌, Ok}
-use Rattle.std.specs.Option.{option_map}
 use Rattle.numa_machine.specs.declared.rules.Rules.{Rules}
 use Rattle.numa_space.specs.declared.command.Command.TheVariants.{SetMems, Unmap}
 use Rattle.numa_placed.specs.Spots.{is_placed}
@@ -23,7 +22,11 @@ use Rattle.numa_placed_script.specs.Lying.{Ground, Lying, Process, nothing}
 use Rattle.numa_placed_script.specs.Outcomes.{Outcome, followed, forgotten, has_stated, lack_of}
 use Rattle.numa_placed_script.specs.Outcomes.{placed_by}
 use Rattle.numa_placed_script.specs.Processes.{allowed_in, alone_in, kept_in, process_of, version_in}
+use Rattle.numa_placed_script.specs.Lines.{strict_of}
+use Rattle.numa_placed_script.specs.Strict.{binding_of, cause_against, has_astray, is_late}
 use Rattle.numa_placed_script.specs.Texts.{cause_name, refusal_line}
+use Rattle.numa_placed_script.specs.declared.binding.Binding.{Binding}
+use Rattle.numa_placed.specs.declared.refusal.PlacedRefusal.TheVariants as cause
 use Rattle.numa_placed.specs.declared.refusal.PlacedRefusal.{PlacedRefusal}
 use Rattle.numa_placed.specs.declared.spot.Spot.{Spot}
 use Rattle.numa_placed_script.specs.declared.concern.Concern.{Concern}
@@ -141,12 +144,40 @@ concerned concern.Nothing refused scene bytes = passed refused scene bytes scene
 abbrev pub plain_served : Bool → Scene → List ℕ → Served
 plain_served refused scene bytes = concerned (concern_of (line_of bytes)) refused scene bytes
 
+-- ---- mbind .. strict
+
+-- where pages lie astray: the first cause against the command is answered, where it is judged before
+-- pages; else that they do
+abbrev pub astray_served : Bool → Process → Scene → List ℕ → Line → Served
+astray_served true process scene command said =
+    record { text = refusal_line (cause_name cause.NoMemory); scene = scene }
+astray_served false process scene command said = if is_late (cause_against process said)
+    then record { text = refusal_line (cause_name cause.Astray); scene = scene }
+    else passed false scene command scene.lying
+
+abbrev pub bound_on : Option Process → Option Binding → Bool → Scene → List ℕ → Line → Served
+bound_on None binding refused scene command said = passed refused scene command scene.lying
+bound_on (Some process) None refused scene command said =
+    passed refused scene command scene.lying
+bound_on (Some process) (Some binding) refused scene command said =
+    if has_astray process.kept scene.lying.spots binding
+    then astray_served refused process scene command said
+    else passed refused scene command scene.lying
+
+abbrev pub strict_served : Bool → Scene → List ℕ → Served
+strict_served refused scene command = bound_on (alone_in scene.session)
+    (binding_of (line_of command)) refused scene command (line_of command)
+
+abbrev pub served_where : Option (List ℕ) → Bool → Scene → List ℕ → Served
+served_where None refused scene bytes = plain_served refused scene bytes
+served_where (Some command) refused scene bytes = strict_served refused scene command
+
 -- ---- every line
 
 -- a line that is malformed in a script without pages may be one about pages
 abbrev pub unknown_served : Bool → Scene → List ℕ → Served
 unknown_served refused scene bytes = if is_plain (placed_line_of bytes)
-    then plain_served refused scene bytes
+    then served_where (strict_of bytes) refused scene bytes
     else placed_served refused scene (placed_line_of bytes)
 
 unfoldable pub scene_served : Bool → Scene → List ℕ → Served

@@ -1,10 +1,9 @@
 -- What is kept beside a script, and which pages it stands for.
-use Rattle.std.specs.Prelude.{◌≡◌, ℕ, ◌<◌, ◌^◌, Bool, true, false, List, [], Option, Some, None}
+use Rattle.std.specs.Prelude.{◌≡◌, ℕ, ◌<◌, ◌^◌, Bool, true, false, List, Option, Some, None}
 use Rattle.std.specs.Prelude.{slice_index}
 use Rattle.std.specs.Prelude.{IsSome, MatchResult, Result, Ok, Err}
 use Rattle.numa_lines.specs.Written.{Said}
 use Rattle.numa_lines.specs.declared.watched.Watched.{Watched}
-use Rattle.numa_maps.specs.Residents.{Kept}
 use Rattle.numa_placed.specs.Refusals.{first_of}
 use Rattle.numa_placed.specs.Shifts.{AreRooms}
 use Rattle.numa_placed.specs.Spots.{spot_at}

@@ -8,6 +8,7 @@
 #![tactic(auto)]
 
 mod beside;
+mod binding;
 mod concern;
 mod frames;
 pub mod keyword;
@@ -18,6 +19,6 @@ pub mod script;
 pub mod streams;
 pub mod tell;
 
-pub use line::{PlacedLine, is_plain, parse_placed};
+pub use line::{PlacedLine, is_plain, parse_placed, strict_of};
 pub use script::PlacedScript;
 pub use streams::run_by;

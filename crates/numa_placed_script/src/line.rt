@@ -2,7 +2,8 @@
 ghost use Rattle.std.specs.Prelude.{◌≡◌, Option, Some};
 ghost use Rattle.numa_placed_script.specs.Lines.{at_line, between, by_word, memory_migrate_line};
 ghost use Rattle.numa_mask.specs.Lists.{list_of};
-ghost use Rattle.numa_placed_script.specs.Lines.{is_plain};
+ghost use Rattle.std.specs.Option.{option_map};
+ghost use Rattle.numa_placed_script.specs.Lines.{begins_with, ends_with, is_plain, strict_of};
 ghost use Rattle.numa_placed_script.specs.Lines.{migrate_line, move_line, placed_line_after};
 ghost use Rattle.numa_placed_script.specs.Lines.{placed_line_of, room_line};
 
@@ -158,4 +159,34 @@ pub fn parse_placed(line: &[u8]) -> PlacedLine
         Some(line) => line,
         None => PlacedLine::Malformed,
     }
+}
+
+/// Whether a text begins with some words.
+fn begins_with(text: &[u8], words: &[u8]) -> bool
+    ensures { result ≡ begins_with words.now text.now }
+{
+    let start = &text[..text.len().min(words.len())];
+    start == words
+}
+
+/// Whether a text ends with some words.
+fn ends_with(text: &[u8], words: &[u8]) -> bool
+    ensures { result ≡ ends_with words.now text.now }
+{
+    let end = &text[text.len().saturating_sub(words.len())..];
+    end == words
+}
+
+/// The command of a line `mbind .. strict`.
+#[tactic(auto, unfolding(crate::specs::Lines::strict_of))]
+pub fn strict_of(line: &[u8]) -> Option<&[u8]>
+    ensures { option_map (λ command. command.now) result ≡ strict_of line.now }
+{
+    if line.len() > LIMIT {
+        return None;
+    }
+    if !begins_with(line, b"mbind ") || !ends_with(line, b" strict") {
+        return None;
+    }
+    Some(&line[..line.len().saturating_sub(7)])
 }

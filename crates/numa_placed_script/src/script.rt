@@ -8,16 +8,19 @@ ghost use Rattle.numa_placed_script.specs.Outcomes.{followed, forgotten, has_sta
 ghost use Rattle.numa_placed_script.specs.Outcomes.{is_astray_cause, is_no_memory, lack_of};
 ghost use Rattle.numa_placed_script.specs.Scenes.{concern_of, early_reply};
 ghost use Rattle.numa_placed_script.specs.Scenes.{maps_served, mems_served, passed, placed_served};
+ghost use Rattle.numa_placed_script.specs.Lines.{strict_of};
 ghost use Rattle.numa_placed_script.specs.Scenes.{plain_served, scene_by, scene_served};
-ghost use Rattle.numa_placed_script.specs.Scenes.{touch_served, unknown_served, unmap_served};
+ghost use Rattle.numa_placed_script.specs.Scenes.{served_where, strict_served, touch_served};
+ghost use Rattle.numa_placed_script.specs.Scenes.{unknown_served, unmap_served};
 ghost use Rattle.numa_placed_script.specs.Standing.{Forgets, Lies, LiesAs, Replaces};
 ghost use Rattle.numa_placed_script.specs.Standing.{ServesScene, StandsIn};
 ghost use Rattle.numa_maps.specs.Residents.{Kept};
 ghost use Rattle.numa_script.specs.Lines.{line_of};
 
 use crate::beside::{Beside, is_no_memory};
+use crate::binding::{binding_of, has_astray, is_late, stated_astray};
 use crate::concern::{Concern, concern_of, is_malformed};
-use crate::line::{PlacedLine, is_plain, parse_placed};
+use crate::line::{PlacedLine, is_plain, parse_placed, strict_of};
 use crate::listing::say_pages;
 use crate::process::{allowed_in, kept_in, process, version_in};
 use crate::tell::{say_placed, say_refusal};
@@ -113,21 +116,11 @@ fn follow(beside: &mut Option<Beside>, old: &NodeMask, new: &NodeMask, resident:
     }
 }
 
-/// Whether a refusal is that pages lie astray.
-fn is_astray(refusal: PlacedRefusal) -> bool
-    ensures { result ≡ is_astray_cause (Some refusal) }
-{
-    matches!(refusal, PlacedRefusal::Astray)
-}
-
 /// Whether pages of a span were stated to lie somewhere: then they lie astray of no nodes at all.
 fn has_stated(placed: &Placed, start: u64, length: u64) -> bool
     ensures { result ≡ has_stated (spot_at placed.now) start length }
 {
-    match placed.judge_strict(start, length, &NodeMask::empty()) {
-        Ok(()) => false,
-        Err(refusal) => is_astray(refusal),
-    }
+    stated_astray(placed, start, length, &NodeMask::empty())
 }
 
 /// The pages, with nothing stated of those of a span.
@@ -348,6 +341,58 @@ impl PlacedScript {
         }
     }
 
+    /// Answers a line `mbind .. strict`, given without its last word. Returns whether memory ran
+    /// out.
+    #[inline(never)]
+    fn bind_strictly<W: Write>(
+        &mut self,
+        alloc: Global,
+        command: &[u8],
+        output: &mut Watched<W>,
+    ) -> bool
+        ensures { ServesScene W.contents self.old.script self.old.beside output.old self.new.script
+            self.new.beside output.new (λ refused scene. strict_served refused scene command.now) }
+    {
+        let said = parse(command);
+        let Some(found) = process(&self.script) else {
+            return self.pass(alloc, command, &said, output);
+        };
+        let Some(binding) = binding_of(&said) else {
+            return self.pass(alloc, command, &said, output);
+        };
+        if !has_astray(found.1, &self.beside, &binding) {
+            return self.pass(alloc, command, &said, output);
+        }
+        let Ok(late) = is_late(alloc, found.0, &said) else {
+            say_refusal(output, PlacedRefusal::NoMemory);
+            return true;
+        };
+        if late {
+            say_refusal(output, PlacedRefusal::Astray);
+            return false;
+        }
+        self.pass(alloc, command, &said, output)
+    }
+
+    /// Answers a line that isn't about pages alone. Returns whether memory ran out.
+    fn serve_other<W: Write>(
+        &mut self,
+        alloc: Global,
+        line: &[u8],
+        said: &Line<'_>,
+        output: &mut Watched<W>,
+    ) -> bool
+        requires { said.now ≡ line_of line.now }
+        ensures { ServesScene W.contents self.old.script self.old.beside output.old self.new.script
+            self.new.beside output.new (λ refused scene. served_where (strict_of line.now) refused
+            scene line.now) }
+    {
+        let Some(command) = strict_of(line) else {
+            return self.serve_plain(alloc, line, said, output);
+        };
+        self.bind_strictly(alloc, command, output)
+    }
+
     /// Answers a line that is none of every script. Returns whether memory ran out.
     #[inline(never)]
     fn serve_unknown<W: Write>(
@@ -363,7 +408,7 @@ impl PlacedScript {
     {
         let about = parse_placed(line);
         if is_plain(&about) {
-            return self.serve_plain(alloc, line, said, output);
+            return self.serve_other(alloc, line, said, output);
         }
         serve_placed(&self.script, &mut self.beside, alloc, &about, output)
     }

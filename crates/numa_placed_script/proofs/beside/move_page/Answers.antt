@@ -1,4 +1,4 @@
-use Rattle.std.proofs.Common.{◌≡◌, ℕ, ◌≤◌, arith, sym, ap, ◌∙◌}
+use Rattle.std.proofs.Common.{◌≤◌, arith, ap, ◌∙◌}
 use Rattle.numa_machine.specs.Machine.{Hardware}
 use Rattle.numa_placed_script.specs.Lying.{ground_in}
 use Rattle.numa_placed_script.proofs.Moving.{moves-filling, moves-freely}

@@ -1,5 +1,4 @@
-use Rattle.std.proofs.Common.{ℕ, refl, arith}
-use Rattle.std.proofs.lemmas.Simd.{get_or-replicate}
+use Rattle.std.proofs.Common.{arith}
 use Rattle.numa_placed_script.proofs.Singles.{told-other}
 use Rattle.numa_placed_script.proofs.beside.told_from.Goals as goal
 

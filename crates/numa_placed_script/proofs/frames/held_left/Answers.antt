@@ -1,4 +1,4 @@
-use Rattle.std.proofs.Common.{◌≡◌, ℕ, ap, ◌∙◌, arith, length}
+use Rattle.std.proofs.Common.{◌≡◌, ap, ◌∙◌, arith, length}
 use Rattle.numa_maps.specs.Residents.{Kept}
 use Rattle.numa_placed_script.specs.Lying.{held_left}
 use Rattle.numa_placed_script.proofs.HeldPages.{held-none, held-step}

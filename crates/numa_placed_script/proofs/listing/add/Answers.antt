@@ -1,4 +1,4 @@
-use Rattle.std.proofs.Common.{◌≡◌, ◌≢◌, ℕ, ◌+◌, ◌<◌, ◌≤◌, get_or, length, refl, arith, ◌∙◌, ap, sym, set}
+use Rattle.std.proofs.Common.{ℕ, ◌+◌, ◌<◌, get_or, length, arith, ◌∙◌, ap, sym, set}
 use Rattle.std.proofs.Common.{inl, inr, length-set}
 use Rattle.std.proofs.lemmas.Bool.{cases_eq}
 use Rattle.std.proofs.lemmas.List.{get_or-set_same, get_or-set_other}

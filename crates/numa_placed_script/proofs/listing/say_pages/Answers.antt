@@ -1,4 +1,4 @@
-use Rattle.std.proofs.Common.{rules, refl, ◌≡◌, List, ap, sym, subst, ◌∙◌, [], ◌++◌}
+use Rattle.std.proofs.Common.{refl, ◌≡◌, ap, sym, subst, ◌∙◌, [], ◌++◌}
 use Rattle.std.proofs.lemmas.List.{append-nil}
 use Rattle.numa_lines.proofs.Adding.{said_both, said_nothing, said_same}
 use Rattle.numa_ranges.specs.Runs.{AreApart, end_of}

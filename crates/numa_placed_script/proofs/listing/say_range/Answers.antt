@@ -1,11 +1,10 @@
-use Rattle.std.proofs.Common.{◌≡◌, ℕ, ◌+◌, ◌<◌, ap, arith, length, slice_index, sym, ◌∙◌}
+use Rattle.std.proofs.Common.{◌≡◌, ℕ, ◌+◌, ap, arith, slice_index, ◌∙◌}
 use Rattle.std.proofs.lemmas.List.Sums.{count_by-le-length}
 use Rattle.std.specs.Prelude.{◌==◌}
 use Rattle.numa_lines.proofs.Adding.{said_same}
-use Rattle.numa_maps.specs.Listing.{counted_line, pages_on, placed_in}
+use Rattle.numa_maps.specs.Listing.{counted_line, placed_in}
 use Rattle.numa_space.specs.Standing.{policy_in}
 use Rattle.numa_space.specs.declared.placement.Placement.{Placement}
-use Rattle.numa_placed.specs.Shifts.{sum_below}
 use Rattle.numa_placed_script.specs.Listings.{count_in, pages_in, stated_in}
 use Rattle.numa_placed_script.proofs.There.{line-same, sum-same}
 use Rattle.numa_placed_script.proofs.listing.say_range.Goals as goal

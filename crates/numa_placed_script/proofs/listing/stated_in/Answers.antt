@@ -1,4 +1,4 @@
-use Rattle.std.proofs.Common.{◌≡◌, ℕ, ◌≤◌, false, refl, ap, sym, ◌∙◌, arith}
+use Rattle.std.proofs.Common.{◌≡◌, ℕ, false, refl, ap, sym, ◌∙◌, arith}
 use Rattle.std.proofs.lemmas.Simd.{get_or-replicate}
 use Rattle.numa_placed.proofs.Shared.{count-le}
 use Rattle.numa_placed.specs.Spots.{is_on, pages_within, spot_at}

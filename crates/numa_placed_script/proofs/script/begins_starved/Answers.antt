@@ -1,4 +1,3 @@
-use Rattle.std.proofs.Common.{◌≡◌, refl, sym}
 use Rattle.numa_placed_script.proofs.Played.{kept-first}
 use Rattle.numa_placed_script.proofs.script.begins_starved.Goals as goal
 

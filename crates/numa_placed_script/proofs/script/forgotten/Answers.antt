@@ -1,10 +1,4 @@
-use Rattle.std.proofs.Common.{◌≡◌, ℕ, List, ap, sym, ◌∙◌, refl, subst}
-use Rattle.numa_placed.specs.Refusals.{IsRefusal, span_cause}
-use Rattle.numa_placed.specs.Spots.{spot_at, too_many}
-use Rattle.numa_placed.specs.declared.spot.Spot.{Spot}
-use Rattle.numa_ranges.specs.declared.run.Run.{Run}
-use Rattle.numa_placed_script.specs.Outcomes.{forgotten}
-use Rattle.numa_placed_script.proofs.Unmapping.{forgets-free, forgets-refused, stated-span}
+use Rattle.numa_placed_script.proofs.Unmapping.{forgets-free, forgets-refused}
 use Rattle.numa_placed_script.proofs.script.forgotten.Goals as goal
 
 pub returns-in-Ok-forget-clause-ok : goal.returns-in-Ok-forget-clause-ok

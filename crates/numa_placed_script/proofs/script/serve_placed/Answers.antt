@@ -1,4 +1,4 @@
-use Rattle.std.proofs.Common.{◌≡◌, Some, true, ap, sym, subst}
+use Rattle.std.proofs.Common.{true, ap, sym, subst}
 use Rattle.numa_lines.proofs.Adding.{said_same}
 use Rattle.numa_script.specs.Texts.{text_of}
 use Rattle.numa_placed_script.specs.Lying.{ground_in}

@@ -1,6 +1,4 @@
-use Rattle.std.proofs.Common.{◌≡◌, Some, None, sym, subst, ◌∙◌}
-use Rattle.std.specs.Prelude.{Ok, Err}
-use Rattle.numa_placed_script.specs.Standing.{Forgets}
+use Rattle.std.proofs.Common.{sym, ◌∙◌}
 use Rattle.numa_placed_script.proofs.Unmapping.{forgets-lacks, forgets-none, forgets-some}
 use Rattle.numa_placed_script.proofs.Unmapping.{forgets-still}
 use Rattle.numa_placed_script.proofs.script.without_span.Goals as goal

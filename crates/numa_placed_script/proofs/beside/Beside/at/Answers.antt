@@ -1,6 +1,5 @@
 use Rattle.std.proofs.Common.{refl, ap}
 use Rattle.numa_placed_script.specs.Lying.{ground_in}
-use Rattle.numa_placed_script.specs.declared.beside.Beside.{Beside}
 use Rattle.numa_placed_script.proofs.Served.{at-denied, at-done}
 use Rattle.numa_placed_script.proofs.beside.Beside.at.Goals as goal
 

@@ -1,8 +1,7 @@
-use Rattle.std.proofs.Common.{refl, ap, ◌∙◌, Option}
+use Rattle.std.proofs.Common.{refl}
 use Rattle.numa_mask.specs.NodeSet.{both}
 use Rattle.numa_placed.specs.Refusals.{migrate_cause}
-use Rattle.numa_placed.specs.declared.rooms.Rooms.{Rooms}
-use Rattle.numa_placed_script.specs.Lying.{ground_in, motion}
+use Rattle.numa_placed_script.specs.Lying.{motion}
 use Rattle.numa_placed_script.proofs.Migrating.{few-left}
 use Rattle.numa_placed_script.proofs.Served.{moved-denied, moved-done}
 use Rattle.numa_placed_script.proofs.beside.Beside.migrate.Goals as goal

@@ -1,8 +1,8 @@
-use Rattle.std.proofs.Common.{Option, ap, sym, subst}
+use Rattle.std.proofs.Common.{Option, sym, subst}
 use Rattle.numa_space.specs.History.{page_of}
 use Rattle.numa_space.specs.declared.placement.Placement.{Placement}
-use Rattle.numa_placed_script.specs.Lying.{Lying, ground_in}
-use Rattle.numa_placed_script.specs.Outcomes.{Outcome, move_where}
+use Rattle.numa_placed_script.specs.Lying.{ground_in}
+use Rattle.numa_placed_script.specs.Outcomes.{move_where}
 use Rattle.numa_placed_script.specs.Standing.{AnswersAs}
 use Rattle.numa_placed_script.proofs.beside.Beside.move_page.Goals as goal
 

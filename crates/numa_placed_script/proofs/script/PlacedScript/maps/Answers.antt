@@ -1,6 +1,3 @@
-use Rattle.std.proofs.Common.{◌≡◌, Some, None, Option, ap, sym, subst, refl, ◌∙◌, false}
-use Rattle.numa_lines.proofs.Adding.{said_same}
-use Rattle.numa_placed_script.specs.Lying.{Process}
 use Rattle.numa_placed_script.proofs.Mapped.{maps-passed, maps-told}
 use Rattle.numa_placed_script.proofs.script.PlacedScript.maps.Goals as goal
 

@@ -1,4 +1,4 @@
-use Rattle.std.proofs.Common.{◌≡◌, ℕ, ◌∙◌, ap, sym, subst}
+use Rattle.std.proofs.Common.{ℕ, ◌∙◌, ap, sym, subst}
 use Rattle.numa_host_script.specs.Sessions.{session_after}
 use Rattle.numa_placed_script.specs.Outcomes.{followed}
 use Rattle.numa_placed_script.specs.Processes.{allowed_in, kept_in, process_of}

@@ -1,7 +1,5 @@
-use Rattle.std.proofs.Common.{◌≡◌, Some, None, Bool, Option, ap, sym, subst, refl, is_some, ◌∙◌, ◌&&◌}
+use Rattle.std.proofs.Common.{ap, sym, is_some, ◌∙◌}
 use Rattle.numa_host_script.specs.Sessions.{session_after}
-use Rattle.numa_placed_script.specs.Outcomes.{has_stated}
-use Rattle.numa_placed_script.specs.Processes.{process_of}
 use Rattle.numa_placed_script.specs.Scenes.{concern_of}
 use Rattle.numa_placed_script.proofs.Played.{process-here, process-none}
 use Rattle.numa_placed_script.proofs.Unmapping.{unmap-denied, unmap-passed, unmap-served}

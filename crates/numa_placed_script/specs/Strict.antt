@@ -1,0 +1,54 @@
+-- `mbind .. strict`: a policy is refused for a span where pages lie on other nodes than those of its
+-- list (mbind(2), MPOL_MF_STRICT).
+use Rattle.std.specs.Prelude.{ℕ, ◌&&◌, ◌||◌, Bool, true, false, not, Option, Some, None}
+use Rattle.std.specs.Prelude.{if◌then◌else◌, Ok}
+use Rattle.std.specs.List.{list_any}
+use Rattle.numa_mask.specs.NodeSet.{has}
+use Rattle.numa_mode.specs.Policy.{Specification, is_default}
+use Rattle.numa_ranges.specs.Runs.{in_pages}
+use Rattle.numa_space.specs.History.{page_of, page_count}
+use Rattle.numa_space.specs.Refusals.{refusal_of}
+use Rattle.numa_space.specs.declared.command.Command.TheVariants.{Mbind}
+use Rattle.numa_space.specs.declared.refusal.Refusal.{Refusal}
+use Rattle.numa_space.specs.declared.refusal.Refusal.TheVariants.{NoMemory, TooManyRanges}
+use Rattle.numa_maps.specs.Residents.{Kept}
+use Rattle.numa_placed.specs.Astray.{strict_cause}
+use Rattle.numa_placed.specs.declared.spot.Spot.{Spot}
+use Rattle.numa_script.specs.declared.line.Line.{Line}
+use Rattle.numa_script.specs.declared.line.Line.TheVariants as plain
+use Rattle.numa_placed_script.specs.Lying.{Process}
+use Rattle.numa_placed_script.specs.Outcomes.{is_astray_cause}
+use Rattle.numa_placed_script.specs.declared.binding.Binding.{Binding}
+
+-- a command that may be refused for pages: `default` takes policies away, and drops `strict`
+abbrev pub strict_binding : ℕ → ℕ → Specification → Option Binding
+strict_binding start bytes spec = if is_default spec then None
+    else Some (record { start = start; length = bytes; list = spec.mask })
+
+abbrev pub binding_of : Line → Option Binding
+binding_of (plain.Command (Ok (Mbind start bytes spec))) = strict_binding start bytes spec
+binding_of _ = None
+
+-- a page of the span keeps a frame of another node than those of the list
+abbrev pub held_astray : Kept → ℕ → ℕ → ℕ → Bool
+held_astray kept first pages list =
+    list_any (λ at. in_pages first pages at.0 && not (has list at.1.node)) kept
+
+-- a page of the span lies on another node than those of the list as it is written
+abbrev pub has_astray : Kept → (ℕ → Spot) → Binding → Bool
+has_astray kept spots said =
+    is_astray_cause (strict_cause spots said.start said.length said.list)
+    || held_astray kept (page_of said.start) (page_count said.length) said.list
+
+-- pages are judged after all that may refuse the command but the number of ranges, and memory
+abbrev pub is_late : Option Refusal → Bool
+is_late None = true
+is_late (Some TooManyRanges) = true
+is_late (Some NoMemory) = true
+is_late (Some _) = false
+
+-- the first cause against the command of a line, lack of memory apart
+abbrev pub cause_against : Process → Line → Option Refusal
+cause_against process (plain.Command (Ok said)) =
+    refusal_of process.machine process.bounds process.history said
+cause_against process _ = None

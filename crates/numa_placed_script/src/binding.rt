@@ -1,0 +1,177 @@
+//! `mbind .. strict`: whether pages lie on other nodes than those of a policy's list.
+ghost use Rattle.std.specs.Prelude.{◌≡◌, ◌&&◌, ◌||◌, Bool, Some, false, not, IfErr, IfOk, List};
+ghost use Rattle.numa_mask.specs.NodeSet.{has};
+ghost use Rattle.numa_mode.specs.Policy.{Specification};
+ghost use Rattle.numa_ranges.specs.Runs.{in_pages};
+ghost use Rattle.numa_space.specs.History.{page_count, page_of};
+ghost use Rattle.numa_space.specs.Refusals.{refusal_of};
+ghost use Rattle.numa_space.specs.Standing.{StandsFor};
+ghost use Rattle.numa_space.specs.declared.command.Command.{Command};
+ghost use Rattle.numa_maps.specs.Residents.{Kept};
+ghost use Rattle.numa_placed.specs.Astray.{strict_cause};
+ghost use Rattle.numa_placed.specs.Spots.{spot_at};
+ghost use Rattle.numa_placed_script.specs.Lying.{Lying, Process};
+ghost use Rattle.numa_placed_script.specs.Outcomes.{is_astray_cause};
+ghost use Rattle.numa_placed_script.specs.Standing.{Lies};
+ghost use Rattle.numa_placed_script.specs.Strict.{binding_of, cause_against, has_astray, held_astray};
+ghost use Rattle.numa_placed_script.specs.Strict.{is_late, strict_binding};
+
+use crate::beside::Beside;
+use numa_machine::NoMemory;
+use numa_maps::Resident;
+use numa_mask::NodeMask;
+use numa_mode::PolicySpec;
+use numa_placed::{Placed, PlacedRefusal};
+use numa_script::Line;
+use numa_space::{Command, PAGE_BYTES, Refusal, Space};
+use std::alloc::Global;
+
+/// A command that may be refused for the pages of its span: those on other nodes than its list has.
+#[derive(Clone, Copy, Drop)]
+pub(crate) struct Binding {
+    pub start: u64,
+    pub length: u64,
+    pub list: NodeMask,
+}
+
+/// The command of a policy; `default` is never refused for pages.
+fn strict_binding(start: u64, length: u64, spec: &PolicySpec) -> Option<Binding>
+    ensures { result ≡ strict_binding start length spec.now }
+{
+    if spec.is_default() {
+        return None;
+    }
+    let list = spec.mask();
+    Some(Binding {
+        start,
+        length,
+        list,
+    })
+}
+
+/// The command of a line, if pages may refuse it.
+pub(crate) fn binding_of(line: &Line<'_>) -> Option<Binding>
+    ensures { result ≡ binding_of line.now }
+{
+    match line {
+        Line::Command(
+            Ok(
+                Command::Mbind {
+                    start,
+                    length,
+                    spec,
+                },
+            ),
+        ) => strict_binding(*start, *length, spec),
+        _ => None,
+    }
+}
+
+/// Whether a page is one of a span.
+fn is_in(first: u64, pages: u64, page: u64) -> bool
+    ensures { result ≡ in_pages first pages page }
+{
+    page >= first && page - first < pages
+}
+
+/// Whether a page of a span keeps a frame of another node than those of a list.
+fn held_astray(resident: &Resident, first: u64, pages: u64, list: &NodeMask) -> bool
+    ensures { result ≡ held_astray resident.now first pages list.now }
+{
+    for (page, placement) in resident.iter() {
+        if is_in(first, pages, *page) && !list.has(placement.node) {
+            return true;
+        }
+    }
+    false
+}
+
+/// Whether a refusal is that pages lie astray.
+pub(crate) fn is_astray(refusal: PlacedRefusal) -> bool
+    ensures { result ≡ is_astray_cause (Some refusal) }
+{
+    matches!(refusal, PlacedRefusal::Astray)
+}
+
+/// Whether a stated page of a span lies on another node than those of a list.
+pub(crate) fn stated_astray(placed: &Placed, start: u64, length: u64, list: &NodeMask) -> bool
+    ensures { result ≡ is_astray_cause (strict_cause (spot_at placed.now) start length list.now) }
+{
+    match placed.judge_strict(start, length, list) {
+        Ok(()) => false,
+        Err(refusal) => is_astray(refusal),
+    }
+}
+
+/// Whether a stated page lies on another node than those of a list.
+fn lies_astray(beside: &Option<Beside>, said: &Binding) -> bool
+    ensures { (lying : Lying) → Lies beside.now lying → result
+        ≡ is_astray_cause (strict_cause lying.spots said.now.start said.now.length said.now.list) }
+{
+    match beside {
+        None => false,
+        Some(kept) => stated_astray(&kept.placed, said.start, said.length, &said.list),
+    }
+}
+
+/// The number of pages that so many bytes reach into.
+fn page_count(length: u64) -> u64
+    ensures { result ≡ page_count length }
+{
+    length / PAGE_BYTES + u64::from(length % PAGE_BYTES != 0)
+}
+
+/// Whether a page of a span lies on another node than those of a list.
+pub(crate) fn has_astray(resident: &Resident, beside: &Option<Beside>, said: &Binding) -> bool
+    ensures { (lying : Lying) → Lies beside.now lying
+        → result ≡ has_astray resident.now lying.spots said.now }
+{
+    let first = said.start / PAGE_BYTES;
+    let pages = page_count(said.length);
+    let stated = lies_astray(beside, said);
+    let held = held_astray(resident, first, pages, &said.list);
+    stated || held
+}
+
+/// Whether pages are judged before this cause.
+fn is_late_cause(refusal: Refusal) -> bool
+    ensures { result ≡ is_late (Some refusal) }
+{
+    matches!(refusal, Refusal::TooManyRanges | Refusal::NoMemory)
+}
+
+/// Whether pages are judged before what stands against a command, tried on a copy of the space.
+///
+/// # Errors
+/// `NoMemory`: there is no memory for the copy.
+fn is_late_in(alloc: Global, space: &Space, command: &Command) -> Result<bool, NoMemory>
+    ensures { IfOk result (λ late. (history : List Command) → StandsFor space.now history
+        → late ≡ is_late (refusal_of space.now.machine space.now.bounds history command.now)) }
+{
+    let mut trial = space.copy(alloc)?;
+    let tried = trial.apply(command);
+    drop(trial);
+    match tried {
+        Ok(_) => Ok(true),
+        Err(refusal) => Ok(is_late_cause(refusal)),
+    }
+}
+
+/// Whether pages are judged before what stands against the command of a line.
+///
+/// # Errors
+/// `NoMemory`: there is no memory to try it.
+pub(crate) fn is_late(alloc: Global, space: &Space, line: &Line<'_>) -> Result<bool, NoMemory>
+    ensures { IfOk result (λ late. (history : List Command) (kept : Kept)
+        → StandsFor space.now history → late ≡ is_late (cause_against (record {
+          machine = space.now.machine;
+          bounds = space.now.bounds;
+          history = history;
+          kept = kept;
+        }) line.now)) }
+{
+    match line {
+        Line::Command(Ok(command)) => is_late_in(alloc, space, command),
+        _ => Ok(true),
+    }
+}
