@@ -13,8 +13,6 @@ from scripts import BASE, PAGE, PAGES
 class MoveScript(scripts.Script):
     """The lines of one script, and what stands after them."""
 
-    binds = True  # whether there are lines `mbind` with flags, which a kernel is asked and no program
-
     def __init__(self, seed):
         super().__init__(f"of moves {seed}")
 
@@ -89,8 +87,7 @@ class MoveScript(scripts.Script):
         self.opening()
         self.follows()
         told = [self.at] * 8 + [self.room] * 3 + [self.follows] * self.likely(0.2)
-        moves = [self.mems] * 4 + [self.migrate] * 6 + [self.move] * 4
-        moves += [self.mbind_with] * 7 * self.binds
+        moves = [self.mems] * 4 + [self.migrate] * 6 + [self.move] * 4 + [self.mbind_with] * 7
         moves += [self.squeeze] * 3
         commands = [self.map] * 4 + [self.mbind] * 3 + [self.task] * 2 + [self.unmap, self.weight]
         asked = [self.maps] * 5 + [self.moved] * 4 + [self.place, self.publish]
@@ -101,9 +98,10 @@ class MoveScript(scripts.Script):
 
 
 class LineScript(MoveScript):
-    """The same of the lines that the program's language has."""
+    """The same of the lines that the program's language has: of the flags of mbind(2) but one."""
 
-    binds = False
+    def mbind_with(self):
+        self.say("mbind", *self.bytes(*self.span()), self.policy(), "strict")
 
 
 if __name__ == "__main__":

@@ -198,7 +198,7 @@ def move(state, address, node):
     return f"node {node}"
 
 
-# ---- mbind with flags: lines of a kernel's calls, which the program's language hasn't
+# ---- mbind with flags: but for `strict`, lines of a kernel's calls that the program's language hasn't
 
 
 def astray(state, start, length, asked):
