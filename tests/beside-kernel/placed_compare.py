@@ -147,22 +147,23 @@ def tell_pages(where, wanted, got):
     return bool(pages)
 
 
-def knows_flags(program):
-    """Whether the program's language has `mbind` with flags."""
-    return run(program, ["machine 1 0 8 flat", "mbind 0 0 local strict"])[-1] != "bad words"
+def known_flags(program):
+    """Which flags of `mbind` the program's language has."""
+    return {word for word, flags in (("strict", "strict"), ("move", "move 1 0"))
+            if run(program, ["machine 1 0 8 flat", f"mbind 0 0 local {flags}"])[-1] != "bad words"}
 
 
-def has_flags(line):
-    return line.startswith("mbind ") and len(line.split()) > 4
+def flags_of(line):
+    return {"strict", "move"} & set(line.split()[4:]) if line.startswith("mbind ") else set()
 
 
-def compare_program(program, flags, machine, script, counts):
-    """One script, without what happens to pages of the player, and without flags where the program
-    knows none: the program beside the model, with the listing behind each line that may have moved
-    pages."""
+def compare_program(program, known, machine, script, counts):
+    """One script, without what happens to pages of the player, and without lines whose flags the
+    program doesn't know: the program beside the model, with the listing behind each line that may
+    have moved pages."""
     name, lines = script
     asked = ["maps 1" if line == "lie" else line for line, _ in lines if line != "own"]
-    asked = [line for line in asked if flags or not has_flags(line)]
+    asked = [line for line in asked if flags_of(line) <= known]
     lines = ["rules linux", *opening(machine), *asked]
     said, state = iter(run(program, lines)), model.State()
     for line in lines:
@@ -179,7 +180,7 @@ def main():
     program = None
     if paths[0].startswith("--program="):
         program = paths.pop(0).removeprefix("--program=")
-        flags = knows_flags(program)
+        known = known_flags(program)
     counts, scripts = collections.Counter(), 0
     for path in paths:
         machine, _, seen = read_seen(path)
@@ -187,7 +188,7 @@ def main():
         for script in seen:
             compare(machine, script, counts)
             if program:
-                compare_program(program, flags, machine, script, counts)
+                compare_program(program, known, machine, script, counts)
     for row, what in ROWS.items():
         if counts[row]:
             print(f"{counts[row]} {what}")
