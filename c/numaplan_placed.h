@@ -163,9 +163,10 @@ uint32_t np_pages_move(np_pages *pages, uint64_t address, uint32_t node);
 /* Gives the pages of a span a policy as np_pages_mbind, and moves those that lie on nodes that
  * aren't in the policy's list as it is written (mbind(2), MPOL_MF_MOVE; "default" and "local":
  * all): the lowest first, each to the first node with room of its list, as a fault of the task on
- * the node `cpu` would put it. What they did is written to `bound`, where NP_OK is answered; where
- * pages stayed and `strict` (MPOL_MF_STRICT too), which "default" drops, with EIO. A faulty word
- * is told first: 60 to 63, 70 to 74. NP_CLOSED; 10 to 23; NP_TOO_MANY_RUNS, NP_NO_MEMORY. */
+ * the node `cpu` would put it; all of them stay where the machine has no such node. What they did
+ * is written to `bound`, where NP_OK is answered; where pages stayed and `strict` (MPOL_MF_STRICT
+ * too), which "default" drops, with EIO. A faulty word is told first: 60 to 63, 70 to 74.
+ * NP_CLOSED; 10 to 23; NP_TOO_MANY_RUNS, NP_NO_MEMORY. */
 uint32_t np_pages_mbind_moving(np_pages *pages, uint64_t start, uint64_t length,
                                const uint8_t *policy, size_t policy_length, bool strict,
                                uint32_t task, uint32_t cpu, np_bound *bound);

@@ -193,8 +193,9 @@ class Pages(Owner):
                      strict: bool = False) -> Bound:
         """Gives pages a policy as `mbind`, and moves those that lie on nodes that aren't in the
         policy's list as it is written (MPOL_MF_MOVE): the lowest first, each to the first node with
-        room of its list, as a fault of the task on the node `cpu` would put it. If `strict`, that
-        pages stayed is told as EIO (MPOL_MF_STRICT too; "default" drops it)."""
+        room of its list, as a fault of the task on the node `cpu` would put it; all of them stay
+        where the machine has no such node. If `strict`, that pages stayed is told as EIO
+        (MPOL_MF_STRICT too; "default" drops it)."""
         told = ToldBound()
         call("pages_mbind_moving", self._at, u64("start", start), u64("length", length),
              *encoded(policy), strict, u32("task", task), u32("cpu", cpu), byref(told))
