@@ -2,7 +2,7 @@
 ghost use Rattle.std.specs.Prelude.{◌≡◌, ◌+◌, ◌*◌, ◌<◌, ◌≤◌, ◌^◌, List, [], ◌∷◌, ◌++◌, length};
 ghost use Rattle.std.specs.Prelude.{take, drop};
 ghost use Rattle.std.specs.List.{slice_range};
-ghost use Rattle.std.specs.Prelude.{Option, All};
+ghost use Rattle.std.specs.Prelude.{Option, None, All};
 ghost use Rattle.numa_rows.specs.Changes.{Makes};
 ghost use Rattle.numa_ranges.specs.Runs.{AreApart};
 ghost use Rattle.numa_ranges.specs.Edits.{IsInRange, part_before, part_within, part_from};
@@ -22,37 +22,39 @@ use crate::runs::Runs;
 use numa_rows::{Iter, Owned};
 use std::alloc::Global;
 
-/// Gathers the next `count` rows, with the pages inside the span edited, in the vector `closed`.
+/// Gathers the next `count` rows, with the pages inside the span edited.
+#[inline]
 pub(crate) fn gather_edited<T: Exact, F: Fn(&T) -> Option<T>>(
-    closed: Vec<EditedRow>,
+    rows: &mut EditedRows,
     rest: &mut Iter<'_, Row, Owned<Row>>,
     values: &[T],
     count: usize,
     first: u64,
     end: u64,
     edit: &F,
-) -> EditedRows
+)
     requires callable { F.IsAlwaysCallable edit.now }
+    requires closed { rows.old.closed.items ≡ [] }
+    requires open_row { rows.old.open_row ≡ None }
+    requires none { rows.old.count ≡ 0 }
     requires numbered { AreNumbered values.now rest.old }
     requires within { count ≤ length rest.old }
     requires len { count ≤ 2 ^ 32 }
     requires in_range { All IsInRange (take count (runs_of values.now rest.old)) }
     ensures gathered { (change : T → Option T) → Makes F.Fn edit.now change
-        → AreGathered T.eq change values.now result
+        → AreGathered T.eq change values.now rows.new
         (edit_of first end change (take count (runs_of values.now rest.old))) }
-    ensures count { result.count ≤ 3 * count }
+    ensures count { rows.new.count ≤ 3 * count }
 {
-    let mut rows = EditedRows::new(closed, count + 2);
     for k in 0..count {
         let Some(seen) = rest.next() else {
             unreachable!()
         };
         let row: Row = *seen;
-        add_before(&mut rows, values, row, first, edit);
-        add_within(&mut rows, values, row, first, end, edit);
-        add_from(&mut rows, values, row, end, edit);
+        add_before(rows, values, row, first, edit);
+        add_within(rows, values, row, first, end, edit);
+        add_from(rows, values, row, end, edit);
     }
-    rows
 }
 
 /// Gathers the runs from one rank to another, with a run inserted at a place between them. `near`

@@ -229,7 +229,8 @@ impl<T: Exact> Runs<T> {
         let mut numbered = replace(&mut self.numbered, Vec::new(self.alloc));
         let mut rest = self.rows.iter_near(from, near);
         let values = self.values.items();
-        let mut edited = gather_edited(closed, &mut rest, values, to - from, first, end, edit);
+        let mut edited = EditedRows::new(closed, to - from + 2);
+        gather_edited(&mut edited, &mut rest, values, to - from, first, end, edit);
         let outcome = edited.put(
             &mut self.rows,
             &mut self.values,

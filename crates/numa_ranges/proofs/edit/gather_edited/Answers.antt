@@ -1,6 +1,6 @@
 -- One more row adds its parts before the span, in it and behind it.
 use Rattle.std.proofs.Common.{◌≡◌, ◌++◌, List, length, take, ap, sym, subst, ◌∙◌, append_assoc}
-use Rattle.std.proofs.Common.{arith}
+use Rattle.std.proofs.Common.{arith, rules, refl, None, []}
 use Rattle.std.proofs.lemmas.List.{length-drop}
 use Rattle.numa_ranges.specs.declared.run.Run.{Run}
 use Rattle.numa_ranges.specs.Edits.{edit_of, part_before, part_within, part_from}
@@ -86,3 +86,17 @@ loop-k-preserved g c =
         inv.count,
       );
     }
+
+pub loop-k-init : goal.loop-k-init
+loop-k-init g c = record {
+  rest = refl;
+  gathered = λ change gives. record {
+    closed = [];
+    open_run = None;
+    count = c.requires.none;
+    kept = λ stays. search rules;
+    opened = search rules;
+    so_far = λ rest. refl;
+  };
+  count = omega (arith, c.requires.none);
+}

@@ -22,14 +22,14 @@ iter_near-rest-requires g c =
       ap length c.self.view_is,
     )
 
-pub gather_edited-edited-requires-clause-numbered :
-    goal.gather_edited-edited-requires-clause-numbered
-gather_edited-edited-requires-clause-numbered g c =
+pub gather_edited-requires-clause-numbered :
+    goal.gather_edited-requires-clause-numbered
+gather_edited-requires-clause-numbered g c =
     rw (c.items-values.ensures, c.iter_near-rest.ensures)
     (numbered-drop c.self.inside.values c.args.from c.self.inside.rows c.self.invariant)
 
-pub gather_edited-edited-requires-clause-within : goal.gather_edited-edited-requires-clause-within
-gather_edited-edited-requires-clause-within g c =
+pub gather_edited-requires-clause-within : goal.gather_edited-requires-clause-within
+gather_edited-requires-clause-within g c =
     omega (
       arith,
       ap length c.iter_near-rest.ensures,
@@ -40,8 +40,8 @@ gather_edited-edited-requires-clause-within g c =
       ap length c.self.view_is,
     )
 
-pub gather_edited-edited-requires-clause-len : goal.gather_edited-edited-requires-clause-len
-gather_edited-edited-requires-clause-len g c =
+pub gather_edited-requires-clause-len : goal.gather_edited-requires-clause-len
+gather_edited-requires-clause-len g c =
     omega (
       arith,
       c.len.ensures.len,
@@ -52,9 +52,9 @@ gather_edited-edited-requires-clause-len g c =
       ap length c.self.view_is,
     )
 
-pub gather_edited-edited-requires-clause-in_range :
-    goal.gather_edited-edited-requires-clause-in_range
-gather_edited-edited-requires-clause-in_range g c =
+pub gather_edited-requires-clause-in_range :
+    goal.gather_edited-requires-clause-in_range
+gather_edited-requires-clause-in_range g c =
     let values = c.self.inside.values in
     let rows = c.self.inside.rows in
     let same : runs_of c.items-values.result.now c.iter_near-rest.result ≡ drop c.args.from
@@ -79,7 +79,7 @@ pub put-outcome-requires-clause-room : goal.put-outcome-requires-clause-room
 put-outcome-requires-clause-room g c =
     omega (
       arith,
-      c.gather_edited-edited.ensures.count,
+      c.gather_edited.ensures.count,
       c.len.ensures.len,
       c.len.ensures.bound,
       c.requires.window.0,
@@ -100,9 +100,9 @@ put-outcome-requires-clause-gathered g c =
           gives,
           gathered-window g.T.PartialEq.eq g.met.T.Exact.exact g.met.T.Eq.laws.refl change
               c.items-values.result.now c.self.inside.values c.iter_near-rest.result
-              c.self.inside.rows c.gather_edited-edited.result c.args.from c.args.to c.args.first
+              c.self.inside.rows c.gather_edited.new.rows c.args.from c.args.to c.args.first
               c.args.end c.self.invariant c.items-values.ensures c.iter_near-rest.ensures
-              (c.gather_edited-edited.ensures.gathered change gives),
+              (c.gather_edited.ensures.gathered change gives),
         ),
       ),
     )
@@ -114,9 +114,9 @@ returns-clause-ok g c change gives =
     (edit_of c.args.first c.args.end change (slice_range whole c.args.from c.args.to))
     (gathered-window g.T.PartialEq.eq g.met.T.Exact.exact g.met.T.Eq.laws.refl change
     c.items-values.result.now c.self.inside.values c.iter_near-rest.result c.self.inside.rows
-    c.gather_edited-edited.result c.args.from c.args.to c.args.first c.args.end c.self.invariant
+    c.gather_edited.new.rows c.args.from c.args.to c.args.first c.args.end c.self.invariant
     c.items-values.ensures c.iter_near-rest.ensures
-    (c.gather_edited-edited.ensures.gathered change gives)) in
+    (c.gather_edited.ensures.gathered change gives)) in
     subst (λ (l : List (Run g.row.T.Denot)).
     OnOk c.put-outcome.result ((runs_of c.put-outcome.new.values c.put-outcome.new.rows ≡ splice l c.args.from c.args.to
     (maximal_runs g.T.PartialEq.eq
@@ -131,11 +131,23 @@ returns-clause-err g c change gives =
     (edit_of c.args.first c.args.end change (slice_range whole c.args.from c.args.to))
     (gathered-window g.T.PartialEq.eq g.met.T.Exact.exact g.met.T.Eq.laws.refl change
     c.items-values.result.now c.self.inside.values c.iter_near-rest.result c.self.inside.rows
-    c.gather_edited-edited.result c.args.from c.args.to c.args.first c.args.end c.self.invariant
+    c.gather_edited.new.rows c.args.from c.args.to c.args.first c.args.end c.self.invariant
     c.items-values.ensures c.iter_near-rest.ensures
-    (c.gather_edited-edited.ensures.gathered change gives)) in
+    (c.gather_edited.ensures.gathered change gives)) in
     subst (λ (l : List (Run g.row.T.Denot)).
     IfErr c.put-outcome.result (λ refusal. refusal ≡ (if nat_lt c.args.limit
     (length (splice l c.args.from c.args.to (maximal_runs g.T.PartialEq.eq
     (edit_of c.args.first c.args.end change (slice_range l c.args.from c.args.to)))))
     then TooManyRanges else NoMemory))) c.self.view_is put
+
+pub overflow_add-to : goal.overflow_add-to
+overflow_add-to g c =
+    omega (
+      arith,
+      c.len.ensures.len,
+      c.len.ensures.bound,
+      c.requires.window.0,
+      c.requires.window.1,
+      length-runs c.self.inside.values c.self.inside.rows c.self.invariant,
+      ap length c.self.view_is,
+    )
