@@ -155,48 +155,49 @@ impl Pages {
         &mut self,
         first: u64,
         pages: u64,
-        policy: Option<Record>,
+        to: &RangeRecord,
         passes_holes: bool,
     ) -> Result<(), Refusal>
         requires span { IsSpan first pages }
         ensures edit { IsEdit (first_of (hole_cause passes_holes (page_at self.old.runs) first pages)
-            (too_many self.old.limit (changed_span first pages (λ old. policy)
-            (page_at self.old.runs)))) (changed_span first pages (λ old. policy)
+            (too_many self.old.limit (changed_span first pages (λ old. to.now)
+            (page_at self.old.runs)))) (changed_span first pages (λ old. to.now)
             (page_at self.old.runs)) self.old result self.new }
         ensures limit { self.new.limit ≡ self.old.limit }
     {
         if !passes_holes {
-            return self.bind_whole(first, pages, policy);
+            return self.bind_whole(first, pages, to);
         }
         if !self.has_page(PageTest::IsMapped, first, pages) {
             return Err(Refusal::Hole);
         }
-        self.bind_mapped(first, pages, policy)
+        self.bind_mapped(first, pages, to)
     }
 
     /// Sets the policy of a span's pages, all of which have to be mapped.
-    fn bind_whole(&mut self, first: u64, pages: u64, policy: Option<Record>) -> Result<(), Refusal>
+    fn bind_whole(&mut self, first: u64, pages: u64, to: &RangeRecord) -> Result<(), Refusal>
         requires span { IsSpan first pages }
         ensures edit { IsEdit (first_of (hole_cause false (page_at self.old.runs) first pages)
-            (too_many self.old.limit (changed_span first pages (λ old. policy)
-            (page_at self.old.runs)))) (changed_span first pages (λ old. policy)
+            (too_many self.old.limit (changed_span first pages (λ old. to.now)
+            (page_at self.old.runs)))) (changed_span first pages (λ old. to.now)
             (page_at self.old.runs)) self.old result self.new }
         ensures limit { self.new.limit ≡ self.old.limit }
     {
-        answered(self.map.set_span(first, pages, RangeRecord::of(policy)))
+        answered(self.map.set_span(first, pages, *to))
     }
 
     /// Sets the policy of the mapped pages of a span.
-    fn bind_mapped(&mut self, first: u64, pages: u64, policy: Option<Record>) -> Result<(), Refusal>
+    fn bind_mapped(&mut self, first: u64, pages: u64, to: &RangeRecord) -> Result<(), Refusal>
         requires span { IsSpan first pages }
-        ensures edit { IsEdit (too_many self.old.limit (changed_span first pages (λ old. policy)
-            (page_at self.old.runs))) (changed_span first pages (λ old. policy)
+        ensures edit { IsEdit (too_many self.old.limit (changed_span first pages (λ old. to.now)
+            (page_at self.old.runs))) (changed_span first pages (λ old. to.now)
             (page_at self.old.runs)) self.old result self.new }
         ensures limit { self.new.limit ≡ self.old.limit }
     {
-        let bound = |value: &RangeRecord| -> RangeRecord
-            ensures { result ≡ policy }
-        { RangeRecord::of(policy) };
+        let made = *to;
+        let bound = |old: &RangeRecord| -> RangeRecord
+            ensures { result ≡ made }
+        { made };
         answered(self.map.update_span(first, pages, bound))
     }
 

@@ -133,42 +133,42 @@ impl Space {
         if self.version >= u64::from(self.limits.max_commands()) {
             return Err(Refusal::CommandsSpent);
         }
-        match *command {
+        match command {
             Command::Map {
                 start,
                 length,
                 offset,
-            } => self.map(start, length, offset),
-            Command::Unmap { start, length } => self.unmap(start, length),
+            } => self.map(*start, *length, *offset),
+            Command::Unmap { start, length } => self.unmap(*start, *length),
             Command::Mbind {
                 start,
                 length,
                 spec,
-            } => self.bind(start, length, spec),
-            Command::SetTask { task, spec } => self.set_task(task, spec),
-            Command::Inherit { task, from } => self.inherit(task, from),
+            } => self.bind(*start, *length, spec),
+            Command::SetTask { task, spec } => self.set_task(*task, spec),
+            Command::Inherit { task, from } => self.inherit(*task, *from),
             Command::SetHome {
                 start,
                 length,
                 node,
-            } => self.set_home(start, length, node),
-            Command::SetWeight { node, weight } => self.set_weight(node, weight),
+            } => self.set_home(*start, *length, *node),
+            Command::SetWeight { node, weight } => self.set_weight(*node, *weight),
             Command::SetMems { mask } => self.set_mems(mask),
         }
     }
 
     /// The policy that a specification sets now; DEFAULT sets none.
-    fn policy_of(&self, spec: PolicySpec) -> Result<Option<Record>, Refusal>
-        ensures { MatchResult result (λ policy. (has_no_node self.now.allowed spec ≡ false)
-            × (policy ≡ record_now self.now.allowed spec))
-            (λ refusal. (has_no_node self.now.allowed spec ≡ true)
+    fn record_of(&self, spec: &PolicySpec) -> Result<RangeRecord, Refusal>
+        ensures { MatchResult result (λ policy. (has_no_node self.now.allowed spec.now ≡ false)
+            × (policy ≡ record_now self.now.allowed spec.now))
+            (λ refusal. (has_no_node self.now.allowed spec.now ≡ true)
             × (refusal ≡ Refusal.NodesNotAllowed)) }
     {
         if spec.mode() == Mode::Default {
-            return Ok(None);
+            return Ok(RangeRecord::of(None));
         }
-        match Record::set(spec, &self.allowed) {
-            Ok(policy) => Ok(Some(policy)),
+        match Record::set(*spec, &self.allowed) {
+            Ok(policy) => Ok(RangeRecord::of(Some(policy))),
             Err(_) => Err(Refusal::NodesNotAllowed),
         }
     }
@@ -230,28 +230,26 @@ impl Space {
         }
     }
 
-    fn bind(&mut self, start: u64, length: u64, spec: PolicySpec) -> Result<Change, Refusal>
+    fn bind(&mut self, start: u64, length: u64, spec: &PolicySpec) -> Result<Change, Refusal>
         requires { self.old.version < self.old.bounds.max_commands }
-        ensures answer { IsAnswer self.old (Command.Mbind start length spec) result self.new }
-        ensures change { IfOk result (IsChange self.old (Command.Mbind start length spec)) }
+        ensures answer { IsAnswer self.old (Command.Mbind start length spec.now) result self.new }
+        ensures change { IfOk result (IsChange self.old (Command.Mbind start length spec.now)) }
         ensures room { IfErr result (λ refusal. refusal ≡ Refusal.NoMemory
-            → MayNeedRoom (Command.Mbind start length spec)) }
+            → MayNeedRoom (Command.Mbind start length spec.now)) }
     {
         let (first, pages) = span_of(start, length)?;
         if length == 0 {
             self.version += 1;
             return Ok(Change::Nothing);
         }
-        let Ok(policy) = self.policy_of(spec) else {
+        let Ok(policy) = self.record_of(spec) else {
             return Err(self.hole_or_nodes(first, pages));
         };
-        let record = RangeRecord::of(policy);
-        let passes_holes = self.passes_holes(&spec);
-        self.pages
-            .bind_span(first, pages, record.policy(), passes_holes)?;
+        let passes_holes = self.passes_holes(spec);
+        self.pages.bind_span(first, pages, &policy, passes_holes)?;
         self.version += 1;
         let pages = self.pages.changed(first, pages);
-        Ok(bound(pages, &record))
+        Ok(bound(pages, &policy))
     }
 
     /// Whether a task has no policy, and the limit of tasks with one is reached.
@@ -263,14 +261,14 @@ impl Space {
         self.tasks.get(task).is_none() && is_full
     }
 
-    fn set_task(&mut self, task: u32, spec: PolicySpec) -> Result<Change, Refusal>
+    fn set_task(&mut self, task: u32, spec: &PolicySpec) -> Result<Change, Refusal>
         requires { self.old.version < self.old.bounds.max_commands }
-        ensures answer { IsAnswer self.old (Command.SetTask task spec) result self.new }
-        ensures change { IfOk result (IsChange self.old (Command.SetTask task spec)) }
+        ensures answer { IsAnswer self.old (Command.SetTask task spec.now) result self.new }
+        ensures change { IfOk result (IsChange self.old (Command.SetTask task spec.now)) }
         ensures room { IfErr result (λ refusal. refusal ≡ Refusal.NoMemory
-            → MayNeedRoom (Command.SetTask task spec)) }
+            → MayNeedRoom (Command.SetTask task spec.now)) }
     {
-        let Some(policy) = self.policy_of(spec)? else {
+        let Some(policy) = self.record_of(spec)?.policy() else {
             self.tasks.clear(task);
             self.version += 1;
             return Ok(Change::TaskSet { task, policy: None });
@@ -393,17 +391,17 @@ impl Space {
     }
 
     /// Changes the allowed nodes.
-    fn set_mems(&mut self, mask: NodeMask) -> Result<Change, Refusal>
+    fn set_mems(&mut self, mask: &NodeMask) -> Result<Change, Refusal>
         requires { self.old.version < self.old.bounds.max_commands }
-        ensures answer { IsAnswer self.old (Command.SetMems mask) result self.new }
-        ensures change { IfOk result (IsChange self.old (Command.SetMems mask)) }
+        ensures answer { IsAnswer self.old (Command.SetMems mask.now) result self.new }
+        ensures change { IfOk result (IsChange self.old (Command.SetMems mask.now)) }
         ensures room { IfErr result (λ refusal. refusal ≡ Refusal.NoMemory
-            → MayNeedRoom (Command.SetMems mask)) }
+            → MayNeedRoom (Command.SetMems mask.now)) }
     {
-        if has_node_from(&mask, self.machine.nodes()) {
+        if has_node_from(mask, self.machine.nodes()) {
             return Err(Refusal::NoSuchNode);
         }
-        let Some(allowed) = self.mems_of(&mask) else {
+        let Some(allowed) = self.mems_of(mask) else {
             return Err(Refusal::NodesNotAllowed);
         };
         let before = self.allowed;

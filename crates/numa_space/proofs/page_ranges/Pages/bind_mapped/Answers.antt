@@ -7,17 +7,17 @@ use Rattle.numa_space.proofs.page_ranges.Pages.bind_mapped.Goals as goal
 
 pub update_span-requires-clause-function : goal.update_span-requires-clause-function
 update_span-requires-clause-function c =
-    (λ old. c.args.policy, λ x r h. h.says.met ∙ ap (λ old. c.args.policy) h.shows)
+    (λ old. c.args.to.now, λ x r h. h.says.met ∙ ap (λ old. c.args.to.now) h.shows)
 
 pub returns-clause-edit : goal.returns-clause-edit
 returns-clause-edit c =
     count-edit range_test.ghosts.eq range_test-same c.self.inside.map c.update_span.new.self
     c.args.self.now c.self.view_is c.args.first c.args.pages c.update_span.result
     c.answered.result c.answered.ensures c.update_span.ensures.unchanged
-    (changed_span c.args.first c.args.pages (λ old. c.args.policy))
-    (c.update_span.ensures.ok (λ old. c.args.policy)
-    (λ x r h. h.says.met ∙ ap (λ old. c.args.policy) h.shows))
-    (c.update_span.ensures.accepted (λ old. c.args.policy)
-    (λ x r h. h.says.met ∙ ap (λ old. c.args.policy) h.shows))
-    (c.update_span.ensures.err (λ old. c.args.policy)
-    (λ x r h. h.says.met ∙ ap (λ old. c.args.policy) h.shows))
+    (changed_span c.args.first c.args.pages (λ old. c.args.to.now))
+    (c.update_span.ensures.ok (λ old. c.args.to.now)
+    (λ x r h. h.says.met ∙ ap (λ old. c.args.to.now) h.shows))
+    (c.update_span.ensures.accepted (λ old. c.args.to.now)
+    (λ x r h. h.says.met ∙ ap (λ old. c.args.to.now) h.shows))
+    (c.update_span.ensures.err (λ old. c.args.to.now)
+    (λ x r h. h.says.met ∙ ap (λ old. c.args.to.now) h.shows))

@@ -20,19 +20,19 @@ use Rattle.numa_space.specs.Steps.{record_now}
 
 pub invariant_of-self-2 : goal.invariant_of-self-2
 invariant_of-self-2 c =
-    let node : has_no_node (shown_of c.self.inside).allowed c.args.spec ≡ false =
-    ap (λ (s : SpaceState). has_no_node s.allowed c.args.spec) c.self.view_is
+    let node : has_no_node (shown_of c.self.inside).allowed c.args.spec.now ≡ false =
+    ap (λ (s : SpaceState). has_no_node s.allowed c.args.spec.now) c.self.view_is
     ∙ c.in-Ok.ensures.0 in
-    let is : c.policy.result ≡ record_now (shown_of c.self.inside).allowed c.args.spec =
-    c.policy.ensures ∙ c.of-record.ensures ∙ c.in-Ok.ensures.1 ∙ ap (λ (s : SpaceState). record_now s.allowed c.args.spec)
+    let is : c.in-Ok.policy ≡ record_now (shown_of c.self.inside).allowed c.args.spec.now =
+    c.in-Ok.ensures.1 ∙ ap (λ (s : SpaceState). record_now s.allowed c.args.spec.now)
     (sym c.self.view_is) in
     let passes : c.passes_holes-passes_holes.result
-    ≡ passes_holes (shown_of c.self.inside).machine.rules c.args.spec =
+    ≡ passes_holes (shown_of c.self.inside).machine.rules c.args.spec.now =
     c.passes_holes-passes_holes.ensures ∙ ap
-    (λ (s : SpaceState). passes_holes s.machine.rules c.args.spec) (sym c.self.view_is) in
-    let answer : IsAnswer (shown_of c.self.inside) (Mbind c.args.start c.args.length c.args.spec)
+    (λ (s : SpaceState). passes_holes s.machine.rules c.args.spec.now) (sym c.self.view_is) in
+    let answer : IsAnswer (shown_of c.self.inside) (Mbind c.args.start c.args.length c.args.spec.now)
     c.bind_span.result (bind-after (shown_of c.self.inside) c.args.start c.args.length
-    c.args.spec (omega (
+    c.args.spec.now (omega (
       arith,
       c.requires,
       ap (λ (s : SpaceState). s.version) c.self.view_is,
@@ -40,7 +40,7 @@ invariant_of-self-2 c =
     )) c.in_ok-first.ensures.span.0
     (ne_eqb c.args.length 0 c.if-length-eq0.false) node c.bind_span.result
     c.bind_span.new.self) =
-    bind-answer (shown_of c.self.inside) c.args.start c.args.length c.args.spec
+    bind-answer (shown_of c.self.inside) c.args.start c.args.length c.args.spec.now
     (omega (
       arith,
       c.requires,
@@ -48,13 +48,13 @@ invariant_of-self-2 c =
       ap (λ (s : SpaceState). s.bounds.max_commands) c.self.view_is,
     )) c.in_ok-first.ensures.span.0
     (ne_eqb c.args.length 0 c.if-length-eq0.false) node c.in_ok-first.first c.in_ok-first.pages
-    c.self.inside.pages.limit c.policy.result c.passes_holes-passes_holes.result
+    c.self.inside.pages.limit c.in-Ok.policy c.passes_holes-passes_holes.result
     c.bind_span.new.self c.bind_span.result
     c.in_ok-first.ensures.span.1 c.in_ok-first.ensures.span.2 c.self.invariant.limit is passes
     c.bind_span.ensures.edit in
     let P : Result (Unit {0}) Refusal → Type 0 = λ r. IsAnswer (shown_of c.self.inside)
-    (Mbind c.args.start c.args.length c.args.spec) r
-    (bind-after (shown_of c.self.inside) c.args.start c.args.length c.args.spec
+    (Mbind c.args.start c.args.length c.args.spec.now) r
+    (bind-after (shown_of c.self.inside) c.args.start c.args.length c.args.spec.now
     (omega (
       arith,
       c.requires,
@@ -68,26 +68,26 @@ invariant_of-self-2 c =
       version =
           c.self.inside.version + 1;
     } in
-    let done : IsAnswer (shown_of c.self.inside) (Mbind c.args.start c.args.length c.args.spec)
+    let done : IsAnswer (shown_of c.self.inside) (Mbind c.args.start c.args.length c.args.spec.now)
     (Ok (tt {0})) (shown_of new) = subst P c.in_ok-bind_span.was answer in
-    kept-answer c.self.inside new (Mbind c.args.start c.args.length c.args.spec) (Ok (tt {0}))
+    kept-answer c.self.inside new (Mbind c.args.start c.args.length c.args.spec.now) (Ok (tt {0}))
     c.self.invariant c.bind_span.ensures.limit refl done
 
 pub returns-clause-answer : goal.returns-clause-answer
 returns-clause-answer c =
-    let node : has_no_node (shown_of c.self.inside).allowed c.args.spec ≡ false =
-    ap (λ (s : SpaceState). has_no_node s.allowed c.args.spec) c.self.view_is
+    let node : has_no_node (shown_of c.self.inside).allowed c.args.spec.now ≡ false =
+    ap (λ (s : SpaceState). has_no_node s.allowed c.args.spec.now) c.self.view_is
     ∙ c.in-Ok.ensures.0 in
-    let is : c.policy.result ≡ record_now (shown_of c.self.inside).allowed c.args.spec =
-    c.policy.ensures ∙ c.of-record.ensures ∙ c.in-Ok.ensures.1 ∙ ap (λ (s : SpaceState). record_now s.allowed c.args.spec)
+    let is : c.in-Ok.policy ≡ record_now (shown_of c.self.inside).allowed c.args.spec.now =
+    c.in-Ok.ensures.1 ∙ ap (λ (s : SpaceState). record_now s.allowed c.args.spec.now)
     (sym c.self.view_is) in
     let passes : c.passes_holes-passes_holes.result
-    ≡ passes_holes (shown_of c.self.inside).machine.rules c.args.spec =
+    ≡ passes_holes (shown_of c.self.inside).machine.rules c.args.spec.now =
     c.passes_holes-passes_holes.ensures ∙ ap
-    (λ (s : SpaceState). passes_holes s.machine.rules c.args.spec) (sym c.self.view_is) in
-    let answer : IsAnswer (shown_of c.self.inside) (Mbind c.args.start c.args.length c.args.spec)
+    (λ (s : SpaceState). passes_holes s.machine.rules c.args.spec.now) (sym c.self.view_is) in
+    let answer : IsAnswer (shown_of c.self.inside) (Mbind c.args.start c.args.length c.args.spec.now)
     c.bind_span.result (bind-after (shown_of c.self.inside) c.args.start c.args.length
-    c.args.spec (omega (
+    c.args.spec.now (omega (
       arith,
       c.requires,
       ap (λ (s : SpaceState). s.version) c.self.view_is,
@@ -95,7 +95,7 @@ returns-clause-answer c =
     )) c.in_ok-first.ensures.span.0
     (ne_eqb c.args.length 0 c.if-length-eq0.false) node c.bind_span.result
     c.bind_span.new.self) =
-    bind-answer (shown_of c.self.inside) c.args.start c.args.length c.args.spec
+    bind-answer (shown_of c.self.inside) c.args.start c.args.length c.args.spec.now
     (omega (
       arith,
       c.requires,
@@ -103,13 +103,13 @@ returns-clause-answer c =
       ap (λ (s : SpaceState). s.bounds.max_commands) c.self.view_is,
     )) c.in_ok-first.ensures.span.0
     (ne_eqb c.args.length 0 c.if-length-eq0.false) node c.in_ok-first.first c.in_ok-first.pages
-    c.self.inside.pages.limit c.policy.result c.passes_holes-passes_holes.result
+    c.self.inside.pages.limit c.in-Ok.policy c.passes_holes-passes_holes.result
     c.bind_span.new.self c.bind_span.result
     c.in_ok-first.ensures.span.1 c.in_ok-first.ensures.span.2 c.self.invariant.limit is passes
     c.bind_span.ensures.edit in
     let P : Result (Unit {0}) Refusal → Type 0 = λ r. IsAnswer (shown_of c.self.inside)
-    (Mbind c.args.start c.args.length c.args.spec) r
-    (bind-after (shown_of c.self.inside) c.args.start c.args.length c.args.spec
+    (Mbind c.args.start c.args.length c.args.spec.now) r
+    (bind-after (shown_of c.self.inside) c.args.start c.args.length c.args.spec.now
     (omega (
       arith,
       c.requires,
@@ -123,30 +123,30 @@ returns-clause-answer c =
       version =
           c.self.inside.version + 1;
     } in
-    let done : IsAnswer (shown_of c.self.inside) (Mbind c.args.start c.args.length c.args.spec)
+    let done : IsAnswer (shown_of c.self.inside) (Mbind c.args.start c.args.length c.args.spec.now)
     (Ok (tt {0})) (shown_of new) = subst P c.in_ok-bind_span.was answer in
     let told : Change = c.bound.result in
-    let Q : SpaceState → Type 0 = λ s. IsAnswer s (Mbind c.args.start c.args.length c.args.spec)
+    let Q : SpaceState → Type 0 = λ s. IsAnswer s (Mbind c.args.start c.args.length c.args.spec.now)
     (Ok told) (shown_of new) in
     subst Q c.self.view_is
     (answer-done (shown_of c.self.inside) (shown_of new)
-    (Mbind c.args.start c.args.length c.args.spec) (tt {0}) told done)
+    (Mbind c.args.start c.args.length c.args.spec.now) (tt {0}) told done)
 
 pub returns-in_err-bind_span-clause-answer : goal.returns-in_err-bind_span-clause-answer
 returns-in_err-bind_span-clause-answer c =
-    let node : has_no_node (shown_of c.self.inside).allowed c.args.spec ≡ false =
-    ap (λ (s : SpaceState). has_no_node s.allowed c.args.spec) c.self.view_is
+    let node : has_no_node (shown_of c.self.inside).allowed c.args.spec.now ≡ false =
+    ap (λ (s : SpaceState). has_no_node s.allowed c.args.spec.now) c.self.view_is
     ∙ c.in-Ok.ensures.0 in
-    let is : c.policy.result ≡ record_now (shown_of c.self.inside).allowed c.args.spec =
-    c.policy.ensures ∙ c.of-record.ensures ∙ c.in-Ok.ensures.1 ∙ ap (λ (s : SpaceState). record_now s.allowed c.args.spec)
+    let is : c.in-Ok.policy ≡ record_now (shown_of c.self.inside).allowed c.args.spec.now =
+    c.in-Ok.ensures.1 ∙ ap (λ (s : SpaceState). record_now s.allowed c.args.spec.now)
     (sym c.self.view_is) in
     let passes : c.passes_holes-passes_holes.result
-    ≡ passes_holes (shown_of c.self.inside).machine.rules c.args.spec =
+    ≡ passes_holes (shown_of c.self.inside).machine.rules c.args.spec.now =
     c.passes_holes-passes_holes.ensures ∙ ap
-    (λ (s : SpaceState). passes_holes s.machine.rules c.args.spec) (sym c.self.view_is) in
-    let answer : IsAnswer (shown_of c.self.inside) (Mbind c.args.start c.args.length c.args.spec)
+    (λ (s : SpaceState). passes_holes s.machine.rules c.args.spec.now) (sym c.self.view_is) in
+    let answer : IsAnswer (shown_of c.self.inside) (Mbind c.args.start c.args.length c.args.spec.now)
     c.bind_span.result (bind-after (shown_of c.self.inside) c.args.start c.args.length
-    c.args.spec (omega (
+    c.args.spec.now (omega (
       arith,
       c.requires,
       ap (λ (s : SpaceState). s.version) c.self.view_is,
@@ -154,7 +154,7 @@ returns-in_err-bind_span-clause-answer c =
     )) c.in_ok-first.ensures.span.0
     (ne_eqb c.args.length 0 c.if-length-eq0.false) node c.bind_span.result
     c.bind_span.new.self) =
-    bind-answer (shown_of c.self.inside) c.args.start c.args.length c.args.spec
+    bind-answer (shown_of c.self.inside) c.args.start c.args.length c.args.spec.now
     (omega (
       arith,
       c.requires,
@@ -162,13 +162,13 @@ returns-in_err-bind_span-clause-answer c =
       ap (λ (s : SpaceState). s.bounds.max_commands) c.self.view_is,
     )) c.in_ok-first.ensures.span.0
     (ne_eqb c.args.length 0 c.if-length-eq0.false) node c.in_ok-first.first c.in_ok-first.pages
-    c.self.inside.pages.limit c.policy.result c.passes_holes-passes_holes.result
+    c.self.inside.pages.limit c.in-Ok.policy c.passes_holes-passes_holes.result
     c.bind_span.new.self c.bind_span.result
     c.in_ok-first.ensures.span.1 c.in_ok-first.ensures.span.2 c.self.invariant.limit is passes
     c.bind_span.ensures.edit in
     let P : Result (Unit {0}) Refusal → Type 0 = λ r. IsAnswer (shown_of c.self.inside)
-    (Mbind c.args.start c.args.length c.args.spec) r
-    (bind-after (shown_of c.self.inside) c.args.start c.args.length c.args.spec
+    (Mbind c.args.start c.args.length c.args.spec.now) r
+    (bind-after (shown_of c.self.inside) c.args.start c.args.length c.args.spec.now
     (omega (
       arith,
       c.requires,
@@ -178,33 +178,33 @@ returns-in_err-bind_span-clause-answer c =
     (ne_eqb c.args.length 0 c.if-length-eq0.false) node r c.bind_span.new.self) in
     let new : Inside = record c.self.inside { pages = c.bind_span.new.self } in
     let done : IsAnswer {A = Unit {0}} (shown_of c.self.inside)
-    (Mbind c.args.start c.args.length c.args.spec) (Err c.in_err-bind_span.field-0.0)
+    (Mbind c.args.start c.args.length c.args.spec.now) (Err c.in_err-bind_span.field-0.0)
     (shown_of new) = subst P c.in_err-bind_span.was answer in
     let is_err : c.from_residual-in_err-bind_span.result ≡ Err c.in_err-bind_span.field-0.0 =
     search rules in
-    let Q : SpaceState → Type 0 = λ s. IsAnswer s (Mbind c.args.start c.args.length c.args.spec)
+    let Q : SpaceState → Type 0 = λ s. IsAnswer s (Mbind c.args.start c.args.length c.args.spec.now)
     c.from_residual-in_err-bind_span.result (shown_of new) in
     let refused : IsAnswer {A = Change} (shown_of c.self.inside)
-    (Mbind c.args.start c.args.length c.args.spec) (Err c.in_err-bind_span.field-0.0)
+    (Mbind c.args.start c.args.length c.args.spec.now) (Err c.in_err-bind_span.field-0.0)
     (shown_of new) = answer-refused (Unit {0}) Change (shown_of c.self.inside) (shown_of new)
-    (Mbind c.args.start c.args.length c.args.spec) c.in_err-bind_span.field-0.0 done in
+    (Mbind c.args.start c.args.length c.args.spec.now) c.in_err-bind_span.field-0.0 done in
     subst Q c.self.view_is (rw is_err refused)
 
 pub invariant_of-self-in_err-bind_span : goal.invariant_of-self-in_err-bind_span
 invariant_of-self-in_err-bind_span c =
-    let node : has_no_node (shown_of c.self.inside).allowed c.args.spec ≡ false =
-    ap (λ (s : SpaceState). has_no_node s.allowed c.args.spec) c.self.view_is
+    let node : has_no_node (shown_of c.self.inside).allowed c.args.spec.now ≡ false =
+    ap (λ (s : SpaceState). has_no_node s.allowed c.args.spec.now) c.self.view_is
     ∙ c.in-Ok.ensures.0 in
-    let is : c.policy.result ≡ record_now (shown_of c.self.inside).allowed c.args.spec =
-    c.policy.ensures ∙ c.of-record.ensures ∙ c.in-Ok.ensures.1 ∙ ap (λ (s : SpaceState). record_now s.allowed c.args.spec)
+    let is : c.in-Ok.policy ≡ record_now (shown_of c.self.inside).allowed c.args.spec.now =
+    c.in-Ok.ensures.1 ∙ ap (λ (s : SpaceState). record_now s.allowed c.args.spec.now)
     (sym c.self.view_is) in
     let passes : c.passes_holes-passes_holes.result
-    ≡ passes_holes (shown_of c.self.inside).machine.rules c.args.spec =
+    ≡ passes_holes (shown_of c.self.inside).machine.rules c.args.spec.now =
     c.passes_holes-passes_holes.ensures ∙ ap
-    (λ (s : SpaceState). passes_holes s.machine.rules c.args.spec) (sym c.self.view_is) in
-    let answer : IsAnswer (shown_of c.self.inside) (Mbind c.args.start c.args.length c.args.spec)
+    (λ (s : SpaceState). passes_holes s.machine.rules c.args.spec.now) (sym c.self.view_is) in
+    let answer : IsAnswer (shown_of c.self.inside) (Mbind c.args.start c.args.length c.args.spec.now)
     c.bind_span.result (bind-after (shown_of c.self.inside) c.args.start c.args.length
-    c.args.spec (omega (
+    c.args.spec.now (omega (
       arith,
       c.requires,
       ap (λ (s : SpaceState). s.version) c.self.view_is,
@@ -212,7 +212,7 @@ invariant_of-self-in_err-bind_span c =
     )) c.in_ok-first.ensures.span.0
     (ne_eqb c.args.length 0 c.if-length-eq0.false) node c.bind_span.result
     c.bind_span.new.self) =
-    bind-answer (shown_of c.self.inside) c.args.start c.args.length c.args.spec
+    bind-answer (shown_of c.self.inside) c.args.start c.args.length c.args.spec.now
     (omega (
       arith,
       c.requires,
@@ -220,13 +220,13 @@ invariant_of-self-in_err-bind_span c =
       ap (λ (s : SpaceState). s.bounds.max_commands) c.self.view_is,
     )) c.in_ok-first.ensures.span.0
     (ne_eqb c.args.length 0 c.if-length-eq0.false) node c.in_ok-first.first c.in_ok-first.pages
-    c.self.inside.pages.limit c.policy.result c.passes_holes-passes_holes.result
+    c.self.inside.pages.limit c.in-Ok.policy c.passes_holes-passes_holes.result
     c.bind_span.new.self c.bind_span.result
     c.in_ok-first.ensures.span.1 c.in_ok-first.ensures.span.2 c.self.invariant.limit is passes
     c.bind_span.ensures.edit in
     let P : Result (Unit {0}) Refusal → Type 0 = λ r. IsAnswer (shown_of c.self.inside)
-    (Mbind c.args.start c.args.length c.args.spec) r
-    (bind-after (shown_of c.self.inside) c.args.start c.args.length c.args.spec
+    (Mbind c.args.start c.args.length c.args.spec.now) r
+    (bind-after (shown_of c.self.inside) c.args.start c.args.length c.args.spec.now
     (omega (
       arith,
       c.requires,
@@ -236,17 +236,17 @@ invariant_of-self-in_err-bind_span c =
     (ne_eqb c.args.length 0 c.if-length-eq0.false) node r c.bind_span.new.self) in
     let new : Inside = record c.self.inside { pages = c.bind_span.new.self } in
     let done : IsAnswer {A = Unit {0}} (shown_of c.self.inside)
-    (Mbind c.args.start c.args.length c.args.spec) (Err c.in_err-bind_span.field-0.0)
+    (Mbind c.args.start c.args.length c.args.spec.now) (Err c.in_err-bind_span.field-0.0)
     (shown_of new) = subst P c.in_err-bind_span.was answer in
-    kept-answer c.self.inside new (Mbind c.args.start c.args.length c.args.spec)
+    kept-answer c.self.inside new (Mbind c.args.start c.args.length c.args.spec.now)
     (Err c.in_err-bind_span.field-0.0) c.self.invariant c.bind_span.ensures.limit refl done
 
 pub invariant_of-self : goal.invariant_of-self
 invariant_of-self c =
     let new : Inside = record c.self.inside { version = c.self.inside.version + 1 } in
-    let answer : IsAnswer (shown_of c.self.inside) (Mbind c.args.start c.args.length c.args.spec)
+    let answer : IsAnswer (shown_of c.self.inside) (Mbind c.args.start c.args.length c.args.spec.now)
     (Ok (tt {0})) (shown_of new) = search rules in
-    kept-answer c.self.inside new (Mbind c.args.start c.args.length c.args.spec) (Ok (tt {0}))
+    kept-answer c.self.inside new (Mbind c.args.start c.args.length c.args.spec.now) (Ok (tt {0}))
     c.self.invariant refl refl answer
 
 pub returns-clause-change : goal.returns-clause-change
@@ -254,5 +254,5 @@ returns-clause-change c =
     told-bind c.args.self.now c.args.start c.args.length c.in_ok-first.first c.in_ok-first.pages
     c.changed-pages.result c.changed-pages.ensures.first c.changed-pages.ensures.end
     c.in_ok-first.ensures.span.1 c.in_ok-first.ensures.span.2
-    (ne_eqb c.args.length 0 c.if-length-eq0.false) c.args.spec c.of-record.result
-    (c.of-record.ensures ∙ c.in-Ok.ensures.1) c.bound.result c.bound.ensures
+    (ne_eqb c.args.length 0 c.if-length-eq0.false) c.args.spec.now c.in-Ok.policy
+    c.in-Ok.ensures.1 c.bound.result c.bound.ensures

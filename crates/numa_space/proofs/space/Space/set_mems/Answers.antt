@@ -16,7 +16,7 @@ invariant_of-self c =
           c.rebind-2.new.self;
       version = c.self.inside.version + 1;
     } in
-    let answer : IsAnswer (shown_of c.self.inside) (SetMems c.args.mask) (Ok (tt {0})) (shown_of new) =
+    let answer : IsAnswer (shown_of c.self.inside) (SetMems c.args.mask.now) (Ok (tt {0})) (shown_of new) =
     search rules in
-    kept-answer c.self.inside new (SetMems c.args.mask) (Ok (tt {0})) c.self.invariant
+    kept-answer c.self.inside new (SetMems c.args.mask.now) (Ok (tt {0})) c.self.invariant
     c.rebind.ensures.limit refl answer

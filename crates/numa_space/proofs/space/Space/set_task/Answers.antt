@@ -24,11 +24,11 @@ on_ok (Err x) e h = absurd (true≢false e)
 
 pub invariant_of-self : goal.invariant_of-self
 invariant_of-self c =
-    let node : has_no_node (shown_of c.self.inside).allowed c.args.spec ≡ false =
-    ap (λ (s : SpaceState). has_no_node s.allowed c.args.spec) c.self.view_is
-    ∙ c.in_ok-policy.ensures.0 in
-    let is : c.in_ok-policy.field-0 ≡ record_now (shown_of c.self.inside).allowed c.args.spec =
-    c.in_ok-policy.ensures.1 ∙ ap (λ (s : SpaceState). record_now s.allowed c.args.spec)
+    let node : has_no_node (shown_of c.self.inside).allowed c.args.spec.now ≡ false =
+    ap (λ (s : SpaceState). has_no_node s.allowed c.args.spec.now) c.self.view_is
+    ∙ c.in_ok-record_of.ensures.0 in
+    let is : c.policy.result ≡ record_now (shown_of c.self.inside).allowed c.args.spec.now =
+    c.policy.ensures ∙ c.in_ok-record_of.ensures.1 ∙ ap (λ (s : SpaceState). record_now s.allowed c.args.spec.now)
     (sym c.self.view_is) in
     let room : c.self.inside.version < c.self.inside.limits.max_commands =
     omega (
@@ -39,19 +39,19 @@ invariant_of-self c =
     ) in
     let new : Inside =
     record c.self.inside { tasks = c.clear.new.self; version = c.self.inside.version + 1 } in
-    let done : IsAnswer (shown_of c.self.inside) (SetTask c.args.task c.args.spec) (Ok (tt {0}))
-    (shown_of new) = clear-answer (shown_of c.self.inside) c.args.task c.args.spec room node
+    let done : IsAnswer (shown_of c.self.inside) (SetTask c.args.task c.args.spec.now) (Ok (tt {0}))
+    (shown_of new) = clear-answer (shown_of c.self.inside) c.args.task c.args.spec.now room node
     c.clear.new.self (sym c.in_default.is ∙ is) c.clear.ensures.records c.clear.ensures.count in
-    kept-answer c.self.inside new (SetTask c.args.task c.args.spec) (Ok (tt {0})) c.self.invariant refl
+    kept-answer c.self.inside new (SetTask c.args.task c.args.spec.now) (Ok (tt {0})) c.self.invariant refl
     refl done
 
 pub invariant_of-self-2 : goal.invariant_of-self-2
 invariant_of-self-2 c =
-    let node : has_no_node (shown_of c.self.inside).allowed c.args.spec ≡ false =
-    ap (λ (s : SpaceState). has_no_node s.allowed c.args.spec) c.self.view_is
-    ∙ c.in_ok-policy.ensures.0 in
-    let is : c.in_ok-policy.field-0 ≡ record_now (shown_of c.self.inside).allowed c.args.spec =
-    c.in_ok-policy.ensures.1 ∙ ap (λ (s : SpaceState). record_now s.allowed c.args.spec)
+    let node : has_no_node (shown_of c.self.inside).allowed c.args.spec.now ≡ false =
+    ap (λ (s : SpaceState). has_no_node s.allowed c.args.spec.now) c.self.view_is
+    ∙ c.in_ok-record_of.ensures.0 in
+    let is : c.policy.result ≡ record_now (shown_of c.self.inside).allowed c.args.spec.now =
+    c.policy.ensures ∙ c.in_ok-record_of.ensures.1 ∙ ap (λ (s : SpaceState). record_now s.allowed c.args.spec.now)
     (sym c.self.view_is) in
     let room : c.self.inside.version < c.self.inside.limits.max_commands =
     omega (
@@ -74,19 +74,19 @@ invariant_of-self-2 c =
     let count : length c.set.new.self ≡ length c.self.inside.tasks
     + (if is_some (record_of c.self.inside.tasks c.args.task) then 0 else 1) =
     on_ok c.set.result (sym c.is_err.ensures.value ∙ c.if-is_err.false) c.set.ensures.count in
-    let done : IsAnswer (shown_of c.self.inside) (SetTask c.args.task c.args.spec) (Ok (tt {0}))
-    (shown_of new) = set-answer (shown_of c.self.inside) c.args.task c.args.spec room node
+    let done : IsAnswer (shown_of c.self.inside) (SetTask c.args.task c.args.spec.now) (Ok (tt {0}))
+    (shown_of new) = set-answer (shown_of c.self.inside) c.args.task c.args.spec.now room node
     c.in-Some.policy c.set.new.self (sym c.in-Some.is ∙ is) place records count in
-    kept-answer c.self.inside new (SetTask c.args.task c.args.spec) (Ok (tt {0})) c.self.invariant refl
+    kept-answer c.self.inside new (SetTask c.args.task c.args.spec.now) (Ok (tt {0})) c.self.invariant refl
     refl done
 
 pub returns-clause-answer : goal.returns-clause-answer
 returns-clause-answer c =
-    let node : has_no_node (shown_of c.self.inside).allowed c.args.spec ≡ false =
-    ap (λ (s : SpaceState). has_no_node s.allowed c.args.spec) c.self.view_is
-    ∙ c.in_ok-policy.ensures.0 in
-    let is : c.in_ok-policy.field-0 ≡ record_now (shown_of c.self.inside).allowed c.args.spec =
-    c.in_ok-policy.ensures.1 ∙ ap (λ (s : SpaceState). record_now s.allowed c.args.spec)
+    let node : has_no_node (shown_of c.self.inside).allowed c.args.spec.now ≡ false =
+    ap (λ (s : SpaceState). has_no_node s.allowed c.args.spec.now) c.self.view_is
+    ∙ c.in_ok-record_of.ensures.0 in
+    let is : c.policy.result ≡ record_now (shown_of c.self.inside).allowed c.args.spec.now =
+    c.policy.ensures ∙ c.in_ok-record_of.ensures.1 ∙ ap (λ (s : SpaceState). record_now s.allowed c.args.spec.now)
     (sym c.self.view_is) in
     let room : c.self.inside.version < c.self.inside.limits.max_commands =
     omega (
@@ -109,12 +109,12 @@ returns-clause-answer c =
     let count : length c.set.new.self ≡ length c.self.inside.tasks
     + (if is_some (record_of c.self.inside.tasks c.args.task) then 0 else 1) =
     on_ok c.set.result (sym c.is_err.ensures.value ∙ c.if-is_err.false) c.set.ensures.count in
-    let done : IsAnswer (shown_of c.self.inside) (SetTask c.args.task c.args.spec) (Ok (tt {0}))
-    (shown_of new) = set-answer (shown_of c.self.inside) c.args.task c.args.spec room node
+    let done : IsAnswer (shown_of c.self.inside) (SetTask c.args.task c.args.spec.now) (Ok (tt {0}))
+    (shown_of new) = set-answer (shown_of c.self.inside) c.args.task c.args.spec.now room node
     c.in-Some.policy c.set.new.self (sym c.in-Some.is ∙ is) place records count in
     let told : Change = TaskSet c.args.task (Some c.in-Some.policy) in
-    let Q : SpaceState → Type 0 = λ s. IsAnswer s (SetTask c.args.task c.args.spec) (Ok told)
+    let Q : SpaceState → Type 0 = λ s. IsAnswer s (SetTask c.args.task c.args.spec.now) (Ok told)
     (shown_of new) in
     subst Q c.self.view_is
-    (answer-done (shown_of c.self.inside) (shown_of new) (SetTask c.args.task c.args.spec) (tt {0}) told
+    (answer-done (shown_of c.self.inside) (shown_of new) (SetTask c.args.task c.args.spec.now) (tt {0}) told
     done)
