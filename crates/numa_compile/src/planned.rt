@@ -202,17 +202,17 @@ impl PlannedSpace {
     ///
     /// # Errors
     /// As `Space::apply`: the first cause that applies. Then nothing has changed.
+    #[inline(always)]
     pub fn apply(&mut self, alloc: Global, command: &Command) -> Result<Change, Refusal>
         ensures applied { IsApplied self.old command.now result self.new }
         ensures change { IfOk result (IsChange self.old command.now) }
     {
-        let change = match self.space.apply(command) {
-            Ok(change) => change,
-            Err(refusal) => return Err(refusal),
-        };
-        self.asked = asked_after(self.asked, &change);
-        follow(alloc, &mut self.plan, &self.space, &change);
-        Ok(change)
+        let answer = self.space.apply(command);
+        if let Ok(change) = &answer {
+            self.asked = asked_after(self.asked, change);
+            follow(alloc, &mut self.plan, &self.space, change);
+        }
+        answer
     }
 
     /// Whether a question about one page is best answered by the space (`Space::list_at`), whose

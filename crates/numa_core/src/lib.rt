@@ -137,6 +137,7 @@ impl Core {
     ///
     /// # Errors
     /// As [`Space::apply`].
+    #[inline(never)]
     pub fn accept(&mut self, command: &Command) -> Result<u64, Refusal>
         ensures answer { (world : World) → CoreStandsFor self.old world →
             IsAnswer (setup_of self.old) world (newest_published world)
@@ -149,12 +150,14 @@ impl Core {
         ensures unchanged { OnErr result (self.new ≡ self.old) }
         ensures setup { setup_of self.new ≡ setup_of self.old }
     {
-        let change = match self.state.space.apply(self.state.alloc, command) {
-            Ok(change) => change,
-            Err(refusal) => return Err(refusal),
-        };
-        self.state.unpublished.note(&change);
-        Ok(self.state.space.space().version())
+        let answer = self.state.space.apply(self.state.alloc, command);
+        match &answer {
+            Ok(change) => {
+                self.state.unpublished.note(change);
+                Ok(self.state.space.space().version())
+            }
+            Err(refusal) => Err(*refusal),
+        }
     }
 
     /// A touch of a page by a worker: a Begin of the request, and then, while the worker is busy,

@@ -34,6 +34,9 @@ impl Unpublished {
             → IsBehindBy self.old before plan → IsStep before command after
             → IsChange before command change.now → IsBehindBy self.new after plan }
     {
+        if let Unpublished::Several = self {
+            return;
+        }
         let Unpublished::Nothing = self else {
             *self = Unpublished::Several;
             return;

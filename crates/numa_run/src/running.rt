@@ -275,6 +275,7 @@ impl Running {
     }
 
     /// Carries out a line. The answer to a question or a line `maps` is still to be written.
+    #[inline(always)]
     pub fn take(&mut self, line: &Line<'_>) -> Taken
         ensures { Takes self.old line.now result self.new }
     {

@@ -1,6 +1,14 @@
-use Rattle.std.proofs.Common.{◌∷◌, ◌≡◌, List, Ok, length, ap, sym, subst, ◌∙◌}
+use Rattle.std.proofs.Common.{◌∷◌, ◌≡◌, List, None, Ok, OnOk, Result, length, ap, sym, subst}
+use Rattle.std.proofs.Common.{◌∙◌}
+use Rattle.std.proofs.lemmas.Result.{IfOk-at_ok}
 use Rattle.numa_machine.specs.Machine.{Hardware}
-use Rattle.numa_space.specs.Standing.{SpaceState}
+use Rattle.numa_space.specs.Changed.{IsChange}
+use Rattle.numa_space.specs.Refusals.{refusal_of}
+use Rattle.numa_space.specs.Standing.{SpaceState, StandsFor}
+use Rattle.numa_space.specs.Steps.{IsApplied, IsStep}
+use Rattle.numa_space.specs.declared.change.Change.{Change}
+use Rattle.numa_space.specs.declared.command.Command.{Command}
+use Rattle.numa_space.specs.declared.refusal.Refusal.{Refusal}
 use Rattle.numa_space.specs.declared.event.Event.TheVariants.{Accept}
 use Rattle.numa_space.specs.declared.event.CoreReply.TheVariants.{Accepted}
 use Rattle.numa_core.specs.Executions.{CoreStep}
@@ -21,50 +29,64 @@ same_setup old after machine bounds = λ i. record {
   workers = length (core_state old).workers;
 }
 
-pub invariant_of-self-2 : goal.invariant_of-self-2
-invariant_of-self-2 c =
+-- an accepted command was refused by no cause
+done : {old after : SpaceState} {command : Command} {result : Result Change Refusal}
+    {change : Change} → result ≡ Ok change → IsApplied old command result after
+    → (history : List Command) → StandsFor old history
+    → (refusal_of old.machine old.bounds history command ≡ None)
+    × StandsFor after (command ∷ history)
+done {old} {after} {command} is applied history stands =
+    subst (λ (r : Result Change Refusal). OnOk r
+    ((refusal_of old.machine old.bounds history command ≡ None)
+    × StandsFor after (command ∷ history))) is (applied.ok history stands)
+
+pub invariant_of-self : goal.invariant_of-self
+invariant_of-self c =
     let old : State = c.self.inside.state in (
       record {
         places = c.self.invariant.0.places
-            ∙ ap (λ (m : Hardware). m.frames) (sym c.apply.ensures.applied.machine);
+            ∙ ap (λ (m : Hardware). m.frames) (sym c.apply-answer.ensures.applied.machine);
         seats = c.self.invariant.0.seats;
         owners = c.self.invariant.0.owners;
         few = c.self.invariant.0.few;
         taken = c.self.invariant.0.taken;
-        behind = c.note.ensures old.space c.apply.new.self c.args.command.now
-            old.plan c.self.invariant.0.behind c.in-Ok.ensures.applied.step
-            c.in-Ok.ensures.change;
+        behind = c.note.ensures old.space c.apply-answer.new.self c.args.command.now
+            old.plan c.self.invariant.0.behind (subst (λ (r : Result Change Refusal).
+            OnOk r (IsStep old.space c.args.command.now c.apply-answer.new.self)) c.in-Ok.is
+            c.apply-answer.ensures.applied.step)
+            (IfOk-at_ok (IsChange old.space c.args.command.now) c.in-Ok.is
+            c.apply-answer.ensures.change);
       },
-      past_more (core_state old) (core_state (record old { space = c.apply.new.self }))
+      past_more (core_state old) (core_state (record old { space = c.apply-answer.new.self }))
           (Accept c.args.command.now) (Ok (Accepted c.version.result))
-          (same_setup old c.apply.new.self c.apply.ensures.applied.machine c.apply.ensures.applied.bounds)
-          (accept-follows old.space c.apply.new.self old.plan old.seats.items old.owners.items
-          c.args.command.now c.version.result c.in-Ok.ensures.applied.ok c.apply.ensures.applied.machine
+          (same_setup old c.apply-answer.new.self c.apply-answer.ensures.applied.machine c.apply-answer.ensures.applied.bounds)
+          (accept-follows old.space c.apply-answer.new.self old.plan old.seats.items old.owners.items
+          c.args.command.now c.version.result (done c.in-Ok.is c.apply-answer.ensures.applied) c.apply-answer.ensures.applied.machine
           (c.version.ensures.version ∙ ap (λ (s : SpaceState). s.version) c.space.ensures))
           c.self.invariant.1,
     )
 
-pub returns-clause-answer : goal.returns-clause-answer
-returns-clause-answer c =
+pub returns-in-Ok-clause-answer : goal.returns-in-Ok-clause-answer
+returns-in-Ok-clause-answer c =
     let old : State = c.self.inside.state in
-    let new : CoreState = core_state (record old { space = c.apply.new.self }) in
+    let new : CoreState = core_state (record old { space = c.apply-answer.new.self }) in
     let P : CoreState → Type 0 =
     λ core. Follows core (Accept c.args.command.now) (Ok (Accepted c.version.result)) new in
-    subst P c.self.view_is (accept-follows old.space c.apply.new.self old.plan old.seats.items
-    old.owners.items c.args.command.now c.version.result c.in-Ok.ensures.applied.ok
-    c.apply.ensures.applied.machine
+    subst P c.self.view_is (accept-follows old.space c.apply-answer.new.self old.plan old.seats.items
+    old.owners.items c.args.command.now c.version.result (done c.in-Ok.is c.apply-answer.ensures.applied)
+    c.apply-answer.ensures.applied.machine
     (c.version.ensures.version ∙ ap (λ (s : SpaceState). s.version) c.space.ensures))
 
-pub returns-clause-executions : goal.returns-clause-executions
-returns-clause-executions c =
+pub returns-in-Ok-clause-executions : goal.returns-in-Ok-clause-executions
+returns-in-Ok-clause-executions c =
     let old : State = c.self.inside.state in
-    let new : CoreState = core_state (record old { space = c.apply.new.self }) in
+    let new : CoreState = core_state (record old { space = c.apply-answer.new.self }) in
     let P : CoreState → Type 0 = λ core. (past : List CoreStep) → LeadsTo past core
     → LeadsTo (core_step_after (setup_of core) past (Accept c.args.command.now)
     (Ok (Accepted c.version.result)) ∷ past) new in
     subst P c.self.view_is (leads_on (core_state old) new (Accept c.args.command.now)
     (Ok (Accepted c.version.result))
-    (same_setup old c.apply.new.self c.apply.ensures.applied.machine c.apply.ensures.applied.bounds)
-    (accept-follows old.space c.apply.new.self old.plan old.seats.items old.owners.items
-    c.args.command.now c.version.result c.in-Ok.ensures.applied.ok c.apply.ensures.applied.machine
+    (same_setup old c.apply-answer.new.self c.apply-answer.ensures.applied.machine c.apply-answer.ensures.applied.bounds)
+    (accept-follows old.space c.apply-answer.new.self old.plan old.seats.items old.owners.items
+    c.args.command.now c.version.result (done c.in-Ok.is c.apply-answer.ensures.applied) c.apply-answer.ensures.applied.machine
     (c.version.ensures.version ∙ ap (λ (s : SpaceState). s.version) c.space.ensures)))
