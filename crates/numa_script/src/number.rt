@@ -30,6 +30,21 @@ fn digit_in(byte: u8, radix: u32) -> Option<u32>
     if digit < radix { Some(digit) } else { None }
 }
 
+/// The value of a hexadecimal digit.
+#[inline(always)]
+#[tactic(auto, unfolding(crate::specs::Numbers::digit_of))]
+fn hexadecimal_digit(byte: u8) -> Option<u32>
+    ensures { result ≡ digit_of 16 byte }
+{
+    let digit = match byte {
+        b'0'..=b'9' => byte - b'0',
+        b'a'..=b'f' => byte - b'a' + 10,
+        b'A'..=b'F' => byte - b'A' + 10,
+        _ => return None,
+    };
+    Some(u32::from(digit))
+}
+
 /// The number with one more digit, if it fits.
 #[tactic(auto, unfolding(crate::specs::Numbers::in_64_bits))]
 fn with_digit(value: u64, radix: u32, digit: u32) -> Option<u64>
@@ -68,7 +83,7 @@ fn hexadecimal(digits: &[u8]) -> Option<u64>
     }
     let mut value = 0u64;
     for byte in digits {
-        let digit = digit_in(*byte, 16)?;
+        let digit = hexadecimal_digit(*byte)?;
         value = value * 16 + u64::from(digit);
     }
     Some(value)
