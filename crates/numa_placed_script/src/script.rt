@@ -1,7 +1,8 @@
 //! Running scripts with lines about pages that are there.
 ghost use Rattle.std.specs.Prelude.{◌≡◌, ℕ, Bool, IfErr, IfOk, IsSomeAnd, Some, MatchOption, None, [], false, true};
-ghost use Rattle.numa_host_script.specs.Sessions.{Session};
+ghost use Rattle.numa_host_script.specs.Sessions.{Session, session_after, session_answer};
 ghost use Rattle.numa_host_script.specs.Standing.{StandsIn as IsIn};
+ghost use Rattle.numa_lines.specs.Written.{Said};
 ghost use Rattle.numa_placed.specs.Spots.{is_placed, spot_at};
 ghost use Rattle.numa_placed_script.specs.Lying.{Lying};
 ghost use Rattle.numa_placed_script.specs.Outcomes.{followed, forgotten, has_stated};
@@ -17,7 +18,7 @@ ghost use Rattle.numa_placed_script.specs.Standing.{ServesScene, StandsIn};
 ghost use Rattle.numa_maps.specs.Residents.{Kept};
 ghost use Rattle.numa_script.specs.Lines.{line_of};
 
-use crate::beside::{Beside, is_no_memory};
+use crate::beside::Beside;
 use crate::binding::{binding_of, has_astray, is_late, stated_astray};
 use crate::concern::{Concern, concern_of, is_malformed};
 use crate::line::{PlacedLine, is_plain, parse_placed, strict_of};
@@ -72,27 +73,27 @@ fn begins_starved(alloc: Global, beside: &mut Option<Beside>) -> bool
     }
 }
 
-/// Answers a line about pages. Returns whether memory ran out.
+/// Answers a line about pages.
 fn serve_placed<W: Write>(
     script: &HostScript,
     beside: &mut Option<Beside>,
     alloc: Global,
     said: &PlacedLine,
     output: &mut Watched<W>,
-) -> bool
+)
     ensures { ServesScene W.contents script.now beside.old output.old script.now beside.new
         output.new (λ refused scene. placed_served refused scene said.now) }
 {
     let Some(found) = process(script) else {
         say_reply(output, &early_reply(said));
-        return false;
+        return;
     };
     if begins_starved(alloc, beside) {
         say_refusal(output, PlacedRefusal::NoMemory);
-        return true;
+        return;
     }
     let Some(kept) = beside else { unreachable!() };
-    kept.serve(found.0, found.1, said, output)
+    let _ = kept.serve(found.0, found.1, said, output);
 }
 
 /// Whether a page lies somewhere.
@@ -176,6 +177,25 @@ fn replace(beside: &mut Option<Beside>, after: Placed)
     }
 }
 
+/// Answers a line as without lines about pages. (The one call of `serve_parsed`, whose result is not
+/// wanted, stands in a function of its own, so that nothing is computed for it.)
+#[inline(never)]
+fn pass_on<W: Write>(
+    script: &mut HostScript,
+    alloc: Global,
+    line: &[u8],
+    said: &Line<'_>,
+    output: &mut Watched<W>,
+)
+    requires { said.now ≡ line_of line.now }
+    ensures { (session : Session) → IsIn script.old.script script.old.limits script.old.host session
+        → (refused : Bool) × IsIn script.new.script script.new.limits script.new.host
+        (session_after refused session line.now)
+        × Said W.contents output.old output.new (session_answer refused session line.now) }
+{
+    let _ = script.serve_parsed(alloc, line, said, output);
+}
+
 impl PlacedScript {
     /// The state before the first line; these rules apply unless a line says otherwise. It doesn't
     /// allocate.
@@ -188,23 +208,23 @@ impl PlacedScript {
         }
     }
 
-    /// Answers a line as without lines about pages. Returns whether memory ran out.
+    /// Answers a line as without lines about pages.
     fn pass<W: Write>(
         &mut self,
         alloc: Global,
         line: &[u8],
         said: &Line<'_>,
         output: &mut Watched<W>,
-    ) -> bool
+    )
         requires { said.now ≡ line_of line.now }
         ensures { ServesScene W.contents self.old.script self.old.beside output.old self.new.script
             self.new.beside output.new (λ refused scene. passed refused scene line.now
             scene.lying) }
     {
-        self.script.serve_parsed(alloc, line, said, output)
+        pass_on(&mut self.script, alloc, line, said, output);
     }
 
-    /// Answers a line that touches a page. Returns whether memory ran out.
+    /// Answers a line that touches a page.
     fn touch<W: Write>(
         &mut self,
         alloc: Global,
@@ -212,7 +232,7 @@ impl PlacedScript {
         said: &Line<'_>,
         page: u64,
         output: &mut Watched<W>,
-    ) -> bool
+    )
         requires { said.now ≡ line_of line.now }
         ensures { ServesScene W.contents self.old.script self.old.beside output.old self.new.script
             self.new.beside output.new (λ refused scene. touch_served refused scene line.now
@@ -220,13 +240,12 @@ impl PlacedScript {
     {
         if is_there(&self.beside, page) {
             say_placed(output);
-            return false;
+            return;
         }
-        self.pass(alloc, line, said, output)
+        self.pass(alloc, line, said, output);
     }
 
-    /// Answers a line `mems`; if it is accepted, pages follow the allowed nodes. Returns whether
-    /// memory ran out.
+    /// Answers a line `mems`; if it is accepted, pages follow the allowed nodes.
     #[inline(never)]
     fn mems<W: Write>(
         &mut self,
@@ -234,7 +253,7 @@ impl PlacedScript {
         line: &[u8],
         said: &Line<'_>,
         output: &mut Watched<W>,
-    ) -> bool
+    )
         requires said { said.now ≡ line_of line.now }
         requires mems { concern_of said.now ≡ Concern.Mems }
         ensures { ServesScene W.contents self.old.script self.old.beside output.old self.new.script
@@ -242,18 +261,16 @@ impl PlacedScript {
     {
         let old = allowed_in(&self.script);
         let before = version_in(&self.script);
-        let starved = self.script.serve_parsed(alloc, line, said, output);
+        pass_on(&mut self.script, alloc, line, said, output);
         let new = allowed_in(&self.script);
         let after = version_in(&self.script);
         if before == after {
-            return starved;
+            return;
         }
         follow(&mut self.beside, &old, &new, kept_in(&self.script));
-        starved
     }
 
-    /// Answers a line `unmap`; if it is accepted, nothing is stated any more of its pages. Returns
-    /// whether memory ran out.
+    /// Answers a line `unmap`; if it is accepted, nothing is stated any more of its pages.
     #[inline(never)]
     fn unmap<W: Write>(
         &mut self,
@@ -263,7 +280,7 @@ impl PlacedScript {
         start: u64,
         length: u64,
         output: &mut Watched<W>,
-    ) -> bool
+    )
         requires said { said.now ≡ line_of line.now }
         requires unmap { concern_of said.now ≡ Concern.Unmap start length }
         ensures { ServesScene W.contents self.old.script self.old.beside output.old self.new.script
@@ -277,24 +294,22 @@ impl PlacedScript {
             Ok(forgotten) => forgotten,
             Err(refusal) => {
                 say_refusal(output, refusal);
-                return is_no_memory(refusal);
+                return;
             }
         };
         let Some(after) = forgotten else {
             return self.pass(alloc, line, said, output);
         };
         let before = version_in(&self.script);
-        let starved = self.script.serve_parsed(alloc, line, said, output);
+        pass_on(&mut self.script, alloc, line, said, output);
         let later = version_in(&self.script);
         if before == later {
-            return starved;
+            return;
         }
         replace(&mut self.beside, after);
-        starved
     }
 
-    /// Answers a line `maps`, with the pages that were stated to lie somewhere. Returns whether
-    /// memory ran out.
+    /// Answers a line `maps`, with the pages that were stated to lie somewhere.
     #[inline(never)]
     fn maps<W: Write>(
         &mut self,
@@ -303,7 +318,7 @@ impl PlacedScript {
         said: &Line<'_>,
         task: u32,
         output: &mut Watched<W>,
-    ) -> bool
+    )
         requires { said.now ≡ line_of line.now }
         ensures { ServesScene W.contents self.old.script self.old.beside output.old self.new.script
             self.new.beside output.new (λ refused scene. maps_served refused scene line.now
@@ -315,17 +330,16 @@ impl PlacedScript {
         // Tells the proof that the ranges are in ascending order and maximal.
         let _ = found.0.range_iter();
         say_pages(found.0, task, found.1, &self.beside, output);
-        false
     }
 
-    /// Answers a line of every script. Returns whether memory ran out.
+    /// Answers a line of every script.
     fn serve_plain<W: Write>(
         &mut self,
         alloc: Global,
         line: &[u8],
         said: &Line<'_>,
         output: &mut Watched<W>,
-    ) -> bool
+    )
         requires { said.now ≡ line_of line.now }
         ensures { ServesScene W.contents self.old.script self.old.beside output.old self.new.script
             self.new.beside output.new (λ refused scene. plain_served refused scene line.now) }
@@ -341,15 +355,9 @@ impl PlacedScript {
         }
     }
 
-    /// Answers a line `mbind .. strict`, given without its last word. Returns whether memory ran
-    /// out.
+    /// Answers a line `mbind .. strict`, given without its last word.
     #[inline(never)]
-    fn bind_strictly<W: Write>(
-        &mut self,
-        alloc: Global,
-        command: &[u8],
-        output: &mut Watched<W>,
-    ) -> bool
+    fn bind_strictly<W: Write>(&mut self, alloc: Global, command: &[u8], output: &mut Watched<W>)
         ensures { ServesScene W.contents self.old.script self.old.beside output.old self.new.script
             self.new.beside output.new (λ refused scene. strict_served refused scene command.now) }
     {
@@ -365,23 +373,23 @@ impl PlacedScript {
         }
         let Ok(late) = is_late(alloc, found.0, &said) else {
             say_refusal(output, PlacedRefusal::NoMemory);
-            return true;
+            return;
         };
         if late {
             say_refusal(output, PlacedRefusal::Astray);
-            return false;
+            return;
         }
-        self.pass(alloc, command, &said, output)
+        self.pass(alloc, command, &said, output);
     }
 
-    /// Answers a line that isn't about pages alone. Returns whether memory ran out.
+    /// Answers a line that isn't about pages alone.
     fn serve_other<W: Write>(
         &mut self,
         alloc: Global,
         line: &[u8],
         said: &Line<'_>,
         output: &mut Watched<W>,
-    ) -> bool
+    )
         requires { said.now ≡ line_of line.now }
         ensures { ServesScene W.contents self.old.script self.old.beside output.old self.new.script
             self.new.beside output.new (λ refused scene. served_where (strict_of line.now) refused
@@ -390,10 +398,10 @@ impl PlacedScript {
         let Some(command) = strict_of(line) else {
             return self.serve_plain(alloc, line, said, output);
         };
-        self.bind_strictly(alloc, command, output)
+        self.bind_strictly(alloc, command, output);
     }
 
-    /// Answers a line that is none of every script. Returns whether memory ran out.
+    /// Answers a line that is none of every script.
     #[inline(never)]
     fn serve_unknown<W: Write>(
         &mut self,
@@ -401,7 +409,7 @@ impl PlacedScript {
         line: &[u8],
         said: &Line<'_>,
         output: &mut Watched<W>,
-    ) -> bool
+    )
         requires { said.now ≡ line_of line.now }
         ensures { ServesScene W.contents self.old.script self.old.beside output.old self.new.script
             self.new.beside output.new (λ refused scene. unknown_served refused scene line.now) }
@@ -410,18 +418,17 @@ impl PlacedScript {
         if is_plain(&about) {
             return self.serve_other(alloc, line, said, output);
         }
-        serve_placed(&self.script, &mut self.beside, alloc, &about, output)
+        serve_placed(&self.script, &mut self.beside, alloc, &about, output);
     }
 
-    /// Answers a line, which comes with what it says in every script. Returns whether memory ran
-    /// out.
+    /// Answers a line, which comes with what it says in every script.
     fn serve_parsed<W: Write>(
         &mut self,
         alloc: Global,
         line: &[u8],
         said: &Line<'_>,
         output: &mut Watched<W>,
-    ) -> bool
+    )
         requires { said.now ≡ line_of line.now }
         ensures { ServesScene W.contents self.old.script self.old.beside output.old self.new.script
             self.new.beside output.new (λ refused scene. scene_served refused scene line.now) }
@@ -429,20 +436,15 @@ impl PlacedScript {
         if is_malformed(said) {
             return self.serve_unknown(alloc, line, said, output);
         }
-        self.serve_plain(alloc, line, said, output)
+        self.serve_plain(alloc, line, said, output);
     }
 
-    /// Carries out a line, and writes its answer. Returns whether memory ran out.
-    pub fn serve_line<W: Write>(
-        &mut self,
-        alloc: Global,
-        line: &[u8],
-        output: &mut Watched<W>,
-    ) -> bool
+    /// Carries out a line, and writes its answer.
+    pub fn serve_line<W: Write>(&mut self, alloc: Global, line: &[u8], output: &mut Watched<W>)
         ensures { ServesScene W.contents self.old.script self.old.beside output.old self.new.script
             self.new.beside output.new (λ refused scene. scene_served refused scene line.now) }
     {
-        self.serve_parsed(alloc, line, &parse(line), output)
+        self.serve_parsed(alloc, line, &parse(line), output);
     }
 }
 
@@ -459,6 +461,6 @@ impl Serve for PlacedScript {
     ghost after = { scene_after };
 
     fn serve<W: Write>(&mut self, alloc: Global, line: &[u8], output: &mut Watched<W>) {
-        let _ = self.serve_line(alloc, line, output);
+        self.serve_line(alloc, line, output);
     }
 }

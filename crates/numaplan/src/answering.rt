@@ -26,15 +26,20 @@ impl Answering {
     }
 }
 
-/// Answers a line, and returns whether memory ran out. (It is a function of its own so that the
-/// contract of `serve_line`, which isn't needed here, stays out of every goal.)
-fn serve<W: Write>(
-    script: &mut PlacedScript,
-    alloc: Global,
-    line: &[u8],
-    output: &mut Watched<W>,
-) -> bool {
-    script.serve_line(alloc, line, output)
+/// Answers a line. (It is a function of its own so that the contract of `serve_line`, which isn't
+/// needed here, stays out of every goal.)
+fn serve<W: Write>(script: &mut PlacedScript, alloc: Global, line: &[u8], output: &mut Watched<W>) {
+    script.serve_line(alloc, line, output);
+}
+
+/// Whether a text ends so.
+fn ends_with(text: &[u8], end: &[u8]) -> bool {
+    &text[text.len().saturating_sub(end.len())..] == end
+}
+
+/// Whether an answer says that memory ran out.
+fn says_starved(answer: &[u8]) -> bool {
+    ends_with(answer, b"NoMemory\n") || ends_with(answer, b"NoMemory ENOMEM\n")
 }
 
 impl Respond for Answering {
@@ -48,11 +53,11 @@ impl Respond for Answering {
 
     fn respond(&mut self, line: &[u8], answer: &mut Vec<u8>) -> Result<(), AllocError> {
         let mut output = Watched::new(mem::replace(answer, Vec::new(self.alloc)));
-        let is_starved = serve(&mut self.script, self.alloc, line, &mut output);
+        serve(&mut self.script, self.alloc, line, &mut output);
         let handed_over = output.hand_over();
         *answer = output.inner;
         match handed_over {
-            Ok(()) if !is_starved => Ok(()),
+            Ok(()) if !says_starved(answer.as_slice()) => Ok(()),
             _ => Err(AllocError),
         }
     }

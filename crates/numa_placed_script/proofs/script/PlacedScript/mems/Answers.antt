@@ -9,7 +9,7 @@ use Rattle.numa_placed_script.proofs.script.PlacedScript.mems.Goals as goal
 
 pub returns : goal.returns
 returns g c = λ scene stands.
-    let served = c.serve_parsed-starved.ensures scene.session stands.0 in
+    let served = c.pass_on.ensures scene.session stands.0 in
     let later = session_after served.0 scene.session c.args.line.now in
     let one = c.version_in-before.ensures scene.session stands.0 in
     let other = c.version_in-after.ensures later served.1 in
@@ -17,8 +17,8 @@ returns g c = λ scene stands.
     let are = c.allowed_in-new.ensures later served.1 in
     let kept = kept_in (process_of later) in
     let follows = c.follow.ensures scene.lying kept stands.1 (c.kept_in.ensures later served.1) in
-    mems-followed g.W.Write.contents c.serve_parsed-starved.new.self c.args.output.now
-    c.serve_parsed-starved.new.output scene.lying c.args.line.now served.0 scene.session
+    mems-followed g.W.Write.contents c.pass_on.new.script c.args.output.now
+    c.pass_on.new.output scene.lying c.args.line.now served.0 scene.session
     c.follow.new.beside (sym (ap concern_of c.requires.said) ∙ c.requires.mems) served.1 served.2
     (λ same. c.if-before-after.false (one ∙ same ∙ sym other)) (
       follows.0,

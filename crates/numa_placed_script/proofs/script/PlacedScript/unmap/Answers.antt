@@ -36,15 +36,15 @@ returns-in_default-forgotten g c = λ scene stands.
 
 pub returns-then-before-later : goal.returns-then-before-later
 returns-then-before-later g c = λ scene stands.
-    let served = c.serve_parsed-starved.ensures scene.session stands.0 in
+    let served = c.pass_on.ensures scene.session stands.0 in
     let later = session_after served.0 scene.session c.args.line.now in
     let one = c.version_in-before.ensures scene.session stands.0 in
     let other = c.version_in-later.ensures later served.1 in
     let forgets = forgets-that c.args.self.now.beside c.args.start c.args.length
     c.in-Ok.forgotten c.in-Some-forgotten.after c.in-Some-forgotten.is c.in-Ok.ensures
     scene.lying stands.1 in
-    unmap-served g.W.Write.contents c.args.self.now.script c.serve_parsed-starved.new.self
-    c.args.output.now c.serve_parsed-starved.new.output scene c.args.line.now c.args.start
+    unmap-served g.W.Write.contents c.args.self.now.script c.pass_on.new.script
+    c.args.output.now c.pass_on.new.output scene c.args.line.now c.args.start
     c.args.length
     (ap is_some (process-here scene.session _ _ (c.in-Some.ensures scene.session stands.0)))
     forgets.0 c.args.self.now.beside served.0 forgets.2
@@ -55,15 +55,15 @@ returns-then-before-later g c = λ scene stands.
 
 pub returns : goal.returns
 returns g c = λ scene stands.
-    let served = c.serve_parsed-starved.ensures scene.session stands.0 in
+    let served = c.pass_on.ensures scene.session stands.0 in
     let later = session_after served.0 scene.session c.args.line.now in
     let one = c.version_in-before.ensures scene.session stands.0 in
     let other = c.version_in-later.ensures later served.1 in
     let forgets = forgets-that c.args.self.now.beside c.args.start c.args.length
     c.in-Ok.forgotten c.in-Some-forgotten.after c.in-Some-forgotten.is c.in-Ok.ensures
     scene.lying stands.1 in
-    unmap-served g.W.Write.contents c.args.self.now.script c.serve_parsed-starved.new.self
-    c.args.output.now c.serve_parsed-starved.new.output scene c.args.line.now c.args.start
+    unmap-served g.W.Write.contents c.args.self.now.script c.pass_on.new.script
+    c.args.output.now c.pass_on.new.output scene c.args.line.now c.args.start
     c.args.length
     (ap is_some (process-here scene.session _ _ (c.in-Some.ensures scene.session stands.0)))
     forgets.0 c.replace.new.beside served.0 forgets.2
