@@ -3,6 +3,7 @@ pub mod Counting
 pub mod Edits
 pub mod Filtered
 pub mod Going
+pub mod HoleRows
 pub mod Lowest
 pub mod MoveRows
 pub mod MovedNodes
@@ -15,3 +16,4 @@ pub mod Sources
 pub mod Stating
 pub mod Summed
 pub mod Tests
+pub mod Walking

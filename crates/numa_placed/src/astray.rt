@@ -1,9 +1,10 @@
 //! Pages that lie on other nodes than those of a list.
-ghost use Rattle.std.specs.Prelude.{◌≡◌, ◌+◌, ◌≤◌, ◌^◌};
+ghost use Rattle.std.specs.Prelude.{◌≡◌, ◌+◌, ◌≤◌, ◌^◌, MatchResult, None, Some};
 ghost use Rattle.numa_ranges.specs.Maps.{any_page};
-ghost use Rattle.numa_placed.specs.Astray.{is_astray, reaches};
+ghost use Rattle.numa_placed.specs.Astray.{astray_cause, is_astray, reaches};
 ghost use Rattle.numa_placed.specs.Spots.{spot_at};
 
+use crate::refusal::PlacedRefusal;
 use crate::spot::Spot;
 use numa_mask::NodeMask;
 use numa_ranges::{RangeMap, Run};
@@ -29,7 +30,7 @@ fn reaches(run: &Run<Spot>, first: u64, end: u64, list: &NodeMask) -> bool
 }
 
 /// Whether some page of a span lies on a node that isn't in the list.
-pub(crate) fn has_astray(map: &RangeMap<Spot>, first: u64, pages: u64, list: &NodeMask) -> bool
+fn has_astray(map: &RangeMap<Spot>, first: u64, pages: u64, list: &NodeMask) -> bool
     requires within { first + pages ≤ 2 ^ 35 }
     ensures { result ≡ any_page (λ page. is_astray list.now (spot_at map.now.runs page)) first
         pages }
@@ -44,4 +45,22 @@ pub(crate) fn has_astray(map: &RangeMap<Spot>, first: u64, pages: u64, list: &No
         }
     }
     false
+}
+
+/// Refuses a list if some page of a span lies on a node that isn't in it.
+pub(crate) fn judge_pages(
+    map: &RangeMap<Spot>,
+    first: u64,
+    pages: u64,
+    list: &NodeMask,
+) -> Result<(), PlacedRefusal>
+    requires within { first + pages ≤ 2 ^ 35 }
+    ensures { MatchResult result
+        (λ done. astray_cause (spot_at map.now.runs) first pages list.now ≡ None)
+        (λ cause. astray_cause (spot_at map.now.runs) first pages list.now ≡ Some cause) }
+{
+    if has_astray(map, first, pages, list) {
+        return Err(PlacedRefusal::Astray);
+    }
+    Ok(())
 }

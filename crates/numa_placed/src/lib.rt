@@ -13,7 +13,7 @@
 //!
 //! **Policies.** A page lies astray if its node isn't in the list of its range's policy. mbind(2)
 //! refuses a policy for a range with such pages, or moves each to the first node of its node list,
-//! if it is asked to. (`judge_strict`, `bind_astray`)
+//! if it is asked to. (`judge_strict_by`, `bind_astray`)
 //!
 //! **Frames.** A page in a frame stays there in every move, and is counted as left; stating or
 //! forgetting the pages of a span skips it. Only `release` takes it away.
@@ -28,6 +28,7 @@
 //! that found no room stay, and so do those of all nodes that were still to go.
 #![tactic(auto)]
 
+pub mod areas;
 mod astray;
 mod bind;
 pub mod bound;
@@ -48,6 +49,7 @@ pub mod spot;
 mod tally;
 mod targets;
 
+pub use areas::judged_pages;
 pub use bound::Bound;
 pub use judge::judge_move;
 pub use leaving::{Leaving, departures};

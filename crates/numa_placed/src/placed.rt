@@ -4,7 +4,6 @@ ghost use Rattle.std.specs.Prelude.{is_some, slice_index, MatchResult};
 ghost use Rattle.numa_mask.specs.NodeSet.{both};
 ghost use Rattle.numa_ranges.specs.Runs.{AreApart, AreMaximal, page_at};
 ghost use Rattle.numa_space.specs.History.{page_of, page_count};
-ghost use Rattle.numa_placed.specs.Astray.{strict_cause};
 ghost use Rattle.numa_placed.specs.Binds.{IsBound, asked_of, bound_spots};
 ghost use Rattle.numa_placed.specs.Moves.{IsMove, moved_node};
 ghost use Rattle.numa_placed.specs.Refusals.{IsLack, IsRefusal, IsMoveRefusal, state_cause};
@@ -19,7 +18,6 @@ ghost use Rattle.numa_placed.specs.Shifts.{shifted};
 ghost use Rattle.numa_placed.specs.Wholes.{AreWhole};
 ghost use Rattle.numa_placed.specs.declared.spot.Spot.TheVariants.{Nowhere, Held};
 
-use crate::astray::has_astray;
 use crate::bind::{FaultingTask, bind_span};
 use crate::bound::Bound;
 use crate::change::Change;
@@ -40,6 +38,8 @@ use numa_ranges::{RangeIter, RangeMap};
 use numa_space::Space;
 use std::alloc::Global;
 use std::marker::Model;
+
+mod strict;
 
 /// Where each page lies.
 #[derive(Drop)]
@@ -281,35 +281,11 @@ impl Placed {
         edit(&mut self.map, page, 1, Change::Release)
     }
 
-    /// Refuses to set a policy of this list for a span where pages lie on other nodes, as mbind(2)
-    /// does with MPOL_MF_STRICT. Pages that lie nowhere don't count. Of `DEFAULT`, `LOCAL` and
-    /// `PREFERRED` without nodes the list is empty. Start and length are in bytes.
-    ///
-    /// # Errors
-    /// The first of these that applies: `Unaligned`, `OutOfSpace`, `Astray`, as [`PlacedRefusal`]
-    /// says.
-    pub fn judge_strict(
-        &self,
-        start: u64,
-        length: u64,
-        list: &NodeMask,
-    ) -> Result<(), PlacedRefusal>
-        ensures { MatchResult result
-            (λ done. strict_cause (spot_at self.now) start length list.now ≡ None)
-            (λ refusal. strict_cause (spot_at self.now) start length list.now ≡ Some refusal) }
-    {
-        let (first, pages) = span_of(start, length)?;
-        if has_astray(&self.map, first, pages, list) {
-            return Err(PlacedRefusal::Astray);
-        }
-        Ok(())
-    }
-
-    /// Moves the pages of a span that lie on other nodes than those of a list, as mbind(2) does with
-    /// MPOL_MF_MOVE once the policy of the span is set: the lowest page first, each to the first node
-    /// of its own list in the space that has room by then, as a fault of the task on node `cpu` would
-    /// put it. A page that isn't mapped finds no room, nor does any if the machine has no node `cpu`.
-    /// Start and length are in bytes.
+    /// Moves the pages of a span that lie on other nodes than those of a list, as mbind(2) does
+    /// with MPOL_MF_MOVE once the policy of the span is set: the lowest page first, each to the
+    /// first node of its own list in the space that has room by then, as a fault of the task on
+    /// node `cpu` would put it. A page that isn't mapped finds no room, nor does any if the machine
+    /// has no node `cpu`. Start and length are in bytes.
     ///
     /// # Errors
     /// The first of these that applies; nothing has changed: `Unaligned`, `OutOfSpace`,
