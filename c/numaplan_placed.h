@@ -104,7 +104,9 @@ uint32_t np_pages_set_mems(np_pages *pages, const uint8_t *nodes, size_t nodes_l
 /* Gives the pages of a span a policy as np_pages_mbind, unless one of them lies on a node that
  * isn't in the policy's list as it is written (mbind(2), MPOL_MF_STRICT): then NP_ASTRAY.
  * "default" looks at no page; the list of "local" is empty, so every page that lies somewhere
- * counts. NP_ASTRAY comes before NP_TOO_MANY_RANGES and NP_NO_MEMORY, and after all others. */
+ * counts. NP_ASTRAY comes before NP_TOO_MANY_RANGES and NP_NO_MEMORY, and after all others; but by
+ * the kernel's rules before NP_HOLE too, of pages in the ranges before the one that ends at the
+ * first hole. */
 uint32_t np_pages_mbind_strictly(np_pages *pages, uint64_t start, uint64_t length,
                                  const uint8_t *policy, size_t policy_length);
 

@@ -19,7 +19,6 @@ ROWS = {
     "untouched": "move of a page that was never touched (6.1)",
     "unknown": "lines by which pages left a full node and others came or stayed, taken as they lay",
     "again": "lines by which a page found room on a filled node, where some was free again",
-    "hole": "mbind with strict, pages astray before a hole",
 }
 
 
@@ -87,8 +86,6 @@ def cause(line, mine, seen, is_full):
         return "again"
     if line.startswith("move ") and mine == "refused NotPlaced ENOENT" and seen == "EFAULT":
         return "untouched"
-    if line.startswith("mbind ") and seen == "EIO" and mine == "refused Hole EFAULT":
-        return "hole"
     return None
 
 

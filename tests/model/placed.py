@@ -7,8 +7,8 @@ proved."""
 
 from collections import Counter
 
-from commands import COMMANDS, accept, lacks_pages, refused, span_cause, span_of
-from space import lacks_nodes, page_of, piece_at
+from commands import accept, refused, span_cause, span_of
+from space import has_hole, lacks_nodes, page_of, piece_at, ranges
 from workers import list_of_page, touch as take_frame
 
 MOVE_ERRNO = {
@@ -209,19 +209,35 @@ def astray(state, start, length, asked):
 
 
 def bind_strictly(state, start, length, asked):
-    """`mbind .. strict`: refused where a page is astray, once holes and nodes were judged."""
+    """`mbind .. strict`: refused where a page is astray that is judged before a hole is told."""
     space = state.space
-    if astray(state, start, length, asked) and asked.mode != "default":
-        if space.version < space.limits[2] and not early_cause(space, start, length, asked):
+    first, end = span_of(start, length)
+    judged = judged_end(space, first, end)
+    if any(page < judged for page in astray(state, start, length, asked)):
+        if asked.mode != "default" and not early_cause(space, start, length, asked):
             return "refused Astray EIO"
     return command(state, "mbind", [start, length, asked])
 
 
+def judged_end(space, first, end):
+    """The page up to which those of a span are judged. A kernel looks for a hole where the span begins,
+    and right behind each area before it looks at the area's pages (queue_pages_test_walk)."""
+    if not space.machine.is_linux:
+        return first if has_hole(space, first, end) else end
+    areas = [it for it in ranges(space) if it.first < end and first < it.end]
+    if not areas or first < areas[0].first:
+        return first
+    for area, behind in zip(areas, areas[1:] + [None]):
+        if area.end < end and (behind is None or area.end < behind.first):
+            return max(first, area.first)
+    return end
+
+
 def early_cause(space, start, length, asked):
-    """What of an `mbind` is judged before its pages."""
-    if span_cause(start, length) or lacks_nodes(space, asked):
+    """What of an `mbind` is judged before its pages, and before a hole in a kernel."""
+    if space.version >= space.limits[2] or span_cause(start, length):
         return True
-    return lacks_pages(space, *span_of(start, length), asked)
+    return lacks_nodes(space, asked)
 
 
 def bind_and_move(state, start, length, asked, task, cpu, is_strict=False):
