@@ -4,6 +4,7 @@ pub mod Edits
 pub mod Filtered
 pub mod Going
 pub mod HoleRows
+pub mod Judged
 pub mod Lowest
 pub mod MoveRows
 pub mod MovedNodes

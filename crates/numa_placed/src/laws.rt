@@ -1,8 +1,14 @@
 //! Laws about the definitions that the contracts of this crate cite. The functions do nothing: what
 //! each one ensures is a law.
-ghost use Rattle.std.specs.Prelude.{◌≡◌, ◌≢◌, ◌<◌, ◌≤◌, ◌^◌, ℕ, true, false, slice_get};
+ghost use Rattle.std.specs.Prelude.{◌≡◌, ◌≢◌, ◌+◌, ◌-◌, ◌<◌, ◌≤◌, ◌^◌, ℕ, true, false, not};
+ghost use Rattle.std.specs.Prelude.{is_some, slice_get};
 ghost use Rattle.numa_mask.specs.NodeSet.{has, weight_of};
-ghost use Rattle.numa_placed.specs.Astray.{is_astray};
+ghost use Rattle.numa_machine.specs.declared.rules.Rules.TheVariants.{Linux};
+ghost use Rattle.numa_ranges.specs.Counts.{is_start};
+ghost use Rattle.numa_ranges.specs.Maps.{any_page};
+ghost use Rattle.numa_space.specs.Refusals.{PageMap};
+ghost use Rattle.numa_space.specs.Same.{same_record};
+ghost use Rattle.numa_placed.specs.Astray.{is_astray, judged_pages};
 ghost use Rattle.numa_placed.specs.Binds.{Asked, bound_spots, goals};
 ghost use Rattle.numa_placed.specs.Moves.{moved_node, moved_spot};
 ghost use Rattle.numa_placed.specs.Shifts.{endless, shifted};
@@ -42,8 +48,8 @@ pub fn moves_within_rooms()
         → shifted spots old new room page ≡ Stated node }
 {}
 
-/// A policy's list loses no page by moving them, and those that lie on its nodes stay. Where no node
-/// fills, each of the others goes to the first node of its own list.
+/// A policy's list loses no page by moving them, and those that lie on its nodes stay. Where no
+/// node fills, each of the others goes to the first node of its own list.
 pub fn bindings_keep_pages()
     ensures pages { (asked : Asked) (spots : ℕ → Spot) (room : ℕ → ℕ)
         → pages_where is_placed (bound_spots asked spots room) ≡ pages_where is_placed spots }
@@ -52,4 +58,22 @@ pub fn bindings_keep_pages()
         → bound_spots asked spots room page ≡ spots page }
     ensures endless { (asked : Asked) (spots : ℕ → Spot) (page : ℕ)
         → goals asked spots (λ node. endless) page ≡ slice_get (asked.nodes page) 0 }
+{}
+
+/// The kernel judges all pages of a span without a hole, as the documents do. Else it judges those,
+/// all mapped, before the last page in front of the hole where a range begins; none, if no range
+/// begins there behind the span's first page.
+pub fn judged_before_a_hole()
+    ensures whole { (map : PageMap) (first n : ℕ)
+        → any_page (λ page. not (is_some (map page))) first n ≡ false
+        → judged_pages Linux map first n ≡ n }
+    ensures mapped { (map : PageMap) (first n page : ℕ) → first ≤ page
+        → page < first + judged_pages Linux map first n → is_some (map page) ≡ true }
+    ensures starts { (map : PageMap) (first n : ℕ) → 0 < judged_pages Linux map first n
+        → judged_pages Linux map first n < n
+        → is_start same_record map (first + judged_pages Linux map first n) ≡ true }
+    ensures last { (map : PageMap) (first n page : ℕ) → judged_pages Linux map first n < n
+        → first + judged_pages Linux map first n < page → page < first + n
+        → any_page (λ p. not (is_some (map p))) first (page + 1 - first) ≡ false
+        → is_start same_record map page ≡ false }
 {}
