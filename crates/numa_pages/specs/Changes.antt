@@ -1,9 +1,12 @@
 -- What each call does to a core and its pages, and why it is refused.
 use Rattle.std.specs.Prelude.{◌≡◌, ℕ, ◌==◌, ◌&&◌, Bool, true, false, not, Option, Some, None}
-use Rattle.std.specs.Prelude.{is_some, List, ◌∷◌, Result, Ok, Err, OnOk, OnErr, IfOk, IfErr, if◌then◌else◌}
+use Rattle.std.specs.Prelude.{is_some, List, ◌∷◌, Result, Ok, Err, OnOk, OnErr, IfOk, IfErr}
+use Rattle.std.specs.Prelude.{if◌then◌else◌}
 use Rattle.numa_core.specs.Executions.{CoreStep}
 use Rattle.numa_core.specs.Standing.{CoreState, LeadsTo, core_step_after, setup_of}
 use Rattle.numa_core.specs.Steps.{accept_answer}
+use Rattle.numa_machine.specs.Rules.{is_linux}
+use Rattle.numa_machine.specs.declared.rules.Rules.{Rules}
 use Rattle.numa_mask.specs.NodeSet.{both}
 use Rattle.numa_mode.specs.Policy.{Specification, is_default}
 use Rattle.numa_ranges.specs.Runs.{page_at}
@@ -16,7 +19,8 @@ use Rattle.numa_space.specs.declared.command.Command.TheVariants.{SetMems}
 use Rattle.numa_space.specs.declared.event.Event.TheVariants.{Accept}
 use Rattle.numa_space.specs.declared.refusal.Refusal.{Refusal}
 use Rattle.numa_space.specs.declared.refusal.Refusal.TheVariants as refused
-use Rattle.numa_placed.specs.Astray.{strict_cause}
+use Rattle.numa_space.specs.Standing.{SpaceState}
+use Rattle.numa_placed.specs.Astray.{strict_cause_by}
 use Rattle.numa_placed.specs.Binds.{Asked, IsBound, asked_of, bound_spots}
 use Rattle.numa_placed.specs.Refusals.{IsLack, IsMoveRefusal, IsRefusal, lacks_node}
 use Rattle.numa_placed.specs.Refusals.{migrate_cause, move_cause, span_cause, state_cause}
@@ -107,23 +111,27 @@ pub record Accepts (command : Command) (before : PagesState) (answer : Result �
 -- ---- a policy that pages have to lie by
 
 -- `default` asks for no nodes, and looks at no page
-abbrev pub strict_cause_of : (ℕ → Spot) → ℕ → ℕ → Specification → Option PlacedRefusal
-strict_cause_of spots start bytes spec =
-    if is_default spec then None else strict_cause spots start bytes spec.mask
+abbrev pub strict_cause_of : SpaceState → (ℕ → Spot) → ℕ → ℕ → Specification
+    → Option PlacedRefusal
+strict_cause_of space spots start bytes spec = if is_default spec then None
+    else strict_cause_by space.machine.rules (page_at space.ranges) spots start bytes spec.mask
 
--- an answer of the core that doesn't come before one of the pages
-abbrev pub is_late : Result ℕ Refusal → Bool
-is_late (Ok version) = true
-is_late (Err refused.TooManyRanges) = true
-is_late (Err refused.NoMemory) = true
-is_late (Err other) = false
+-- an answer of the core that doesn't come before one of the pages: a hole comes behind the pages
+-- that the kernel judges before it
+abbrev pub is_late : Rules → Result ℕ Refusal → Bool
+is_late rules (Ok version) = true
+is_late rules (Err refused.TooManyRanges) = true
+is_late rules (Err refused.NoMemory) = true
+is_late rules (Err refused.Hole) = is_linux rules
+is_late rules (Err other) = false
 
 -- why it is refused, where the pages have this cause: the core's comes first, unless it is late
 abbrev pub IsLateRefusal : Command → CoreState → PlacedRefusal → ChangeRefusal → Type 0
 IsLateRefusal command core cause (OfSpace refusal) =
-    Answers core command (Err refusal) core × (is_late (Err refusal) ≡ false)
+    Answers core command (Err refusal) core
+    × (is_late core.space.machine.rules (Err refusal) ≡ false)
 IsLateRefusal command core cause (OfPages told) = (told ≡ cause)
-    × ((answer : Result ℕ Refusal) × (is_late answer ≡ true)
+    × ((answer : Result ℕ Refusal) × (is_late core.space.machine.rules answer ≡ true)
     × ((after : CoreState) × Answers core command answer after))
 IsLateRefusal command core cause NoMemory = Unit {0}
 
@@ -138,12 +146,13 @@ pub record BindsStrictly (start bytes : ℕ) (spec : Specification) (before : Pa
     (answer : Result ℕ ChangeRefusal) (after : PagesState) : Type 0 where
   pub core : IfOk answer (λ version. Answers before.core (Mbind start bytes spec) (Ok version)
       after.core)
-  pub strict : OnOk answer (strict_cause_of (spot_at before.runs) start bytes spec ≡ None)
+  pub strict : OnOk answer (strict_cause_of before.core.space (spot_at before.runs) start bytes
+      spec ≡ None)
   pub pages : after.runs ≡ before.runs
   pub rooms : after.rooms ≡ before.rooms
   pub setup : setup_of after.core ≡ setup_of before.core
-  pub err : IfErr answer (IsStrictCause (strict_cause_of (spot_at before.runs) start bytes spec)
-      (Mbind start bytes spec) before.core)
+  pub err : IfErr answer (IsStrictCause (strict_cause_of before.core.space (spot_at before.runs)
+      start bytes spec) (Mbind start bytes spec) before.core)
   pub unchanged : OnErr answer (after ≡ before)
 
 -- ---- a policy to which pages move

@@ -11,9 +11,10 @@ ghost use Rattle.numa_pages.specs.Changes.{strict_cause_of};
 use crate::refusal::ChangeRefusal;
 use crate::trial::{TrialError, let_go, tried};
 use numa_core::Core;
+use numa_machine::Rules;
 use numa_mode::PolicySpec;
 use numa_placed::{Bound, Placed, PlacedRefusal, Rooms};
-use numa_space::{Command, Refusal};
+use numa_space::{Command, Refusal, Space};
 
 /// What setting a policy did, and moving the pages to where it puts them.
 #[derive(Clone, Copy, Drop)]
@@ -28,25 +29,32 @@ pub struct Rebound {
 /// Refuses a policy for a span where pages lie on other nodes than it asks for.
 pub(crate) fn judge_strict(
     placed: &Placed,
+    space: &Space,
     start: u64,
     length: u64,
     spec: &PolicySpec,
 ) -> Result<(), PlacedRefusal>
     ensures { MatchResult result
-        (λ done. strict_cause_of (spot_at placed.now) start length spec.now ≡ None)
-        (λ cause. strict_cause_of (spot_at placed.now) start length spec.now ≡ Some cause) }
+        (λ done. strict_cause_of space.now (spot_at placed.now) start length spec.now ≡ None)
+        (λ cause. strict_cause_of space.now (spot_at placed.now) start length spec.now
+        ≡ Some cause) }
 {
     if spec.is_default() {
         return Ok(());
     }
-    placed.judge_strict(start, length, &spec.mask())
+    placed.judge_strict_by(space, start, length, &spec.mask())
 }
 
 /// Whether a refusal comes behind that of a page on another node.
-fn is_late(refusal: Refusal) -> bool
-    ensures { result ≡ is_late (Err refusal) }
+fn is_late(rules: Rules, refusal: Refusal) -> bool
+    ensures { result ≡ is_late rules (Err refusal) }
 {
-    matches!(refusal, Refusal::TooManyRanges | Refusal::NoMemory)
+    match refusal {
+        Refusal::TooManyRanges => true,
+        Refusal::NoMemory => true,
+        Refusal::Hole => rules.is_linux(),
+        _ => false,
+    }
 }
 
 /// Why a command is refused that pages on other nodes stand against: the core's cause, if it has
@@ -65,7 +73,7 @@ pub(crate) fn refused_strictly(
         }
         Err(TrialError::NoMemory) => ChangeRefusal::NoMemory,
         Err(TrialError::Refused(refusal)) => {
-            if is_late(refusal) {
+            if is_late(core.space().machine().rules(), refusal) {
                 return ChangeRefusal::OfPages(cause);
             }
             ChangeRefusal::OfSpace(refusal)

@@ -235,7 +235,9 @@ impl Pages {
     /// # Errors
     /// Nothing has changed. `OfSpace`: as [`Core::accept`]. `OfPages`: `Astray`, a page lies on
     /// another node, and nothing else stands against the command but `TooManyRanges` and
-    /// `NoMemory`, which come behind it. `NoMemory`: out of memory for a copy.
+    /// `NoMemory`, which come behind it, and by the kernel's rules `Hole`: they look at the pages
+    /// before the range that ends at the first hole (`judged_pages`). `NoMemory`: out of memory for
+    /// a copy.
     pub fn bind_strictly(
         &mut self,
         start: u64,
@@ -249,7 +251,7 @@ impl Pages {
             length,
             spec,
         };
-        if let Err(cause) = judge_strict(&self.placed, start, length, &spec) {
+        if let Err(cause) = judge_strict(&self.placed, self.core.space(), start, length, &spec) {
             return Err(refused_strictly(&self.core, &command, cause));
         }
         match self.core.accept(&command) {
@@ -259,10 +261,11 @@ impl Pages {
     }
 
     /// Sets the policy of a span's pages, and moves those that lie on nodes that aren't in the
-    /// policy's list as it was asked for: mbind(2) with MPOL_MF_MOVE. The lowest goes first, each to
-    /// the first node with room of its own list, as a fault of the task on node `cpu` would put it;
-    /// of these, one that finds no room stays. With `strict` (MPOL_MF_STRICT too) that is told by an
-    /// error number. `DEFAULT` asks for no list: then each page is moved, and `strict` is dropped.
+    /// policy's list as it was asked for: mbind(2) with MPOL_MF_MOVE. The lowest goes first, each
+    /// to the first node with room of its own list, as a fault of the task on node `cpu` would put
+    /// it; of these, one that finds no room stays. With `strict` (MPOL_MF_STRICT too) that is told
+    /// by an error number. `DEFAULT` asks for no list: then each page is moved, and `strict` is
+    /// dropped.
     ///
     /// # Errors
     /// Nothing has changed. `OfSpace`: as [`Core::accept`]. `OfPages`: `TooManyRuns` or `NoMemory`,
