@@ -26,14 +26,21 @@ static const uint8_t distances[25] = {10, 20, 20, 20, 20, 20, 10, 20, 20, 20, 20
                                       20, 20, 20, 20, 20, 10, 20, 20, 20, 20, 20, 10};
 
 /* Five nodes, of which 4 has no memory, six mapped pages from 16 on, and so many ranges and
- * commands. */
-static void open_pages(np_pages *pages, uint32_t ranges, uint32_t commands) {
+ * commands, by these rules. */
+static void open_pages_by(np_pages *pages, uint32_t ranges, uint32_t commands, uint32_t rules) {
     const np_limits limits = {ranges, 2, commands};
+    np_options options = {0};
     np_core core = {0};
-    WANT(np_core_open(&core, TEXT("0-3"), frames, 5, distances, 25, &limits, 1), NP_OK);
+    options.rules = rules;
+    WANT(np_core_open_by(&core, TEXT("0-3"), frames, 5, distances, 25, &limits, 1, &options),
+         NP_OK);
     WANT(np_core_map(&core, BASE, 0x6000, 0x10), NP_OK);
     WANT(np_pages_open(pages, &core), NP_OK);
     np_core_close(&core);
+}
+
+static void open_pages(np_pages *pages, uint32_t ranges, uint32_t commands) {
+    open_pages_by(pages, ranges, commands, NP_RULES_DOCUMENT);
 }
 
 /* The node of a page, 9 where it lies nowhere. */
@@ -291,6 +298,21 @@ static void strictly(void) {
     np_pages_close(&pages);
 }
 
+/* A hole behind the second of two ranges: by the kernel's rules a page astray in the first is told
+ * before it, by the documents' none is. */
+static void strictly_over_a_hole(uint32_t rules, uint32_t told) {
+    np_pages pages = {0};
+    open_pages_by(&pages, 64, 99, rules);
+    place_all(&pages, "222222");
+    WANT(np_pages_mbind(&pages, BASE + 0x3000, 0x3000, TEXT("bind:2")), NP_OK);
+    WANT(np_pages_mbind_strictly(&pages, BASE + 0x2000, 0x5000, TEXT("bind:1")), told);
+    WANT(np_pages_mbind_strictly(&pages, BASE + 0x2000, 0x4000, TEXT("bind:1")), NP_ASTRAY);
+    WANT(np_pages_mbind_strictly(&pages, BASE + 0x3000, 0x4000, TEXT("bind:1")), NP_HOLE);
+    WANT(np_pages_mbind_strictly(&pages, BASE + 0x2000, 0x5000, TEXT("bind:2")), NP_HOLE);
+    WANT(np_pages_mbind_strictly(&pages, BASE - 0x1000, 0x5000, TEXT("bind:1")), NP_HOLE);
+    np_pages_close(&pages);
+}
+
 /* mbind(2) with MPOL_MF_MOVE: set, moved, left, and the error number, in digits. */
 static unsigned moving(np_pages *pages, uint64_t length, const char *word, bool strict,
                        uint32_t cpu) {
@@ -488,6 +510,8 @@ int main(void) {
     ended();
     moved();
     strictly();
+    strictly_over_a_hole(NP_RULES_DOCUMENT, NP_HOLE);
+    strictly_over_a_hole(NP_RULES_LINUX, NP_ASTRAY);
     rebound();
     unmapped();
     copies();

@@ -1,7 +1,7 @@
 #!/usr/bin/env python3
 """Cores with their pages by the Python module: rows worked by hand, and then the module against the
-model of tests/model, which has the rules from the documents' text: seeded commands, statements and
-moves, refused ones among them, each asked of both. Not proved."""
+model of tests/model, which has the rules from the documents' text and a kernel's: seeded commands,
+statements and moves, refused ones among them, each asked of both. Not proved."""
 
 import os
 import random
@@ -25,10 +25,10 @@ MODES = ["prefer", "bind", "interleave", "many", "weighted"]
 BASE = 0x10000
 
 
-def opened():
+def opened(rules="document"):
     """A core with its pages, on which nothing is mapped."""
     with Core([0] * NODES, FLAT, memory=MEMORY, max_ranges=LIMITS[0], max_tasks=LIMITS[1],
-              max_commands=LIMITS[2]) as core:
+              max_commands=LIMITS[2], rules=rules) as core:
         return Pages(core)
 
 
@@ -182,15 +182,16 @@ def is_same(pages, state):
     return of_module == stated and all(a == b for a, b in rooms)
 
 
-def play(dice):
-    """A round. How many calls were refused, how many pages moved, and how many policies told that pages
-    stayed."""
+def play(dice, rules):
+    """A round by these rules. How many calls were refused, how many pages moved, and how many
+    policies told that pages stayed."""
     machine, fault = machine_of(None, NODES, frozenset(MEMORY), [0], ("flat", False))
     assert fault is None
+    machine.is_linux = rules == "linux"
     state = SimpleNamespace(space=Space(machine, LIMITS), placed=model.Placed(),
                             crew=SimpleNamespace(kept={}))
     refused = moved = late = 0
-    with opened() as pages:
+    with opened(rules) as pages:
         change(state, False, "map", BASE, 4096 * PAGES, 16)
         pages.map(BASE, 4096 * PAGES)
         for step in range(STEPS):
@@ -209,6 +210,6 @@ def play(dice):
 
 worked()
 dice = random.Random(SEED)
-rounds = [play(dice) for _ in range(ROUNDS)]
+rounds = [play(dice, ("document", "linux")[number % 2]) for number in range(ROUNDS)]
 # (so that the seed asks something)
 assert all(sum(them) > least for them, least in zip(zip(*rounds), (300, 300, 20))), rounds
