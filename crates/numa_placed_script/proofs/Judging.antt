@@ -1,16 +1,21 @@
 -- Pages that lie on other nodes than those of a list.
 use Rattle.std.proofs.Common.{◌≡◌, ℕ, Bool, true, false, ◌&&◌, ◌||◌, not, Option, Some, None}
-use Rattle.std.proofs.Common.{◌∷◌, refl, sym, ap, ◌∙◌}
+use Rattle.std.proofs.Common.{◌∷◌, List, refl, sym, ap, ◌∙◌}
 use Rattle.std.specs.Prelude.{MatchOption}
+use Rattle.numa_machine.specs.declared.rules.Rules.{Rules}
 use Rattle.numa_mask.specs.NodeSet.{has}
-use Rattle.numa_ranges.specs.Runs.{in_pages}
+use Rattle.numa_ranges.specs.Runs.{in_pages, page_at}
 use Rattle.numa_ranges.proofs.Pages.{any_page-false}
 use Rattle.numa_space.specs.History.{page_of, page_count}
+use Rattle.numa_space.specs.Pages.{page_in}
+use Rattle.numa_space.specs.Refusals.{PageMap}
+use Rattle.numa_space.specs.Standing.{SpaceState, StandsFor}
+use Rattle.numa_space.specs.declared.command.Command.{Command}
 use Rattle.numa_space.specs.declared.placement.Placement.{Placement}
 use Rattle.numa_space.specs.declared.refusal.Refusal.{Refusal}
 use Rattle.numa_space.specs.declared.refusal.Refusal.TheVariants.{NoMemory}
 use Rattle.numa_maps.specs.Residents.{Kept}
-use Rattle.numa_placed.specs.Astray.{strict_cause}
+use Rattle.numa_placed.specs.Astray.{judged_pages, strict_cause_by}
 use Rattle.numa_placed.specs.Refusals.{span_cause}
 use Rattle.numa_placed.specs.Spots.{spot_at}
 use Rattle.numa_placed.specs.declared.spot.Spot.{Spot}
@@ -18,8 +23,9 @@ use Rattle.numa_placed.specs.declared.spot.Spot.TheVariants.{Nowhere}
 use Rattle.numa_placed_script.specs.Lying.{Lying}
 use Rattle.numa_placed_script.specs.Outcomes.{is_astray_cause}
 use Rattle.numa_placed_script.specs.Standing.{LiesAs}
-use Rattle.numa_placed_script.specs.Strict.{held_astray, is_late}
+use Rattle.numa_placed_script.specs.Strict.{has_astray, held_astray, is_late}
 use Rattle.numa_placed_script.specs.declared.beside.Beside.{Beside}
+use Rattle.numa_placed_script.specs.declared.binding.Binding.{Binding}
 use Rattle.numa_placed_script.proofs.Unmapping.{clear-first, span-clear}
 
 -- ---- pages in frames, one after the other
@@ -40,23 +46,56 @@ held-here first pages list before rest at steps holds =
 
 -- ---- pages that were stated
 
-pub none-astray : (start bytes list : ℕ)
-    → is_astray_cause (strict_cause (λ page. Nowhere) start bytes list) ≡ false
-none-astray start bytes list =
-    rw (any_page-false (λ page. false) (page_of start) (page_count bytes)
-    (λ page low high. refl)) (clear-first (span_cause start bytes) (span-clear start bytes))
+pub none-astray : (rules : Rules) (map : PageMap) (start bytes list : ℕ)
+    → is_astray_cause (strict_cause_by rules map (λ page. Nowhere) start bytes list) ≡ false
+none-astray rules map start bytes list =
+    rw (any_page-false (λ page. false) (page_of start)
+    (judged_pages rules map (page_of start) (page_count bytes)) (λ page low high. refl))
+    (clear-first (span_cause start bytes) (span-clear start bytes))
 
-pub same-astray : (beside : Beside) (lying : Lying) (start bytes list : ℕ) → LiesAs beside lying
-    → is_astray_cause (strict_cause (spot_at beside.placed) start bytes list)
-    ≡ is_astray_cause (strict_cause lying.spots start bytes list)
-same-astray beside lying start bytes list lies =
+pub same-astray : (rules : Rules) (map : PageMap) (beside : Beside) (lying : Lying)
+    (start bytes list : ℕ) → LiesAs beside lying
+    → is_astray_cause (strict_cause_by rules map (spot_at beside.placed) start bytes list)
+    ≡ is_astray_cause (strict_cause_by rules map lying.spots start bytes list)
+same-astray rules map beside lying start bytes list lies =
     let alike : spot_at beside.placed ≡ lying.spots = λ i page. lies.spots page i in
-    ap (λ (s : ℕ → Spot). is_astray_cause (strict_cause s start bytes list)) alike
+    ap (λ (s : ℕ → Spot). is_astray_cause (strict_cause_by rules map s start bytes list)) alike
 
 -- ---- what stands against a command
 
-pub late-of : (first : Option Refusal) (refusal : Refusal)
+pub late-of : (rules : Rules) (first : Option Refusal) (refusal : Refusal)
     → MatchOption first (refusal ≡ NoMemory) (λ cause. refusal ≡ cause)
-    → is_late (Some refusal) ≡ is_late first
-late-of None refusal is = ap (λ (r : Refusal). is_late (Some r)) is
-late-of (Some cause) refusal is = ap (λ (r : Refusal). is_late (Some r)) is
+    → is_late rules (Some refusal) ≡ is_late rules first
+late-of rules None refusal is = ap (λ (r : Refusal). is_late rules (Some r)) is
+late-of rules (Some cause) refusal is = ap (λ (r : Refusal). is_late rules (Some r)) is
+
+-- ---- the pages of a space are those of its history
+
+pub mapped-alike : (space : SpaceState) (history : List Command) → StandsFor space history
+    → page_at space.ranges ≡ page_in space.machine history
+mapped-alike space history stands = λ i page. stands.pages page i
+
+-- pages that were stated, and those in frames
+pub astray-seen : (space : SpaceState) (history : List Command) (kept : Kept) (spots : ℕ → Spot)
+    (said : Binding) (pages : ℕ) (stated held : Bool) → StandsFor space history
+    → stated ≡ is_astray_cause (strict_cause_by space.machine.rules (page_at space.ranges) spots
+    said.start said.length said.list)
+    → pages ≡ judged_pages space.machine.rules (page_at space.ranges) (page_of said.start)
+    (page_count said.length)
+    → held ≡ held_astray kept (page_of said.start) pages said.list
+    → (stated || held) ≡ has_astray (record {
+      machine = space.machine;
+      bounds = space.bounds;
+      history = history;
+      kept = kept;
+    }) spots said
+astray-seen space history kept spots said pages stated held stands stated_is pages_are held_is =
+    let in_frames : held ≡ held_astray kept (page_of said.start)
+    (judged_pages space.machine.rules (page_at space.ranges) (page_of said.start)
+    (page_count said.length)) said.list =
+    held_is ∙ ap (λ n. held_astray kept (page_of said.start) n said.list) pages_are in
+    let alike = mapped-alike space history stands in
+    (λ i. stated_is i || in_frames i) ∙ ap (λ (map : PageMap).
+    is_astray_cause (strict_cause_by space.machine.rules map spots said.start said.length
+    said.list) || held_astray kept (page_of said.start) (judged_pages space.machine.rules map
+    (page_of said.start) (page_count said.length)) said.list) alike

@@ -125,13 +125,13 @@ module _ {W : Type 0} (contents : W → Option (List ℕ)) (script_then : HostSc
         ≡ bound_on (Some process) (Some binding) refused scene command (line_of command)
     strict-bound refused = λ i. bound_on (alone i) (bound i) refused scene command (line_of command)
 
-    pub strict-passed : has_astray process.kept scene.lying.spots binding ≡ false → PassedSo
+    pub strict-passed : has_astray process scene.lying.spots binding ≡ false → PassedSo
         → StrictSo
     strict-passed none served =
         so-served served.0 (passed served.0 scene command scene.lying)
         (strict-bound served.0 ∙ rw none refl) served.1 served.2
 
-    module _ (astray : has_astray process.kept scene.lying.spots binding ≡ true) where
+    module _ (astray : has_astray process scene.lying.spots binding ≡ true) where
       strict-astray : (refused : Bool) → strict_served refused scene command
           ≡ astray_served refused process scene command (line_of command)
       strict-astray refused = strict-bound refused ∙ rw astray refl
@@ -144,7 +144,7 @@ module _ {W : Type 0} (contents : W → Option (List ℕ)) (script_then : HostSc
             scene = scene;
           }) (strict-astray true) stands told
 
-      pub strict-denied : is_late (cause_against process (line_of command)) ≡ true
+      pub strict-denied : is_late process.machine.rules (cause_against process (line_of command)) ≡ true
           → StandsIn script_then beside_then scene
           → Said contents output output_then (refusal_line (cause_name cause.Astray)) → StrictSo
       strict-denied late stands told =
@@ -153,7 +153,7 @@ module _ {W : Type 0} (contents : W → Option (List ℕ)) (script_then : HostSc
             scene = scene;
           }) (strict-astray false ∙ rw late refl) stands told
 
-      module _ (early : is_late (cause_against process (line_of command)) ≡ false)
+      module _ (early : is_late process.machine.rules (cause_against process (line_of command)) ≡ false)
           (one : Bool)
           (stands : IsIn script_then.script script_then.limits script_then.host
           (session_after one scene.session command))

@@ -151,7 +151,8 @@ plain_served refused scene bytes = concerned (concern_of (line_of bytes)) refuse
 abbrev pub astray_served : Bool → Process → Scene → List ℕ → Line → Served
 astray_served true process scene command said =
     record { text = refusal_line (cause_name cause.NoMemory); scene = scene }
-astray_served false process scene command said = if is_late (cause_against process said)
+astray_served false process scene command said =
+    if is_late process.machine.rules (cause_against process said)
     then record { text = refusal_line (cause_name cause.Astray); scene = scene }
     else passed false scene command scene.lying
 
@@ -160,7 +161,7 @@ bound_on None binding refused scene command said = passed refused scene command 
 bound_on (Some process) None refused scene command said =
     passed refused scene command scene.lying
 bound_on (Some process) (Some binding) refused scene command said =
-    if has_astray process.kept scene.lying.spots binding
+    if has_astray process scene.lying.spots binding
     then astray_served refused process scene command said
     else passed refused scene command scene.lying
 

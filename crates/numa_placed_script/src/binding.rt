@@ -1,14 +1,16 @@
 //! `mbind .. strict`: whether pages lie on other nodes than those of a policy's list.
-ghost use Rattle.std.specs.Prelude.{◌≡◌, ◌&&◌, ◌||◌, Bool, Some, false, not, IfErr, IfOk, List};
+ghost use Rattle.std.specs.Prelude.{◌≡◌, ◌≤◌, ◌^◌, ◌&&◌, ◌||◌, Bool, Some, false, not, IfErr};
+ghost use Rattle.std.specs.Prelude.{IfOk, List};
 ghost use Rattle.numa_mask.specs.NodeSet.{has};
 ghost use Rattle.numa_mode.specs.Policy.{Specification};
-ghost use Rattle.numa_ranges.specs.Runs.{in_pages};
+ghost use Rattle.numa_ranges.specs.Runs.{in_pages, page_at};
 ghost use Rattle.numa_space.specs.History.{page_count, page_of};
+ghost use Rattle.numa_space.specs.Pages.{page_in};
 ghost use Rattle.numa_space.specs.Refusals.{refusal_of};
 ghost use Rattle.numa_space.specs.Standing.{StandsFor};
 ghost use Rattle.numa_space.specs.declared.command.Command.{Command};
 ghost use Rattle.numa_maps.specs.Residents.{Kept};
-ghost use Rattle.numa_placed.specs.Astray.{strict_cause};
+ghost use Rattle.numa_placed.specs.Astray.{strict_cause, strict_cause_by};
 ghost use Rattle.numa_placed.specs.Spots.{spot_at};
 ghost use Rattle.numa_placed_script.specs.Lying.{Lying, Process};
 ghost use Rattle.numa_placed_script.specs.Outcomes.{is_astray_cause};
@@ -17,11 +19,11 @@ ghost use Rattle.numa_placed_script.specs.Strict.{binding_of, cause_against, has
 ghost use Rattle.numa_placed_script.specs.Strict.{is_late, strict_binding};
 
 use crate::beside::Beside;
-use numa_machine::NoMemory;
+use numa_machine::{NoMemory, Rules};
 use numa_maps::Resident;
 use numa_mask::NodeMask;
 use numa_mode::PolicySpec;
-use numa_placed::{Placed, PlacedRefusal};
+use numa_placed::{Placed, PlacedRefusal, judged_pages};
 use numa_script::Line;
 use numa_space::{Command, PAGE_BYTES, Refusal, Space};
 use std::alloc::Global;
@@ -103,41 +105,70 @@ pub(crate) fn stated_astray(placed: &Placed, start: u64, length: u64, list: &Nod
     }
 }
 
-/// Whether a stated page lies on another node than those of a list.
-fn lies_astray(beside: &Option<Beside>, said: &Binding) -> bool
-    ensures { (lying : Lying) → Lies beside.now lying → result
-        ≡ is_astray_cause (strict_cause lying.spots said.now.start said.now.length said.now.list) }
+/// Whether a stated page that is judged lies on another node than those of a list.
+fn judged_astray(placed: &Placed, space: &Space, said: &Binding) -> bool
+    ensures { result ≡ is_astray_cause (strict_cause_by space.now.machine.rules
+        (page_at space.now.ranges) (spot_at placed.now) said.now.start said.now.length
+        said.now.list) }
+{
+    match placed.judge_strict_by(space, said.start, said.length, &said.list) {
+        Ok(()) => false,
+        Err(refusal) => is_astray(refusal),
+    }
+}
+
+/// Whether a stated page that is judged lies on another node than those of a list, if any is kept.
+fn lies_astray(space: &Space, beside: &Option<Beside>, said: &Binding) -> bool
+    ensures { (lying : Lying) → Lies beside.now lying → result ≡ is_astray_cause (strict_cause_by
+        space.now.machine.rules (page_at space.now.ranges) lying.spots said.now.start
+        said.now.length said.now.list) }
 {
     match beside {
         None => false,
-        Some(kept) => stated_astray(&kept.placed, said.start, said.length, &said.list),
+        Some(kept) => judged_astray(&kept.placed, space, said),
     }
 }
 
 /// The number of pages that so many bytes reach into.
 fn page_count(length: u64) -> u64
-    ensures { result ≡ page_count length }
+    ensures pages { result ≡ page_count length }
+    ensures at_most { result ≤ 2 ^ 52 }
 {
     length / PAGE_BYTES + u64::from(length % PAGE_BYTES != 0)
 }
 
-/// Whether a page of a span lies on another node than those of a list.
-pub(crate) fn has_astray(resident: &Resident, beside: &Option<Beside>, said: &Binding) -> bool
-    ensures { (lying : Lying) → Lies beside.now lying
-        → result ≡ has_astray resident.now lying.spots said.now }
+/// Whether a page of a span that is judged lies on another node than those of a list.
+pub(crate) fn has_astray(
+    space: &Space,
+    resident: &Resident,
+    beside: &Option<Beside>,
+    said: &Binding,
+) -> bool
+    ensures { (lying : Lying) (history : List Command) → Lies beside.now lying
+        → StandsFor space.now history → result ≡ has_astray (record {
+          machine = space.now.machine;
+          bounds = space.now.bounds;
+          history = history;
+          kept = resident.now;
+        }) lying.spots said.now }
 {
     let first = said.start / PAGE_BYTES;
-    let pages = page_count(said.length);
-    let stated = lies_astray(beside, said);
+    let pages = judged_pages(space, first, page_count(said.length));
+    let stated = lies_astray(space, beside, said);
     let held = held_astray(resident, first, pages, &said.list);
     stated || held
 }
 
 /// Whether pages are judged before this cause.
-fn is_late_cause(refusal: Refusal) -> bool
-    ensures { result ≡ is_late (Some refusal) }
+fn is_late_cause(rules: Rules, refusal: Refusal) -> bool
+    ensures { result ≡ is_late rules (Some refusal) }
 {
-    matches!(refusal, Refusal::TooManyRanges | Refusal::NoMemory)
+    match refusal {
+        Refusal::TooManyRanges => true,
+        Refusal::NoMemory => true,
+        Refusal::Hole => rules.is_linux(),
+        _ => false,
+    }
 }
 
 /// Whether pages are judged before what stands against a command, tried on a copy of the space.
@@ -146,14 +177,15 @@ fn is_late_cause(refusal: Refusal) -> bool
 /// `NoMemory`: there is no memory for the copy.
 fn is_late_in(alloc: Global, space: &Space, command: &Command) -> Result<bool, NoMemory>
     ensures { IfOk result (λ late. (history : List Command) → StandsFor space.now history
-        → late ≡ is_late (refusal_of space.now.machine space.now.bounds history command.now)) }
+        → late ≡ is_late space.now.machine.rules (refusal_of space.now.machine space.now.bounds
+        history command.now)) }
 {
     let mut trial = space.copy(alloc)?;
     let tried = trial.apply(command);
     drop(trial);
     match tried {
         Ok(_) => Ok(true),
-        Err(refusal) => Ok(is_late_cause(refusal)),
+        Err(refusal) => Ok(is_late_cause(space.machine().rules(), refusal)),
     }
 }
 
@@ -163,7 +195,8 @@ fn is_late_in(alloc: Global, space: &Space, command: &Command) -> Result<bool, N
 /// `NoMemory`: there is no memory to try it.
 pub(crate) fn is_late(alloc: Global, space: &Space, line: &Line<'_>) -> Result<bool, NoMemory>
     ensures { IfOk result (λ late. (history : List Command) (kept : Kept)
-        → StandsFor space.now history → late ≡ is_late (cause_against (record {
+        → StandsFor space.now history → late ≡ is_late space.now.machine.rules
+        (cause_against (record {
           machine = space.now.machine;
           bounds = space.now.bounds;
           history = history;

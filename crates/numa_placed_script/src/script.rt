@@ -368,7 +368,7 @@ impl PlacedScript {
         let Some(binding) = binding_of(&said) else {
             return self.pass(alloc, command, &said, output);
         };
-        if !has_astray(found.1, &self.beside, &binding) {
+        if !has_astray(found.0, found.1, &self.beside, &binding) {
             return self.pass(alloc, command, &said, output);
         }
         let Ok(late) = is_late(alloc, found.0, &said) else {

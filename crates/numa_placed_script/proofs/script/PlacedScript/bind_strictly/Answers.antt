@@ -35,8 +35,8 @@ returns-then-not-has_astray g c = λ scene stands.
       history = alone.0;
       kept = c.in-Some.found.1.now;
     } in
-    let none : has_astray process.kept scene.lying.spots binding ≡ false =
-    sym (c.has_astray.ensures scene.lying stands.1) ∙ c.if-not-has_astray.true in
+    let none : has_astray process scene.lying.spots binding ≡ false =
+    sym (c.has_astray.ensures scene.lying alone.0 stands.1 alone.2) ∙ c.if-not-has_astray.true in
     strict-passed g.W.Write.contents c.pass-then-not-has_astray.new.self.script
     c.pass-then-not-has_astray.new.self.beside c.args.output.now
     c.pass-then-not-has_astray.new.output scene c.args.command.now process binding alone.1 bound
@@ -54,8 +54,8 @@ returns-in_default-is_late g c = λ scene stands.
       history = alone.0;
       kept = c.in-Some.found.1.now;
     } in
-    let astray : has_astray process.kept scene.lying.spots binding ≡ true =
-    sym (c.has_astray.ensures scene.lying stands.1) ∙ c.if-not-has_astray.false in
+    let astray : has_astray process scene.lying.spots binding ≡ true =
+    sym (c.has_astray.ensures scene.lying alone.0 stands.1 alone.2) ∙ c.if-not-has_astray.false in
     strict-lacks g.W.Write.contents c.args.self.now.script c.args.self.now.beside
     c.args.output.now c.say_refusal.new.output scene c.args.command.now process binding alone.1
     bound astray stands c.say_refusal.ensures
@@ -72,10 +72,10 @@ returns-then-late g c = λ scene stands.
       history = alone.0;
       kept = c.in-Some.found.1.now;
     } in
-    let astray : has_astray process.kept scene.lying.spots binding ≡ true =
-    sym (c.has_astray.ensures scene.lying stands.1) ∙ c.if-not-has_astray.false in
-    let late : is_late (cause_against process (line_of c.args.command.now)) ≡ true =
-    ap (λ (l : Line). is_late (cause_against process l)) (sym c.parse-said.ensures)
+    let astray : has_astray process scene.lying.spots binding ≡ true =
+    sym (c.has_astray.ensures scene.lying alone.0 stands.1 alone.2) ∙ c.if-not-has_astray.false in
+    let late : is_late process.machine.rules (cause_against process (line_of c.args.command.now)) ≡ true =
+    ap (λ (l : Line). is_late process.machine.rules (cause_against process l)) (sym c.parse-said.ensures)
     ∙ sym (c.in-Ok.ensures alone.0 process.kept alone.2) ∙ c.if-late.true in
     strict-denied g.W.Write.contents c.args.self.now.script c.args.self.now.beside
     c.args.output.now c.say_refusal-then-late.new.output scene c.args.command.now process binding
@@ -93,10 +93,10 @@ returns g c = λ scene stands.
       history = alone.0;
       kept = c.in-Some.found.1.now;
     } in
-    let astray : has_astray process.kept scene.lying.spots binding ≡ true =
-    sym (c.has_astray.ensures scene.lying stands.1) ∙ c.if-not-has_astray.false in
-    let early : is_late (cause_against process (line_of c.args.command.now)) ≡ false =
-    ap (λ (l : Line). is_late (cause_against process l)) (sym c.parse-said.ensures)
+    let astray : has_astray process scene.lying.spots binding ≡ true =
+    sym (c.has_astray.ensures scene.lying alone.0 stands.1 alone.2) ∙ c.if-not-has_astray.false in
+    let early : is_late process.machine.rules (cause_against process (line_of c.args.command.now)) ≡ false =
+    ap (λ (l : Line). is_late process.machine.rules (cause_against process l)) (sym c.parse-said.ensures)
     ∙ sym (c.in-Ok.ensures alone.0 process.kept alone.2) ∙ c.if-late.false in
     let served = c.pass-2.ensures scene stands in
     strict-refused g.W.Write.contents c.pass-2.new.self.script c.pass-2.new.self.beside
