@@ -60,7 +60,7 @@ class MoveScript(scripts.Script):
 
     def mbind_with(self):
         words = [*self.bytes(*self.span()), self.policy()]
-        task = [self.task_number(), self.dice.randrange(self.nodes)]
+        task = [self.task_number(), self.dice.randrange(self.nodes + self.likely(0.05))]
         kind = self.dice.choice(["strict", "move", "move", "both", "both", "late"])
         words += {"strict": ["strict"], "move": ["move", *task], "both": ["strict", "move", *task],
                   "late": ["move", *task, "strict"] if self.likely(0.1) else ["strict"]}[kind]
@@ -95,13 +95,6 @@ class MoveScript(scripts.Script):
         while len(self.lines) < length:
             self.dice.choice(told + moves + commands + asked + work + [self.odd] * self.likely(0.1))()
         return ("\n".join(self.lines) + "\n").encode("latin-1")
-
-
-class LineScript(MoveScript):
-    """The same of the lines that the program's language has: of the flags of mbind(2) but one."""
-
-    def mbind_with(self):
-        self.say("mbind", *self.bytes(*self.span()), self.policy(), "strict")
 
 
 if __name__ == "__main__":

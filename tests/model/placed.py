@@ -198,7 +198,7 @@ def move(state, address, node):
     return f"node {node}"
 
 
-# ---- mbind with flags: but for `strict`, lines of a kernel's calls that the program's language hasn't
+# ---- mbind with flags
 
 
 def astray(state, start, length, asked):
@@ -240,6 +240,13 @@ def early_cause(space, start, length, asked):
     return lacks_nodes(space, asked)
 
 
+def nodes_for(space, task, page, cpu):
+    """Where a task on a CPU would have a page placed; nowhere, if it isn't mapped or there is no CPU."""
+    if cpu >= space.machine.nodes or piece_at(space, page) is None:
+        return []
+    return list_of_page(space, task, page * 4096, cpu)
+
+
 def bind_and_move(state, start, length, asked, task, cpu, is_strict=False):
     """`mbind .. move`: then each page astray goes where the task on the CPU would have it placed."""
     answer = command(state, "mbind", [start, length, asked])
@@ -248,8 +255,7 @@ def bind_and_move(state, start, length, asked, task, cpu, is_strict=False):
     placed, flows, left = state.placed, Counter(), 0
     for page in astray(state, start, length, asked):
         lies = nodes_of(state)[page]
-        nodes = list_of_page(state.space, task, page * 4096, cpu)
-        found = [node for node in nodes if has_room(placed, node)]
+        found = [node for node in nodes_for(state.space, task, page, cpu) if has_room(placed, node)]
         if found and found[0] == lies:
             continue
         if not found or page in state.crew.kept:

@@ -1,19 +1,23 @@
 -- What a command comes to where a growth may have been refused: the same, or nothing at all.
 use Rattle.std.proofs.Common.{◌≡◌, ℕ, Bool, true, false, Option, Some, None, List, refl, sym}
-use Rattle.std.proofs.Common.{ap, ◌∙◌, inl, inr, ◌⊎◌}
+use Rattle.std.proofs.Common.{ap, ◌∙◌, inl, inr, ◌⊎◌, ◌+◌, suc, length}
+use Rattle.std.specs.Option.{option_map}
 use Rattle.std.specs.Prelude.{if◌then◌else◌, Result, Ok, Err}
 use Rattle.numa_machine.specs.Machine.{Hardware}
+use Rattle.numa_space.specs.Refusals.{refusal_of}
 use Rattle.numa_space.specs.declared.command.Command.{Command}
 use Rattle.numa_space.specs.declared.event.CoreRefusal.{CoreRefusal}
 use Rattle.numa_space.specs.declared.event.CoreRefusal.TheVariants.{Command as Because}
 use Rattle.numa_space.specs.declared.event.CoreReply.{CoreReply}
+use Rattle.numa_space.specs.declared.event.CoreReply.TheVariants.{Accepted}
 use Rattle.numa_space.specs.declared.event.Event.TheVariants.{Accept}
 use Rattle.numa_space.specs.declared.refusal.Refusal.TheVariants.{NoMemory as NoRoom}
 use Rattle.numa_core.specs.World.{newest_published}
-use Rattle.numa_core.specs.Steps.{answer_of, world_after}
+use Rattle.numa_core.specs.Steps.{answer_of, effect_of, world_after}
 use Rattle.numa_script.specs.Lines.{line_of}
 use Rattle.numa_script.specs.Replies.{reply_to}
 use Rattle.numa_script.specs.Texts.{text_of}
+use Rattle.numa_script.specs.declared.line.Line.{Line}
 use Rattle.numa_script.specs.declared.line.Line.TheVariants as plain
 use Rattle.numa_script.specs.declared.reply.Reply.TheVariants as reply
 use Rattle.numa_run.specs.Answers.{State}
@@ -25,6 +29,8 @@ use Rattle.numa_run.specs.Work.{needs_room, unless_wanting}
 use Rattle.numa_host_script.specs.Sessions.{Single, is_begin, served_by}
 use Rattle.numa_host_script.specs.Sessions.{Served as Answered}
 use Rattle.numa_placed.specs.declared.refusal.PlacedRefusal.TheVariants.{NoMemory}
+use Rattle.numa_placed_script.specs.Lying.{Ground, Process, ground_of}
+use Rattle.numa_placed_script.specs.Processes.{process_of, process_on, version_in}
 use Rattle.numa_placed_script.specs.Texts.{cause_name, refusal_line}
 
 -- lack of memory is answered, and all is as it was
@@ -61,13 +67,19 @@ module _ (machine : Hardware) (state : State) (said : Command) where
   command-by = wanting (needs_room said) (answer_of (setup_with machine state.bounds) state.world
       (newest_published state.world) (Accept said))
 
+-- a line comes to what a command comes to
+abbrev pub ServedAs : Hardware → State → Line → Command → Type 0
+ServedAs machine state line said = (refused : Bool)
+    → state_served (Some machine) refused state line
+    ≡ state_served (Some machine) refused state (plain.Command (Ok said))
+
 module _ (state : State) (machine : Hardware) (ready : state.machine ≡ Some machine)
-    (said : Command) (bytes : List ℕ) (is : line_of bytes ≡ plain.Command (Ok said))
+    (said : Command) (bytes : List ℕ) (is : ServedAs machine state (line_of bytes) said)
     (never : is_begin bytes ≡ false) where
   outcome-is : (refused : Bool) → outcome_of refused state (line_of bytes)
       ≡ state_served (Some machine) refused state (plain.Command (Ok said))
   unfolding outcome_of
-  outcome-is refused = λ i. state_served (ready i) refused state (is i)
+  outcome-is refused = (λ i. state_served (ready i) refused state (line_of bytes)) ∙ is refused
 
   abbrev shown : Played → Answered
   shown played = record { text = bytes_of played.answer; session = Single played.state }
@@ -78,13 +90,52 @@ module _ (state : State) (machine : Hardware) (ready : state.machine ≡ Some ma
   session-is refused = rw never (ap shown (outcome-is refused))
 
   -- the command comes to what it comes to with ample memory, or lack of memory is answered
-  pub served-alike : (served_by true (Single state) bytes ≡ served_by false (Single state) bytes)
+  pub served-as_command : (served_by true (Single state) bytes ≡ served_by false (Single state) bytes)
       ⊎ (served_by true (Single state) bytes ≡ record {
         text = refusal_line (cause_name NoMemory);
         session = Single state;
       })
   unfolding text_of
-  served-alike = elim (command-by machine state said) [
+  served-as_command = elim (command-by machine state said) [
     | inl same ↦ inl (session-is true ∙ ap shown same ∙ sym (session-is false))
     | inr lacks ↦ inr (session-is true ∙ ap shown lacks)
   ]
+
+  abbrev shown_process : Process → Ground × ℕ
+  shown_process p = (ground_of p, length p.history)
+
+  module _ (free : refusal_of machine state.bounds state.world.history said ≡ None) where
+    accepted : Played
+    accepted = with_outcome state (record {
+      reply = reply_to (Ok (Accepted (length state.world.history + 1)));
+      world = effect_of (setup_with machine state.bounds) state.world
+          (newest_published state.world) (Accept said);
+      resident = state.resident;
+    })
+
+    accepted-is : state_served (Some machine) false state (plain.Command (Ok said)) ≡ accepted
+    unfolding accepted
+    accepted-is = rw free refl
+
+    -- with ample memory one command more is accepted, where nothing refuses it
+    pub accepted-version : version_in (process_of (served_by false (Single state) bytes).session)
+        ≡ suc (length state.world.history)
+    unfolding accepted
+    accepted-version =
+        ap (λ (a : Answered). version_in (process_of a.session))
+        (session-is false ∙ ap shown accepted-is)
+        ∙ ap (λ (m : Option Hardware). version_in (option_map shown_process
+        (process_on m accepted.state))) ready
+
+-- the same of the line of a command
+pub served-alike : (state : State) (machine : Hardware) → state.machine ≡ Some machine
+    → (said : Command) (bytes : List ℕ) → line_of bytes ≡ plain.Command (Ok said)
+    → is_begin bytes ≡ false
+    → (served_by true (Single state) bytes ≡ served_by false (Single state) bytes)
+    ⊎ (served_by true (Single state) bytes ≡ record {
+      text = refusal_line (cause_name NoMemory);
+      session = Single state;
+    })
+served-alike state machine ready said bytes is never =
+    served-as_command state machine ready said bytes
+    (λ refused. ap (λ (l : Line). state_served (Some machine) refused state l) is) never

@@ -1,13 +1,18 @@
 -- Where the pages of each node went, said one node after the other.
 use Rattle.std.proofs.Common.{◌≡◌, ℕ, zero, suc, ◌+◌, ◌<◌, List, [], ◌++◌, refl, ap, sym, ◌∙◌, arith}
+use Rattle.std.proofs.Common.{subst}
 use Rattle.std.specs.List.{flat_map, range_with_len}
 use Rattle.numa_machine.proofs.Nodes.{flat_map-range_more}
 use Rattle.std.specs.Prelude.{codes, decimal, slice_index}
 use Rattle.numa_placed.specs.declared.moved.Moved.{Moved}
-use Rattle.numa_placed_script.specs.Lying.{Told}
-use Rattle.numa_placed_script.specs.Standing.{TellsOf, told_in}
-use Rattle.numa_placed_script.specs.Texts.{flow_text, flows_text, last_line, moved_line}
-use Rattle.numa_placed_script.specs.Texts.{moved_words}
+use Rattle.numa_placed_script.specs.Lying.{LastMove, OfNodes, OfPages, Sent, Told}
+use Rattle.numa_placed_script.specs.Standing.{LastAs, SentAs, TellsOf, sent_by, told_in}
+use Rattle.numa_placed_script.specs.Texts.{all_flows_text, flow_text, flows_text, last_line}
+use Rattle.numa_placed_script.specs.Texts.{moved_line, moved_words, told_line}
+use Rattle.numa_placed_script.specs.declared.last.Departures.{Departures}
+use Rattle.numa_placed_script.specs.declared.last.Last.{Last}
+use Rattle.numa_placed_script.specs.declared.last.Last.TheVariants as went
+use Rattle.numa_placed_script.proofs.Telling.{all-alike}
 
 -- the nodes below a number
 pub flows_below : (ℕ → ℕ) → (ℕ → ℕ) → ℕ → List ℕ
@@ -54,7 +59,7 @@ flows-same from from' to to' same same' =
 
 -- what is told of a move, said
 pub last-same : (version : ℕ) (moved : Moved) (told : Told) → TellsOf moved told
-    → last_line version (told_in moved) ≡ last_line version told
+    → last_line version (OfNodes (told_in moved)) ≡ last_line version (OfNodes told)
 last-same version moved told tells =
     let words = ap (λ (k : ℕ). moved_words k moved.left) tells.moved
     ∙ ap (λ (k : ℕ). moved_words told.moved k) tells.left in
@@ -65,8 +70,38 @@ last-same version moved told tells =
     ∙ ap (λ (f : List ℕ). codes "v" ++ decimal version ++ codes ": "
     ++ moved_words told.moved told.left ++ f ++ codes "\n") flows
 
+pub sent-same : (version : ℕ) (done : Departures) (sent : Sent) → SentAs done sent
+    → last_line version (OfPages (sent_by done)) ≡ last_line version (OfPages sent)
+sent-same version done sent tells =
+    let flows : all_flows_text (sent_by done).flow ≡ all_flows_text sent.flow =
+    all-alike (sent_by done).flow sent.flow tells.flow in
+    λ i. told_line version (tells.moved i) (tells.left i) (flows i)
+
 pub line-same : (moved : Moved) (told : Told) → TellsOf moved told
     → moved_words moved.moved moved.left ++ codes "\n" ≡ moved_line told
 line-same moved told tells =
     ap (λ (k : ℕ). moved_words k moved.left ++ codes "\n") tells.moved
     ∙ ap (λ (k : ℕ). moved_words told.moved k ++ codes "\n") tells.left
+
+-- the last move, said
+pub nodes-told : (version : ℕ) (moved : Moved) (last : Last) (done : LastMove)
+    → last ≡ went.Nodes moved → LastAs last done
+    → last_line version (OfNodes (told_in moved)) ≡ last_line version done
+nodes-told version moved last done is tells =
+    by done (subst (λ (l : Last). LastAs l done) is tells)
+  where
+    by : (at : LastMove) → LastAs (went.Nodes moved) at
+        → last_line version (OfNodes (told_in moved)) ≡ last_line version at
+    by (OfNodes told) so = last-same version moved told so
+    by (OfPages sent) so = absurd so
+
+pub pages-told : (version : ℕ) (gone : Departures) (last : Last) (done : LastMove)
+    → last ≡ went.Pages gone → LastAs last done
+    → last_line version (OfPages (sent_by gone)) ≡ last_line version done
+pages-told version gone last done is tells =
+    by done (subst (λ (l : Last). LastAs l done) is tells)
+  where
+    by : (at : LastMove) → LastAs (went.Pages gone) at
+        → last_line version (OfPages (sent_by gone)) ≡ last_line version at
+    by (OfNodes told) so = absurd so
+    by (OfPages sent) so = sent-same version gone sent so

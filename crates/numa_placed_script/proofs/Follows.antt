@@ -8,12 +8,14 @@ use Rattle.numa_placed.specs.declared.moved.Moved.{Moved}
 use Rattle.numa_placed.specs.declared.refusal.PlacedRefusal.{PlacedRefusal}
 use Rattle.numa_placed.specs.declared.rooms.Rooms.{Rooms}
 use Rattle.numa_placed.specs.declared.spot.Spot.{Spot}
-use Rattle.numa_placed_script.specs.Lying.{Lying, motion, still, with_held, with_motion}
+use Rattle.numa_placed_script.specs.Lying.{Lying, OfNodes, motion, still, with_held, with_motion}
 use Rattle.numa_maps.specs.Residents.{Kept}
 use Rattle.numa_placed_script.specs.Outcomes.{follow_unless, followed, followed_where, is_no_memory}
 use Rattle.numa_placed_script.specs.Outcomes.{lack_in}
-use Rattle.numa_placed_script.specs.Standing.{HaveRoom, LiesAs, Moves, TellsOf}
+use Rattle.numa_placed_script.specs.Standing.{HaveRoom, LastAs, LiesAs, Moves, TellsOf}
 use Rattle.numa_placed_script.specs.declared.beside.Beside.{Beside}
+use Rattle.numa_placed_script.specs.declared.last.Last.{Last}
+use Rattle.numa_placed_script.specs.declared.last.Last.TheVariants as went
 
 pub not-false : (b : Bool) → not b ≡ true → b ≡ false
 not-false true t = absurd (both_ways false refl t)
@@ -29,21 +31,23 @@ module _ (old new : Beside) (lying : Lying) (lies : LiesAs old lying) (from to :
   abbrev pub Follows : Type 0
   Follows = (refused : Bool) × LiesAs new (followed refused from to kept lying)
 
-  still-so : new.placed ≡ old.placed → new.rooms ≡ old.rooms → new.follows ≡ old.follows
-      → TellsOf new.last still → LiesAs new (record lying { last = still })
-  still-so placed rooms follows tells = record {
+  still-so : (moved : Moved) → new.placed ≡ old.placed → new.rooms ≡ old.rooms
+      → new.follows ≡ old.follows → TellsOf moved still → new.last ≡ went.Nodes moved
+      → LiesAs new (record lying { last = OfNodes still })
+  still-so moved placed rooms follows tells last = record {
     spots = λ page. ap (λ (runs : List (Run Spot)). spot_at runs page) placed ∙ lies.spots page;
     room = subst (λ (r : Option Rooms). HaveRoom r lying.room) (sym rooms) lies.room;
     follows = follows ∙ lies.follows;
-    last = tells;
+    last = subst (λ (m : Last). LastAs m (OfNodes still)) (sym last) tells;
   }
 
-  pub follow-still : old.follows ≡ false → new.placed ≡ old.placed → new.rooms ≡ old.rooms
-      → new.follows ≡ old.follows → TellsOf new.last still → Follows
-  follow-still off placed rooms follows tells =
-      let is : followed false from to kept lying ≡ record lying { last = still } =
+  pub follow-still : (moved : Moved) → old.follows ≡ false → new.placed ≡ old.placed
+      → new.rooms ≡ old.rooms → new.follows ≡ old.follows → TellsOf moved still
+      → new.last ≡ went.Nodes moved → Follows
+  follow-still moved off placed rooms follows tells last =
+      let is : followed false from to kept lying ≡ record lying { last = OfNodes still } =
       ap (λ (b : Bool). followed_where b false from to kept lying) (sym lies.follows ∙ off) in
-      (false, subst (LiesAs new) (sym is) (still-so placed rooms follows tells))
+      (false, subst (LiesAs new) (sym is) (still-so moved placed rooms follows tells last))
 
   follows-on : (b refused : Bool) → b ≡ true → followed_where b refused from to kept lying
       ≡ follow_unless (lack_in lying.room refused (motion lying.room lying.spots from to).spots) kept
@@ -55,7 +59,7 @@ module _ (old new : Beside) (lying : Lying) (lies : LiesAs old lying) (from to :
         → lack_in lying.room false (motion lying.room lying.spots from to).spots ≡ None
         → Moves new.placed new.rooms before (motion lying.room lying.spots from to)
         → TellsOf moved (with_held kept (motion lying.room lying.spots from to).told)
-        → new.follows ≡ old.follows → new.last ≡ moved → Follows
+        → new.follows ≡ old.follows → new.last ≡ went.Nodes moved → Follows
     follow-done before moved none moves tells follows last =
         let here = motion lying.room lying.spots from to in
         let is : followed false from to kept lying ≡ with_motion kept lying here =
@@ -66,20 +70,22 @@ module _ (old new : Beside) (lying : Lying) (lies : LiesAs old lying) (from to :
             spots = moves.spots;
             room = moves.room;
             follows = follows ∙ lies.follows;
-            last = subst (λ (m : Moved). TellsOf m (with_held kept here.told)) (sym last) tells;
+            last = subst (λ (m : Last). LastAs m (OfNodes (with_held kept here.told))) (sym last)
+                tells;
           }),
         )
 
-    pub follow-lacks : (refusal : PlacedRefusal)
+    pub follow-lacks : (refusal : PlacedRefusal) (moved : Moved)
         → lack_in lying.room (is_no_memory refusal)
         (motion lying.room lying.spots from to).spots ≡ Some refusal
         → new.placed ≡ old.placed → new.rooms ≡ old.rooms → new.follows ≡ old.follows
-        → TellsOf new.last still → Follows
-    follow-lacks refusal lack placed rooms follows tells =
+        → TellsOf moved still → new.last ≡ went.Nodes moved → Follows
+    follow-lacks refusal moved lack placed rooms follows tells last =
         let here = motion lying.room lying.spots from to in
-        let is : followed (is_no_memory refusal) from to kept lying ≡ record lying { last = still } =
+        let is : followed (is_no_memory refusal) from to kept lying
+        ≡ record lying { last = OfNodes still } =
         follows-on lying.follows (is_no_memory refusal) (sym lies.follows ∙ on)
         ∙ ap (λ (c : Option PlacedRefusal). follow_unless c kept here lying) lack in (
           is_no_memory refusal,
-          subst (LiesAs new) (sym is) (still-so placed rooms follows tells),
+          subst (LiesAs new) (sym is) (still-so moved placed rooms follows tells last),
         )

@@ -23,14 +23,16 @@ use Rattle.numa_placed_script.specs.Processes.{IsAlone, alone_in, process_of}
 use Rattle.numa_placed_script.specs.Outcomes.{Outcome, placed_by, placed_outcome, refused_with}
 use Rattle.numa_placed_script.specs.Scenes.{Scene, Served, early_reply, placed_on, placed_served}
 use Rattle.numa_placed_script.specs.Lines.{placed_line_of}
-use Rattle.numa_placed_script.specs.Scenes.{plain_served, scene_served, served_where}
+use Rattle.numa_placed_script.specs.Scenes.{flagged_where, moving_served, plain_served}
+use Rattle.numa_placed_script.specs.Scenes.{scene_served, served_where}
 use Rattle.numa_placed_script.specs.Scenes.{strict_served, unknown_served}
-use Rattle.numa_placed_script.specs.Lines.{strict_of}
+use Rattle.numa_placed_script.specs.Lines.{moving_of, strict_of}
 use Rattle.numa_placed_script.specs.Lines.{is_plain}
 use Rattle.numa_placed_script.specs.Scenes.{with_outcome}
 use Rattle.numa_placed_script.specs.Standing.{Lies, LiesAs, ServesScene, StandsIn}
 use Rattle.numa_placed_script.specs.Texts.{cause_name, refusal_line}
 use Rattle.numa_placed_script.specs.declared.beside.Beside.{Beside}
+use Rattle.numa_placed_script.specs.declared.line.MoveWords.{MoveWords}
 use Rattle.numa_placed_script.specs.declared.line.PlacedLine.{PlacedLine}
 use Rattle.numa_placed_script.proofs.Answered.{Answers}
 
@@ -152,7 +154,7 @@ kept-lies beside beside_then kept is all lying lies =
 
 unknown-plain : (refused : Bool) (scene : Scene) (bytes : List ℕ)
     → is_plain (placed_line_of bytes) ≡ true → unknown_served refused scene bytes
-    ≡ served_where (strict_of bytes) refused scene bytes
+    ≡ flagged_where (moving_of bytes) refused scene bytes
 unknown-plain refused scene bytes is = rw is refl
 
 unknown-placed : (refused : Bool) (scene : Scene) (bytes : List ℕ)
@@ -192,9 +194,9 @@ module _ {W : Type 0} (contents : W → Option (List ℕ)) (script script_then :
 
   module _ (about : PlacedLine) (same : about ≡ placed_line_of bytes) where
     pub serves-none : is_plain about ≡ true
-        → ServesSo (λ refused scene. served_where (strict_of bytes) refused scene bytes)
+        → ServesSo (λ refused scene. flagged_where (moving_of bytes) refused scene bytes)
         → ServesSo (λ refused scene. unknown_served refused scene bytes)
-    serves-none is = serves-so (λ refused scene. served_where (strict_of bytes) refused scene bytes)
+    serves-none is = serves-so (λ refused scene. flagged_where (moving_of bytes) refused scene bytes)
         (λ refused scene. unknown_served refused scene bytes)
         (λ refused scene. unknown-plain refused scene bytes (sym (ap is_plain same) ∙ is))
 
@@ -205,6 +207,25 @@ module _ {W : Type 0} (contents : W → Option (List ℕ)) (script script_then :
         (λ refused scene. unknown_served refused scene bytes)
         (λ refused scene. unknown-placed refused scene bytes (sym (ap is_plain same) ∙ is)
         ∙ ap (λ (l : PlacedLine). placed_served refused scene l) (sym same))
+
+  -- a line that isn't `mbind .. move`
+  pub serves-unflagged : moving_of bytes ≡ None
+      → ServesSo (λ refused scene. served_where (strict_of bytes) refused scene bytes)
+      → ServesSo (λ refused scene. flagged_where (moving_of bytes) refused scene bytes)
+  serves-unflagged none =
+      serves-so (λ refused scene. served_where (strict_of bytes) refused scene bytes)
+      (λ refused scene. flagged_where (moving_of bytes) refused scene bytes)
+      (λ refused scene. ap (λ (o : Option (List ℕ × MoveWords)).
+      flagged_where o refused scene bytes) none)
+
+  pub serves-moving : (v : List ℕ × MoveWords) → moving_of bytes ≡ Some v
+      → ServesSo (λ refused scene. moving_served refused v.1 scene v.0)
+      → ServesSo (λ refused scene. flagged_where (moving_of bytes) refused scene bytes)
+  serves-moving v some =
+      serves-so (λ refused scene. moving_served refused v.1 scene v.0)
+      (λ refused scene. flagged_where (moving_of bytes) refused scene bytes)
+      (λ refused scene. ap (λ (o : Option (List ℕ × MoveWords)).
+      flagged_where o refused scene bytes) some)
 
   -- a line that says nothing of pages alone
   pub serves-other : strict_of bytes ≡ None

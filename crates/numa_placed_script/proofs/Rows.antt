@@ -1,18 +1,21 @@
 -- Worked rows: what lines say, what they are answered, and what is told of moves.
-use Rattle.std.proofs.Common.{◌≡◌, ℕ, ◌==◌, true, Some, [], ◌∷◌}
+use Rattle.std.proofs.Common.{◌≡◌, ℕ, ◌==◌, false, true, None, Some, [], ◌∷◌}
 use Rattle.std.proofs.Common.{codes, refl}
 use Rattle.std.specs.Prelude.{if◌then◌else◌}
+use Rattle.numa_mode.specs.declared.modes.Mode.TheVariants as mode
+use Rattle.numa_mode.specs.declared.modes.NodeFlag.TheVariants as flag
 use Rattle.numa_space.specs.declared.placement.Placement.{Placement}
 use Rattle.numa_placed.specs.declared.refusal.MoveRefusal.TheVariants as move
 use Rattle.numa_placed.specs.declared.refusal.PlacedRefusal.TheVariants as cause
 use Rattle.numa_placed.specs.declared.spot.Spot.TheVariants.{Stated}
 use Rattle.numa_script.specs.Numbers.{in_64_bits, number_of, numeral_of}
-use Rattle.numa_placed_script.specs.Lines.{placed_keyword_of, placed_line_of}
+use Rattle.numa_placed_script.specs.Lines.{moving_of, placed_keyword_of, placed_line_of}
 use Rattle.numa_placed_script.specs.Lying.{held_left, nothing, still}
 use Rattle.numa_placed_script.specs.Outcomes.{held_move_unless}
 use Rattle.numa_placed_script.specs.Outcomes.{told_of, with_text}
+use Rattle.numa_placed_script.specs.Sending.{had_to_go, tells_left}
 use Rattle.numa_placed_script.specs.Texts.{cause_name, flow_text, move_name}
-use Rattle.numa_placed_script.specs.Texts.{refusal_line}
+use Rattle.numa_placed_script.specs.Texts.{late_words, refusal_line}
 use Rattle.numa_placed_script.specs.declared.line.PlacedLine.TheVariants as line
 
 -- ---- lines
@@ -90,3 +93,46 @@ told-still-row = refl
 no-room-row : held_move_unless (Some move.NoRoom) 1 nothing
     ≡ with_text (codes "refused NoRoom ENOMEM\n") nothing
 no-room-row = refl
+
+-- ---- mbind .. move
+
+moving-row : moving_of (codes "mbind 65536 4096 bind:1 move 1 0")
+    ≡ Some (codes "mbind 65536 4096 bind:1", record { strict = false; task = 1; cpu = 0 })
+unfolding moving_of number_of numeral_of in_64_bits
+moving-row = refl
+
+strictly-row : moving_of (codes "mbind 0 0 local strict move 7 2")
+    ≡ Some (codes "mbind 0 0 local", record { strict = true; task = 7; cpu = 2 })
+unfolding moving_of number_of numeral_of in_64_bits
+strictly-row = refl
+
+-- a word too few, and the words the other way round
+few-words-row : moving_of (codes "mbind 0 0 local move 7") ≡ None
+unfolding moving_of number_of numeral_of in_64_bits
+few-words-row = refl
+
+turned-row : moving_of (codes "mbind 0 0 local move 7 2 strict") ≡ None
+unfolding moving_of number_of numeral_of in_64_bits
+turned-row = refl
+
+-- a page in a frame of node 2, which is astray of nodes 0 and 1: it has to go to node 0, and stays;
+-- to its own node it doesn't have to go
+to-go-row : had_to_go (record { first = 16; pages = 1; list = 3; nodes = λ page. [] })
+    (λ page. Some 0) 16 2 ≡ true
+to-go-row = refl
+
+own-node-row : had_to_go (record { first = 16; pages = 1; list = 3; nodes = λ page. [] })
+    (λ page. Some 2) 16 2 ≡ false
+own-node-row = refl
+
+-- `default` drops `strict`
+default-row : tells_left (record { strict = true; task = 1; cpu = 0 })
+    (record { mode = mode.Default; flag = flag.Plain; mask = 0 }) 3 ≡ false
+default-row = refl
+
+late-row : tells_left (record { strict = true; task = 1; cpu = 0 })
+    (record { mode = mode.Bind; flag = flag.Plain; mask = 2 }) 3 ≡ true
+late-row = refl
+
+late-words-row : late_words true ≡ codes " EIO"
+late-words-row = refl

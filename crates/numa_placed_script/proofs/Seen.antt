@@ -11,7 +11,7 @@ use Rattle.numa_script.specs.declared.line.Line.{Line}
 use Rattle.numa_script.proofs.Seeing.{line_of_seen}
 use Rattle.numa_host_script.specs.Sessions.{Served as Answered}
 use Rattle.numa_host_script.proofs.Seen.{served_seen}
-use Rattle.numa_placed_script.specs.Lines.{placed_line_of, strict_of}
+use Rattle.numa_placed_script.specs.Lines.{placed_line_of, moving_of, strict_of}
 use Rattle.numa_placed_script.specs.Scenes.{Scene, Served, concern_of, concerned, follow_between}
 use Rattle.numa_placed_script.specs.Scenes.{forget_between, plain_served}
 use Rattle.numa_placed_script.specs.Scenes.{unknown_served, unmap_unless}
@@ -48,11 +48,17 @@ long-strict bytes many =
     let over : nat_lt 4096 (length bytes) ≡ true = grind (arith, nat_tests) in
     rw over refl
 
+long-moving : (bytes : List ℕ) → 4096 < length bytes → moving_of bytes ≡ None
+unfolding moving_of
+long-moving bytes many =
+    let over : nat_lt 4096 (length bytes) ≡ true = grind (arith, nat_tests) in
+    rw over refl
+
 long-unknown : (unknown refused : Bool) (scene : Scene) (bytes : List ℕ) → 4096 < length bytes
     → (if unknown then unknown_served refused scene bytes else plain_served refused scene bytes)
     ≡ plain_served refused scene bytes
 long-unknown true refused scene bytes many =
-    rw (long-says bytes many, long-strict bytes many) refl
+    rw (long-says bytes many, long-moving bytes many, long-strict bytes many) refl
 long-unknown false refused scene bytes many = refl
 
 scene-long : (refused : Bool) (scene : Scene) (bytes : List ℕ) → 4096 < length bytes

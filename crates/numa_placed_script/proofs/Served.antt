@@ -16,7 +16,7 @@ use Rattle.numa_placed.specs.declared.rooms.Rooms.{Rooms}
 use Rattle.numa_placed.specs.declared.spot.Spot.{Spot}
 use Rattle.numa_machine.specs.Machine.{Hardware}
 use Rattle.numa_maps.specs.Residents.{Kept}
-use Rattle.numa_placed_script.specs.Lying.{Ground, Lying, Motion, still, with_held}
+use Rattle.numa_placed_script.specs.Lying.{Ground, Lying, Motion, OfNodes, still, with_held}
 use Rattle.numa_placed_script.specs.Lying.{with_motion}
 use Rattle.numa_placed_script.specs.Outcomes.{Outcome, at_outcome, at_spots, is_lack}
 use Rattle.numa_placed_script.specs.Outcomes.{is_no_memory, lack_in}
@@ -24,10 +24,12 @@ use Rattle.numa_placed_script.specs.Outcomes.{move_cause_by, move_spots, move_un
 use Rattle.numa_placed_script.specs.Outcomes.{moved_outcome, room_moved_in, rooms_of}
 use Rattle.numa_placed_script.specs.Outcomes.{held_move_unless, room_outcome, with_text}
 use Rattle.numa_placed_script.specs.Outcomes.{told_of, unless_refused}
-use Rattle.numa_placed_script.specs.Standing.{HaveRoom, LiesAs, Moves, TellsOf}
+use Rattle.numa_placed_script.specs.Standing.{HaveRoom, LastAs, LiesAs, Moves, TellsOf}
 use Rattle.numa_placed_script.specs.Texts.{cause_name, move_name, moved_line, moved_words, node_line}
 use Rattle.numa_placed_script.specs.Texts.{refusal_line}
 use Rattle.numa_placed_script.specs.declared.beside.Beside.{Beside}
+use Rattle.numa_placed_script.specs.declared.last.Last.{Last}
+use Rattle.numa_placed_script.specs.declared.last.Last.TheVariants as went
 use Rattle.numa_lines.proofs.Adding.{said_same}
 use Rattle.numa_placed_script.proofs.Flows.{line-same}
 use Rattle.numa_placed_script.proofs.Answered.{Answers, denied, done, move-denied}
@@ -67,7 +69,7 @@ module _ {W : Type 0} (contents : W → Option (List ℕ)) (old new : Beside)
           spots = λ page. ap (λ (s : ℕ → Spot). s page) after;
           room = subst (λ (r : Option Rooms). HaveRoom r lying.room) (sym rooms) lies.room;
           follows = follows ∙ lies.follows;
-          last = subst (λ (m : Moved). TellsOf m lying.last) (sym last) lies.last;
+          last = subst (λ (m : Last). LastAs m lying.last) (sym last) lies.last;
         }) said
 
     pub at-denied : (refusal : PlacedRefusal)
@@ -96,7 +98,7 @@ module _ {W : Type 0} (contents : W → Option (List ℕ)) (old new : Beside)
         → first_of first (lack_in lying.room false motion_here.spots) ≡ None
         → Moves new.placed new.rooms before motion_here
         → TellsOf moved (with_held kept motion_here.told) → new.follows ≡ old.follows
-        → new.last ≡ moved
+        → new.last ≡ went.Nodes moved
         → Said contents output output_then (moved_words moved.moved moved.left ++ codes "\n")
         → Answers contents old new output output_then false
         (moved_outcome false kept motion_here first lying)
@@ -111,8 +113,8 @@ module _ {W : Type 0} (contents : W → Option (List ℕ)) (old new : Beside)
           spots = moves.spots;
           room = moves.room;
           follows = follows ∙ lies.follows;
-          last = subst (λ (m : Moved). TellsOf m (with_held kept motion_here.told)) (sym last)
-              tells;
+          last = subst (λ (m : Last). LastAs m (OfNodes (with_held kept motion_here.told)))
+              (sym last) tells;
         })
         (said_same contents output output_then _ _
         (line-same moved (with_held kept motion_here.told) tells) said)
@@ -157,7 +159,7 @@ module _ {W : Type 0} (contents : W → Option (List ℕ)) (old new : Beside)
               if other == node then pages else rooms_of lying.room other))) (sym is)
               (limited lying.room lies.room);
           follows = follows ∙ lies.follows;
-          last = subst (λ (m : Moved). TellsOf m lying.last) (sym last) lies.last;
+          last = subst (λ (m : Last). LastAs m lying.last) (sym last) lies.last;
         }) said
 
     pub room-denied : lacks_node machine node ≡ true → new ≡ old
@@ -176,7 +178,7 @@ module _ {W : Type 0} (contents : W → Option (List ℕ)) (old new : Beside)
         → ((other : ℕ) → spot_at new.placed other ≡ move_spots page node lying.spots other)
         → HaveRoom new.rooms (room_moved_in lying.room node (lying.spots page))
         → spot ≡ spot_at old.placed page → TellsOf moved (told_of node spot)
-        → new.follows ≡ old.follows → new.last ≡ moved
+        → new.follows ≡ old.follows → new.last ≡ went.Nodes moved
         → Said contents output output_then (node_line node)
         → Answers contents old new output output_then false
         (move_unless (move_cause_by false basis page node lying) page node lying)
@@ -192,8 +194,8 @@ module _ {W : Type 0} (contents : W → Option (List ℕ)) (old new : Beside)
           spots = spots;
           room = room;
           follows = follows ∙ lies.follows;
-          last = subst (λ (m : Moved). TellsOf m (told_of node (lying.spots page))) (sym last)
-              tells;
+          last = subst (λ (m : Last). LastAs m (OfNodes (told_of node (lying.spots page))))
+              (sym last) tells;
         }) said
 
     pub move-refused : (refusal : MoveRefusal)
@@ -208,11 +210,12 @@ module _ {W : Type 0} (contents : W → Option (List ℕ)) (old new : Beside)
 
   -- ---- a page that keeps a frame
 
-  pub stays-there : (first : Option MoveRefusal) (node : ℕ) → first ≡ None
+  pub stays-there : (first : Option MoveRefusal) (node : ℕ) (moved : Moved) → first ≡ None
       → new.placed ≡ old.placed → new.rooms ≡ old.rooms → new.follows ≡ old.follows
-      → TellsOf new.last still → Said contents output output_then (node_line node)
+      → TellsOf moved still → new.last ≡ went.Nodes moved
+      → Said contents output output_then (node_line node)
       → Answers contents old new output output_then false (held_move_unless first node lying)
-  stays-there first node none placed rooms follows tells said =
+  stays-there first node moved none placed rooms follows tells last said =
       done contents old new output output_then (held_move_unless first node lying)
       (held_move_unless None node lying)
       (ap (λ (c : Option MoveRefusal). held_move_unless c node lying) none)
@@ -221,7 +224,7 @@ module _ {W : Type 0} (contents : W → Option (List ℕ)) (old new : Beside)
             ∙ lies.spots page;
         room = subst (λ (r : Option Rooms). HaveRoom r lying.room) (sym rooms) lies.room;
         follows = follows ∙ lies.follows;
-        last = tells;
+        last = subst (λ (m : Last). LastAs m (OfNodes still)) (sym last) tells;
       }) said
 
   pub stays-denied : (first : Option MoveRefusal) (node : ℕ) (refusal : MoveRefusal)

@@ -4,6 +4,7 @@ pub mod Lying
 pub mod Outcomes
 pub mod Processes
 pub mod Scenes
+pub mod Sending
 pub mod Standing
 pub mod Strict
 pub mod Texts

@@ -1,15 +1,18 @@
 -- What a line about pages that are there says.
-use Rattle.std.specs.Prelude.{ℕ, ◌-◌, ◌&&◌, min, Bool, true, false, List, [], ◌∷◌, length, codes}
+use Rattle.std.specs.Prelude.{ℕ, ◌+◌, ◌-◌, ◌&&◌, not, min, Bool, true, false, List, [], ◌∷◌}
+use Rattle.std.specs.Prelude.{length, codes}
 use Rattle.std.specs.Prelude.{if◌then◌else◌, nat_lt, take, drop}
 use Rattle.std.specs.Prelude.{Option, Some, None, option_and_then, unwrap_or, Result, Ok, Err}
+use Rattle.std.specs.Option.{option_map}
 use Rattle.std.specs.Str.{bytes_eq}
 use Rattle.numa_mask.specs.Lists.{list_of}
 use Rattle.numa_mask.specs.declared.list.ListFault.{ListFault}
 use Rattle.numa_script.specs.Numbers.{number_of, small_of}
 use Rattle.numa_script.specs.Present.{with_two, with_three}
-use Rattle.numa_host_script.specs.Lines.{cut_of, one_of}
+use Rattle.numa_host_script.specs.Lines.{cut_of, one_of, two_of}
 use Rattle.numa_placed_script.specs.declared.keyword.PlacedKeyword.{PlacedKeyword}
 use Rattle.numa_placed_script.specs.declared.keyword.PlacedKeyword.TheVariants as first
+use Rattle.numa_placed_script.specs.declared.line.MoveWords.{MoveWords}
 use Rattle.numa_placed_script.specs.declared.line.PlacedLine.{PlacedLine}
 use Rattle.numa_placed_script.specs.declared.line.PlacedLine.TheVariants as line
 
@@ -117,3 +120,34 @@ strict_of bytes =
     if nat_lt 4096 (length bytes) then None
     else if begins_with (codes "mbind ") bytes && ends_with (codes " strict") bytes
     then Some (take (length bytes - 7) bytes) else None
+
+-- ---- mbind .. move
+
+-- what stands behind the first word
+abbrev pub behind : List ℕ → Option (List ℕ)
+behind text = option_map (λ v. v.1) (cut_of text)
+
+-- what stands behind `mbind START LENGTH POLICY`
+abbrev pub flags_of : List ℕ → Option (List ℕ)
+flags_of text = option_and_then behind (option_and_then behind
+    (option_and_then behind (behind text)))
+
+-- move TASK CPU
+abbrev pub move_words : Bool → List ℕ → Option MoveWords
+move_words strict text = option_and_then (λ v. if bytes_eq v.0 (codes "move")
+    then option_map (λ at. record { strict = strict; task = at.0; cpu = at.1 }) (two_of v.1)
+    else None) (cut_of text)
+
+-- move TASK CPU, strict move TASK CPU
+abbrev pub words_of : List ℕ → Option MoveWords
+words_of text = if begins_with (codes "strict ") text then move_words true (drop 7 text)
+    else move_words false text
+
+-- the command of a line `mbind .. move`, and what stands behind its policy
+unfoldable pub moving_of : List ℕ → Option (List ℕ × MoveWords)
+moving_of bytes =
+    if nat_lt 4096 (length bytes) then None
+    else if not (begins_with (codes "mbind ") bytes) then None
+    else option_and_then (λ flags. option_map
+    (λ words. (take (length bytes - (length flags + 1)) bytes, words)) (words_of flags))
+    (flags_of bytes)

@@ -61,6 +61,18 @@ pub record Told : Type 0 where
   pub from : ℕ → ℕ
   pub to : ℕ → ℕ
 
+-- what a policy did that pages went to: how many moved, and how many had to and stayed; how many
+-- went from each node to each
+pub record Sent : Type 0 where
+  pub moved : ℕ
+  pub left : ℕ
+  pub flow : ℕ → ℕ → ℕ
+
+-- the last move: of pages that go by their node, or each by its own policy
+pub data LastMove : Type 0 where
+  OfNodes : Told → LastMove
+  OfPages : Sent → LastMove
+
 -- nothing moved
 abbrev pub still : Told
 still = record { moved = 0; left = 0; from = λ node. 0; to = λ node. 0 }
@@ -73,7 +85,7 @@ pub record Lying : Type 0 where
   pub spots : ℕ → Spot
   pub room : Option (ℕ → ℕ)
   pub follows : Bool
-  pub last : Told
+  pub last : LastMove
 
 -- before the first line about pages
 abbrev pub nothing : Lying
@@ -82,7 +94,7 @@ nothing = record {
   spots = λ page. Nowhere;
   room = None;
   follows = false;
-  last = still;
+  last = OfNodes still;
 }
 
 -- ---- moves
@@ -135,4 +147,8 @@ with_held kept told = record told { left = told.left + held_left kept told.to }
 -- the pages once they moved
 abbrev pub with_motion : Kept → Lying → Motion → Lying
 with_motion kept at done =
-    record at { spots = done.spots; room = done.room; last = with_held kept done.told }
+    record at {
+      spots = done.spots;
+      room = done.room;
+      last = OfNodes (with_held kept done.told);
+    }

@@ -18,7 +18,7 @@ use Rattle.numa_placed.specs.declared.refusal.PlacedRefusal.{PlacedRefusal}
 use Rattle.numa_placed.specs.declared.refusal.PlacedRefusal.TheVariants as cause
 use Rattle.numa_placed.specs.declared.spot.Spot.{Spot}
 use Rattle.numa_placed.specs.declared.spot.Spot.TheVariants.{Nowhere, Stated, Held}
-use Rattle.numa_placed_script.specs.Lying.{Ground, Lying, Motion, Told, motion, still}
+use Rattle.numa_placed_script.specs.Lying.{Ground, Lying, Motion, OfNodes, Told, motion, still}
 use Rattle.numa_placed_script.specs.Lying.{with_held, with_motion}
 use Rattle.numa_placed_script.specs.Texts.{cause_name, last_line, move_name, moved_line, node_line}
 use Rattle.numa_placed_script.specs.Texts.{refusal_line}
@@ -161,7 +161,7 @@ move_unless None page node at = record {
   lying = record at {
     spots = move_spots page node at.spots;
     room = room_moved_in at.room node (at.spots page);
-    last = told_of node (at.spots page);
+    last = OfNodes (told_of node (at.spots page));
   };
 }
 
@@ -169,7 +169,7 @@ move_unless None page node at = record {
 abbrev pub held_move_unless : Option MoveRefusal → ℕ → Lying → Outcome
 held_move_unless (Some why) node at = with_text (refusal_line (move_name why)) at
 held_move_unless None node at =
-    record { text = node_line node; lying = record at { last = still } }
+    record { text = node_line node; lying = record at { last = OfNodes still } }
 
 abbrev pub move_where : Option Placement → Bool → Ground → ℕ → ℕ → Lying → Outcome
 move_where None refused basis page node at =
@@ -211,10 +211,10 @@ placed_by refused basis version said at =
 -- where the allowed nodes have changed, pages follow them, if they are to and memory serves
 abbrev pub follow_unless : Option PlacedRefusal → Kept → Motion → Lying → Lying
 follow_unless None kept done at = with_motion kept at done
-follow_unless (Some lack) kept done at = record at { last = still }
+follow_unless (Some lack) kept done at = record at { last = OfNodes still }
 
 abbrev pub followed_where : Bool → Bool → ℕ → ℕ → Kept → Lying → Lying
-followed_where false refused old new kept at = record at { last = still }
+followed_where false refused old new kept at = record at { last = OfNodes still }
 followed_where true refused old new kept at = follow_unless
     (lack_in at.room refused (motion at.room at.spots old new).spots) kept
     (motion at.room at.spots old new) at

@@ -1,10 +1,12 @@
 -- What each line is answered, and the state after it. Until a line about pages is accepted all is as
 -- in a script without such lines. `refused` says whether a growth was refused while the line was
 -- served.
-use Rattle.std.specs.Prelude.{ℕ, ◌==◌, Bool, true, false, Option, Some, None, List, length}
+use Rattle.std.specs.Prelude.{ℕ, suc, ◌==◌, Bool, true, false, Option, Some, None, List, length}
 use Rattle.std.specs.Prelude.{codes, if◌then◌else◌, is_some, ◌&&◌, Ok}
 use Rattle.numa_machine.specs.declared.rules.Rules.{Rules}
+use Rattle.numa_space.specs.Refusals.{refusal_of}
 use Rattle.numa_space.specs.declared.command.Command.TheVariants.{SetMems, Unmap}
+use Rattle.numa_space.specs.declared.refusal.Refusal.{Refusal}
 use Rattle.numa_placed.specs.Spots.{is_placed}
 use Rattle.numa_script.specs.Causes.{is_malformed}
 use Rattle.numa_script.specs.Lines.{line_of}
@@ -22,17 +24,21 @@ use Rattle.numa_placed_script.specs.Lying.{Ground, Lying, Process, nothing}
 use Rattle.numa_placed_script.specs.Outcomes.{Outcome, followed, forgotten, has_stated, lack_of}
 use Rattle.numa_placed_script.specs.Outcomes.{placed_by}
 use Rattle.numa_placed_script.specs.Processes.{allowed_in, alone_in, kept_in, process_of, version_in}
-use Rattle.numa_placed_script.specs.Lines.{strict_of}
+use Rattle.numa_placed_script.specs.Lines.{moving_of, strict_of}
+use Rattle.numa_placed_script.specs.Sending.{asked_of, command_of, rebinding_of, sent_in, sent_spots}
+use Rattle.numa_placed_script.specs.Sending.{tells_left, with_sent}
 use Rattle.numa_placed_script.specs.Strict.{binding_of, cause_against, has_astray, is_late}
-use Rattle.numa_placed_script.specs.Texts.{cause_name, refusal_line}
+use Rattle.numa_placed_script.specs.Texts.{cause_name, refusal_line, sent_line}
 use Rattle.numa_placed_script.specs.declared.binding.Binding.{Binding}
 use Rattle.numa_placed.specs.declared.refusal.PlacedRefusal.TheVariants as cause
 use Rattle.numa_placed.specs.declared.refusal.PlacedRefusal.{PlacedRefusal}
 use Rattle.numa_placed.specs.declared.spot.Spot.{Spot}
 use Rattle.numa_placed_script.specs.declared.concern.Concern.{Concern}
 use Rattle.numa_placed_script.specs.declared.concern.Concern.TheVariants as concern
+use Rattle.numa_placed_script.specs.declared.line.MoveWords.{MoveWords}
 use Rattle.numa_placed_script.specs.declared.line.PlacedLine.{PlacedLine}
 use Rattle.numa_placed_script.specs.declared.line.PlacedLine.TheVariants as line
+use Rattle.numa_placed_script.specs.declared.sending.Rebinding.{Rebinding}
 
 -- a script, and where pages lie beside it
 pub record Scene : Type 0 where
@@ -173,12 +179,59 @@ abbrev pub served_where : Option (List ℕ) → Bool → Scene → List ℕ → 
 served_where None refused scene bytes = plain_served refused scene bytes
 served_where (Some command) refused scene bytes = strict_served refused scene command
 
+-- ---- mbind .. move
+
+-- the policy was set, and pages went
+abbrev pub sent_served : Process → Rebinding → MoveWords → Scene → List ℕ → Served
+sent_served process said words scene command =
+    let asked = asked_of process said words in
+    let sent = sent_in process.kept asked scene.lying in
+    record {
+      text = sent_line (suc (length process.history)) sent
+          (tells_left words said.spec sent.left);
+      scene = record {
+        session = session_after false scene.session command;
+        lying = with_sent process.kept asked scene.lying;
+      };
+    }
+
+-- what refuses the policy is answered as without the words; then lack of runs or memory
+abbrev pub sent_unless : Bool → Option Refusal → Process → Rebinding → MoveWords → Scene → List ℕ
+    → Served
+sent_unless true first process said words scene command =
+    record { text = refusal_line (cause_name cause.NoMemory); scene = scene }
+sent_unless false (Some refusal) process said words scene command =
+    passed false scene command scene.lying
+sent_unless false None process said words scene command =
+    unmap_unless (lack_of false (sent_spots (asked_of process said words) scene.lying)) scene
+    (sent_served process said words scene command)
+
+abbrev pub rebound_by : Option Rebinding → Bool → Process → MoveWords → Scene → List ℕ → Served
+rebound_by None refused process words scene command =
+    passed refused scene command scene.lying
+rebound_by (Some said) refused process words scene command = sent_unless refused
+    (refusal_of process.machine process.bounds process.history (command_of said)) process said
+    words scene command
+
+abbrev pub moving_on : Option Process → Bool → MoveWords → Scene → List ℕ → Served
+moving_on None refused words scene command = passed refused scene command scene.lying
+moving_on (Some process) refused words scene command = rebound_by
+    (rebinding_of process.machine.rules (line_of command)) refused process words scene command
+
+abbrev pub moving_served : Bool → MoveWords → Scene → List ℕ → Served
+moving_served refused words scene command =
+    moving_on (alone_in scene.session) refused words scene command
+
+abbrev pub flagged_where : Option (List ℕ × MoveWords) → Bool → Scene → List ℕ → Served
+flagged_where None refused scene bytes = served_where (strict_of bytes) refused scene bytes
+flagged_where (Some v) refused scene bytes = moving_served refused v.1 scene v.0
+
 -- ---- every line
 
 -- a line that is malformed in a script without pages may be one about pages
 abbrev pub unknown_served : Bool → Scene → List ℕ → Served
 unknown_served refused scene bytes = if is_plain (placed_line_of bytes)
-    then served_where (strict_of bytes) refused scene bytes
+    then flagged_where (moving_of bytes) refused scene bytes
     else placed_served refused scene (placed_line_of bytes)
 
 unfoldable pub scene_served : Bool → Scene → List ℕ → Served

@@ -1,12 +1,14 @@
 -- What is kept beside a script, and which pages it stands for.
-use Rattle.std.specs.Prelude.{◌≡◌, ℕ, ◌<◌, ◌^◌, Bool, true, false, List, Option, Some, None}
+use Rattle.std.specs.Prelude.{◌≡◌, ℕ, ◌<◌, ◌^◌, Bool, true, false, List, ◌∷◌, Option, Some, None}
 use Rattle.std.specs.Prelude.{slice_index}
-use Rattle.std.specs.Prelude.{IsSome, MatchResult, Result, Ok, Err}
+use Rattle.std.specs.Prelude.{IsSome, MatchResult, Result, Ok, Err, is_some}
 use Rattle.numa_lines.specs.Written.{Said}
 use Rattle.numa_lines.specs.declared.watched.Watched.{Watched}
+use Rattle.numa_maps.specs.Residents.{Kept}
+use Rattle.numa_placed.specs.Binds.{Asked, asked_of as asked_by, room_before}
 use Rattle.numa_placed.specs.Refusals.{first_of}
 use Rattle.numa_placed.specs.Shifts.{AreRooms}
-use Rattle.numa_placed.specs.Spots.{spot_at}
+use Rattle.numa_placed.specs.Spots.{spot_at, too_many}
 use Rattle.numa_placed.specs.declared.moved.Moved.{Moved}
 use Rattle.numa_placed.specs.declared.rooms.Rooms.{Rooms}
 use Rattle.numa_placed.specs.declared.refusal.MoveRefusal.{MoveRefusal}
@@ -14,13 +16,27 @@ use Rattle.numa_placed.specs.declared.refusal.PlacedRefusal.{PlacedRefusal}
 use Rattle.numa_placed.specs.declared.refusal.PlacedRefusal.TheVariants.{NoMemory}
 use Rattle.numa_placed.specs.declared.spot.Spot.{Spot}
 use Rattle.numa_ranges.specs.declared.run.Run.{Run}
-use Rattle.numa_placed_script.specs.Lying.{Ground, Lying, Motion, Told, motion, nothing}
+use Rattle.numa_space.specs.Refusals.{refusal_of}
+use Rattle.numa_space.specs.Standing.{SpaceState, StandsFor}
+use Rattle.numa_space.specs.declared.command.Command.{Command}
+use Rattle.numa_placed_script.specs.Lying.{Ground, LastMove, Lying, Motion, OfNodes, OfPages}
+use Rattle.numa_placed_script.specs.Lying.{Process, Sent}
+use Rattle.numa_placed_script.specs.Lying.{Told, motion, nothing}
 use Rattle.numa_placed_script.specs.Outcomes.{Outcome, forgotten, has_stated, is_lack}
 use Rattle.numa_placed_script.specs.Outcomes.{is_no_memory, lack_in, lack_of}
 use Rattle.numa_placed_script.specs.Outcomes.{move_cause_by, move_spots, room_moved_in}
 use Rattle.numa_placed_script.specs.Scenes.{Scene, Served}
+use Rattle.numa_placed_script.specs.Sending.{asked_of, command_of, flow_between, rooms_sent, sent_in}
+use Rattle.numa_placed_script.specs.Sending.{sent_spots}
 use Rattle.numa_placed_script.specs.Texts.{cause_name, refusal_line}
 use Rattle.numa_placed_script.specs.declared.beside.Beside.{Beside}
+use Rattle.numa_placed_script.specs.declared.last.Departures.{Departures}
+use Rattle.numa_placed_script.specs.declared.last.Last.{Last}
+use Rattle.numa_placed_script.specs.declared.last.Last.TheVariants as went
+use Rattle.numa_placed_script.specs.declared.line.MoveWords.{MoveWords}
+use Rattle.numa_placed_script.specs.declared.sending.Rebinding.{Rebinding}
+use Rattle.numa_placed_script.specs.declared.sending.Sending.{Sending}
+use Rattle.numa_placed_script.specs.declared.staying.Front.{Front}
 use Rattle.numa_host_script.specs.Standing.{StandsIn as IsIn}
 use Rattle.numa_host_script.specs.declared.script.HostScript.{HostScript}
 
@@ -50,11 +66,31 @@ told_in moved = record {
   to = slice_index moved.to;
 }
 
+-- pages lay and lie so that as many went
+pub record SentAs (done : Departures) (sent : Sent) : Type 0 where
+  pub moved : done.moved ≡ sent.moved
+  pub left : done.left ≡ sent.left
+  pub flow : (from to : ℕ) → flow_between (spot_at done.before) (spot_at done.after) from to
+      ≡ sent.flow from to
+
+-- as it is told
+abbrev pub sent_by : Departures → Sent
+sent_by done = record {
+  moved = done.moved;
+  left = done.left;
+  flow = flow_between (spot_at done.before) (spot_at done.after);
+}
+
+abbrev pub LastAs : Last → LastMove → Type 0
+LastAs (went.Nodes moved) (OfNodes told) = TellsOf moved told
+LastAs (went.Pages done) (OfPages sent) = SentAs done sent
+LastAs _ _ = ⊥
+
 pub record LiesAs (beside : Beside) (lying : Lying) : Type 0 where
   pub spots : (page : ℕ) → spot_at beside.placed page ≡ lying.spots page
   pub room : HaveRoom beside.rooms lying.room
   pub follows : beside.follows ≡ lying.follows
-  pub last : TellsOf beside.last lying.last
+  pub last : LastAs beside.last lying.last
 
 -- ---- moves
 
@@ -88,6 +124,46 @@ MovesPage old rooms basis page node result new rooms_then = (at : Lying)
     × HaveRoom rooms_then (room_moved_in at.room node (at.spots page)) × (node < 256))
     (λ refusal. (move_cause_by (is_lack refusal) basis page node at ≡ Some refusal)
     × (new ≡ old) × (rooms_then ≡ rooms))
+
+-- ---- mbind .. move
+
+-- the space with a policy that nothing refuses
+pub record HasPolicy (space : SpaceState) (history : List Command) (said : Rebinding)
+    (after : SpaceState) : Type 0 where
+  pub free : refusal_of space.machine space.bounds history (command_of said) ≡ None
+  pub stands : StandsFor after (command_of said ∷ history)
+  pub machine : after.machine ≡ space.machine
+
+-- what its pages are asked, by that space
+abbrev pub asked_for : SpaceState → Rebinding → MoveWords → Asked
+asked_for space said words =
+    asked_by space said.start said.length said.spec.mask words.task words.cpu
+
+-- the rooms are those that a page of the span finds
+pub record IsFront (asked : Asked) (spots : ℕ → Spot) (room : ℕ → ℕ) (front : Front) : Type 0
+  where
+    pub rooms : AreRooms front.rooms (room_before asked spots room front.page)
+
+-- the pages went
+pub record HasSent (done : Sending) (kept : Kept) (asked : Asked) (at : Lying) : Type 0 where
+  pub spots : (page : ℕ) → spot_at done.placed page ≡ sent_spots asked at page
+  pub copy : done.copy ≡ done.placed
+  pub room : HaveRoom done.rooms (rooms_sent asked at.spots at.room)
+  pub moved : done.moved ≡ (sent_in kept asked at).moved
+  pub left : done.left ≡ (sent_in kept asked at).left
+  pub few : too_many (sent_spots asked at) ≡ false
+
+-- where pages go with a policy, or why they don't
+abbrev pub Sends : Process → Rebinding → MoveWords → Lying
+    → Result (Option Sending) PlacedRefusal → Type 0
+Sends process said words at (Ok None) = is_some (refusal_of process.machine process.bounds
+    process.history (command_of said)) ≡ true
+Sends process said words at (Ok (Some done)) = (refusal_of process.machine process.bounds
+    process.history (command_of said) ≡ None)
+    × HasSent done process.kept (asked_of process said words) at
+Sends process said words at (Err why) = is_no_memory why ≡ false
+    → (refusal_of process.machine process.bounds process.history (command_of said) ≡ None)
+    × (lack_of false (sent_spots (asked_of process said words) at) ≡ Some why)
 
 -- ---- what is kept
 

@@ -1,11 +1,12 @@
 -- The texts of the answers to lines about pages that are there.
-use Rattle.std.specs.Prelude.{ℕ, ◌==◌, List, [], ◌++◌, codes, decimal, if◌then◌else◌}
+use Rattle.std.specs.Prelude.{ℕ, ◌==◌, Bool, true, false, List, [], ◌++◌, codes, decimal}
+use Rattle.std.specs.Prelude.{if◌then◌else◌}
 use Rattle.std.specs.List.{flat_map, range_with_len}
 use Rattle.numa_placed.specs.declared.refusal.MoveRefusal.{MoveRefusal}
 use Rattle.numa_placed.specs.declared.refusal.MoveRefusal.TheVariants as move
 use Rattle.numa_placed.specs.declared.refusal.PlacedRefusal.{PlacedRefusal}
 use Rattle.numa_placed.specs.declared.refusal.PlacedRefusal.TheVariants as cause
-use Rattle.numa_placed_script.specs.Lying.{Told}
+use Rattle.numa_placed_script.specs.Lying.{LastMove, OfNodes, OfPages, Sent, Told}
 
 -- ---- refusals, each with its error number (errno(3))
 
@@ -53,10 +54,33 @@ flow_text node pages to =
 unfoldable pub flows_text : (ℕ → ℕ) → (ℕ → ℕ) → List ℕ
 flows_text from to = flat_map (λ node. flow_text node (from node) (to node)) (range_with_len 0 256)
 
+-- to each node, the lowest first
+unfoldable pub flows_from_text : ℕ → (ℕ → ℕ) → List ℕ
+flows_from_text from flow = flat_map (λ to. flow_text from (flow to) to) (range_with_len 0 256)
+
+-- from each node to each
+unfoldable pub all_flows_text : (ℕ → ℕ → ℕ) → List ℕ
+all_flows_text flow = flat_map (λ from. flows_from_text from (flow from)) (range_with_len 0 256)
+
 -- `v4: moved 5 left 0 N2->N3=5`
-abbrev pub last_line : ℕ → Told → List ℕ
-last_line version told = codes "v" ++ decimal version ++ codes ": "
-    ++ moved_words told.moved told.left ++ flows_text told.from told.to ++ codes "\n"
+abbrev pub told_line : ℕ → ℕ → ℕ → List ℕ → List ℕ
+told_line version moved left flows = codes "v" ++ decimal version ++ codes ": "
+    ++ moved_words moved left ++ flows ++ codes "\n"
+
+abbrev pub last_line : ℕ → LastMove → List ℕ
+last_line version (OfNodes told) =
+    told_line version told.moved told.left (flows_text told.from told.to)
+last_line version (OfPages sent) =
+    told_line version sent.moved sent.left (all_flows_text sent.flow)
+
+-- `ok 4 moved 5 left 1`, ` EIO` behind that where pages had to go
+abbrev pub late_words : Bool → List ℕ
+late_words true = codes " EIO"
+late_words false = []
+
+abbrev pub sent_line : ℕ → Sent → Bool → List ℕ
+sent_line version sent late = codes "ok " ++ decimal version ++ codes " "
+    ++ moved_words sent.moved sent.left ++ late_words late ++ codes "\n"
 
 -- `node 3`
 abbrev pub node_line : ℕ → List ℕ

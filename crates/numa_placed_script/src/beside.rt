@@ -18,6 +18,7 @@ ghost use Rattle.numa_placed_script.specs.Texts.{last_line};
 ghost use Rattle.numa_script.specs.Texts.{text_of};
 
 use crate::frames::with_held;
+use crate::last::{Last, keep};
 use crate::line::PlacedLine;
 use crate::tell::{say_last, say_move_refusal, say_moved, say_node, say_refusal};
 use numa_lines::Watched;
@@ -38,7 +39,7 @@ pub(crate) struct Beside {
     pub(crate) placed: Placed,
     pub(crate) rooms: Option<Rooms>,
     pub(crate) follows: bool,
-    pub(crate) last: Moved,
+    pub(crate) last: Last,
 }
 
 /// A move of nothing.
@@ -115,7 +116,7 @@ fn told_of(node: u32, spot: Spot) -> Moved
 }
 
 /// The rooms; without any no node fills.
-fn rooms_of(rooms: &Option<Rooms>) -> Rooms
+pub(crate) fn rooms_of(rooms: &Option<Rooms>) -> Rooms
     ensures { (room : Option (ℕ → ℕ)) → HaveRoom rooms.now room → AreRooms result (rooms_of room) }
 {
     match rooms {
@@ -175,8 +176,8 @@ fn move_page(
     page: u64,
     node: u32,
 ) -> Result<(), MoveRefusal>
-    ensures { MovesPage placed.old rooms.old (ground_in space.now _resident.now) page node result placed.new
-        rooms.new }
+    ensures { MovesPage placed.old rooms.old (ground_in space.now _resident.now) page node result
+        placed.new rooms.new }
 {
     // Tells the proof that the machine has few nodes.
     let _ = space.machine().nodes();
@@ -197,7 +198,7 @@ impl Beside {
         let Ok(placed) = Placed::new(alloc) else {
             return Err(NoMemory);
         };
-        let last = still();
+        let last = Last::Nodes(still());
         Ok(Beside {
             placed,
             rooms: None,
@@ -217,7 +218,8 @@ impl Beside {
         output: &mut Watched<W>,
     ) -> bool
         ensures { AnswersAs W.contents self.old output.old result self.new output.new
-            (λ refused at. at_outcome refused (ground_in space.now resident.now) start length node at) }
+            (λ refused at. at_outcome refused (ground_in space.now resident.now) start length node
+            at) }
     {
         match self
             .placed
@@ -274,13 +276,14 @@ impl Beside {
         output: &mut Watched<W>,
     ) -> bool
         ensures { AnswersAs W.contents self.old output.old result self.new output.new
-            (λ refused at. migrate_outcome refused (ground_in space.now resident.now) from.now to.now at) }
+            (λ refused at. migrate_outcome refused (ground_in space.now resident.now) from.now
+            to.now at) }
     {
         match migrate(&mut self.placed, &mut self.rooms, space, from, to) {
             Ok(moved) => {
                 let moved = with_held(moved, Some(resident));
                 say_moved(output, moved.moved, moved.left);
-                self.last = moved;
+                keep(&mut self.last, Last::Nodes(moved));
                 false
             }
             Err(refusal) => {
@@ -305,7 +308,7 @@ impl Beside {
     {
         match judge_move(space, page, node, Spot::Held(from)) {
             Ok(()) => {
-                self.last = still();
+                keep(&mut self.last, Last::Nodes(still()));
                 say_node(output, node);
                 false
             }
@@ -359,7 +362,7 @@ impl Beside {
             node,
         ) {
             Ok(()) => {
-                self.last = told_of(node, spot);
+                keep(&mut self.last, Last::Nodes(told_of(node, spot)));
                 say_node(output, node);
                 false
             }
@@ -428,15 +431,15 @@ impl Beside {
             → (refused : Bool) × LiesAs self.new (followed refused old.now new.now kept lying) }
     {
         if !self.follows {
-            self.last = still();
+            keep(&mut self.last, Last::Nodes(still()));
             return;
         }
         match follow(&mut self.placed, &mut self.rooms, old, new) {
             Ok(moved) => {
-                self.last = with_held(moved, resident);
+                keep(&mut self.last, Last::Nodes(with_held(moved, resident)));
             }
             Err(_refusal) => {
-                self.last = still();
+                keep(&mut self.last, Last::Nodes(still()));
             }
         }
     }

@@ -15,8 +15,8 @@ ghost use Rattle.numa_placed.specs.Spots.{spot_at};
 ghost use Rattle.numa_placed_script.specs.Lying.{Lying, Process};
 ghost use Rattle.numa_placed_script.specs.Outcomes.{is_astray_cause};
 ghost use Rattle.numa_placed_script.specs.Standing.{Lies};
-ghost use Rattle.numa_placed_script.specs.Strict.{binding_of, cause_against, has_astray, held_astray};
-ghost use Rattle.numa_placed_script.specs.Strict.{is_late, strict_binding};
+ghost use Rattle.numa_placed_script.specs.Strict.{binding_of, cause_against, has_astray};
+ghost use Rattle.numa_placed_script.specs.Strict.{held_astray, is_late, strict_binding};
 
 use crate::beside::Beside;
 use numa_machine::{NoMemory, Rules};
@@ -70,7 +70,7 @@ pub(crate) fn binding_of(line: &Line<'_>) -> Option<Binding>
 }
 
 /// Whether a page is one of a span.
-fn is_in(first: u64, pages: u64, page: u64) -> bool
+pub(crate) fn is_in(first: u64, pages: u64, page: u64) -> bool
     ensures { result ≡ in_pages first pages page }
 {
     page >= first && page - first < pages
@@ -130,7 +130,7 @@ fn lies_astray(space: &Space, beside: &Option<Beside>, said: &Binding) -> bool
 }
 
 /// The number of pages that so many bytes reach into.
-fn page_count(length: u64) -> u64
+pub(crate) fn page_count(length: u64) -> u64
     ensures pages { result ≡ page_count length }
     ensures at_most { result ≤ 2 ^ 52 }
 {

@@ -8,17 +8,22 @@
 #![tactic(auto)]
 
 mod beside;
+mod between;
 mod binding;
 mod concern;
 mod frames;
 pub mod keyword;
+mod last;
 pub mod line;
 mod listing;
 mod process;
+mod rebound;
 pub mod script;
+mod sending;
+mod staying;
 pub mod streams;
 pub mod tell;
 
-pub use line::{PlacedLine, is_plain, parse_placed, strict_of};
+pub use line::{MoveWords, PlacedLine, is_plain, moving_of, parse_placed, strict_of};
 pub use script::PlacedScript;
 pub use streams::run_by;

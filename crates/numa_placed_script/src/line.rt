@@ -3,12 +3,14 @@ ghost use Rattle.std.specs.Prelude.{◌≡◌, Option, Some};
 ghost use Rattle.numa_placed_script.specs.Lines.{at_line, between, by_word, memory_migrate_line};
 ghost use Rattle.numa_mask.specs.Lists.{list_of};
 ghost use Rattle.std.specs.Option.{option_map};
-ghost use Rattle.numa_placed_script.specs.Lines.{begins_with, ends_with, is_plain, strict_of};
+ghost use Rattle.numa_placed_script.specs.Lines.{begins_with, behind, ends_with, flags_of};
+ghost use Rattle.numa_placed_script.specs.Lines.{is_plain, move_words, moving_of, strict_of};
+ghost use Rattle.numa_placed_script.specs.Lines.{words_of};
 ghost use Rattle.numa_placed_script.specs.Lines.{migrate_line, move_line, placed_line_after};
 ghost use Rattle.numa_placed_script.specs.Lines.{placed_line_of, room_line};
 
 use crate::keyword::{PlacedKeyword, read_placed_keyword};
-use numa_host_script::cutting::{cut, one};
+use numa_host_script::cutting::{cut, one, two};
 use numa_mask::{ListFault, NodeMask, read_list};
 use numa_script::line::LIMIT;
 use numa_script::number::{number, small};
@@ -34,6 +36,15 @@ pub enum PlacedLine {
     Move { address: u64, node: u32 },
     /// What was moved last.
     Moved,
+}
+
+/// What stands behind the policy of a line `mbind .. move`: whether `strict` does, and for which
+/// task on the node `cpu` pages are placed.
+#[derive(Clone, Copy, Drop)]
+pub struct MoveWords {
+    pub strict: bool,
+    pub task: u32,
+    pub cpu: u32,
 }
 
 /// Whether a line isn't about pages that are there.
@@ -189,4 +200,60 @@ pub fn strict_of(line: &[u8]) -> Option<&[u8]>
         return None;
     }
     Some(&line[..line.len().saturating_sub(7)])
+}
+
+/// What stands behind the first word.
+fn behind(text: &[u8]) -> Option<&[u8]>
+    ensures { option_map (λ rest. rest.now) result ≡ behind text.now }
+{
+    let (_, rest) = cut(text)?;
+    Some(rest)
+}
+
+/// What stands behind `mbind START LENGTH POLICY`.
+fn flags_of(text: &[u8]) -> Option<&[u8]>
+    ensures { option_map (λ flags. flags.now) result ≡ flags_of text.now }
+{
+    let text = behind(text)?;
+    let text = behind(text)?;
+    let text = behind(text)?;
+    behind(text)
+}
+
+/// `move TASK CPU`
+fn move_words(strict: bool, text: &[u8]) -> Option<MoveWords>
+    ensures { result ≡ move_words strict text.now }
+{
+    let (word, text) = cut(text)?;
+    if word != b"move".as_slice() {
+        return None;
+    }
+    let (task, cpu) = two(text)?;
+    Some(MoveWords { strict, task, cpu })
+}
+
+/// `move TASK CPU`, `strict move TASK CPU`
+fn words_of(text: &[u8]) -> Option<MoveWords>
+    ensures { result ≡ words_of text.now }
+{
+    if begins_with(text, b"strict ") {
+        return move_words(true, &text[7..]);
+    }
+    move_words(false, text)
+}
+
+/// The command of a line `mbind .. move`, and what stands behind its policy.
+#[tactic(auto, unfolding(crate::specs::Lines::moving_of))]
+pub fn moving_of(line: &[u8]) -> Option<(&[u8], MoveWords)>
+    ensures { option_map (λ v. (v.0.now, v.1)) result ≡ moving_of line.now }
+{
+    if line.len() > LIMIT {
+        return None;
+    }
+    if !begins_with(line, b"mbind ") {
+        return None;
+    }
+    let flags = flags_of(line)?;
+    let words = words_of(flags)?;
+    Some((&line[..line.len().saturating_sub(flags.len() + 1)], words))
 }

@@ -42,7 +42,7 @@ fn total(pages: &[u64; 256]) -> u64
 }
 
 /// The pages on each node of two lists.
-fn add(held: [u64; 256], stated: &[u64; 256]) -> [u64; 256]
+pub(crate) fn add(held: [u64; 256], stated: &[u64; 256]) -> [u64; 256]
     requires held { (node : ℕ) → node < 256 → slice_index held node < 2 ^ 63 }
     requires stated { (node : ℕ) → node < 256 → slice_index stated.now node ≤ 2 ^ 35 }
     ensures { (node : ℕ) → node < 256

@@ -1,5 +1,6 @@
 //! Running scripts with lines about pages that are there.
-ghost use Rattle.std.specs.Prelude.{◌≡◌, ℕ, Bool, IfErr, IfOk, IsSomeAnd, Some, MatchOption, None, [], false, true};
+ghost use Rattle.std.specs.Prelude.{◌≡◌, ℕ, Bool, IfErr, IfOk, IsSomeAnd, Some, MatchOption, None};
+ghost use Rattle.std.specs.Prelude.{[], false, true};
 ghost use Rattle.numa_host_script.specs.Sessions.{Session, session_after, session_answer};
 ghost use Rattle.numa_host_script.specs.Standing.{StandsIn as IsIn};
 ghost use Rattle.numa_lines.specs.Written.{Said};
@@ -41,8 +42,8 @@ use std::mem;
 /// A running script, and where pages lie beside it once a line says so.
 #[derive(Drop)]
 pub struct PlacedScript {
-    script: HostScript,
-    beside: Option<Beside>,
+    pub(crate) script: HostScript,
+    pub(crate) beside: Option<Beside>,
 }
 
 /// The reply to a line about pages before a machine is ready, or in a host.
@@ -56,7 +57,7 @@ fn early_reply(line: &PlacedLine) -> Reply
 }
 
 /// Begins to keep where pages lie, if nothing is kept yet. Returns whether memory ran out.
-fn begins_starved(alloc: Global, beside: &mut Option<Beside>) -> bool
+pub(crate) fn begins_starved(alloc: Global, beside: &mut Option<Beside>) -> bool
     ensures starved { result ≡ true → (beside.new ≡ beside.old) × (beside.old ≡ None) }
     ensures kept { result ≡ false → IsSomeAnd beside.new (λ kept. (lying : Lying)
         → Lies beside.old lying → LiesAs kept lying) }
@@ -177,8 +178,8 @@ fn replace(beside: &mut Option<Beside>, after: Placed)
     }
 }
 
-/// Answers a line as without lines about pages. (The one call of `serve_parsed`, whose result is not
-/// wanted, stands in a function of its own, so that nothing is computed for it.)
+/// Answers a line as without lines about pages. (The one call of `serve_parsed`, whose result is
+/// not wanted, stands in a function of its own, so that nothing is computed for it.)
 #[inline(never)]
 fn pass_on<W: Write>(
     script: &mut HostScript,
@@ -209,7 +210,7 @@ impl PlacedScript {
     }
 
     /// Answers a line as without lines about pages.
-    fn pass<W: Write>(
+    pub(crate) fn pass<W: Write>(
         &mut self,
         alloc: Global,
         line: &[u8],
@@ -383,7 +384,7 @@ impl PlacedScript {
     }
 
     /// Answers a line that isn't about pages alone.
-    fn serve_other<W: Write>(
+    pub(crate) fn serve_other<W: Write>(
         &mut self,
         alloc: Global,
         line: &[u8],
@@ -416,7 +417,7 @@ impl PlacedScript {
     {
         let about = parse_placed(line);
         if is_plain(&about) {
-            return self.serve_other(alloc, line, said, output);
+            return self.serve_flagged(alloc, line, said, output);
         }
         serve_placed(&self.script, &mut self.beside, alloc, &about, output);
     }

@@ -16,8 +16,8 @@ use std::io::{Read, Write};
 /// unless a line says otherwise.
 ///
 /// # Errors
-/// `Read`: a read failed, or one more than 4,294,967,295 was needed. `Write`: a write failed or took
-/// no byte, after which nothing more is read or written. `Memory`: there was no memory for the
+/// `Read`: a read failed, or one more than 4,294,967,295 was needed. `Write`: a write failed or
+/// took no byte, after which nothing more is read or written. `Memory`: there was no memory for the
 /// current line and the answers, before anything was read.
 pub fn run_by<R: Read, W: Write>(
     alloc: Global,

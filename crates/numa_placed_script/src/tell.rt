@@ -1,16 +1,21 @@
 //! Writing the answers to lines about pages that are there.
 ghost use Rattle.std.specs.Prelude.{◌≡◌, ◌++◌, ◌<◌, ℕ, codes, decimal, slice_index};
 ghost use Rattle.numa_lines.specs.Written.{Said};
-ghost use Rattle.numa_placed_script.specs.Lying.{Told};
-ghost use Rattle.numa_placed_script.specs.Standing.{TellsOf, told_in};
-ghost use Rattle.numa_placed_script.specs.Texts.{arrow_text, cause_name, flow_text, flows_text};
+ghost use Rattle.numa_placed.specs.Spots.{spot_at};
+ghost use Rattle.numa_placed_script.specs.Lying.{LastMove, OfNodes, OfPages};
+ghost use Rattle.numa_placed_script.specs.Sending.{flow_between};
+ghost use Rattle.numa_placed_script.specs.Standing.{LastAs, sent_by, told_in};
+ghost use Rattle.numa_placed_script.specs.Texts.{all_flows_text, arrow_text, cause_name, flow_text};
+ghost use Rattle.numa_placed_script.specs.Texts.{flows_from_text, flows_text, sent_line};
 ghost use Rattle.numa_placed_script.specs.Texts.{last_line};
 ghost use Rattle.numa_placed_script.specs.Texts.{move_name, moved_line, moved_words, node_line};
 ghost use Rattle.numa_placed_script.specs.Texts.{refusal_line};
 ghost use Rattle.numa_script.specs.Texts.{refused_text};
 
+use crate::between::flow_from;
+use crate::last::{Departures, Last};
 use numa_lines::Watched;
-use numa_placed::{MoveRefusal, Moved, PlacedRefusal};
+use numa_placed::{MoveRefusal, Moved, Placed, PlacedRefusal};
 use std::io::Write;
 
 /// The name of a refusal and of its error number (errno(3)).
@@ -121,9 +126,29 @@ fn say_flows<W: Write>(output: &mut Watched<W>, from: &[u64; 256], to: &[u8; 256
     }
 }
 
-/// Writes what a move did, at a version.
+/// Writes how many pages went to each node.
+fn say_flows_from<W: Write>(output: &mut Watched<W>, from: usize, flow: &[u64; 256])
+    ensures { Said W.contents output.old output.new (flows_from_text from (slice_index flow.now)) }
+{
+    for to in 0..256usize {
+        say_flow(output, from, flow[to], to as u8);
+    }
+}
+
+/// Writes how many pages went from each node to each.
+fn say_all_flows<W: Write>(output: &mut Watched<W>, before: &Placed, after: &Placed)
+    ensures { Said W.contents output.old output.new (all_flows_text
+        (flow_between (spot_at before.now) (spot_at after.now))) }
+{
+    for from in 0..256usize {
+        say_flows_from(output, from, &flow_from(before, after, from as u8));
+    }
+}
+
+/// Writes what a move of pages by their nodes did, at a version.
 fn say_told<W: Write>(output: &mut Watched<W>, version: u64, last: &Moved)
-    ensures { Said W.contents output.old output.new (last_line version (told_in last.now)) }
+    ensures { Said W.contents output.old output.new
+        (last_line version (OfNodes (told_in last.now))) }
 {
     output.say(b"v");
     output.say_number(version);
@@ -133,12 +158,49 @@ fn say_told<W: Write>(output: &mut Watched<W>, version: u64, last: &Moved)
     output.say(b"\n");
 }
 
-/// Writes what the last move did, at a version: `v4: moved 5 left 0 N2->N3=5`.
-pub fn say_last<W: Write>(output: &mut Watched<W>, version: u64, last: &Moved)
-    ensures { (told : Told) → TellsOf last.now told
-        → Said W.contents output.old output.new (last_line version told) }
+/// Writes what a policy did that pages went to, at a version.
+fn say_departed<W: Write>(output: &mut Watched<W>, version: u64, last: &Departures)
+    ensures { Said W.contents output.old output.new
+        (last_line version (OfPages (sent_by last.now))) }
 {
-    say_told(output, version, last);
+    output.say(b"v");
+    output.say_number(version);
+    output.say(b": ");
+    say_words(output, last.moved, last.left);
+    say_all_flows(output, &last.before, &last.after);
+    output.say(b"\n");
+}
+
+/// Writes what the last move did, at a version: `v4: moved 5 left 0 N2->N3=5`.
+pub(crate) fn say_last<W: Write>(output: &mut Watched<W>, version: u64, last: &Last)
+    ensures { (done : LastMove) → LastAs last.now done
+        → Said W.contents output.old output.new (last_line version done) }
+{
+    match last {
+        Last::Nodes(moved) => say_told(output, version, moved),
+        Last::Pages(done) => say_departed(output, version, done),
+    }
+}
+
+/// Writes that a policy was set and pages went: `ok 4 moved 5 left 1`.
+pub(crate) fn say_sent<W: Write>(
+    output: &mut Watched<W>,
+    version: u64,
+    moved: u64,
+    left: u64,
+    late: bool,
+)
+    ensures { (flow : ℕ → ℕ → ℕ) → Said W.contents output.old output.new (sent_line version
+        (record { moved = moved; left = left; flow = flow }) late) }
+{
+    output.say(b"ok ");
+    output.say_number(version);
+    output.say(b" ");
+    say_words(output, moved, left);
+    if late {
+        output.say(b" EIO");
+    }
+    output.say(b"\n");
 }
 
 /// Writes the node of a page that moved: `node 3`.

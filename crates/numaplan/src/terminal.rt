@@ -47,6 +47,8 @@ memory-migrate on or off       whether such pages follow the allowed nodes
 migrate FROM TO                such pages leave the nodes of a list for those of another
 move ADDR NODE                 one of them goes to a node
 moved                          asks what the last move did
+mbind .. strict                refused where a page of the span lies on another node
+mbind .. move TASK CPU         moves such pages to where TASK would have them
 host                           from here on a host's lines, as man numaplan-script tells
 ";
 

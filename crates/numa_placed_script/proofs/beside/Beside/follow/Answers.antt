@@ -10,10 +10,10 @@ returns-in-Ok c = λ lying kept lies by.
       placed = c.follow.new.placed;
       rooms = c.follow.new.rooms;
       follows = c.args.self.now.follows;
-      last = c.with_held-self.result;
+      last = c.keep-in-Ok.new.last;
     }) lying lies
-    c.args.old.now c.args.new.now kept c.if-not-self.false c.in-Ok.moved c.with_held-self.result
-    is.0 is.1 (c.with_held-self.ensures _ kept is.1.told by) refl refl
+    c.args.old.now c.args.new.now kept c.if-not-self.false c.in-Ok.moved c.with_held.result
+    is.0 is.1 (c.with_held.ensures _ kept is.1.told by) refl c.keep-in-Ok.ensures
 
 pub returns-in-Err : goal.returns-in-Err
 returns-in-Err c = λ lying kept lies by.
@@ -22,12 +22,12 @@ returns-in-Err c = λ lying kept lies by.
       placed = c.follow.new.placed;
       rooms = c.follow.new.rooms;
       follows = c.args.self.now.follows;
-      last = c.still-self-in-Err.result;
+      last = c.keep-in-Err.new.last;
     }) lying lies
     c.args.old.now c.args.new.now kept c.if-not-self.false
-    _ is.0 is.1 is.2 refl c.still-self-in-Err.ensures
+    _ c.still-in-Err.result is.0 is.1 is.2 refl c.still-in-Err.ensures c.keep-in-Err.ensures
 
-pub with_held-self-requires : goal.with_held-self-requires
-with_held-self-requires c =
+pub with_held-requires : goal.with_held-requires
+with_held-requires c =
     few-left c.args.self.now.placed c.follow.new.placed c.args.self.now.rooms c.follow.new.rooms
     c.args.old.now c.args.new.now None c.in-Ok.moved c.in-Ok.ensures

@@ -14,11 +14,11 @@ returns-in-Ok g c = λ lying lies.
       placed = c.migrate.new.placed;
       rooms = c.migrate.new.rooms;
       follows = c.args.self.now.follows;
-      last = c.with_held-moved.result;
+      last = c.keep.new.last;
     }) c.args.output.now c.say_moved.new.output lying lies c.args.resident.now
     (motion lying.room lying.spots c.args.from.now to)
     (migrate_cause c.args.space.now.allowed c.args.to.now) c.in-Ok.moved c.with_held-moved.result is.0 is.1
-    (c.with_held-moved.ensures _ c.args.resident.now is.1.told refl) refl refl
+    (c.with_held-moved.ensures _ c.args.resident.now is.1.told refl) refl c.keep.ensures
     c.say_moved.ensures
 
 pub returns-in-Err : goal.returns-in-Err

@@ -10,10 +10,10 @@ returns-in-Ok g c = λ lying lies.
       placed = c.move_page.new.placed;
       rooms = c.move_page.new.rooms;
       follows = c.args.self.now.follows;
-      last = c.told_of-self.result;
+      last = c.keep.new.last;
     }) c.args.output.now c.say_node.new.output lying lies (ground_in c.args.space.now c.args._resident.now)
-    c.args.page c.args.node c.at-spot.result c.told_of-self.result is.0 is.1 is.2
-    c.at-spot.ensures (c.told_of-self.ensures is.3) refl refl c.say_node.ensures
+    c.args.page c.args.node c.at-spot.result c.told_of.result is.0 is.1 is.2
+    c.at-spot.ensures (c.told_of.ensures is.3) refl c.keep.ensures c.say_node.ensures
 
 pub returns-in-Err : goal.returns-in-Err
 returns-in-Err g c = λ lying lies.

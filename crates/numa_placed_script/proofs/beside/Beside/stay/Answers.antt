@@ -11,11 +11,12 @@ returns-in-Ok g c = λ lying lies.
       placed = c.args.self.now.placed;
       rooms = c.args.self.now.rooms;
       follows = c.args.self.now.follows;
-      last = c.still-self.result;
+      last = c.keep.new.last;
     }) c.args.output.now c.say_node.new.output lying lies
     (move_cause c.args.space.now.machine c.args.space.now.allowed c.args.node
     (is_some (page_at c.args.space.now.ranges c.args.page)) (Held c.args.from)) c.args.node
-    c.in-Ok.ensures.cause refl refl refl c.still-self.ensures c.say_node.ensures
+    c.still.result c.in-Ok.ensures.cause refl refl refl c.still.ensures c.keep.ensures
+    c.say_node.ensures
 
 pub returns-in-Err : goal.returns-in-Err
 returns-in-Err g c = λ lying lies.

@@ -1,0 +1,353 @@
+-- What the pages of a span are asked once a policy is set, and where they go.
+use Rattle.std.proofs.Common.{◌≡◌, ℕ, ◌+◌, ◌*◌, ◌%◌, ◌<◌, ◌≤◌, ◌^◌, ◌==◌, Bool, true, false, not}
+use Rattle.std.proofs.Common.{Option, Some, None, List, ◌∷◌, refl, sym, ap, ◌∙◌, subst, arith, inl, inr}
+use Rattle.std.proofs.Common.{is_some}
+use Rattle.std.specs.Prelude.{if◌then◌else◌, ◌&&◌, nat_lt, nat_le, MatchOption, Ok, Err}
+use Rattle.std.proofs.lemmas.Bool.{cases_Bool, both_ways, eqb-true, ltb-false, not-false}
+use Rattle.numa_machine.specs.Machine.{Hardware}
+use Rattle.numa_ranges.specs.Runs.{page_at}
+use Rattle.numa_ranges.specs.declared.run.Run.{Run}
+use Rattle.numa_space.specs.History.{page_of, page_count}
+use Rattle.numa_space.specs.Limited.{Bounds}
+use Rattle.numa_space.specs.Lists.{node_list}
+use Rattle.numa_space.specs.Pages.{is_mapped}
+use Rattle.numa_space.specs.Refusals.{bad_span, cause_in, first_of as first_refusal, refusal_of}
+use Rattle.numa_space.specs.Refusals.{scene_of}
+use Rattle.numa_space.specs.Standing.{SpaceState, StandsFor, list_in, place_refusal_in}
+use Rattle.numa_space.specs.declared.command.Command.{Command}
+use Rattle.numa_space.specs.declared.refusal.Refusal.{Refusal}
+use Rattle.numa_space.specs.declared.refusal.Refusal.TheVariants as refusal
+use Rattle.numa_space.proofs.Lists.{list-same, mapped-same}
+use Rattle.numa_maps.specs.Residents.{Kept}
+use Rattle.numa_placed.specs.Binds.{Asked, IsBound, asked_of as asked_by, bound_spots}
+use Rattle.numa_placed.specs.Binds.{goals as goals_by, list_unless}
+use Rattle.numa_placed.specs.Binds.{is_kept, nodes_in, room_before, strays}
+use Rattle.numa_placed.proofs.Shared.{count-le}
+use Rattle.numa_placed.specs.Refusals.{IsRefusal, first_of, span_cause}
+use Rattle.numa_placed.specs.Shifts.{AreRooms, room_of}
+use Rattle.numa_placed.specs.Spots.{spot_at, too_many}
+use Rattle.numa_placed.specs.declared.bound.Bound.{Bound}
+use Rattle.numa_placed.specs.declared.refusal.PlacedRefusal.{PlacedRefusal}
+use Rattle.numa_placed.specs.declared.rooms.Rooms.{Rooms}
+use Rattle.numa_placed.specs.declared.spot.Spot.{Spot}
+use Rattle.numa_placed_script.specs.Lying.{Lying, Process}
+use Rattle.numa_placed_script.specs.Outcomes.{cause_by, is_no_memory, lack_of, rooms_of}
+use Rattle.numa_placed_script.specs.Sending.{asked_of, command_of, goals_in, held_kept, lacks_room}
+use Rattle.numa_placed_script.specs.Sending.{flow_between, nodes_of, rooms_sent, sent_in}
+use Rattle.numa_placed_script.specs.Sending.{sent_spots, with_sent}
+use Rattle.numa_placed_script.specs.Standing.{HasPolicy, HasSent, HaveRoom, Lies, LiesAs, Sends}
+use Rattle.numa_placed_script.specs.Standing.{asked_for}
+use Rattle.numa_placed_script.specs.declared.beside.Beside.{Beside}
+use Rattle.numa_placed_script.specs.declared.last.Last.TheVariants as went
+use Rattle.numa_placed_script.specs.declared.line.MoveWords.{MoveWords}
+use Rattle.numa_placed_script.specs.declared.sending.Rebinding.{Rebinding}
+use Rattle.numa_placed_script.specs.declared.sending.Sending.{Sending}
+use Rattle.numa_placed_script.proofs.Judged.{cause-told}
+
+-- ---- the policy
+
+pub refused-some : (first : Option Refusal) (told : Refusal)
+    → MatchOption first (told ≡ refusal.NoMemory) (λ cause. told ≡ cause)
+    → lacks_room told ≡ false → is_some first ≡ true
+refused-some None told is room =
+    let odd : true ≡ false = sym (ap lacks_room is) ∙ room in absurd (both_ways true odd refl)
+refused-some (Some cause) told is room = refl
+
+-- where nothing refuses a policy its span is one
+first-none : (one other : Option Refusal) → first_refusal one other ≡ None → one ≡ None
+first-none None other is = refl
+first-none (Some cause) other is = is
+
+second-none : (one other : Option Refusal) → first_refusal one other ≡ None → other ≡ None
+second-none None other is = is
+second-none (Some cause) other is =
+    let odd : true ≡ false = ap is_some is in absurd (both_ways true odd refl)
+
+bad-none : (start bytes : ℕ) → bad_span start bytes ≡ None → span_cause start bytes ≡ None
+bad-none start bytes is =
+    elim (cases_Bool (not (start % 4096 == 0))) [
+      | inl t ↦
+          let odd : true ≡ false = ap is_some (rw t at is) in absurd (both_ways true odd refl)
+      | inr e ↦ elim (cases_Bool (nat_lt (2 ^ 47) (start + page_count bytes * 4096))) [
+        | inl t ↦
+            let odd : true ≡ false = ap is_some (rw (e, t) at is) in
+            absurd (both_ways true odd refl)
+        | inr o ↦ rw (e, o) refl
+      ]
+    ]
+
+pub free-span : (machine : Hardware) (bounds : Bounds) (history : List Command)
+    (said : Rebinding) → refusal_of machine bounds history (command_of said) ≡ None
+    → span_cause said.start said.length ≡ None
+free-span machine bounds history said free =
+    let cause = cause_in (scene_of machine bounds history (command_of said)) (command_of said) in
+    let none : cause ≡ None = second-none _ cause free in
+    bad-none said.start said.length (first-none (bad_span said.start said.length) _ none)
+
+-- ---- what pages are asked
+
+nodes-where : (mapped : Bool) (space : SpaceState) (history : List Command) (words : MoveWords)
+    (page : ℕ) → StandsFor space history → is_some (page_at space.ranges page) ≡ mapped
+    → list_unless (place_refusal_in space.machine.nodes mapped words.cpu)
+    (list_in space words.task page words.cpu)
+    ≡ list_unless (place_refusal_in space.machine.nodes mapped words.cpu)
+    (node_list space.machine history words.task page words.cpu)
+nodes-where true space history words page stands is =
+    ap (list_unless (place_refusal_in space.machine.nodes true words.cpu))
+    (list-same space history words.task page words.cpu stands is)
+nodes-where false space history words page stands is =
+    elim (cases_Bool (nat_le space.machine.nodes words.cpu)) [
+      | inl t ↦ rw t refl
+      | inr e ↦ rw e refl
+    ]
+
+nodes-same : (space : SpaceState) (history : List Command) (words : MoveWords) (page : ℕ)
+    → StandsFor space history → nodes_in space words.task words.cpu page
+    ≡ nodes_of space.machine history words page
+nodes-same space history words page stands =
+    nodes-where (is_some (page_at space.ranges page)) space history words page stands refl
+    ∙ ap (λ (b : Bool). list_unless (place_refusal_in space.machine.nodes b words.cpu)
+    (node_list space.machine history words.task page words.cpu))
+    (mapped-same space history page stands)
+
+-- by the space with the policy, and by the commands
+pub asked-same : (space : SpaceState) (history : List Command) (kept : Kept) (said : Rebinding)
+    (words : MoveWords) (after : SpaceState) → HasPolicy space history said after
+    → asked_for after said words ≡ asked_of (record {
+      machine = space.machine;
+      bounds = space.bounds;
+      history = history;
+      kept = kept;
+    }) said words
+asked-same space history kept said words after has =
+    let nodes : (page : ℕ) → nodes_in after words.task words.cpu page
+    ≡ nodes_of space.machine (command_of said ∷ history) words page =
+    λ page. nodes-same after (command_of said ∷ history) words page has.stands
+    ∙ ap (λ (m : Hardware). nodes_of m (command_of said ∷ history) words page) has.machine in
+    λ i. record {
+      first = page_of said.start;
+      pages = page_count said.length;
+      list = said.spec.mask;
+      nodes = λ page. nodes page i;
+    }
+
+-- ---- where they go
+
+pub room-sent : (asked : Asked) (spots : ℕ → Spot) (rooms : Option Rooms) (after : Rooms)
+    (room : Option (ℕ → ℕ)) → HaveRoom rooms room
+    → AreRooms after (room_before asked spots (rooms_of room) (2 ^ 35))
+    → HaveRoom (if is_some rooms then Some after else None) (rooms_sent asked spots room)
+room-sent asked spots None after None have are = tt
+room-sent asked spots None after (Some room) have are = absurd have
+room-sent asked spots (Some rooms) after None have are = absurd have
+room-sent asked spots (Some rooms) after (Some room) have are = are
+
+module _ (beside : Beside) (lying : Lying) (lies : LiesAs beside lying) (asked : Asked)
+    (kept : Kept) (copy new : List (Run Spot)) (same : copy ≡ beside.placed) where
+  alike : spot_at copy ≡ lying.spots
+  alike = ap spot_at same ∙ (λ i page. lies.spots page i)
+
+  pub sent-so : (again : List (Run Spot)) (rooms : Rooms) (kept_rooms : Option Rooms)
+      (told : Bound) (held : ℕ) → kept_rooms ≡ (if is_some beside.rooms then Some rooms else None)
+      → IsBound asked (spot_at copy) (rooms_of lying.room) (spot_at new) rooms told
+      → too_many (spot_at new) ≡ false → again ≡ new
+      → held ≡ held_kept kept asked (goals_in asked lying)
+      → HasSent (record {
+        placed = new;
+        copy = again;
+        rooms = kept_rooms;
+        moved = told.moved;
+        left = told.left + held;
+      }) kept asked lying
+  sent-so again rooms kept_rooms told held these bound few twice counted =
+      let is : IsBound asked lying.spots (rooms_of lying.room) (spot_at new) rooms told =
+      subst (λ (s : ℕ → Spot). IsBound asked s (rooms_of lying.room) (spot_at new) rooms told)
+      alike bound in
+      let after : spot_at new ≡ sent_spots asked lying = λ i page. is.pages page i in
+      record {
+        spots = is.pages;
+        copy = twice;
+        room = subst (λ (r : Option Rooms). HaveRoom r (rooms_sent asked lying.spots lying.room))
+            (sym these)
+            (room-sent asked lying.spots beside.rooms rooms lying.room lies.room is.room);
+        moved = is.moved;
+        left = omega (arith, is.left, counted);
+        few = sym (ap too_many after) ∙ few;
+      }
+
+  pub sent-refused : (why : PlacedRefusal) (first : Option PlacedRefusal)
+      → IsRefusal first (bound_spots asked (spot_at copy) (rooms_of lying.room)) why
+      → is_no_memory why ≡ false
+      → cause_by false first (sent_spots asked lying) ≡ Some why
+  sent-refused why first is room =
+      ap (λ (b : Bool). cause_by b first (sent_spots asked lying)) (sym room)
+      ∙ cause-told first (sent_spots asked lying) why
+      (subst (λ (s : ℕ → Spot). IsRefusal first (bound_spots asked s (rooms_of lying.room)) why)
+      alike is)
+
+-- the pages that keep frames find the rooms of the other pages
+pub held-same : (beside : Beside) (lying : Lying) (kept : Kept) (asked : Asked) (held : ℕ)
+    → LiesAs beside lying
+    → held ≡ held_kept kept asked (goals_by asked (spot_at beside.placed) (rooms_of lying.room))
+    → held ≡ held_kept kept asked (goals_in asked lying)
+held-same beside lying kept asked held lies is =
+    let all : spot_at beside.placed ≡ lying.spots = λ i page. lies.spots page i in
+    is ∙ ap (λ (s : ℕ → Spot). held_kept kept asked (goals_by asked s (rooms_of lying.room))) all
+
+-- a span ends below the last page
+pub span-within : (start bytes : ℕ) → span_cause start bytes ≡ None
+    → page_of start + page_count bytes ≤ 2 ^ 35
+span-within start bytes free =
+    elim (cases_Bool (not (start % 4096 == 0))) [
+      | inl t ↦
+          let odd : true ≡ false = ap is_some (rw t at free) in absurd (both_ways true odd refl)
+      | inr e ↦ elim (cases_Bool (nat_lt (2 ^ 47) (start + page_count bytes * 4096))) [
+        | inl t ↦
+            let odd : true ≡ false = ap is_some (rw (e, t) at free) in
+            absurd (both_ways true odd refl)
+        | inr o ↦ omega (
+          arith,
+          ltb-false (2 ^ 47) (start + page_count bytes * 4096) o,
+          eqb-true (start % 4096) 0 (not-false (start % 4096 == 0) e),
+        )
+      ]
+    ]
+
+-- what stands against the runs, where nothing refuses the policy
+pub lack-so : (first : Option PlacedRefusal) (after : ℕ → Spot) (why : PlacedRefusal)
+    → first ≡ None → cause_by false first after ≡ Some why → lack_of false after ≡ Some why
+lack-so first after why none is =
+    sym (ap (λ (c : Option PlacedRefusal). first_of c (lack_of false after)) none) ∙ is
+
+module _ (space copy : SpaceState) (history : List Command) (said : Rebinding)
+    (same : copy ≡ space) where
+  pub has-policy : (after : SpaceState)
+      → (refusal_of copy.machine copy.bounds history (command_of said) ≡ None)
+      × StandsFor after (command_of said ∷ history)
+      → after.machine ≡ copy.machine → HasPolicy space history said after
+  has-policy after applied machine = record {
+    free = ap (λ (s : SpaceState). refusal_of s.machine s.bounds history (command_of said))
+        (sym same) ∙ applied.0;
+    stands = applied.1;
+    machine = machine ∙ ap (λ (s : SpaceState). s.machine) same;
+  }
+
+  pub refused-policy : (told : Refusal)
+      → MatchOption (refusal_of copy.machine copy.bounds history (command_of said))
+      (told ≡ refusal.NoMemory) (λ cause. told ≡ cause) → lacks_room told ≡ false
+      → is_some (refusal_of space.machine space.bounds history (command_of said)) ≡ true
+  refused-policy told is room =
+      ap (λ (s : SpaceState).
+      is_some (refusal_of s.machine s.bounds history (command_of said))) (sym same)
+      ∙ refused-some (refusal_of copy.machine copy.bounds history (command_of said)) told is room
+
+-- few pages are bound
+pub few-bound : (asked : Asked) (spots : ℕ → Spot) (given rooms : Rooms) (after : ℕ → Spot)
+    (told : Bound) → ((room : ℕ → ℕ) → AreRooms given room
+    → IsBound asked spots room after rooms told) → told.left ≤ 2 ^ 35
+few-bound asked spots given rooms after told is =
+    let bound = is (room_of given) (λ node small. refl) in
+    let goal = goals_by asked spots (room_of given) in
+    omega (
+      arith,
+      bound.left,
+      count-le (λ page. strays asked page (spots page) && is_kept (goal page) (spots page)) 0
+          (2 ^ 35),
+    )
+
+-- where pages go with a policy, by the space that has it
+module _ (space : SpaceState) (history : List Command) (kept : Kept) (said : Rebinding)
+    (words : MoveWords) (after : SpaceState) (has : HasPolicy space history said after)
+    (lying : Lying) where
+  abbrev here : Process
+  here = record {
+    machine = space.machine;
+    bounds = space.bounds;
+    history = history;
+    kept = kept;
+  }
+
+  same-asked : asked_for after said words ≡ asked_of here said words
+  same-asked = asked-same space history kept said words after has
+
+  pub sends-ok : (done : Sending) → HasSent done kept (asked_for after said words) lying
+      → Sends here said words lying (Ok (Some done))
+  sends-ok done is = (
+    has.free,
+    subst (λ (a : Asked). HasSent done kept a lying) same-asked is,
+  )
+
+  pub sends-err : (why : PlacedRefusal)
+      → (is_no_memory why ≡ false → cause_by false (span_cause said.start said.length)
+      (sent_spots (asked_for after said words) lying) ≡ Some why)
+      → Sends here said words lying (Err why)
+  sends-err why is = λ room. (
+    has.free,
+    lack-so (span_cause said.start said.length) (sent_spots (asked_of here said words) lying) why
+        (free-span space.machine space.bounds history said has.free)
+        (ap (λ (a : Asked). cause_by false (span_cause said.start said.length)
+        (sent_spots a lying)) (sym same-asked) ∙ is room),
+  )
+
+-- the pages lie so from then on
+pub settles : (beside : Beside) (done : Sending) (new : Beside) (lying : Lying) (kept : Kept)
+    (asked : Asked) → new ≡ record {
+      placed = done.placed;
+      rooms = done.rooms;
+      follows = beside.follows;
+      last = went.Pages (record {
+        moved = done.moved;
+        left = done.left;
+        before = beside.placed;
+        after = done.copy;
+      });
+    } → LiesAs beside lying → HasSent done kept asked lying
+    → LiesAs new (with_sent kept asked lying)
+settles beside done new lying kept asked is lies has =
+    let old : spot_at beside.placed ≡ lying.spots = λ i page. lies.spots page i in
+    let later : spot_at done.copy ≡ sent_spots asked lying =
+    ap spot_at has.copy ∙ (λ i page. has.spots page i) in
+    subst (λ (b : Beside). LiesAs b (with_sent kept asked lying)) (sym is) (record {
+      spots = has.spots;
+      room = has.room;
+      follows = lies.follows;
+      last = record {
+        moved = has.moved;
+        left = has.left;
+        flow = λ from to i. flow_between (old i) (later i) from to;
+      };
+    })
+
+pub settled-some : (before : Option Beside) (beside : Beside) (done : Sending) (new : Beside)
+    (lying : Lying) (kept : Kept) (asked : Asked) → before ≡ Some beside → new ≡ record {
+      placed = done.placed;
+      rooms = done.rooms;
+      follows = beside.follows;
+      last = went.Pages (record {
+        moved = done.moved;
+        left = done.left;
+        before = beside.placed;
+        after = done.copy;
+      });
+    } → Lies before lying → HasSent done kept asked lying
+    → LiesAs new (with_sent kept asked lying)
+settled-some before beside done new lying kept asked is settled lies has =
+    settles beside done new lying kept asked settled
+    (subst (λ (b : Option Beside). Lies b lying) is lies) has
+
+-- by a list that is that of the policy
+pub asked-list : (space : SpaceState) (said : Rebinding) (words : MoveWords) (list : ℕ)
+    → list ≡ said.spec.mask → asked_by space said.start said.length list words.task words.cpu
+    ≡ asked_for space said words
+asked-list space said words list same =
+    ap (λ (l : ℕ). asked_by space said.start said.length l words.task words.cpu) same
+
+pub found-policy : (space : SpaceState) (history : List Command) (said : Rebinding)
+    (found : Option SpaceState) (after : SpaceState) → found ≡ Some after
+    → MatchOption found
+    (is_some (refusal_of space.machine space.bounds history (command_of said)) ≡ true)
+    (λ it. HasPolicy space history said it) → HasPolicy space history said after
+found-policy space history said found after is has =
+    subst (λ (f : Option SpaceState). MatchOption f
+    (is_some (refusal_of space.machine space.bounds history (command_of said)) ≡ true)
+    (λ it. HasPolicy space history said it)) is has
