@@ -1,5 +1,6 @@
 -- Where each page lies, what each call makes of that, and how many runs there are.
-use Rattle.std.specs.Prelude.{ℕ, ◌-◌, ◌^◌, ◌&&◌, min, max, ◌==◌, Bool, true, false, Option, Some, None}
+use Rattle.std.specs.Prelude.{ℕ, ◌-◌, ◌^◌, ◌&&◌, min, max, ◌==◌, Bool, true, false}
+use Rattle.std.specs.Prelude.{Option, Some, None}
 use Rattle.std.specs.Prelude.{List, is_some, nat_lt, if◌then◌else◌}
 use Rattle.numa_maps.specs.Residents.{Kept, placed_at}
 use Rattle.numa_ranges.specs.Runs.{end_of, in_pages, page_at}

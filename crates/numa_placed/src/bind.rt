@@ -15,7 +15,7 @@ ghost use Rattle.numa_placed.specs.Wholes.{AreWhole, IsKept};
 use crate::astray::is_astray;
 use crate::bound::Bound;
 use crate::change::Change;
-use crate::edit::{change_span, put};
+use crate::edit::{change_span, let_go, put};
 use crate::refusal::PlacedRefusal;
 use crate::rooms::Rooms;
 use crate::spot::Spot;
@@ -53,13 +53,14 @@ fn first_with_room(nodes: &[u8], rooms: &Rooms) -> Option<u8>
     None
 }
 
-/// The first node of a page's list that has room.
-fn goal(space: &Space, page: u64, touch: FaultingTask, rooms: &Rooms) -> Option<u8>
+/// The first node of a page's list that has room: where a fault of the task on node `cpu` would put
+/// the page. `None` if none has, the page isn't mapped, or the machine has no node `cpu`.
+pub fn node_with_room(space: &Space, page: u64, task: u32, cpu: u32, rooms: &Rooms) -> Option<u8>
     ensures first { (room : ℕ → ℕ) → AreRooms rooms.now room
-        → result ≡ first_with_room room (nodes_in space.now touch.task touch.cpu page) }
+        → result ≡ first_with_room room (nodes_in space.now task cpu page) }
     ensures room { IfSome result (λ node. 0 < room_of rooms.now node) }
 {
-    let Ok(nodes) = space.list_at(touch.task, page, touch.cpu) else {
+    let Ok(nodes) = space.list_at(task, page, cpu) else {
         return None;
     };
     first_with_room(nodes.as_slice(), rooms)
@@ -121,7 +122,7 @@ fn send_page(
         ≤ walk.old.told.moved + walk.old.told.left + 1) }
     ensures limit { map.new.max_ranges ≡ map.old.max_ranges }
 {
-    let goal = goal(space, page, touch, &walk.rooms);
+    let goal = node_with_room(space, page, touch.task, touch.cpu, &walk.rooms);
     count_sent(&mut walk.told, spot, goal);
     let Some(node) = goal else {
         return Ok(());
@@ -269,6 +270,7 @@ pub(crate) fn bind_span(
         return Err(PlacedRefusal::NoMemory);
     };
     let Ok(walk) = bind_runs(&mut next, map, space, first, pages, list, touch, *rooms) else {
+        let_go(next);
         return Err(PlacedRefusal::NoMemory);
     };
     match put(map, next) {

@@ -86,7 +86,8 @@ fn next_source(targets: &[u8; 256], waits: &[u8; 256]) -> Option<u8>
 impl Course {
     /// Before the first node goes.
     fn begin(from: &NodeMask, rooms: &Rooms) -> Course
-        ensures { (room : ℕ → ℕ) → AreRooms rooms.now room → GoesAs result (going_from from.now room) }
+        ensures { (room : ℕ → ℕ) → AreRooms rooms.now room
+            → GoesAs result (going_from from.now room) }
     {
         let waits = waiting(from);
         Course {

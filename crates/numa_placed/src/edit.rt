@@ -9,6 +9,7 @@ use crate::refusal::PlacedRefusal;
 use crate::spot::Spot;
 use numa_machine::NoMemory;
 use numa_ranges::RangeMap;
+use std::mem::replace;
 
 /// The most runs of placed pages.
 pub(crate) const MOST_RUNS: usize = 1 << 20;
@@ -57,6 +58,11 @@ pub(crate) fn placed_runs(map: &RangeMap<Spot>) -> usize
     count
 }
 
+/// Drops a map, which takes many steps.
+pub(crate) fn let_go(map: RangeMap<Spot>) {
+    drop(map);
+}
+
 /// Puts another map in the place of this one, unless it has too many runs.
 pub(crate) fn put(map: &mut RangeMap<Spot>, next: RangeMap<Spot>) -> Result<(), PlacedRefusal>
     requires whole { AreWhole next.runs }
@@ -66,9 +72,10 @@ pub(crate) fn put(map: &mut RangeMap<Spot>, next: RangeMap<Spot>) -> Result<(), 
     ensures edit { IsEdit (spot_at next.runs) map.old result map.new }
 {
     if placed_runs(&next) > MOST_RUNS {
+        let_go(next);
         return Err(PlacedRefusal::TooManyRuns);
     }
-    *map = next;
+    let_go(replace(map, next));
     Ok(())
 }
 
@@ -89,6 +96,7 @@ fn edit_copy(
         return Err(PlacedRefusal::NoMemory);
     };
     let Ok(()) = change_span(&mut next, first, pages, change) else {
+        let_go(next);
         return Err(PlacedRefusal::NoMemory);
     };
     put(map, next)

@@ -1,6 +1,6 @@
 //! Moving the pages of each node as far as there is room.
-ghost use Rattle.std.specs.Prelude.{◌≡◌, ◌+◌, ◌-◌, ◌<◌, ◌≤◌, ◌^◌, ℕ, true, OnOk, OnErr, IfOk, IfErr};
-ghost use Rattle.std.specs.Prelude.{◌*◌, IfNone, IfSome, false, slice_index};
+ghost use Rattle.std.specs.Prelude.{◌≡◌, ◌+◌, ◌-◌, ◌<◌, ◌≤◌, ◌^◌, ℕ, true, OnOk, OnErr, IfOk};
+ghost use Rattle.std.specs.Prelude.{◌*◌, IfErr, IfNone, IfSome, false, slice_index};
 ghost use Rattle.numa_ranges.specs.Runs.{in_pages};
 ghost use Rattle.numa_placed.specs.Moves.{AreTargets, IsTally, moved_node, moved_spot};
 ghost use Rattle.numa_placed.specs.Refusals.{IsLack};
@@ -12,7 +12,7 @@ ghost use Rattle.numa_placed.specs.Wholes.{AreWhole, IsKept};
 ghost use Rattle.numa_placed.specs.declared.spot.Spot.TheVariants.{Stated};
 
 use crate::course::course_of;
-use crate::edit::put;
+use crate::edit::{let_go, put};
 use crate::moved::Moved;
 use crate::refusal::PlacedRefusal;
 use crate::rooms::Rooms;
@@ -300,6 +300,7 @@ pub(crate) fn fill(
     };
     let cut = cut_page(map, &counts, &course.gone);
     let Ok(()) = send_lowest(&mut next, cut, &targets, &counts, &course.gone) else {
+        let_go(next);
         return Err(PlacedRefusal::NoMemory);
     };
     match put(map, next) {

@@ -15,7 +15,7 @@ use numa_machine::Machine;
 use numa_space::Space;
 
 /// Whether the machine lacks a node, or the node has no memory.
-pub(crate) fn lacks_node(machine: &Machine, node: u32) -> bool
+pub fn lacks_node(machine: &Machine, node: u32) -> bool
     ensures lacks { result ≡ lacks_node machine.now node }
     ensures byte { result ≡ false → node < 256 }
 {
@@ -87,8 +87,8 @@ fn judge_spot(node: u32, spot: Spot) -> Result<(), MoveRefusal>
     }
 }
 
-/// Refuses to move a page that lies here to a node, as [`Placed::move_page`](crate::Placed::move_page)
-/// does where memory serves.
+/// Refuses to move a page that lies here to a node, as
+/// [`Placed::move_page`](crate::Placed::move_page) does where memory serves.
 ///
 /// # Errors
 /// The first of these that applies: `NoSuchNode`, `NodesNotAllowed`, `Unmapped`, `NotPlaced`,

@@ -22,15 +22,15 @@
 //! `follow` and `migrate` never make more, and take no memory.
 //!
 //! **Rooms.** A node never fills unless [`Rooms`] says how many more pages it takes. Moves by rooms
-//! (`follow_within`, `migrate_within`, `move_page_within`) go node by node, as Linux does: each time
-//! the lowest node whose target isn't still to go, else the highest. Within a node the lowest pages
+//! (`follow_within`, `migrate_within`, `move_page_within`) go node by node, as Linux does: each
+//! time the lowest node whose target isn't still to go, else the highest. Within a node the lowest pages
 //! go first, and a page that leaves gives its room back. A node that fills ends the move: the pages
 //! that found no room stay, and so do those of all nodes that were still to go.
 #![tactic(auto)]
 
 pub mod areas;
 mod astray;
-mod bind;
+pub mod bind;
 pub mod bound;
 mod change;
 mod course;
@@ -50,8 +50,9 @@ mod tally;
 mod targets;
 
 pub use areas::judged_pages;
+pub use bind::node_with_room;
 pub use bound::Bound;
-pub use judge::judge_move;
+pub use judge::{judge_move, lacks_node};
 pub use leaving::{Leaving, departures};
 pub use moved::Moved;
 pub use placed::Placed;

@@ -1,6 +1,6 @@
 //! Where pages lie.
-ghost use Rattle.std.specs.Prelude.{◌≡◌, ◌≤◌, ◌<◌, ◌+◌, ◌^◌, ℕ, OnOk, OnErr, IfOk, IfErr, Some, None, false};
-ghost use Rattle.std.specs.Prelude.{is_some, slice_index, MatchResult};
+ghost use Rattle.std.specs.Prelude.{◌≡◌, ◌≤◌, ◌<◌, ◌+◌, ◌^◌, ℕ, OnOk, OnErr, IfOk, IfErr};
+ghost use Rattle.std.specs.Prelude.{Some, None, false, is_some, slice_index, MatchResult};
 ghost use Rattle.numa_mask.specs.NodeSet.{both};
 ghost use Rattle.numa_ranges.specs.Runs.{AreApart, AreMaximal, page_at};
 ghost use Rattle.numa_space.specs.History.{page_of, page_count};

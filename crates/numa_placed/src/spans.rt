@@ -10,7 +10,7 @@ ghost use Rattle.numa_placed.specs.Spots.{stated_beside, stated_spot, stated_spo
 ghost use Rattle.numa_placed.specs.Wholes.{AreWhole, IsEdit, IsKept};
 
 use crate::change::Change;
-use crate::edit::{change_span, edit, put};
+use crate::edit::{change_span, edit, let_go, put};
 use crate::refusal::PlacedRefusal;
 use crate::spot::Spot;
 use numa_machine::NoMemory;
@@ -178,9 +178,11 @@ pub(crate) fn state_others(
         return Err(PlacedRefusal::NoMemory);
     };
     let Ok(()) = state_ranges(&mut next, space, first, pages, node) else {
+        let_go(next);
         return Err(PlacedRefusal::NoMemory);
     };
     let Ok(()) = pass_over(&mut next, resident, first, pages) else {
+        let_go(next);
         return Err(PlacedRefusal::NoMemory);
     };
     put(map, next)
@@ -208,6 +210,7 @@ pub(crate) fn state_span(
         return Err(PlacedRefusal::NoMemory);
     };
     let Ok(()) = state_ranges(&mut next, space, first, pages, node) else {
+        let_go(next);
         return Err(PlacedRefusal::NoMemory);
     };
     put(map, next)
