@@ -15,10 +15,10 @@ use crate::binding::{Rebound, judge_strict, late_errno, move_astray, refused_str
 use crate::refusal::ChangeRefusal;
 use crate::trial::{TrialError, let_go, tried};
 use numa_core::Core;
-use numa_machine::{Machine, NoMemory};
+use numa_machine::NoMemory;
 use numa_mask::NodeMask;
 use numa_mode::PolicySpec;
-use numa_placed::{MoveRefusal, Moved, Placed, PlacedRefusal, Rooms};
+use numa_placed::{MoveRefusal, Moved, Placed, PlacedRefusal, Rooms, lacks_node};
 use numa_space::Command;
 use std::alloc::Global;
 use std::marker::Model;
@@ -38,14 +38,6 @@ impl Model for Pages {
     ghost Value = { PagesState };
 
     ghost view = { λ a. record { core = a.core; runs = a.placed; rooms = a.rooms.value } };
-}
-
-/// Whether the machine lacks a node, or the node has no memory.
-fn lacks_node(machine: &Machine, node: u32) -> bool
-    ensures lacks { result ≡ lacks_node machine.now node }
-    ensures byte { result ≡ false → node < 256 }
-{
-    node >= machine.nodes() || !machine.memory().has(node as u8)
 }
 
 /// Moves pages from the allowed nodes of one core to those of another, as far as there is room.
@@ -68,6 +60,40 @@ fn move_along(
     placed.follow_within(&old, &new, rooms)
 }
 
+/// Pages that all lie nowhere, and nodes that never fill.
+///
+/// # Errors
+/// `NoMemory`: out of memory.
+fn begun(alloc: Global) -> Result<(Placed, Box<Rooms>), NoMemory>
+    ensures placed { IfOk result (λ begun. (page : ℕ) → spot_at begun.0 page ≡ Nowhere) }
+    ensures rooms { IfOk result (λ begun. AreRooms begun.1.value (λ node. endless)) }
+{
+    let placed = Placed::new(alloc)?;
+    let Ok(rooms) = Box::new(alloc, Rooms::endless()) else {
+        return Err(NoMemory);
+    };
+    Ok((placed, rooms))
+}
+
+/// A copy of where pages lie, and of how many more each node takes.
+///
+/// # Errors
+/// `NoMemory`: out of memory.
+fn copied(
+    alloc: Global,
+    placed: &Placed,
+    rooms: &Box<Rooms>,
+) -> Result<(Placed, Box<Rooms>), NoMemory>
+    ensures placed { IfOk result (λ copy. copy.0 ≡ placed.now) }
+    ensures rooms { IfOk result (λ copy. copy.1.value ≡ rooms.now.value) }
+{
+    let placed = placed.copy()?;
+    let Ok(rooms) = Box::new(alloc, **rooms) else {
+        return Err(NoMemory);
+    };
+    Ok((placed, rooms))
+}
+
 impl Pages {
     /// A core of whose pages nothing is stated yet, and nodes that never fill.
     ///
@@ -78,15 +104,17 @@ impl Pages {
         ensures placed { IfOk result (λ pages. (page : ℕ) → spot_at pages.runs page ≡ Nowhere) }
         ensures rooms { IfOk result (λ pages. AreRooms pages.rooms (λ node. endless)) }
     {
-        let placed = Placed::new(alloc)?;
-        let Ok(rooms) = Box::new(alloc, Rooms::endless()) else {
-            return Err(NoMemory);
-        };
-        Ok(Pages {
-            core,
-            placed,
-            rooms,
-        })
+        match begun(alloc) {
+            Ok((placed, rooms)) => Ok(Pages {
+                core,
+                placed,
+                rooms,
+            }),
+            Err(lack) => {
+                let_go(core);
+                Err(lack)
+            }
+        }
     }
 
     /// Returns a copy. Later changes of one of the two don't affect the other.
@@ -96,16 +124,15 @@ impl Pages {
     pub fn copy(&self, alloc: Global) -> Result<Pages, NoMemory>
         ensures { IfOk result (λ copy. copy ≡ self.now) }
     {
-        let core = self.core.copy()?;
-        let placed = self.placed.copy()?;
-        let Ok(rooms) = Box::new(alloc, *self.rooms) else {
-            return Err(NoMemory);
-        };
-        Ok(Pages {
-            core,
-            placed,
-            rooms,
-        })
+        let (placed, rooms) = copied(alloc, &self.placed, &self.rooms)?;
+        match self.core.copy() {
+            Ok(core) => Ok(Pages {
+                core,
+                placed,
+                rooms,
+            }),
+            Err(lack) => Err(lack),
+        }
     }
 
     /// The core.
