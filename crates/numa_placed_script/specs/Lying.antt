@@ -1,4 +1,4 @@
--- Where pages lie that are there, beside a script of one process, and what is told of the last move.
+-- Where pages lie that are there, beside a script of one process, and what the last move told.
 use Rattle.std.specs.Prelude.{ℕ, ◌+◌, ◌==◌, Bool, false, List, Option, Some, None, is_some}
 use Rattle.std.specs.Prelude.{count_by, not}
 use Rattle.numa_machine.specs.Machine.{Hardware}

@@ -227,7 +227,7 @@ abbrev pub forgotten : ℕ → ℕ → (ℕ → Spot) → ℕ → Spot
 forgotten start bytes spots =
     changed_spots (page_of start) (page_count bytes) forgotten_spot spots
 
--- whether pages of a span were stated to lie somewhere: then they lie astray of a list without nodes
+-- whether pages of a span were stated to lie somewhere: then they lie astray of an empty list
 abbrev pub is_astray_cause : Option PlacedRefusal → Bool
 is_astray_cause (Some cause.Astray) = true
 is_astray_cause _ = false

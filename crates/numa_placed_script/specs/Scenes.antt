@@ -1,6 +1,6 @@
--- What each line is answered, and the state after it. Until a line about pages is accepted all is as
--- in a script without such lines. `refused` says whether a growth was refused while the line was
--- served.
+-- What each line is answered, and the state after it. Until a line about pages is accepted all is
+-- as in a script without such lines. `refused` says whether a growth was refused while the line
+-- was served.
 use Rattle.std.specs.Prelude.{ℕ, suc, ◌==◌, Bool, true, false, Option, Some, None, List, length}
 use Rattle.std.specs.Prelude.{codes, if◌then◌else◌, is_some, ◌&&◌, Ok}
 use Rattle.numa_machine.specs.declared.rules.Rules.{Rules}
@@ -23,9 +23,11 @@ use Rattle.numa_placed_script.specs.Listings.{there_listing}
 use Rattle.numa_placed_script.specs.Lying.{Ground, Lying, Process, nothing}
 use Rattle.numa_placed_script.specs.Outcomes.{Outcome, followed, forgotten, has_stated, lack_of}
 use Rattle.numa_placed_script.specs.Outcomes.{placed_by}
-use Rattle.numa_placed_script.specs.Processes.{allowed_in, alone_in, kept_in, process_of, version_in}
+use Rattle.numa_placed_script.specs.Processes.{allowed_in, alone_in, kept_in, process_of}
+use Rattle.numa_placed_script.specs.Processes.{version_in}
 use Rattle.numa_placed_script.specs.Lines.{moving_of, strict_of}
-use Rattle.numa_placed_script.specs.Sending.{asked_of, command_of, rebinding_of, sent_in, sent_spots}
+use Rattle.numa_placed_script.specs.Sending.{asked_of, command_of, rebinding_of, sent_in}
+use Rattle.numa_placed_script.specs.Sending.{sent_spots}
 use Rattle.numa_placed_script.specs.Sending.{tells_left, with_sent}
 use Rattle.numa_placed_script.specs.Strict.{binding_of, cause_against, has_astray, is_late}
 use Rattle.numa_placed_script.specs.Texts.{cause_name, refusal_line, sent_line}
@@ -152,8 +154,8 @@ plain_served refused scene bytes = concerned (concern_of (line_of bytes)) refuse
 
 -- ---- mbind .. strict
 
--- where pages lie astray: the first cause against the command is answered, where it is judged before
--- pages; else that they do
+-- where pages lie astray: the first cause against the command is answered, where it is judged
+-- before pages; else that they do
 abbrev pub astray_served : Bool → Process → Scene → List ℕ → Line → Served
 astray_served true process scene command said =
     record { text = refusal_line (cause_name cause.NoMemory); scene = scene }

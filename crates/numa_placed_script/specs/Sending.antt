@@ -1,7 +1,7 @@
 -- `mbind .. move`: once a policy is set for a span, its pages go that lie on other nodes than those
 -- of its list, each to its own nodes (mbind(2), MPOL_MF_MOVE).
-use Rattle.std.specs.Prelude.{ℕ, ◌+◌, ◌^◌, ◌==◌, ◌&&◌, Bool, true, false, not, Option, Some, None, List}
-use Rattle.std.specs.Prelude.{◌∷◌, if◌then◌else◌, count_by, Ok}
+use Rattle.std.specs.Prelude.{ℕ, ◌+◌, ◌^◌, ◌==◌, ◌&&◌, Bool, true, false, not, Option}
+use Rattle.std.specs.Prelude.{Some, None, List, ◌∷◌, if◌then◌else◌, count_by, Ok}
 use Rattle.numa_machine.specs.Machine.{Hardware}
 use Rattle.numa_machine.specs.Rules.{is_linux}
 use Rattle.numa_machine.specs.declared.rules.Rules.{Rules}

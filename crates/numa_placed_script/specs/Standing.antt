@@ -26,7 +26,8 @@ use Rattle.numa_placed_script.specs.Outcomes.{Outcome, forgotten, has_stated, is
 use Rattle.numa_placed_script.specs.Outcomes.{is_no_memory, lack_in, lack_of}
 use Rattle.numa_placed_script.specs.Outcomes.{move_cause_by, move_spots, room_moved_in}
 use Rattle.numa_placed_script.specs.Scenes.{Scene, Served}
-use Rattle.numa_placed_script.specs.Sending.{asked_of, command_of, flow_between, rooms_sent, sent_in}
+use Rattle.numa_placed_script.specs.Sending.{asked_of, command_of, flow_between, rooms_sent}
+use Rattle.numa_placed_script.specs.Sending.{sent_in}
 use Rattle.numa_placed_script.specs.Sending.{sent_spots}
 use Rattle.numa_placed_script.specs.Texts.{cause_name, refusal_line}
 use Rattle.numa_placed_script.specs.declared.beside.Beside.{Beside}

@@ -1,5 +1,5 @@
--- `mbind .. strict`: a policy is refused for a span where pages lie on other nodes than those of its
--- list (mbind(2), MPOL_MF_STRICT).
+-- `mbind .. strict`: a policy is refused for a span where pages lie on other nodes than those of
+-- its list (mbind(2), MPOL_MF_STRICT).
 use Rattle.std.specs.Prelude.{ℕ, ◌&&◌, ◌||◌, Bool, true, false, not, Option, Some, None}
 use Rattle.std.specs.Prelude.{if◌then◌else◌, Ok}
 use Rattle.std.specs.List.{list_any}

@@ -3,7 +3,7 @@ ghost use Rattle.std.specs.Prelude.{◌≡◌, ◌==◌, ◌<◌, ℕ, Bool, IfO
 ghost use Rattle.std.specs.Prelude.{if◌then◌else◌, is_some, [], MatchOption};
 ghost use Rattle.numa_mask.specs.NodeSet.{both};
 ghost use Rattle.numa_maps.specs.Residents.{Kept};
-ghost use Rattle.numa_placed.specs.Refusals.{lacks_node, migrate_cause, move_cause};
+ghost use Rattle.numa_placed.specs.Refusals.{migrate_cause, move_cause};
 ghost use Rattle.numa_ranges.specs.Runs.{page_at};
 ghost use Rattle.numa_placed.specs.Shifts.{AreRooms};
 ghost use Rattle.numa_placed_script.specs.Lying.{Lying, ground_in, nothing, still};
@@ -25,7 +25,7 @@ use numa_lines::Watched;
 use numa_machine::NoMemory;
 use numa_maps::Resident;
 use numa_mask::NodeMask;
-use numa_placed::{MoveRefusal, Moved, Placed, PlacedRefusal, Rooms, Spot, judge_move};
+use numa_placed::{MoveRefusal, Moved, Placed, PlacedRefusal, Rooms, Spot, judge_move, lacks_node};
 use numa_script::tell::say_reply;
 use numa_script::{Reply, WordError};
 use numa_space::{PAGE_BYTES, Space};
@@ -66,15 +66,6 @@ fn is_lack(refusal: MoveRefusal) -> bool
     ensures { result ≡ is_lack refusal }
 {
     matches!(refusal, MoveRefusal::NoMemory)
-}
-
-/// Whether the machine lacks a node, or the node has no memory.
-fn lacks_node(space: &Space, node: u32) -> bool
-    ensures lacks { result ≡ lacks_node space.now.machine node }
-    ensures byte { result ≡ false → node < 256 }
-{
-    let machine = space.machine();
-    node >= machine.nodes() || !machine.memory().has(node as u8)
 }
 
 /// What is told of a page that went from a node to another.
@@ -247,7 +238,7 @@ impl Beside {
         ensures { AnswersAs W.contents self.old output.old result self.new output.new
             (λ refused at. room_outcome space.now.machine node pages at) }
     {
-        if lacks_node(space, node) {
+        if lacks_node(space.machine(), node) {
             say_refusal(output, PlacedRefusal::NoSuchNode);
             return false;
         }

@@ -7,7 +7,7 @@ use numa_script::{Line, Work};
 use numa_space::Command;
 
 /// What a line of every script has to do with pages that are there.
-#[derive(Clone, Copy, PartialEq, Eq, Drop)]
+#[derive(Clone, Copy, Drop)]
 pub(crate) enum Concern {
     /// Pages may follow the allowed nodes, which it changes.
     Mems,

@@ -81,6 +81,11 @@ fn lacks_room(refusal: Refusal) -> bool
     matches!(refusal, Refusal::NoMemory)
 }
 
+/// Drops a space, which takes many steps.
+fn let_go(space: Space) {
+    drop(space);
+}
+
 /// The space once a policy is set; none if something refuses that.
 ///
 /// # Errors
@@ -103,6 +108,7 @@ fn with_policy(alloc: Global, space: &Space, said: &Rebinding) -> Result<Option<
     match after.apply(&command) {
         Ok(_) => Ok(Some(after)),
         Err(refusal) => {
+            let_go(after);
             if lacks_room(refusal) {
                 return Err(NoMemory);
             }
@@ -208,7 +214,9 @@ pub(crate) fn sent(
     let Some(after) = found else {
         return Ok(None);
     };
-    match sent_in(&after, resident, beside, said, words) {
+    let outcome = sent_in(&after, resident, beside, said, words);
+    let_go(after);
+    match outcome {
         Ok(sent) => Ok(Some(sent)),
         Err(refusal) => Err(refusal),
     }

@@ -3,7 +3,7 @@
 ghost use Rattle.std.specs.Prelude.{◌≡◌, ◌+◌, ◌<◌, ◌≤◌, ◌^◌, ◌==◌, ◌&&◌, ℕ, OnOk, IfOk};
 ghost use Rattle.std.specs.Prelude.{if◌then◌else◌, nat_lt, not};
 ghost use Rattle.numa_mask.specs.NodeSet.{has};
-ghost use Rattle.numa_placed.specs.Binds.{first_with_room, goals, is_kept, nodes_in, room_before};
+ghost use Rattle.numa_placed.specs.Binds.{goals, is_kept, room_before};
 ghost use Rattle.numa_placed.specs.Shifts.{AreRooms};
 ghost use Rattle.numa_placed.specs.Spots.{pages_if, spot_at};
 ghost use Rattle.numa_placed.specs.declared.spot.Spot.TheVariants.{Held};
@@ -17,7 +17,7 @@ use crate::line::MoveWords;
 use crate::sending::Rebinding;
 use numa_machine::NoMemory;
 use numa_maps::Resident;
-use numa_placed::{Placed, Rooms};
+use numa_placed::{Placed, Rooms, node_with_room};
 use numa_space::{PAGE_BYTES, Space};
 
 /// How many more pages each node takes, once the pages below one went.
@@ -25,40 +25,6 @@ use numa_space::{PAGE_BYTES, Space};
 pub(crate) struct Front {
     pub(crate) page: u64,
     pub(crate) rooms: Rooms,
-}
-
-/// Whether a node takes no more pages.
-fn is_full(rooms: &Rooms, node: u8) -> bool
-    ensures { (room : ℕ → ℕ) → AreRooms rooms.now room → result ≡ (room node == 0) }
-{
-    match rooms.at(node) {
-        Some(pages) => pages == 0,
-        None => false,
-    }
-}
-
-/// The first node of a list that has room.
-fn first_with_room(nodes: &[u8], rooms: &Rooms) -> Option<u8>
-    ensures { (room : ℕ → ℕ) → AreRooms rooms.now room
-        → result ≡ first_with_room room nodes.now }
-{
-    for node in nodes {
-        if !is_full(rooms, *node) {
-            return Some(*node);
-        }
-    }
-    None
-}
-
-/// The first of a page's own nodes that has room.
-fn goal(space: &Space, page: u64, words: MoveWords, rooms: &Rooms) -> Option<u8>
-    ensures { (room : ℕ → ℕ) → AreRooms rooms.now room → result
-        ≡ first_with_room room (nodes_in space.now words.task words.cpu page) }
-{
-    let Ok(nodes) = space.list_at(words.task, page, words.cpu) else {
-        return None;
-    };
-    first_with_room(nodes.as_slice(), rooms)
 }
 
 /// Whether a page that keeps a frame of a node finds no room, or has another node to go to.
@@ -179,7 +145,7 @@ fn one_kept(
     let Ok(rooms) = reach(from, placed, space, said, words, page) else {
         return Err(NoMemory);
     };
-    let goal = goal(space, page, words, &rooms);
+    let goal = node_with_room(space, page, words.task, words.cpu, &rooms);
     *front = Front { page, rooms };
     Ok(one_if(is_kept(goal, node)))
 }

@@ -7,7 +7,7 @@ ghost use Rattle.numa_placed_script.specs.Sending.{flow_between};
 ghost use Rattle.numa_placed_script.specs.Standing.{LastAs, sent_by, told_in};
 ghost use Rattle.numa_placed_script.specs.Texts.{all_flows_text, arrow_text, cause_name, flow_text};
 ghost use Rattle.numa_placed_script.specs.Texts.{flows_from_text, flows_text, sent_line};
-ghost use Rattle.numa_placed_script.specs.Texts.{last_line};
+ghost use Rattle.numa_placed_script.specs.Texts.{last_line, late_words};
 ghost use Rattle.numa_placed_script.specs.Texts.{move_name, moved_line, moved_words, node_line};
 ghost use Rattle.numa_placed_script.specs.Texts.{refusal_line};
 ghost use Rattle.numa_script.specs.Texts.{refused_text};
@@ -182,6 +182,15 @@ pub(crate) fn say_last<W: Write>(output: &mut Watched<W>, version: u64, last: &L
     }
 }
 
+/// Writes that pages stayed that had to go, if that is told.
+fn say_late<W: Write>(output: &mut Watched<W>, late: bool)
+    ensures { Said W.contents output.old output.new (late_words late) }
+{
+    if late {
+        output.say(b" EIO");
+    }
+}
+
 /// Writes that a policy was set and pages went: `ok 4 moved 5 left 1`.
 pub(crate) fn say_sent<W: Write>(
     output: &mut Watched<W>,
@@ -197,9 +206,7 @@ pub(crate) fn say_sent<W: Write>(
     output.say_number(version);
     output.say(b" ");
     say_words(output, moved, left);
-    if late {
-        output.say(b" EIO");
-    }
+    say_late(output, late);
     output.say(b"\n");
 }
 

@@ -1,15 +1,15 @@
 use Rattle.numa_placed_script.proofs.Asking.{found-policy, sends-err, sends-ok}
 use Rattle.numa_placed_script.proofs.sending.sent.Goals as goal
 
-pub returns-in-Ok-sent_in : goal.returns-in-Ok-sent_in
-returns-in-Ok-sent_in c = λ history lying stands lies.
+pub returns-in-Ok-outcome : goal.returns-in-Ok-outcome
+returns-in-Ok-outcome c = λ history lying stands lies.
     let has = found-policy c.args.space.now history c.args.said.now c.in-Ok.found c.in-Some.after
     c.in-Some.is (c.in-Ok.ensures history stands) in
     sends-ok c.args.space.now history c.args.resident.now c.args.said.now c.args.words
-    c.in-Some.after has lying c.in-Ok-sent_in.sent (c.in-Ok-sent_in.ensures.ok lying lies)
+    c.in-Some.after has lying c.in-Ok-outcome.sent (c.in-Ok-outcome.ensures.ok lying lies)
 
-pub returns : goal.returns
-returns c = λ history lying stands lies.
+pub returns-in-Err : goal.returns-in-Err
+returns-in-Err c = λ history lying stands lies.
     let has = found-policy c.args.space.now history c.args.said.now c.in-Ok.found c.in-Some.after
     c.in-Some.is (c.in-Ok.ensures history stands) in
     sends-err c.args.space.now history c.args.resident.now c.args.said.now c.args.words

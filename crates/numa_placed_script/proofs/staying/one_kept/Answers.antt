@@ -35,6 +35,6 @@ returns-clause-one c = λ room are is.
     let kept : c.is_kept.result ≡ is_kept (goals asked (spot_at c.args.placed.now) room c.args.page)
     (Held c.args.node) =
     c.is_kept.ensures ∙ ap (λ (o : Option ℕ). is_kept o (Held c.args.node))
-    (c.goal-goal.ensures (room_before asked (spot_at c.args.placed.now) room c.args.page)
+    (c.node_with_room-goal.ensures.first (room_before asked (spot_at c.args.placed.now) room c.args.page)
     (c.in-Ok.ensures room from.rooms)) in
     one-so c.one_if.result c.is_kept.result _ _ strayed kept c.one_if.ensures.one

@@ -1,4 +1,6 @@
-use Rattle.std.proofs.Common.{refl, sym, Some, ◌∙◌}
+use Rattle.std.proofs.Common.{ap, refl, sym, Some, ◌∙◌}
+use Rattle.numa_machine.specs.Machine.{Hardware}
+use Rattle.numa_placed.specs.Refusals.{lacks_node}
 use Rattle.numa_placed_script.proofs.Served.{room-denied, room-done}
 use Rattle.numa_placed_script.proofs.beside.Beside.room.Goals as goal
 
@@ -6,7 +8,8 @@ pub returns-then-lacks_node : goal.returns-then-lacks_node
 returns-then-lacks_node g c = λ lying lies.
     room-denied g.W.Write.contents c.args.self.now c.args.self.now c.args.output.now
     c.say_refusal.new.output lying lies c.args.space.now.machine c.args.node c.args.pages
-    (sym c.lacks_node.ensures.lacks ∙ c.if-lacks_node.true) refl c.say_refusal.ensures
+    (ap (λ (machine : Hardware). lacks_node machine c.args.node) (sym c.machine.ensures)
+    ∙ sym c.lacks_node.ensures.lacks ∙ c.if-lacks_node.true) refl c.say_refusal.ensures
 
 pub returns : goal.returns
 returns g c = λ lying lies.
@@ -17,5 +20,6 @@ returns g c = λ lying lies.
       last = c.args.self.now.last;
     })
     c.args.output.now c.say.new.self lying lies c.args.space.now.machine c.args.node
-    c.args.pages c.limited.result (sym c.lacks_node.ensures.lacks ∙ c.if-lacks_node.false)
-    c.limited.ensures refl refl refl refl c.say.ensures
+    c.args.pages c.limited.result
+    (ap (λ (machine : Hardware). lacks_node machine c.args.node) (sym c.machine.ensures)
+    ∙ sym c.lacks_node.ensures.lacks ∙ c.if-lacks_node.false) c.limited.ensures refl refl refl refl c.say.ensures
