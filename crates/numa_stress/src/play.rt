@@ -16,7 +16,7 @@ use crate::report::{StormReport, say_report};
 use crate::setting::{FIRST_COMMANDS, POLICIES, command, limits, machine, requests};
 use numa_fault::{Answer, FaultWorker};
 use numa_lines::{RunFault, Watched};
-use numa_pool::{Closed, Pools};
+use numa_pool::{Closed, PoolSeat, Pools};
 use numa_publish::{Desk, DeskName, Receipt, SharedDesk};
 use numa_space::Request;
 use std::alloc::Global;
@@ -50,6 +50,50 @@ fn taken(closed: &Closed) -> u64 {
         .fold(0u64, |sum, frames| sum.wrapping_add(u64::from(*frames)))
 }
 
+/// Pools of the machine's frames, and the first seat at them. `None` if a call is refused.
+fn opened(alloc: Global) -> Option<(Pools, PoolSeat)>
+    ensures { IfSome result (λ opened. opened.1.table ≡ opened.0.table) }
+{
+    let machine = machine(alloc)?;
+    let opened = Pools::open(alloc, &machine).ok();
+    drop(machine);
+    opened
+}
+
+/// Publishes eight policies in a separate thread while a crew serves the requests. Returns the
+/// answers, and the seats of the crew, joined.
+fn served<K: DeskName + Send + Sync, R: Threads + Wait + Sync>(
+    rt: &R,
+    alloc: Global,
+    desk: &SharedDesk<K>,
+    receipt: &Receipt,
+    pools: &Pools,
+    seat: PoolSeat,
+    count: u32,
+    requests: &[Request],
+    gate: &Together,
+) -> Option<(Vec<Answer>, PoolSeat)>
+    requires desk { receipt.now.desk ≡ K.desk }
+    requires seat { seat.table ≡ pools.now.table }
+    ensures { IfSome result (λ served. served.1.table ≡ pools.now.table) }
+{
+    let crew = workers(rt, alloc, desk, receipt, pools, seat, count)?;
+    let (all_published, (crew, answers)) = join(
+        rt,
+        move || change_policies(rt, desk, gate),
+        move || -> (Vec<FaultWorker>, Option<Vec<Answer>>)
+            requires { All (λ (w : FaultWorker). w.seat.table ≡ pools.now.table) crew.items }
+            ensures { All (λ (w : FaultWorker). w.seat.table ≡ pools.entry.now.table)
+                result.0.items }
+        { serve(rt, alloc, crew, pools, requests, gate) },
+    );
+    let seat = joined(pools, crew);
+    if !all_published {
+        return None;
+    }
+    Some((answers?, seat?))
+}
+
 /// Publishes the map and the first policy, and then eight policies in a separate thread while the
 /// crew serves the requests. Returns the answers, and how the pools were closed.
 fn play<K: DeskName + Send + Sync, R: Threads + Wait + Sync>(
@@ -62,24 +106,16 @@ fn play<K: DeskName + Send + Sync, R: Threads + Wait + Sync>(
 ) -> Option<(Vec<Answer>, Closed)> {
     submit(rt, desk, 0)?;
     let receipt = submit(rt, desk, 1)?;
-    let (pools, seat) = Pools::open(alloc, &machine(alloc)?).ok()?;
-    let crew = workers(rt, alloc, desk, &receipt, &pools, seat, count)?;
-    let lent = &pools;
-    let (all_published, (crew, answers)) = join(
-        rt,
-        move || change_policies(rt, desk, gate),
-        move || -> (Vec<FaultWorker>, Option<Vec<Answer>>)
-            requires { All (λ (w : FaultWorker). w.seat.table ≡ lent.now.table) crew.items }
-            ensures { All (λ (w : FaultWorker). w.seat.table ≡ lent.entry.now.table)
-                result.0.items }
-        { serve(rt, alloc, crew, lent, requests, gate) },
-    );
-    if !all_published {
-        return None;
+    let (pools, seat) = opened(alloc)?;
+    match served(
+        rt, alloc, desk, &receipt, &pools, seat, count, requests, gate,
+    ) {
+        Some((answers, seat)) => Some((answers, pools.close(seat))),
+        None => {
+            drop(pools);
+            None
+        }
     }
-    let answers = answers?;
-    let seat = joined(&pools, crew)?;
-    Some((answers, pools.close(seat)))
 }
 
 /// A storm on this desk. `None` if a call is refused.
