@@ -10,7 +10,7 @@ use Rattle.numa_script.specs.Numbers.{in_64_bits, number_of, numeral_of}
 use Rattle.numa_command_line.specs.Grammar.{AreChoices, Choices, diff_formats, plain_formats}
 use Rattle.numa_command_line.specs.Grammar.{moves_formats, predict_formats, program, replay_formats}
 use Rattle.numa_command_line.specs.Grammar.{rules_names, test_formats}
-use Rattle.numa_command_line.specs.Jobs.{check, expect, run, scripts, storm}
+use Rattle.numa_command_line.specs.Jobs.{check, run, scripts, storm}
 use Rattle.numa_command_line.specs.Usage.{Names}
 
 -- names that lie nowhere

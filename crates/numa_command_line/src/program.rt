@@ -49,14 +49,14 @@ pub fn program<'a>(alloc: Global) -> Result<Command<'a>, AllocError>
     ensures { IfOk result (λ command. IsProgram (app_of command)) }
 {
     let rules = rules::argument();
-    let program = with_word(alloc, bare(alloc), run::word(), rules)?;
-    let program = with_word(alloc, program, check::word(), rules)?;
-    let program = with_word(alloc, program, expect::word(), rules)?;
-    let program = with_word(alloc, program, predict::word(), rules)?;
-    let program = with_word(alloc, program, diff::word(), rules)?;
-    let program = with_word(alloc, program, moves::word(), rules)?;
-    let program = with_word(alloc, program, explain::word(), rules)?;
-    let program = with_word(alloc, program, replay::word(), rules)?;
-    let program = with_word(alloc, program, shell::word(), rules)?;
+    let program = with_word(alloc, Ok(bare(alloc)), run::word(), rules);
+    let program = with_word(alloc, program, check::word(), rules);
+    let program = with_word(alloc, program, expect::word(), rules);
+    let program = with_word(alloc, program, predict::word(), rules);
+    let program = with_word(alloc, program, diff::word(), rules);
+    let program = with_word(alloc, program, moves::word(), rules);
+    let program = with_word(alloc, program, explain::word(), rules);
+    let program = with_word(alloc, program, replay::word(), rules);
+    let program = with_word(alloc, program, shell::word(), rules);
     with_word(alloc, program, storm::word(), rules)
 }

@@ -1,10 +1,9 @@
 //! The subcommands: their names, arguments, and help.
 ghost use Rattle.std.specs.Prelude.{◌≡◌, [], IfOk, false, map, take};
-ghost use Rattle.clap.specs.declared.builder.action.ArgAction.TheVariants.{Set};
-ghost use Rattle.clap.specs.declared.builder.texts.Texts.TheVariants.{One};
-ghost use Rattle.clap.specs.Words.{app_of, new_app, rule_of, with_rule};
+ghost use Rattle.clap.specs.Words.{App, app_of, new_app, new_rule, rule_of, with_rule};
 ghost use Rattle.clap.specs.Words.{with_subcommand};
-ghost use Rattle.numa_command_line.specs.Usage.{IsLocal, app_said, own_app, rule_said, shape_said};
+ghost use Rattle.numa_command_line.specs.Usage.{IsLocal, app_said, choice, needed, number, option};
+ghost use Rattle.numa_command_line.specs.Usage.{own_app, rule_said, shape_said};
 
 use clap::{Arg, ArgAction, Command, value_parser};
 use std::alloc::{AllocError, Global};
@@ -60,18 +59,47 @@ pub const FILES: Argument = Argument {
     takes: Takes::Files,
 };
 
-/// An option with a value.
-fn option<'a>(argument: Arg<'a>, said: &'a Argument) -> Arg<'a>
-    ensures { result ≡ record argument.entry {
-      long = Some said.entry.now.name;
-      val_names = One said.entry.now.value;
-      action = Some Set;
-    } }
+/// An argument, before it is said what it takes.
+fn begun<'a>(alloc: Global, said: &'a Argument) -> Arg<'a>
+    ensures rule { rule_of result
+        ≡ needed said.entry.now.is_required (new_rule said.entry.now.name.now) }
+    ensures local { result.global ≡ false }
 {
-    argument
+    Arg::new(alloc, said.name)
+        .help(said.help)
+        .required(said.is_required)
+}
+
+/// An option with a value.
+fn option<'a>(alloc: Global, said: &'a Argument) -> Arg<'a>
+    ensures rule { rule_of result
+        ≡ needed said.entry.now.is_required (option said.entry.now.name.now) }
+    ensures local { result.global ≡ false }
+{
+    begun(alloc, said)
         .long(said.name)
         .value_name(said.value)
         .action(ArgAction::Set)
+}
+
+/// An option with a number.
+fn number<'a>(alloc: Global, said: &'a Argument) -> Arg<'a>
+    ensures rule { rule_of result
+        ≡ needed said.entry.now.is_required (number said.entry.now.name.now) }
+    ensures local { result.global ≡ false }
+{
+    option(alloc, said).value_parser(value_parser!(u32))
+}
+
+/// An option with one of these names, by default this one.
+fn choice<'a>(alloc: Global, said: &'a Argument, default: &'a str, names: &'a [&'a str]) -> Arg<'a>
+    ensures rule { rule_of result ≡ needed said.entry.now.is_required
+        (choice said.entry.now.name.now default.entry.now names.entry) }
+    ensures local { result.global ≡ false }
+{
+    option(alloc, said)
+        .value_parser(names)
+        .default_value(default)
 }
 
 /// The clap argument of an argument.
@@ -79,26 +107,19 @@ fn arg_of<'a>(alloc: Global, said: &'a Argument) -> Result<Arg<'a>, AllocError>
     ensures rule { IfOk result (λ arg. rule_of arg ≡ rule_said said.entry.now) }
     ensures local { IfOk result (λ arg. arg.global ≡ false) }
 {
-    let bare = Arg::new(alloc, said.name)
-        .help(said.help)
-        .required(said.is_required);
     match said.takes {
-        Takes::Nothing => Ok(bare.long(said.name).action(ArgAction::SetTrue)),
-        Takes::Text => Ok(option(bare, said)),
-        Takes::Texts => Ok(option(bare, said).action(ArgAction::Append)),
-        Takes::Number => Ok(option(bare, said).value_parser(value_parser!(u32))),
-        Takes::NumberOr(other) => option(bare, said)
-            .value_parser(value_parser!(u32))
-            .visible_alias(other),
-        Takes::OneOf(default, names) => {
-            Ok(
-                option(bare, said)
-                    .value_parser(names)
-                    .default_value(default),
-            )
-        }
-        Takes::Bare => Ok(bare.action(ArgAction::Set)),
-        Takes::Files => Ok(bare.num_args(0..).action(ArgAction::Append)),
+        Takes::Nothing => Ok(
+            begun(alloc, said)
+                .long(said.name)
+                .action(ArgAction::SetTrue),
+        ),
+        Takes::Text => Ok(option(alloc, said)),
+        Takes::Texts => Ok(option(alloc, said).action(ArgAction::Append)),
+        Takes::Number => Ok(number(alloc, said)),
+        Takes::NumberOr(other) => number(alloc, said).visible_alias(other),
+        Takes::OneOf(default, names) => Ok(choice(alloc, said, default, names)),
+        Takes::Bare => Ok(begun(alloc, said).action(ArgAction::Set)),
+        Takes::Files => Ok(begun(alloc, said).num_args(0..).action(ArgAction::Append)),
     }
 }
 
@@ -162,11 +183,8 @@ fn command_of<'a>(
     Ok(command)
 }
 
-/// A program with one more subcommand; `rules` is the argument `--rules`.
-///
-/// # Errors
-/// `AllocError`: out of memory.
-pub fn with_word<'a>(
+/// A program with one more subcommand.
+fn add_word<'a>(
     alloc: Global,
     program: Command<'a>,
     word: &'a SubcommandHelp,
@@ -183,5 +201,28 @@ pub fn with_word<'a>(
             drop(program);
             Err(error)
         }
+    }
+}
+
+/// A program with one more subcommand; `rules` is the argument `--rules`. A program that memory
+/// lacked for is lacking still.
+///
+/// # Errors
+/// `AllocError`: out of memory.
+pub fn with_word<'a>(
+    alloc: Global,
+    program: Result<Command<'a>, AllocError>,
+    word: &'a SubcommandHelp,
+    rules: &'a Argument,
+) -> Result<Command<'a>, AllocError>
+    requires { IfOk program IsLocal }
+    ensures app { (app : App) → IfOk program.entry (λ had. app_of had ≡ app)
+        → IfOk result (λ more. app_of more
+        ≡ with_subcommand app (shape_said word.entry.now rules.entry.now)) }
+    ensures local { IfOk result IsLocal }
+{
+    match program {
+        Ok(program) => add_word(alloc, program, word, rules),
+        Err(error) => Err(error),
     }
 }

@@ -1,7 +1,7 @@
-use Rattle.std.proofs.Common.{◌≡◌, ◌∙◌, List, ap₂, refl, true, false}
+use Rattle.std.proofs.Common.{◌≡◌, ◌∙◌, List, ap, ap₂, refl, true, false}
 use Rattle.std.proofs.lemmas.Result.{IfOk-weaker}
-use Rattle.clap.specs.Words.{Rule, Text, with_subcommand}
-use Rattle.numa_command_line.specs.Grammar.{IsWord, check_arguments, diff_arguments}
+use Rattle.clap.specs.Words.{Rule, Shape, Text, with_subcommand}
+use Rattle.numa_command_line.specs.Grammar.{IsWord, bare_program, check_arguments, diff_arguments}
 use Rattle.numa_command_line.specs.Grammar.{expect_arguments, explain_arguments, moves_arguments}
 use Rattle.numa_command_line.specs.Grammar.{predict_arguments}
 use Rattle.numa_command_line.specs.Grammar.{reader, replay_arguments, rules, run_arguments}
@@ -27,49 +27,51 @@ pub returns : goal.returns
 returns c =
     let option = c.argument-rules.ensures in
     let said = c.argument-rules.result.now in
-    let run = c.in_ok-program.ensures.app ∙ ap₂ with_subcommand c.bare.ensures.app
-    (reader_is c.word.result.now said option.0 _ (run_arguments c.word.ensures.0) c.word.ensures.2
-    option.2) in
-    let check = c.in_ok-program-2.ensures.app
-    ∙ ap₂ with_subcommand run
+    let run-app = with_subcommand bare_program (shape_said c.word.result.now said) in
+    let check-app = with_subcommand run-app (shape_said c.word-2.result.now said) in
+    let expect-app = with_subcommand check-app (shape_said c.word-3.result.now said) in
+    let predict-app = with_subcommand expect-app (shape_said c.word-4.result.now said) in
+    let diff-app = with_subcommand predict-app (shape_said c.word-5.result.now said) in
+    let moves-app = with_subcommand diff-app (shape_said c.word-6.result.now said) in
+    let explain-app = with_subcommand moves-app (shape_said c.word-7.result.now said) in
+    let replay-app = with_subcommand explain-app (shape_said c.word-8.result.now said) in
+    let shell-app = with_subcommand replay-app (shape_said c.word-9.result.now said) in
+    let run-so = c.with_word-program.ensures.app bare_program c.bare.ensures.app in
+    let check-so = c.with_word-program-2.ensures.app run-app run-so in
+    let expect-so = c.with_word-program-3.ensures.app check-app check-so in
+    let predict-so = c.with_word-program-4.ensures.app expect-app expect-so in
+    let diff-so = c.with_word-program-5.ensures.app predict-app predict-so in
+    let moves-so = c.with_word-program-6.ensures.app diff-app diff-so in
+    let explain-so = c.with_word-program-7.ensures.app moves-app moves-so in
+    let replay-so = c.with_word-program-8.ensures.app explain-app explain-so in
+    let shell-so = c.with_word-program-9.ensures.app replay-app replay-so in
+    let run = ap (λ (shape : Shape). with_subcommand bare_program shape)
+    (reader_is c.word.result.now said option.0 _ (run_arguments c.word.ensures.0)
+    c.word.ensures.2 option.2) in
+    let check = ap₂ with_subcommand run
     (reader_is c.word-2.result.now said option.0 _ (check_arguments c.word-2.ensures.0)
-    c.word-2.ensures.2
-    option.2) in
-    let expect = c.in_ok-program-3.ensures.app
-    ∙ ap₂ with_subcommand check
+    c.word-2.ensures.2 option.2) in
+    let expect = ap₂ with_subcommand check
     (reader_is c.word-3.result.now said option.0 _ (expect_arguments c.word-3.ensures.0)
-    c.word-3.ensures.2
-    option.2) in
-    let predict = c.in_ok-program-4.ensures.app
-    ∙ ap₂ with_subcommand expect
+    c.word-3.ensures.2 option.2) in
+    let predict = ap₂ with_subcommand expect
     (reader_is c.word-4.result.now said option.0 _ (predict_arguments c.word-4.ensures.0)
-    c.word-4.ensures.2
-    option.2) in
-    let diff = c.in_ok-program-5.ensures.app
-    ∙ ap₂ with_subcommand predict
+    c.word-4.ensures.2 option.2) in
+    let diff = ap₂ with_subcommand predict
     (reader_is c.word-5.result.now said option.0 _ (diff_arguments c.word-5.ensures.0)
-    c.word-5.ensures.2
-    option.2) in
-    let moves = c.in_ok-program-6.ensures.app
-    ∙ ap₂ with_subcommand diff
+    c.word-5.ensures.2 option.2) in
+    let moves = ap₂ with_subcommand diff
     (reader_is c.word-6.result.now said option.0 _ (moves_arguments c.word-6.ensures.0)
-    c.word-6.ensures.2
-    option.2) in
-    let explain = c.in_ok-program-7.ensures.app
-    ∙ ap₂ with_subcommand moves
+    c.word-6.ensures.2 option.2) in
+    let explain = ap₂ with_subcommand moves
     (reader_is c.word-7.result.now said option.0 _ (explain_arguments c.word-7.ensures.0)
-    c.word-7.ensures.2
-    option.2) in
-    let replay = c.in_ok-program-8.ensures.app
-    ∙ ap₂ with_subcommand explain
+    c.word-7.ensures.2 option.2) in
+    let replay = ap₂ with_subcommand explain
     (reader_is c.word-8.result.now said option.0 _ (replay_arguments c.word-8.ensures.0)
-    c.word-8.ensures.2
-    option.2) in
-    let shell = c.in_ok-program-9.ensures.app
-    ∙ ap₂ with_subcommand replay
-    (reader_is c.word-9.result.now said option.0 _ shell_arguments c.word-9.ensures
-    option.2) in
-    IfOk-weaker c.with_word-10.result _ _ (λ command app. (
+    c.word-8.ensures.2 option.2) in
+    let shell = ap₂ with_subcommand replay
+    (reader_is c.word-9.result.now said option.0 _ shell_arguments c.word-9.ensures option.2) in
+    IfOk-weaker c.with_word.result _ _ (λ command app. (
       record {
         run = c.word.ensures.0;
         check = c.word-2.ensures.0;
@@ -94,4 +96,4 @@ returns c =
       },
       app ∙ ap₂ with_subcommand shell
           (word_is c.word-10.result.now said _ storm_arguments c.word-10.ensures),
-    )) c.with_word-10.ensures.app
+    )) (c.with_word.ensures.app shell-app shell-so)
