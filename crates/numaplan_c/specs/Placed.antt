@@ -14,7 +14,7 @@ use Rattle.numaplan_c.specs.Codes.{refusal_code}
 use Rattle.numaplan_c.specs.Compared.{IsListed}
 use Rattle.numaplan_c.specs.declared.placed_moves.NpBound.{NpBound}
 use Rattle.numaplan_c.specs.declared.placed_moves.NpMoves.{NpMoves}
-use Rattle.numaplan_placed.specs.Pages.{OfPages}
+use Rattle.numaplan_handles.specs.Pages.{OfPages}
 
 -- ---- codes
 

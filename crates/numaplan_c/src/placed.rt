@@ -1,14 +1,12 @@
 //! Opening, copying and closing cores with their pages.
 ghost use Rattle.std.specs.Prelude.{◌≡◌, None};
 ghost use Rattle.numaplan_c.specs.Border.{Asked, Makes, Shares};
-ghost use Rattle.numaplan_handles.specs.Handles.{core_in};
-ghost use Rattle.numaplan_placed.specs.Handles.{pages_in};
-ghost use Rattle.numaplan_placed.specs.Pages.{IsCoreOf, IsOpenedFrom};
+ghost use Rattle.numaplan_handles.specs.Handles.{core_in, pages_in};
+ghost use Rattle.numaplan_handles.specs.Pages.{IsCoreOf, IsOpenedFrom};
 
 use crate::codes::Code;
 use crate::keeping::{ensure_closed, kept_code};
-use numaplan_handles::CoreHandle;
-use numaplan_placed::PagesHandle;
+use numaplan_handles::{CoreHandle, PagesHandle};
 use std::alloc::Global;
 
 /// Opens a copy of a core with its pages.

@@ -5,7 +5,7 @@ ghost use Rattle.numa_script.specs.Policies.{policy_of};
 ghost use Rattle.numa_space.specs.declared.command.Command.{Command};
 ghost use Rattle.numaplan_c.specs.Codes.{list_code, word_code};
 ghost use Rattle.numaplan_c.specs.Placed.{PagesAnswer, PagesAnswerRead, change_code};
-ghost use Rattle.numaplan_placed.specs.Handles.{pages_in};
+ghost use Rattle.numaplan_handles.specs.Handles.{pages_in};
 
 use crate::codes::{Code, list_code, word_code};
 use crate::placed_codes::changed_code;
@@ -13,7 +13,7 @@ use numa_mask::read_list;
 use numa_mode::PolicySpec;
 use numa_script::policy::read_policy;
 use numa_space::Command;
-use numaplan_placed::PagesHandle;
+use numaplan_handles::PagesHandle;
 use std::alloc::Global;
 
 /// Carries out a command of the core in a handle, and returns the code of its result.

@@ -8,7 +8,7 @@ ghost use Rattle.numa_space.specs.History.{page_of};
 ghost use Rattle.numaplan_c.specs.Codes.{list_code, word_code};
 ghost use Rattle.numaplan_c.specs.Placed.{PagesAnswer, PagesBind, PagesMove, TellsBound};
 ghost use Rattle.numaplan_c.specs.Placed.{TellsMoved, change_code, move_code, placed_code};
-ghost use Rattle.numaplan_placed.specs.Handles.{pages_in};
+ghost use Rattle.numaplan_handles.specs.Handles.{pages_in};
 
 use crate::codes::{Code, list_code, word_code};
 use crate::placed_codes::{changed_code, moved_code, set_code};
@@ -18,11 +18,11 @@ use numa_pages::{ChangeRefusal, Rebound};
 use numa_placed::Moved;
 use numa_script::policy::read_policy;
 use numa_space::PAGE_BYTES;
-use numaplan_placed::PagesHandle;
+use numaplan_handles::PagesHandle;
 use std::alloc::Global;
 
-/// What a move did: how many pages went, how many had a node to go to and stayed, how many went from
-/// each node, and to which node those of each go.
+/// What a move did: how many pages went, how many had a node to go to and stayed, how many went
+/// from each node, and to which node those of each go.
 #[repr(C)]
 #[derive(Clone, Copy)]
 pub struct NpMoves {

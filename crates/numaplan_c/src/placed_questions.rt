@@ -7,8 +7,8 @@ ghost use Rattle.numa_placed.specs.declared.refusal.PlacedRefusal.{PlacedRefusal
 ghost use Rattle.numa_space.specs.History.{page_of};
 ghost use Rattle.numaplan_c.specs.Border.{Asked};
 ghost use Rattle.numaplan_c.specs.Placed.{TellsNode, TellsRoom, TellsRuns};
-ghost use Rattle.numaplan_placed.specs.Handles.{pages_in};
-ghost use Rattle.numaplan_placed.specs.Pages.{HasCounts, HasRoom, HasRuns};
+ghost use Rattle.numaplan_handles.specs.Handles.{pages_in};
+ghost use Rattle.numaplan_handles.specs.Pages.{HasCounts, HasRoom, HasRuns};
 
 use crate::codes::Code;
 use crate::differences::write_items;
@@ -16,7 +16,7 @@ use crate::placed_codes::{PlacedCode, placed_code};
 use crate::plans::NpCounts;
 use numa_pages::PageRun;
 use numa_space::PAGE_BYTES;
-use numaplan_placed::PagesHandle;
+use numaplan_handles::PagesHandle;
 use std::alloc::Global;
 
 /// Returns the node on which the page of an address lies.

@@ -2,12 +2,14 @@
 use Rattle.std.specs.Prelude.{Option}
 use Rattle.numa_core.specs.Standing.{CoreState}
 use Rattle.numa_host.specs.Standing.{HostState}
+use Rattle.numa_pages.specs.Changes.{PagesState}
 use Rattle.numa_plan.specs.Meaning.{PlanData}
 use Rattle.numa_pool.specs.Seated.{Seated}
-use Rattle.numaplan_handles.specs.Kinds.{core_of, plan_of, seat_of, dialog_of, host_of}
+use Rattle.numaplan_handles.specs.Kinds.{core_of, plan_of, seat_of, dialog_of, host_of, pages_of}
 use Rattle.numaplan_handles.specs.declared.dialog.Dialog.{Dialog}
 use Rattle.numaplan_handles.specs.declared.core_handle.CoreHandle.{CoreHandle}
 use Rattle.numaplan_handles.specs.declared.host_handle.HostHandle.{HostHandle}
+use Rattle.numaplan_handles.specs.declared.pages_handle.PagesHandle.{PagesHandle}
 use Rattle.numaplan_handles.specs.declared.plan_handle.PlanHandle.{PlanHandle}
 use Rattle.numaplan_handles.specs.declared.seat_handle.SeatHandle.{SeatHandle}
 use Rattle.numaplan_handles.specs.declared.script_handle.ScriptHandle.{ScriptHandle}
@@ -31,3 +33,7 @@ dialog_in h = dialog_of h.handle.held.kept
 -- the host that a handle keeps
 abbrev pub host_in : HostHandle → Option HostState
 host_in h = host_of h.handle.held.kept
+
+-- the core with its pages that a handle keeps
+abbrev pub pages_in : PagesHandle → Option PagesState
+pages_in h = pages_of h.handle.held.kept

@@ -6,10 +6,12 @@ pub mod Held
 pub mod Hosts
 pub mod Kinds
 pub mod Ownership
+pub mod Pages
 pub mod Plans
 pub mod Seats
 pub mod Steps
 pub use Rattle.numa_core.specs.Standing
+pub use Rattle.numa_pages.specs.Changes
 pub use Rattle.numa_plan.specs.Meaning
 pub use Rattle.numa_run.specs.Answers
 pub use Rattle.numa_run.specs.Scripts

@@ -1,7 +1,7 @@
 //! Handles for C callers: of a core, a plan, a seat at pools of frames, a script, a host, or a core
-//! with its pages (whose calls numaplan_placed has). A handle is 16 bytes, initially 0: a flag that
-//! says whether it is open, and a pointer to a value on the heap, which the handle owns. The calls
-//! that ask whether it is open and that close it are the same for all kinds: those of its `handle`.
+//! with its pages. A handle is 16 bytes, initially 0: a flag that says whether it is open, and a
+//! pointer to a value on the heap, which the handle owns. The calls that ask whether it is open and
+//! that close it are the same for all kinds: those of its `handle`.
 #![tactic(auto)]
 
 mod core_handle;
@@ -12,6 +12,9 @@ mod held;
 mod host_handle;
 mod host_questions;
 mod kept;
+mod pages_handle;
+mod pages_moves;
+mod pages_questions;
 mod place;
 mod plan_handle;
 mod room;
@@ -26,6 +29,7 @@ pub use handle::Handle;
 pub use held::HeapSlot;
 pub use host_handle::HostHandle;
 pub use kept::Kept;
+pub use pages_handle::PagesHandle;
 pub use plan_handle::{ChoiceRefusal, PlanHandle};
 pub use room::copy_bytes;
 pub use script_handle::ScriptHandle;

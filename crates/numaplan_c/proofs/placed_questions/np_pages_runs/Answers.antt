@@ -3,8 +3,8 @@ use Rattle.std.specs.Prelude.{IfOk, Result}
 use Rattle.numa_machine.specs.declared.no_memory.NoMemory.{NoMemory}
 use Rattle.numa_pages.specs.declared.listing.PageRun.{PageRun}
 use Rattle.numaplan_c.specs.Compared.{IsListed}
-use Rattle.numaplan_placed.specs.Handles.{pages_in}
-use Rattle.numaplan_placed.specs.Pages.{HasRuns, TellsOf}
+use Rattle.numaplan_handles.specs.Handles.{pages_in}
+use Rattle.numaplan_handles.specs.Pages.{HasRuns, TellsOf}
 use Rattle.numaplan_c.proofs.placed_questions.np_pages_runs.Goals as goal
 
 pub returns-in-Some-Ok : goal.returns-in-Some-Ok

@@ -2,16 +2,18 @@
 ghost use Rattle.std.specs.Prelude.{◌≡◌, Some, None, true, OnOk, OnErr, IfOk};
 ghost use Rattle.numa_pages.specs.Changes.{Accepts, BindsStrictly};
 ghost use Rattle.numaplan_handles.specs.Calls.{Calls, IsShared};
-ghost use Rattle.numaplan_handles.specs.Handles.{core_in};
 ghost use Rattle.numaplan_handles.specs.Kinds.{CallsKept, core_of, is_core, is_pages, pages_of};
-ghost use Rattle.numaplan_placed.specs.Pages.{IsCoreOf, IsMade, IsOpenedFrom, OfPages};
+ghost use Rattle.numaplan_handles.specs.Pages.{IsCoreOf, IsMade, IsOpenedFrom, OfPages};
 
+use crate::core_handle::CoreHandle;
+use crate::core_questions::core_kept;
+use crate::handle::Handle;
+use crate::kept::Kept;
 use numa_core::Core;
 use numa_machine::NoMemory;
 use numa_mode::PolicySpec;
 use numa_pages::{ChangeRefusal, Pages};
 use numa_space::Command;
-use numaplan_handles::{CoreHandle, Handle, Kept, core_kept};
 use std::alloc::{AllocError, Global};
 
 /// A core with its pages that a C caller keeps, or none.
@@ -70,7 +72,7 @@ fn bind_kept(
 }
 
 impl PagesHandle {
-    ghost use Rattle.numaplan_placed.specs.Handles.{pages_in};
+    ghost use Rattle.numaplan_handles.specs.Handles.{core_in, pages_in};
 
     /// Puts a copy of a core into a closed handle: nothing is stated of its pages, and no node
     /// ever fills. Later events of the core don't affect the copy. `None` if the core's handle is
@@ -136,7 +138,7 @@ impl PagesHandle {
         let made = pages_kept(&kept).core().copy();
         self.handle.put(kept);
         match made {
-            Ok(core) => Some(open_core(other, alloc, core)),
+            Ok(core) => Some(PagesHandle::open_core(other, alloc, core)),
             Err(lack) => Some(Err(lack)),
         }
     }
@@ -176,16 +178,16 @@ impl PagesHandle {
         self.handle.put(kept);
         Some(answer)
     }
-}
 
-/// Puts a core into a closed handle of cores.
-fn open_core(other: &mut CoreHandle, alloc: Global, core: Core) -> Result<(), NoMemory>
-    requires closed { core_in other.old ≡ None }
-    ensures ok { OnOk result (core_in other.new ≡ Some core) }
-    ensures err { OnErr result (core_in other.new ≡ None) }
-{
-    match other.open(alloc, core) {
-        Ok(()) => Ok(()),
-        Err(_) => Err(NoMemory),
+    /// Puts a core into a closed handle of cores.
+    fn open_core(other: &mut CoreHandle, alloc: Global, core: Core) -> Result<(), NoMemory>
+        requires closed { core_in other.old ≡ None }
+        ensures ok { OnOk result (core_in other.new ≡ Some core) }
+        ensures err { OnErr result (core_in other.new ≡ None) }
+    {
+        match other.open(alloc, core) {
+            Ok(()) => Ok(()),
+            Err(_) => Err(NoMemory),
+        }
     }
 }

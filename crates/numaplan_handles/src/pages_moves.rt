@@ -4,15 +4,15 @@ ghost use Rattle.numa_pages.specs.Changes.{BindsMoving, Limits, Migrates, MovesM
 ghost use Rattle.numa_pages.specs.Changes.{Places};
 ghost use Rattle.numaplan_handles.specs.Calls.{Calls};
 ghost use Rattle.numaplan_handles.specs.Kinds.{CallsKept, is_pages, pages_of};
-ghost use Rattle.numaplan_placed.specs.Handles.{pages_in};
-ghost use Rattle.numaplan_placed.specs.Pages.{OfPages};
+ghost use Rattle.numaplan_handles.specs.Handles.{pages_in};
+ghost use Rattle.numaplan_handles.specs.Pages.{OfPages};
 
+use crate::kept::Kept;
 use crate::pages_handle::PagesHandle;
 use numa_mask::NodeMask;
 use numa_mode::PolicySpec;
 use numa_pages::{ChangeRefusal, Rebound};
 use numa_placed::{MoveRefusal, Moved, PlacedRefusal};
-use numaplan_handles::Kept;
 use std::alloc::Global;
 
 /// States that the mapped pages of a span lie on a node.
@@ -172,8 +172,8 @@ impl PagesHandle {
         Some(answer)
     }
 
-    /// Sets a policy for a span, moves the pages that lie on other nodes than it asks for, as far as
-    /// there is room, and returns how many went. `None` if the handle is closed.
+    /// Sets a policy for a span, moves the pages that lie on other nodes than it asks for, as far
+    /// as there is room, and returns how many went. `None` if the handle is closed.
     ///
     /// # Errors
     /// In the `Some`, as [`Pages::bind_moving`](numa_pages::Pages::bind_moving).

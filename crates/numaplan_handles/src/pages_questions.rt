@@ -1,9 +1,9 @@
 //! Questions to a handle of a core with its pages.
 ghost use Rattle.std.specs.Prelude.{◌≡◌, IfOk};
 ghost use Rattle.numaplan_handles.specs.Calls.{Asks};
-ghost use Rattle.numaplan_placed.specs.Handles.{pages_in};
-ghost use Rattle.numaplan_placed.specs.Pages.{AreRuns, HasCounts, HasNode, HasRoom, HasRuns};
-ghost use Rattle.numaplan_placed.specs.Pages.{TellsOf};
+ghost use Rattle.numaplan_handles.specs.Handles.{pages_in};
+ghost use Rattle.numaplan_handles.specs.Pages.{AreRuns, HasCounts, HasNode, HasRoom, HasRuns};
+ghost use Rattle.numaplan_handles.specs.Pages.{TellsOf};
 
 use crate::pages_handle::{PagesHandle, pages_kept};
 use numa_machine::NoMemory;
