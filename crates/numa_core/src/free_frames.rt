@@ -24,7 +24,7 @@ pub(crate) struct Known {
 }
 
 /// A frame without an owner, and the place of its node in a list, from 0.
-#[derive(Clone, Copy, Debug, PartialEq, Eq)]
+#[derive(Clone, Copy)]
 pub(crate) struct FreeFrame {
     pub frame: Frame,
     pub rank: u32,

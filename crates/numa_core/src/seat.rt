@@ -22,7 +22,7 @@ use numa_space::{Placement, Request};
 use std::alloc::{AllocError, Global};
 
 /// A place in a list of nodes, from 0, and the number of a frame of the node there.
-#[derive(Clone, Copy, Debug, PartialEq, Eq)]
+#[derive(Clone, Copy)]
 pub(crate) struct Cursor {
     pub rank: u32,
     pub next: u32,
@@ -30,7 +30,7 @@ pub(crate) struct Cursor {
 
 /// The search of a busy worker: its request, the version that it took, and its cursor, the lowest
 /// unmet frame of its current node.
-#[derive(Clone, Copy, Debug, PartialEq, Eq)]
+#[derive(Clone, Copy)]
 pub(crate) struct OngoingSearch {
     pub request: Request,
     pub version: u64,

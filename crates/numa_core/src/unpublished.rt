@@ -16,7 +16,7 @@ use numa_space::Change;
 use std::alloc::Global;
 
 /// What accepted commands changed that aren't published.
-#[derive(Clone, Copy, Debug)]
+#[derive(Clone, Copy)]
 pub(crate) enum Unpublished {
     /// There is no such command.
     Nothing,

@@ -19,7 +19,7 @@ use std::marker::Model;
 
 /// What a run says of a page: its index, the number of its rule (`None`: the task's rule), and the
 /// number of pages of the run from it on.
-#[derive(Clone, Copy, Debug, PartialEq, Eq)]
+#[derive(Clone, Copy)]
 pub(crate) struct Found {
     pub(crate) index: u64,
     pub(crate) rule: Option<u32>,
@@ -27,7 +27,7 @@ pub(crate) struct Found {
 }
 
 /// A span's window: its first place, the one after its last, and a guess at its chunk.
-#[derive(Clone, Copy, Debug)]
+#[derive(Clone, Copy)]
 pub(crate) struct Beside {
     pub(crate) from: usize,
     pub(crate) to: usize,

@@ -21,7 +21,7 @@ use std::mem::replace;
 
 /// Where a walk along the pages begins: the place of its first run, and a guess at the run's chunk.
 /// Only speed depends on it.
-#[derive(Clone, Copy, Debug)]
+#[derive(Clone, Copy)]
 pub(crate) struct Seen {
     place: usize,
     chunk: usize,

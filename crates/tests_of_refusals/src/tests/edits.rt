@@ -234,7 +234,7 @@ fn building(rt: HostRuntime) {
 }
 
 /// A call that edits a plan.
-#[derive(Clone, Copy, Debug)]
+#[derive(Clone, Copy)]
 enum Edit {
     AddRule,
     WriteRule,

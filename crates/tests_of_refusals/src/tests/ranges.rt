@@ -11,7 +11,7 @@ use std::process::Abort;
 const SPANS: u64 = 160;
 
 /// What is done to the spans, in this order.
-#[derive(Clone, Copy, Debug)]
+#[derive(Clone, Copy)]
 enum Step {
     Map,
     Update,
