@@ -92,6 +92,17 @@ fn add_run(
     put_waiting(plan, waiting, steps)
 }
 
+/// Only drops: an exit that calls this has no drop of its own.
+fn let_go(
+    records: IndexSet<Record>,
+    known: Vec<Option<Option<u32>>>,
+    waiting: Vec<Run<Option<u32>>>,
+) {
+    drop(records);
+    drop(known);
+    drop(waiting);
+}
+
 /// Adds a run for each range of the space, in order, and returns the policies that then have a
 /// rule, each at the place that is the number of its rule.
 fn add_runs(
@@ -111,13 +122,16 @@ fn add_runs(
     ensures rises { Rises steps.old steps.new }
 {
     survey(space);
+    let mut waiting = Vec::with_capacity(alloc, BLOCK)?;
     let mut records = IndexSet::new(alloc);
     let (rows, values) = space.range_rows();
     let mut known = Vec::new(alloc);
-    known.resize(values.len(), None)?;
-    let mut waiting = Vec::with_capacity(alloc, BLOCK)?;
+    let Ok(()) = known.resize(values.len(), None) else {
+        let_go(records, known, waiting);
+        return Err(NoMemory);
+    };
     for row in rows {
-        let value = number_for_range(
+        let Ok(value) = number_for_range(
             alloc,
             space,
             values,
@@ -126,16 +140,25 @@ fn add_runs(
             &mut records,
             &mut known,
             steps,
-        )?;
+        ) else {
+            let_go(records, known, waiting);
+            return Err(NoMemory);
+        };
         let run = Run {
             first: row.first,
             pages: row.pages,
             index: row.index,
             value,
         };
-        add_run(plan, &mut waiting, run, steps)?;
+        let Ok(()) = add_run(plan, &mut waiting, run, steps) else {
+            let_go(records, known, waiting);
+            return Err(NoMemory);
+        };
     }
-    put_waiting(plan, &mut waiting, steps)?;
+    let Ok(()) = put_waiting(plan, &mut waiting, steps) else {
+        let_go(records, known, waiting);
+        return Err(NoMemory);
+    };
     Ok(records)
 }
 

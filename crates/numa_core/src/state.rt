@@ -1,12 +1,13 @@
 //! The state of a core, and its steps.
-ghost use Rattle.std.specs.Prelude.{◌≡◌, ℕ, ◌<◌, ◌≤◌, IfOk, OnErr, None, Some, slice_get, vec_len};
-ghost use Rattle.std.specs.Prelude.{true};
+ghost use Rattle.std.specs.Prelude.{◌≡◌, ℕ, ◌<◌, ◌≤◌, IfOk, OnErr, List, None, Option, Some};
+ghost use Rattle.std.specs.Prelude.{length, slice_get, true, vec_len};
 ghost use Rattle.std.specs.List.{AllZip};
 ghost use Rattle.numa_core.specs.World.{World, opening};
 ghost use Rattle.numa_core.specs.Steps.{put_frame};
-ghost use Rattle.numa_core.specs.Standing.{CoreStandsFor, owner_at, place_in, setup_of};
+ghost use Rattle.numa_core.specs.Standing.{CoreStandsFor, frames_before, owner_at, place_in};
+ghost use Rattle.numa_core.specs.Standing.{setup_of};
 ghost use Rattle.numa_core.specs.Kept.{core_state, IsKept, Performs};
-ghost use Rattle.numa_core.specs.Hints.{IsLow};
+ghost use Rattle.numa_core.specs.Hints.{AreTaken, IsLow};
 ghost use Rattle.numa_core.specs.Seats.{SeatFits, IsSeatCopy};
 ghost use Rattle.numa_core.specs.Touching.{touch_answer, touch_world};
 ghost use Rattle.numa_core.specs.declared.seat.WorkerSeat.{WorkerSeat};
@@ -65,6 +66,29 @@ fn seat_copies(alloc: Global, seats: &[WorkerSeat]) -> Result<Vec<WorkerSeat>, N
     Ok(others)
 }
 
+/// The places of a machine's frames, as many idle seats as workers, no owner of any frame, and that
+/// no frame is known to be owned.
+fn idle_parts(
+    alloc: Global,
+    machine: &Machine,
+    workers: u32,
+) -> Result<(Places, Vec<WorkerSeat>, Vec<Option<u8>>, Known), NoMemory>
+    ensures places { IfOk result (λ parts. parts.0 ≡ machine.now.frames) }
+    ensures count { IfOk result (λ parts. vec_len parts.1 ≡ workers) }
+    ensures idle { IfOk result (λ parts. (w : ℕ) (seat : WorkerSeat) → slice_get parts.1.items w
+        ≡ Some seat → (seat.job ≡ None) × SeatFits parts.0 seat) }
+    ensures owners { IfOk result (λ parts. (p : ℕ) → owner_at parts.2.items (Some p) ≡ None) }
+    ensures len { IfOk result (λ parts. vec_len parts.2 ≡ frames_before parts.0 (length parts.0)) }
+    ensures taken { IfOk result (λ parts. (owners : List (Option ℕ))
+        → AreTaken parts.0 owners parts.3) }
+{
+    let places = Places::new(alloc, machine)?;
+    let owners = none_owned(alloc, places.total())?;
+    let taken = none_taken(alloc, &places)?;
+    let seats = idle_seats(alloc, &places, workers)?;
+    Ok((places, seats, owners, taken))
+}
+
 /// Whether a plan is that of all accepted commands: no plan of fewer has as many.
 fn is_newest(plan: &Plan, space: &PlannedSpace) -> bool
     ensures { result ≡ true → plan.now.version ≡ space.now.version }
@@ -86,12 +110,17 @@ impl State {
         ensures setup { IfOk result (λ state. setup_of (core_state state)
             ≡ record { machine = machine; bounds = limits; workers = workers }) }
     {
-        let places = Places::new(alloc, &machine)?;
-        let owners = none_owned(alloc, places.total())?;
-        let taken = none_taken(alloc, &places)?;
-        let seats = idle_seats(alloc, &places, workers)?;
         let space = PlannedSpace::new(alloc, machine, limits);
-        let plan = compile(alloc, space.space())?;
+        let Ok(plan) = compile(alloc, space.space()) else {
+            drop(space);
+            return Err(NoMemory);
+        };
+        let Ok(parts) = idle_parts(alloc, space.space().machine(), workers) else {
+            drop(space);
+            drop(plan);
+            return Err(NoMemory);
+        };
+        let (places, seats, owners, taken) = parts;
         Ok(State {
             alloc,
             space,
@@ -104,21 +133,53 @@ impl State {
         })
     }
 
+    /// Copies of the places of the frames, the seats, the owners, and what is known of them.
+    fn part_copies(&self) -> Result<(Places, Vec<WorkerSeat>, Vec<Option<u8>>, Known), NoMemory>
+        ensures places { IfOk result (λ parts. parts.0 ≡ self.now.space.machine.frames) }
+        ensures seats { IfOk result (λ parts. AllZip IsSeatCopy self.now.seats.items
+            parts.1.items) }
+        ensures owners { IfOk result (λ parts. (parts.2.items ≡ self.now.owners.items)
+            × (vec_len parts.2 ≡ vec_len self.now.owners)) }
+        ensures taken { IfOk result (λ parts.
+            (parts.3.lowest.items ≡ self.now.taken.lowest.items)
+            × (parts.3.marks.items ≡ self.now.taken.marks.items)
+            × (vec_len parts.3.marks ≡ vec_len self.now.taken.marks)) }
+    {
+        let places = Places::new(self.alloc, self.space.space().machine())?;
+        let owners = Vec::from_slice(self.alloc, &self.owners)?;
+        let taken = known_copy(self.alloc, &self.taken)?;
+        let seats = seat_copies(self.alloc, &self.seats)?;
+        Ok((places, seats, owners, taken))
+    }
+
     /// Returns a copy.
     pub(crate) fn copy(&self) -> Result<State, NoMemory>
         requires kept { IsKept self.now }
         ensures kept { IfOk result IsKept }
         ensures shown { IfOk result (λ copy. core_state copy ≡ core_state self.now) }
     {
+        let Ok(space) = self.space.copy(self.alloc) else {
+            return Err(NoMemory);
+        };
+        let Ok(plan) = self.plan.copy(self.alloc) else {
+            drop(space);
+            return Err(NoMemory);
+        };
+        let Ok(parts) = self.part_copies() else {
+            drop(space);
+            drop(plan);
+            return Err(NoMemory);
+        };
+        let (places, seats, owners, taken) = parts;
         Ok(State {
             alloc: self.alloc,
-            places: Places::new(self.alloc, self.space.space().machine())?,
-            seats: seat_copies(self.alloc, &self.seats)?,
-            owners: Vec::from_slice(self.alloc, &self.owners)?,
-            taken: known_copy(self.alloc, &self.taken)?,
-            plan: self.plan.copy(self.alloc)?,
+            space,
+            plan,
             unpublished: self.unpublished,
-            space: self.space.copy(self.alloc)?,
+            places,
+            seats,
+            owners,
+            taken,
         })
     }
 

@@ -71,9 +71,12 @@ impl Host {
     pub fn copy(&self) -> Result<Host, NoMemory>
         ensures { IfOk result (λ copy. copy ≡ self.now) }
     {
-        let blank = self.blank.copy(self.alloc)?;
         let groups = Vec::from_slice(self.alloc, &self.groups)?;
         let processes = copies_of(self.alloc, &self.processes)?;
+        let Ok(blank) = self.blank.copy(self.alloc) else {
+            drop(processes);
+            return Err(NoMemory);
+        };
         Ok(Host {
             alloc: self.alloc,
             blank,

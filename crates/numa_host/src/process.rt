@@ -244,6 +244,7 @@ fn heir_of(alloc: Global, parent: &Space, from: u32, task: u32) -> Result<Space,
 {
     let mut space = parent.copy(alloc)?;
     let Ok(_) = space.apply(&Command::Inherit { task, from }) else {
+        drop(space);
         return Err(NoMemory);
     };
     Ok(space)

@@ -111,7 +111,7 @@ impl HostScript {
             say_refusal(output, HostRefusal::NoMemory);
             return true;
         };
-        self.host = Some(Host::new(alloc, copy, self.limits));
+        drop(self.host.replace(Host::new(alloc, copy, self.limits)));
         output.say(b"host ok\n");
         false
     }
@@ -197,7 +197,7 @@ impl HostScript {
         let Ok(copy) = machine.copy(alloc) else {
             return Some(LineFault::Refused(HostRefusal::NoMemory));
         };
-        self.host = Some(Host::new(alloc, copy, self.limits));
+        drop(self.host.replace(Host::new(alloc, copy, self.limits)));
         None
     }
 

@@ -117,6 +117,7 @@ impl PlacedScript {
         };
         if !is_accepted(&mut self.script, alloc, command) {
             say_refusal(output, PlacedRefusal::NoMemory);
+            drop(sent);
             return;
         }
         let late = tells_left(words, &policy.spec, sent.left);

@@ -305,6 +305,7 @@ impl PlacedScript {
         pass_on(&mut self.script, alloc, line, said, output);
         let later = version_in(&self.script);
         if before == later {
+            drop(after);
             return;
         }
         replace(&mut self.beside, after);

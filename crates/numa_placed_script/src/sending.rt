@@ -171,12 +171,17 @@ fn sent_in(
         &mut rooms,
     ) {
         Ok(bound) => bound,
-        Err(cause) => return Err(cause),
+        Err(cause) => {
+            drop(placed);
+            return Err(cause);
+        }
     };
     let Ok(held) = held_kept(resident, &given, &beside.placed, space, said, words) else {
+        drop(placed);
         return Err(PlacedRefusal::NoMemory);
     };
     let Ok(copy) = placed.copy() else {
+        drop(placed);
         return Err(PlacedRefusal::NoMemory);
     };
     Ok(Sending {

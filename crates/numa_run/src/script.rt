@@ -149,7 +149,7 @@ impl Script {
         };
         match Core::new(alloc, machine, self.settings.limits, WORKERS) {
             Ok(core) => {
-                self.running = Some(Running::new(alloc, core));
+                drop(self.running.replace(Running::new(alloc, core)));
                 Reply::Ready
             }
             Err(_) => Reply::BadMachine(MachineFault::NoMemory),

@@ -34,14 +34,14 @@ loop-row-init c = record {
   };
   numbered = subst (AreNumbered c.range_rows-rows.result.1.now)
       (sym c.into_iter-row-iterator.ensures.into_iter_gives) c.range_rows-rows.ensures.numbered;
-  size = omega (arith, c.in_ok-resize.ensures.len, c.resize.new.self.ok.0);
+  size = omega (arith, c.in-Ok.ensures.len, c.resize.new.self.ok.0);
   known = known-none (slice_get c.new-records.result.keys) c.range_rows-rows.result.1.now
       c.resize.new.self.items (length c.range_rows-rows.result.1.now)
       (let n : ℕ = length c.range_rows-rows.result.1.now in
       let no : Option (Option ℕ) = None in
       let all : ◌≡◌ {A = ℕ} (n - vec_len c.new-known.result) n =
       omega (arith, c.new-known.ensures.len) in
-      c.in_ok-resize.ensures.items
+      c.in-Ok.ensures.items
       ∙ ((λ i. take n (c.new-known.ensures.items i) ++ replicate (all i) no)
       ∙ ap (λ (l : List (Option (Option ℕ))). l ++ replicate n no)
       (take_all n [] (omega arith))));
@@ -86,16 +86,16 @@ add_run-requires-clause-apart c =
       pages = range.pages;
       index = range.index;
       value =
-          c.in_ok-value.value;
+          c.in-Ok-number_for_range.value;
     } in
     let next : AreCopies (slice_get keys) (take (inv.k + 1) ranges)
     (plan.runs ++ (wait ++ run ∷ [])) =
     subst (λ (rs : List (Run (Option ℕ))). AreCopies (slice_get keys) (take (inv.k + 1) ranges) rs)
     (append_assoc plan.runs wait (run ∷ []))
     (copied-next c.loop-row.records.keys keys ranges (plan.runs ++ wait)
-    (c.loop-row.plan.runs ++ wait) inv.k range range.value c.in_ok-value.value
-    short read refl (ap (λ (p : PlanData). p.runs ++ wait) c.in_ok-value.ensures.rest)
-    c.in_ok-value.ensures.grows c.in_ok-value.ensures.number inv.copies) in
+    (c.loop-row.plan.runs ++ wait) inv.k range range.value c.in-Ok-number_for_range.value
+    short read refl (ap (λ (p : PlanData). p.runs ++ wait) c.in-Ok-number_for_range.ensures.rest)
+    c.in-Ok-number_for_range.ensures.grows c.in-Ok-number_for_range.ensures.number inv.copies) in
     copies-apart (slice_get keys) 0 (take (inv.k + 1) ranges) _ next
     (apart-take 0 (inv.k + 1) ranges c.survey.ensures.rising)
 
@@ -120,17 +120,17 @@ add_run-requires-clause-named c =
       pages = range.pages;
       index = range.index;
       value =
-          c.in_ok-value.value;
+          c.in-Ok-number_for_range.value;
     } in
     let next : AreCopies (slice_get keys) (take (inv.k + 1) ranges)
     (plan.runs ++ (wait ++ run ∷ [])) =
     subst (λ (rs : List (Run (Option ℕ))). AreCopies (slice_get keys) (take (inv.k + 1) ranges) rs)
     (append_assoc plan.runs wait (run ∷ []))
     (copied-next c.loop-row.records.keys keys ranges (plan.runs ++ wait)
-    (c.loop-row.plan.runs ++ wait) inv.k range range.value c.in_ok-value.value
-    short read refl (ap (λ (p : PlanData). p.runs ++ wait) c.in_ok-value.ensures.rest)
-    c.in_ok-value.ensures.grows c.in_ok-value.ensures.number inv.copies) in
-    served-named c.args.space.now plan keys (take (inv.k + 1) ranges) _ c.in_ok-value.ensures.serves
+    (c.loop-row.plan.runs ++ wait) inv.k range range.value c.in-Ok-number_for_range.value
+    short read refl (ap (λ (p : PlanData). p.runs ++ wait) c.in-Ok-number_for_range.ensures.rest)
+    c.in-Ok-number_for_range.ensures.grows c.in-Ok-number_for_range.ensures.number inv.copies) in
+    served-named c.args.space.now plan keys (take (inv.k + 1) ranges) _ c.in-Ok-number_for_range.ensures.serves
     next
 
 pub loop-row-preserved : goal.loop-row-preserved
@@ -154,21 +154,21 @@ loop-row-preserved c =
       pages = range.pages;
       index = range.index;
       value =
-          c.in_ok-value.value;
+          c.in-Ok-number_for_range.value;
     } in
     let next : AreCopies (slice_get keys) (take (inv.k + 1) ranges)
     (plan.runs ++ (wait ++ run ∷ [])) =
     subst (λ (rs : List (Run (Option ℕ))). AreCopies (slice_get keys) (take (inv.k + 1) ranges) rs)
     (append_assoc plan.runs wait (run ∷ []))
     (copied-next c.loop-row.records.keys keys ranges (plan.runs ++ wait)
-    (c.loop-row.plan.runs ++ wait) inv.k range range.value c.in_ok-value.value
-    short read refl (ap (λ (p : PlanData). p.runs ++ wait) c.in_ok-value.ensures.rest)
-    c.in_ok-value.ensures.grows c.in_ok-value.ensures.number inv.copies) in
+    (c.loop-row.plan.runs ++ wait) inv.k range range.value c.in-Ok-number_for_range.value
+    short read refl (ap (λ (p : PlanData). p.runs ++ wait) c.in-Ok-number_for_range.ensures.rest)
+    c.in-Ok-number_for_range.ensures.grows c.in-Ok-number_for_range.ensures.number inv.copies) in
     let there : Contains ranges range = (inv.k, short, sym read) in
-    let grows : Grows c.loop-row.records.keys range.value keys = c.in_ok-value.ensures.grows in
+    let grows : Grows c.loop-row.records.keys range.value keys = c.in-Ok-number_for_range.ensures.grows in
     let used : AreUsed c.args.space.now keys = used-range c.args.space.now c.loop-row.records.keys
     keys range there grows inv.under_way.used in
-    let more : HasRunsMore plan c.add_run.new.plan = c.in_ok-add_run.ensures.more in
+    let more : HasRunsMore plan c.add_run.new.plan = c.in-Ok-add_run.ensures.more in
     record {
       added = record {
         k = inv.k + 1;
@@ -177,25 +177,25 @@ loop-row-preserved c =
             (runs_of c.range_rows-rows.result.1.now c.next.new.self) inv.k range inv.left steps;
         under_way = under-runs c.args.space.now plan c.add_run.new.plan keys
             (under-rest c.args.space.now c.loop-row.plan plan c.loop-row.records.keys keys
-            inv.under_way c.in_ok-value.ensures.serves used c.in_ok-value.ensures.rest) more;
+            inv.under_way c.in-Ok-number_for_range.ensures.serves used c.in-Ok-number_for_range.ensures.rest) more;
         copies =
             subst (λ (rs : List (Run (Option ℕ))).
             AreCopies (slice_get keys) (take (inv.k + 1) ranges) rs)
-            (sym c.in_ok-add_run.ensures.runs) next;
+            (sym c.in-Ok-add_run.ensures.runs) next;
         tasks = ap (λ (p : PlanData). p.tasks) more.rest
-            ∙ ap (λ (p : PlanData). p.tasks) c.in_ok-value.ensures.rest ∙ inv.tasks;
+            ∙ ap (λ (p : PlanData). p.tasks) c.in-Ok-number_for_range.ensures.rest ∙ inv.tasks;
         room =
             omega (
               arith,
               grows-one c.loop-row.records.keys range.value keys
-                  c.in_ok-value.ensures.grows,
+                  c.in-Ok-number_for_range.ensures.grows,
               inv.room,
             );
       };
       numbered = rest-numbered c.range_rows-rows.result.1.now c.loop-row.row-iterator
           c.next.new.self row c.loop-row.invariant.numbered c.in-Some.ensures.steps;
-      size = c.in_ok-value.ensures.size;
-      known = c.in_ok-value.ensures.known;
+      size = c.in-Ok-number_for_range.ensures.size;
+      known = c.in-Ok-number_for_range.ensures.known;
       rises = rises-both c.args.steps.now c.number_for_range.new.steps c.add_run.new.steps
           (rises-both c.args.steps.now c.loop-row.steps c.number_for_range.new.steps
           c.loop-row.invariant.rises c.number_for_range.ensures.rises) c.add_run.ensures.rises;
@@ -216,7 +216,7 @@ put_waiting-requires-clause-named c =
 pub returns-clause-under_way : goal.returns-clause-under_way
 returns-clause-under_way c =
     under-runs c.args.space.now c.loop-row.plan c.put_waiting.new.plan c.loop-row.records.keys
-    c.loop-row.invariant.added.under_way c.in_ok-put_waiting.ensures.more
+    c.loop-row.invariant.added.under_way c.in-Ok-put_waiting.ensures.more
 
 pub returns-clause-copies : goal.returns-clause-copies
 returns-clause-copies c =
@@ -236,12 +236,12 @@ returns-clause-copies c =
     subst (λ (rs : List (Run (Option PolicyRecord))). AreCopies (slice_get keys) rs
     (c.loop-row.plan.runs ++ c.loop-row.waiting.items)) whole inv.copies in
     subst (λ (rs : List (Run (Option ℕ))). AreCopies (slice_get keys) ranges rs)
-    (sym c.in_ok-put_waiting.ensures.runs) copies
+    (sym c.in-Ok-put_waiting.ensures.runs) copies
 
 pub returns-clause-tasks : goal.returns-clause-tasks
 returns-clause-tasks c =
     let more : HasRunsMore c.loop-row.plan c.put_waiting.new.plan =
-    c.in_ok-put_waiting.ensures.more in
+    c.in-Ok-put_waiting.ensures.more in
     ap (λ (p : PlanData). p.tasks) more.rest ∙ c.loop-row.invariant.added.tasks
 
 pub returns-clause-room : goal.returns-clause-room
@@ -277,23 +277,23 @@ number_for_range-requires-clause-known c = c.loop-row.invariant.known
 pub number_for_range-requires-clause-ready : goal.number_for_range-requires-clause-ready
 number_for_range-requires-clause-ready c = c.survey.ensures.ready
 
-pub returns-in_err-resize-clause-rises : goal.returns-in_err-resize-clause-rises
-returns-in_err-resize-clause-rises c = rises-none c.args.steps.now
+pub returns-in_default-clause-rises : goal.returns-in_default-clause-rises
+returns-in_default-clause-rises c = rises-none c.args.steps.now
 
 pub returns-in_err-waiting-clause-rises : goal.returns-in_err-waiting-clause-rises
 returns-in_err-waiting-clause-rises c = rises-none c.args.steps.now
 
-pub returns-in_err-value-clause-rises : goal.returns-in_err-value-clause-rises
-returns-in_err-value-clause-rises c = rises-both c.args.steps.now c.loop-row.steps
+pub returns-in_default-number_for_range-clause-rises : goal.returns-in_default-number_for_range-clause-rises
+returns-in_default-number_for_range-clause-rises c = rises-both c.args.steps.now c.loop-row.steps
     c.number_for_range.new.steps c.loop-row.invariant.rises c.number_for_range.ensures.rises
 
-pub returns-in_err-add_run-clause-rises : goal.returns-in_err-add_run-clause-rises
-returns-in_err-add_run-clause-rises c = rises-both c.args.steps.now c.number_for_range.new.steps
+pub returns-in_default-add_run-clause-rises : goal.returns-in_default-add_run-clause-rises
+returns-in_default-add_run-clause-rises c = rises-both c.args.steps.now c.number_for_range.new.steps
     c.add_run.new.steps (rises-both c.args.steps.now c.loop-row.steps c.number_for_range.new.steps
     c.loop-row.invariant.rises c.number_for_range.ensures.rises) c.add_run.ensures.rises
 
-pub returns-in_err-put_waiting-clause-rises : goal.returns-in_err-put_waiting-clause-rises
-returns-in_err-put_waiting-clause-rises c = rises-both c.args.steps.now c.loop-row.steps
+pub returns-in_default-put_waiting-clause-rises : goal.returns-in_default-put_waiting-clause-rises
+returns-in_default-put_waiting-clause-rises c = rises-both c.args.steps.now c.loop-row.steps
     c.put_waiting.new.steps c.loop-row.invariant.rises c.put_waiting.ensures.rises
 
 pub returns-clause-rises : goal.returns-clause-rises

@@ -8,22 +8,22 @@ use Rattle.numa_core.proofs.state.State.new.Goals as goal
 
 pub returns-clause-kept : goal.returns-clause-kept
 returns-clause-kept c = record {
-  places = c.in_ok-places.ensures
-      ∙ sym (ap (λ (m : Hardware). m.frames) c.new-space.ensures.machine);
-  seats = λ w seat at. (c.in_ok-seats.ensures.idle w seat at).1;
-  owners = c.in_ok-owners.ensures.len ∙ c.total.ensures.total;
-  few = omega (arith, c.in_ok-seats.ensures.count, c.requires.few);
-  taken = c.in_ok-taken.ensures c.in_ok-owners.owners.items;
-  behind = subst (λ (s : SpaceState). Follows s c.in_ok-plan.plan) c.space-2.ensures
-      c.in_ok-plan.ensures.follows;
+  places = c.in-Ok-idle_parts.ensures.places ∙ ap (λ (m : Hardware). m.frames) (c.machine.ensures
+      ∙ ap (λ (s : SpaceState). s.machine) c.space-2.ensures);
+  seats = λ w seat at. (c.in-Ok-idle_parts.ensures.idle w seat at).1;
+  owners = c.in-Ok-idle_parts.ensures.len;
+  few = omega (arith, c.in-Ok-idle_parts.ensures.count, c.requires.few);
+  taken = c.in-Ok-idle_parts.ensures.taken c.in-Ok-idle_parts.parts.2.items;
+  behind = subst (λ (s : SpaceState). Follows s c.in-Ok.plan) c.space.ensures
+      c.in-Ok.ensures.follows;
 }
 
 pub returns-clause-opens : goal.returns-clause-opens
 returns-clause-opens c =
-    let stands = subst (λ (s : SpaceState). StandsFor s []) (sym c.space-2.ensures)
+    let stands = subst (λ (s : SpaceState). StandsFor s []) (sym c.space.ensures)
     c.new-space.ensures.stands in
-    let plan = subst (λ (s : SpaceState). PlanStandsFor s.machine c.in_ok-plan.plan [])
-    c.space-2.ensures (c.in_ok-plan.ensures.stands [] stands) in
-    opened c.new-space.result c.in_ok-plan.plan c.in_ok-seats.seats.items
-    c.in_ok-owners.owners.items c.new-space.ensures.stands plan
-    (λ w seat at. (c.in_ok-seats.ensures.idle w seat at).0) c.in_ok-owners.ensures.owners
+    let plan = subst (λ (s : SpaceState). PlanStandsFor s.machine c.in-Ok.plan [])
+    c.space.ensures (c.in-Ok.ensures.stands [] stands) in
+    opened c.new-space.result c.in-Ok.plan c.in-Ok-idle_parts.parts.1.items
+    c.in-Ok-idle_parts.parts.2.items c.new-space.ensures.stands plan
+    (λ w seat at. (c.in-Ok-idle_parts.ensures.idle w seat at).0) c.in-Ok-idle_parts.ensures.owners

@@ -4,7 +4,7 @@ use Rattle.numa_host_script.proofs.script.HostScript.begin.Goals as goal
 
 pub returns : goal.returns
 returns g c =
-    rw c.in_default.is
+    rw (c.in_default.is, c.replace.ensures.after)
     (λ session stands.
     begun-now g.W.Write.contents c.args.self.now.script c.args.self.now.limits
     c.args.output.now c.say.new.self c.in-Some-fresh_machine.machine.now c.new.result session

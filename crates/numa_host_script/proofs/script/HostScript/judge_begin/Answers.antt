@@ -4,7 +4,7 @@ use Rattle.numa_host_script.proofs.script.HostScript.judge_begin.Goals as goal
 
 pub returns : goal.returns
 returns c =
-    rw c.in_default.is
+    rw (c.in_default.is, c.replace.ensures.after)
     (λ session stands.
     found-now c.args.self.now.script c.args.self.now.limits c.in-Some-fresh_machine.machine.now
     c.new.result session stands c.in-Some-fresh_machine.ensures
