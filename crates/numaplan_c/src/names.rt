@@ -1,7 +1,8 @@
 //! The names of result codes, and their error numbers.
 ghost use Rattle.std.specs.Prelude.{◌≡◌, ◌≢◌, [], map};
 ghost use Rattle.numaplan_c.specs.Names.{answer_name, answer_errno, errno_number};
-ghost use Rattle.numaplan_c.specs.Names.{name_in, refusal_numbered, row_of};
+ghost use Rattle.numaplan_c.specs.Names.{call_names, fault_names, late_names, name_in};
+ghost use Rattle.numaplan_c.specs.Names.{refusal_numbered, row_of};
 ghost use Rattle.numaplan_c.specs.Names.{host_errno_number, host_numbered, other_errno};
 ghost use Rattle.numaplan_c.specs.Names.{placed_errno};
 ghost use Rattle.numaplan_c.specs.Texts.{IsWritten};
@@ -119,6 +120,27 @@ fn name_in(names: &[(u32, &'static [u8])], code: u32) -> &'static [u8]
     b""
 }
 
+/// The name of a code below 50 that isn't a refusal of a command.
+fn call_name(code: u32) -> &'static [u8]
+    ensures { result.now ≡ name_in call_names code }
+{
+    name_in(&CALL_NAMES, code)
+}
+
+/// The name of a code of errors in machines, lists, policy words and questions about scripts.
+fn fault_name(code: u32) -> &'static [u8]
+    ensures { result.now ≡ name_in fault_names code }
+{
+    name_in(&FAULT_NAMES, code)
+}
+
+/// The name of a code of a cause that only a host or pages have.
+fn late_name(code: u32) -> &'static [u8]
+    ensures { result.now ≡ name_in late_names code }
+{
+    name_in(&LATE_NAMES, code)
+}
+
 /// The name of a code, empty if there is none.
 #[tactic(auto, unfolding(crate::specs::Names::answer_name))]
 fn answer_name(code: u32) -> &'static [u8]
@@ -131,12 +153,12 @@ fn answer_name(code: u32) -> &'static [u8]
         return Named::Refusal(cause).name();
     }
     if code < 50 {
-        return name_in(&CALL_NAMES, code);
+        return call_name(code);
     }
     if code < 90 {
-        return name_in(&FAULT_NAMES, code);
+        return fault_name(code);
     }
-    name_in(&LATE_NAMES, code)
+    late_name(code)
 }
 
 /// Writes the name of a result code.

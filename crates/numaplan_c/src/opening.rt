@@ -79,6 +79,34 @@ fn make(
     }
 }
 
+/// Opens a closed handle with the core of a description.
+fn open_made(
+    alloc: Global,
+    core: &mut CoreHandle,
+    memory: &[u8],
+    frames: &[u32],
+    distances: &[u8],
+    options: Options,
+    limits: NpLimits,
+    workers: u32,
+) -> u32
+    requires closed { core_in core.old ≡ None }
+    ensures opens { Opens (core_in core.old) result (core_in core.new) }
+    ensures run { IfSome (core_in core.new) (LeadsTo []) }
+    ensures setup { IfSome (core_in core.new) (λ made. IsSetUp (list_of memory.now) frames.now
+        distances.now options (bounds_of limits) workers (setup_of made)) }
+    ensures cause { result ≢ 0 → MatchOption (opening_cause (list_of memory.now) frames.now
+        distances.now options.fallback (bounds_of limits) workers) (result ≡ 3)
+        (λ first. result ≡ first) }
+    ensures none { result ≡ 0 → opening_cause (list_of memory.now) frames.now distances.now
+        options.fallback (bounds_of limits) workers ≡ None }
+{
+    match make(alloc, memory, frames, distances, options, limits, workers) {
+        Ok(made) => memory_code(core.open(alloc, made)),
+        Err(code) => code,
+    }
+}
+
 /// Opens a core of a machine.
 #[unsafe(no_mangle)]
 pub extern "C" fn np_core_open(
@@ -103,11 +131,16 @@ pub extern "C" fn np_core_open(
     ensures open { is_some (core_in core.old) ≡ true → result ≡ 2 }
 {
     ensure_closed!(core);
-    let by = documents();
-    match make(alloc, memory, frames, distances, by, *limits, workers) {
-        Ok(made) => memory_code(core.open(alloc, made)),
-        Err(code) => code,
-    }
+    open_made(
+        alloc,
+        core,
+        memory,
+        frames,
+        distances,
+        documents(),
+        *limits,
+        workers,
+    )
 }
 
 /// Opens a core of a machine by options.
@@ -143,10 +176,9 @@ pub extern "C" fn np_core_open_by(
         Ok(options) => options,
         Err(code) => return code,
     };
-    match make(alloc, memory, frames, distances, options, *limits, workers) {
-        Ok(made) => memory_code(core.open(alloc, made)),
-        Err(code) => code,
-    }
+    open_made(
+        alloc, core, memory, frames, distances, options, *limits, workers,
+    )
 }
 
 /// Returns the number of accepted commands, and of those that are published.
