@@ -1,6 +1,6 @@
 -- The runs that a command of a span leaves to be written anew: those of a window.
-use Rattle.std.specs.Prelude.{◌≡◌, ℕ, ◌+◌, ◌<◌, ◌≤◌, true, false, Option, Some, List, [], ◌∷◌, length}
-use Rattle.std.specs.Prelude.{get_or}
+use Rattle.std.specs.Prelude.{◌≡◌, ℕ, ◌+◌, ◌<◌, ◌≤◌, true, false, Option, Some, List, []}
+use Rattle.std.specs.Prelude.{◌∷◌, length, get_or}
 use Rattle.std.specs.Option.{option_map}
 use Rattle.numa_mode.specs.Policy.{PolicyRecord}
 use Rattle.numa_ranges.specs.Runs.{end_of, page_at}

@@ -197,8 +197,8 @@ impl PlannedSpace {
         &self.space
     }
 
-    /// Carries out a command, or refuses it, as `Space::apply`, and returns what it changed. Lack of
-    /// memory for the plan refuses nothing: then the plan is dropped.
+    /// Carries out a command, or refuses it, as `Space::apply`, and returns what it changed. Lack
+    /// of memory for the plan refuses nothing: then the plan is dropped.
     ///
     /// # Errors
     /// As `Space::apply`: the first cause that applies. Then nothing has changed.

@@ -23,9 +23,9 @@
 //!
 //! **Rooms.** A node never fills unless [`Rooms`] says how many more pages it takes. Moves by rooms
 //! (`follow_within`, `migrate_within`, `move_page_within`) go node by node, as Linux does: each
-//! time the lowest node whose target isn't still to go, else the highest. Within a node the lowest pages
-//! go first, and a page that leaves gives its room back. A node that fills ends the move: the pages
-//! that found no room stay, and so do those of all nodes that were still to go.
+//! time the lowest node whose target isn't still to go, else the highest. Within a node the lowest
+//! pages go first, and a page that leaves gives its room back. A node that fills ends the move: the
+//! pages that found no room stay, and so do those of all nodes that were still to go.
 #![tactic(auto)]
 
 pub mod areas;

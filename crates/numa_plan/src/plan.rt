@@ -158,10 +158,10 @@ impl Plan {
         self.list_of(task, page, cpu, found)
     }
 
-    /// The list of [`Plan::choice`], found faster where the runs are evenly spread: it first looks at
-    /// the run that would have the page then, and searches if that hasn't. The page is compared with
-    /// the first pages of at most three runs more than by `choice`: the first, the last and the one
-    /// that is looked at. `steps` counts these comparisons, for contracts only.
+    /// The list of [`Plan::choice`], found faster where the runs are evenly spread: it first looks
+    /// at the run that would have the page then, and searches if that hasn't. The page is compared
+    /// with the first pages of at most three runs more than by `choice`: the first, the last and
+    /// the one that is looked at. `steps` counts these comparisons, for contracts only.
     ///
     /// # Errors
     /// As for `choice`.

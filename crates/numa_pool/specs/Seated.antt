@@ -73,8 +73,8 @@ pub record TakesAlong (nodes : List ℕ) (found : Option (ℕ × Frame)) (before
   pub fresh : IfSome found (λ f. times f.1.node f.1.number before.seat.held ≡ 0)
 
 module _ (frame : Frame) (node : ℕ) (before after : Seated) where
-  -- A seat won a frame of the node by a walk of this node alone, and did not hold it before; then it
-  -- gave up the old one, and made no other step
+  -- A seat won a frame of the node by a walk of this node alone, and did not hold it before; then
+  -- it gave up the old one, and made no other step
   pub record Exchanged (found : Frame) : Type 0 where
     pub owned : Holds before.seat.held frame
     pub on_node : found.node ≡ node

@@ -1,6 +1,6 @@
 //! Gathering the rows of an edit, and joining them on the way.
-ghost use Rattle.std.specs.Prelude.{◌≡◌, ◌+◌, ◌<◌, ◌≤◌, ◌^◌, [], length, IfOk, OnOk, Option, Some, List};
-ghost use Rattle.std.specs.Prelude.{None};
+ghost use Rattle.std.specs.Prelude.{◌≡◌, ◌+◌, ◌<◌, ◌≤◌, ◌^◌, [], length, IfOk, OnOk, Option, Some};
+ghost use Rattle.std.specs.Prelude.{List, None};
 ghost use Rattle.std.specs.Option.{ForSome};
 ghost use Rattle.numa_rows.specs.Changes.{Makes};
 ghost use Rattle.numa_ranges.specs.Edited.{IsRowPlaced, AreEditedRows, value_of_row};

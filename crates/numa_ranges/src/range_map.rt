@@ -361,8 +361,8 @@ impl<T: Exact> RangeMap<T> {
     }
 
     /// Replaces the value of each mapped page of a span by what `edit` returns for it, or unmaps
-    /// the page. `window` has the places of the runs that this can change or join; `near` is a guess
-    /// at their chunk, kept for the next edit.
+    /// the page. `window` has the places of the runs that this can change or join; `near` is a
+    /// guess at their chunk, kept for the next edit.
     fn edit_span<F: Fn(&T) -> Option<T>>(
         &mut self,
         place: usize,

@@ -130,9 +130,9 @@ impl<T: Exact> Runs<T> {
             .partition_point(&mut |row: &Row| row.first <= page)
     }
 
-    /// The number of runs that start at the page or before it. It looks at the last, then where they
-    /// would be if they were spread evenly, and then searches from `chunk` on, which is afterwards
-    /// where the search ended. Any number will do.
+    /// The number of runs that start at the page or before it. It looks at the last, then where
+    /// they would be if they were spread evenly, and then searches from `chunk` on, which is
+    /// afterwards where the search ended. Any number will do.
     pub(crate) fn starts_near(&self, page: u64, chunk: &mut usize) -> usize
         requires { AreApart 0 self.now }
         ensures within { result ≤ length self.now }

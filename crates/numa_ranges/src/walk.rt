@@ -38,8 +38,8 @@ pub(crate) fn lacks_page<T: Exact>(
 }
 
 /// The places of the runs that an edit of a span can change or join, by one walk, if each page of
-/// the span is mapped; `place` runs start at its first page or before it. `near` is a guess at their
-/// chunk.
+/// the span is mapped; `place` runs start at its first page or before it. `near` is a guess at
+/// their chunk.
 pub(crate) fn whole_window<T: Exact>(
     runs: &Runs<T>,
     place: usize,

@@ -33,7 +33,8 @@ lies_on machine history spots task cpu node page =
 -- each node's count is that of the mapped pages of a span that lie on it
 abbrev pub AreLying : Hardware → List Command → (ℕ → Spot) → ℕ → ℕ → ℕ → ℕ → List ℕ → Type 0
 AreLying machine history spots task first pages cpu counts = (node : ℕ) → node < 256
-    → slice_index counts node ≡ count_pages (lies_on machine history spots task cpu node) first pages
+    → slice_index counts node
+    ≡ count_pages (lies_on machine history spots task cpu node) first pages
 
 -- ---- free pages
 

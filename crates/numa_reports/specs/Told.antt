@@ -40,8 +40,8 @@ ToldEach told is_meant [] old new = old ≡ new
 ToldEach {T} told is_meant (range ∷ ranges) old new = (between : T)
     × ToldOne told is_meant range old between × ToldEach told is_meant ranges between new
 
--- the policy that serves the task at the range's first page, and how many of its pages each node has:
--- those that are there, and as many as it has fewer free than before
+-- the policy that serves the task at the range's first page, and how many of its pages each node
+-- has: those that are there, and as many as it has fewer free than before
 pub record IsTakenBeside (machine : Hardware) (history : List Command)
     (placed : Option (Bor (List (Run Spot)))) (task : ℕ) (before after : List ℕ)
     (range : Run (Option PolicyRecord)) (said : RangePrediction) : Type 0 where

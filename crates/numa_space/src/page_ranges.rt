@@ -159,7 +159,8 @@ impl Pages {
         passes_holes: bool,
     ) -> Result<(), Refusal>
         requires span { IsSpan first pages }
-        ensures edit { IsEdit (first_of (hole_cause passes_holes (page_at self.old.runs) first pages)
+        ensures edit { IsEdit (first_of
+            (hole_cause passes_holes (page_at self.old.runs) first pages)
             (too_many self.old.limit (changed_span first pages (λ old. to.now)
             (page_at self.old.runs)))) (changed_span first pages (λ old. to.now)
             (page_at self.old.runs)) self.old result self.new }

@@ -30,7 +30,8 @@ ReplaysHostLine (Ok None) old new = new ≡ old
 ReplaysHostLine (Ok (Some it)) old new = (new.fault ≡ old.fault)
     × AreSameProcesses old.replay.processes new.replay.processes
     × ((machine : Hardware) (plans : ℕ → PlanData) (trace : List (ℕ × Access))
-    → IsHostReplay machine plans trace old.replay → IsHostReplay machine plans (it ∷ trace) new.replay)
+    → IsHostReplay machine plans trace old.replay
+    → IsHostReplay machine plans (it ∷ trace) new.replay)
 
 -- why a line with this access can't be replayed
 abbrev pub EndsAtHostLine : Result (Option (ℕ × Access)) ReplayError → HostReplaying

@@ -7,8 +7,8 @@ ghost use Rattle.numa_traces.specs.Replaying.{frames_after, tally_of};
 ghost use Rattle.numa_traces.specs.Tallies.{Route};
 ghost use Rattle.numa_traces.specs.declared.access.Access.{Access};
 
-/// Where one process makes all accesses, it meets on a host what a replay of its own meets: the same
-/// frames, and the same counts of each route.
+/// Where one process makes all accesses, it meets on a host what a replay of its own meets: the
+/// same frames, and the same counts of each route.
 pub fn alone()
     ensures frames { (plans : ℕ → PlanData) (start : HostFrames) (process : ℕ)
         (trace : List Access)

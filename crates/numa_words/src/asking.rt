@@ -157,8 +157,8 @@ fn prediction<T: Write, P: Watch>(
 /// in `free` have that many free pages, and the text says how many are left; counting them is
 /// watched. Of a host without a process the answer is by process, one after the other, and of all
 /// together, from one account of the free pages. What is wrong with a line is written to `told`,
-/// and the line is skipped, which the result says too. The answer is complete before its first byte is
-/// written.
+/// and the line is skipped, which the result says too. The answer is complete before its first byte
+/// is written.
 ///
 /// # Errors
 /// Why there is no answer. Text already written to `told` stays.

@@ -7,8 +7,8 @@
 //! Malformed and refused lines are skipped, and what is wrong with each is reported. [`check`] does
 //! only that; [`predict`], [`diff`], [`explain`] and [`replay`] answer by the accepted lines, and
 //! return in [`Ended`] whether there were others. [`tells_fault`] recognizes the answers of such
-//! lines. [`predict_space`], [`diff_spaces`], [`explain_space`] and [`replay_space`] answer the same
-//! about spaces, without scripts.
+//! lines. [`predict_space`], [`diff_spaces`], [`explain_space`] and [`replay_space`] answer the
+//! same about spaces, without scripts.
 #![tactic(auto)]
 
 mod asking;

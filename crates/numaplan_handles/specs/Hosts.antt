@@ -53,8 +53,8 @@ HasGroupAt place found host history = found ≡ slice_get (groups_of history) pl
 
 -- these are the effective nodes of a group, if it is there
 abbrev pub HasGroupNodes : ℕ → Option ℕ → HostState → List HostCommand → Type 0
-HasGroupNodes name found host history = MatchOption found (is_group (groups_of history) name ≡ false)
-    (λ nodes. (is_group (groups_of history) name ≡ true)
+HasGroupNodes name found host history = MatchOption found
+    (is_group (groups_of history) name ≡ false) (λ nodes. (is_group (groups_of history) name ≡ true)
     × (nodes ≡ effective_mems host.blank.machine.memory (groups_of history) name))
 
 -- there are this many processes

@@ -38,7 +38,8 @@ impl Kept {
         Box::new(alloc, self).ok()
     }
 
-    /// A copy of the core, the host or the pages, or the same plan shared, if there is memory for it.
+    /// A copy of the core, the host or the pages, or the same plan shared, if there is memory for
+    /// it.
     pub(crate) fn again(&self, alloc: Global) -> Option<Box<Kept>>
         ensures core { is_core (Some self.now) ≡ true → IfSome result (λ other.
             (is_core (Some other.value) ≡ true)

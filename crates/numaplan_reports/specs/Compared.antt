@@ -1,6 +1,6 @@
 -- What handles of two cores answer to questions for reports, and what a trace meets on a core.
-use Rattle.std.specs.Prelude.{◌≡◌, ◌⊎◌, ℕ, List, Option, Some, None, Result, MatchOption, MatchResult}
-use Rattle.std.specs.Prelude.{map, reverse}
+use Rattle.std.specs.Prelude.{◌≡◌, ◌⊎◌, ℕ, List, Option, Some, None, Result, MatchOption}
+use Rattle.std.specs.Prelude.{MatchResult, map, reverse}
 use Rattle.numa_core.specs.Standing.{CoreState}
 use Rattle.numa_compile.specs.Standing.{PlanStandsFor}
 use Rattle.numa_plan.specs.Meaning.{PlanData}

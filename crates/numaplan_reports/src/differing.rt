@@ -89,8 +89,8 @@ fn diff_kept(
 }
 
 /// The pages that would go to another node in the second core than in the first, if the task
-/// touched each of them now on a CPU of node `cpu`, by all accepted commands, as [`all_moves`] tells
-/// them. `None` if a handle is closed.
+/// touched each of them now on a CPU of node `cpu`, by all accepted commands, as [`all_moves`]
+/// tells them. `None` if a handle is closed.
 ///
 /// # Errors
 /// In the `Some`: `Refused(BadCpu)`, a machine has no node `cpu`; `Memory`, out of memory.

@@ -51,7 +51,8 @@ and a task touched each of them on a CPU of one node: for each span of pages of 
 how many from which node to which, and in all. Pages that are mapped only before or only after \
 are left out. With --at it tells behind that what becomes of pages that are there, as `moves` \
 does: they lie as lines `at START LENGTH NODE` of the scripts and of that file state, and lines \
-`migrate FROM TO` move them too. Of a host it tells that by process and in all, or with --process of process P alone. \
+`migrate FROM TO` move them too. Of a host it tells that by process and in all, or with --process \
+of process P alone. \
 Lines that are faulty or refused are told on standard error as by `check`, and \
 passed over. The status is 3 where some are, unless --lenient is given, and where no machine is \
 ready after the scripts.",

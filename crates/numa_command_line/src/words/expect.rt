@@ -53,8 +53,8 @@ carried out and not compared, but a fault or a refusal isn't wanted there. The l
 standard output counts the lines of answers: as wanted, not so, and not compared. Of a folder the \
 files *.answers are taken, and those *.numaplan that hold an answer.",
     more: "With --format tap each answer is a test of the Test Anything Protocol, and with \
---format json a line of JSON. With --update each file gets the answers that its lines get, where one stands \
-now: it is written anew beside itself and then takes its own place, and standard output shows the \
+--format json a line of JSON. With --update each file gets the answers that its lines get, where \
+one stands now: it is written anew beside itself and then takes its own place, and standard output shows the \
 lines that change.\n\nThe status is 0 where each file holds answers and all are as wanted, or are \
 written anew, and else 3.\n\nExample, from the top of the \
 repository:\n  ./numaplan expect examples/*.answers",

@@ -103,7 +103,8 @@ impl Space {
     #[tactic(auto, unfolding(crate::specs::Refusals::lacks_policy))]
     fn lacks_policy(&self, first: u64, pages: u64) -> bool
         requires span { IsSpan first pages }
-        ensures { result ≡ lacks_policy self.now.machine.rules (page_at self.now.ranges) first pages }
+        ensures { result ≡ lacks_policy self.now.machine.rules (page_at self.now.ranges) first
+            pages }
     {
         self.is_linux() && !self.pages.has_page(PageTest::HasPolicy, first, pages)
     }

@@ -96,7 +96,8 @@ where
     answered(rt, asked, answer, moving.lenient, &outlet)
 }
 
-/// Tells what becomes of pages after scripts. With `tells`, standard error shows how far reading is.
+/// Tells what becomes of pages after scripts. With `tells`, standard error shows how far reading
+/// is.
 ///
 /// # Errors
 /// `Usage`: a file can't be opened. `NoMemory`: out of memory.
