@@ -8,7 +8,7 @@ use Rattle.numa_ranges.specs.Runs.{AreApart, AreMaximal}
 use Rattle.numa_ranges.specs.Windows.{begins_in, to_now, IsWindow, Moves}
 use Rattle.numa_ranges.specs.declared.run.Run.{Run}
 use Rattle.numa_ranges.proofs.Moves.{any-run}
-use Rattle.numa_space.specs.declared.command.Command.TheVariants.{Map, Unmap, Mbind}
+use Rattle.numa_requests.specs.declared.command.Command.TheVariants.{Map, Unmap, Mbind}
 use Rattle.numa_space.specs.History.{page_of, page_count}
 use Rattle.numa_space.specs.Standing.{SpaceState}
 use Rattle.numa_space.specs.Steps.{record_now}

@@ -3,7 +3,7 @@ use Rattle.std.proofs.Common.{◌≡◌, ℕ, ◌<◌, Option, Some, None, List,
 use Rattle.std.proofs.lemmas.Option.{same_Some}
 use Rattle.std.specs.Option.{ForSome, option_map}
 use Rattle.numa_mode.specs.Policy.{PolicyRecord}
-use Rattle.numa_space.specs.declared.command.Command.{Command}
+use Rattle.numa_requests.specs.declared.command.Command.{Command}
 use Rattle.numa_space.specs.Standing.{SpaceState, StandsFor, IsNodeList, setting_in}
 use Rattle.numa_plan.specs.Meaning.{PlanData, planned_list}
 use Rattle.numa_plan.specs.Rows.{Kept}

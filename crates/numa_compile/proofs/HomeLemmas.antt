@@ -6,7 +6,7 @@ use Rattle.numa_ranges.specs.Runs.{AreApart, AreMaximal}
 use Rattle.numa_ranges.specs.Windows.{begins_in, starts_in, met}
 use Rattle.numa_ranges.specs.declared.run.Run.{Run}
 use Rattle.numa_ranges.proofs.Fewer.{count-cons}
-use Rattle.numa_space.specs.declared.command.Command.{Command}
+use Rattle.numa_requests.specs.declared.command.Command.{Command}
 use Rattle.numa_space.specs.Spans.{span_first, span_pages, span_end, EditsSpan}
 use Rattle.numa_space.specs.Standing.{SpaceState}
 use Rattle.numa_space.proofs.Moving.{begun-few}

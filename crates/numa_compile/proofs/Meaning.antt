@@ -4,7 +4,7 @@ use Rattle.std.specs.Option.{option_map, option_map_or}
 use Rattle.std.specs.Prelude.{option_and_then}
 use Rattle.numa_mode.specs.Policy.{PolicyRecord}
 use Rattle.numa_ranges.specs.Runs.{page_at}
-use Rattle.numa_space.specs.declared.command.Command.{Command}
+use Rattle.numa_requests.specs.declared.command.Command.{Command}
 use Rattle.numa_space.specs.Lists.{list_for}
 use Rattle.numa_space.specs.Policies.{policy_that_counts}
 use Rattle.numa_space.specs.Standing.{SpaceState, StandsFor, record_of, setting_in, list_in}

@@ -7,7 +7,7 @@ use Rattle.std.specs.Option.{option_map}
 use Rattle.std.specs.Prelude.{◌↔◌, nat_le}
 use Rattle.numa_machine.specs.Machine.{Hardware}
 use Rattle.numa_ranges.specs.Runs.{page_at}
-use Rattle.numa_space.specs.declared.command.Command.{Command}
+use Rattle.numa_requests.specs.declared.command.Command.{Command}
 use Rattle.numa_machine.specs.declared.refusal.PlaceRefusal.{PlaceRefusal}
 use Rattle.numa_machine.specs.declared.refusal.PlaceRefusal.TheVariants.{BadCpu, Unmapped}
 use Rattle.numa_space.specs.Lists.{node_list}

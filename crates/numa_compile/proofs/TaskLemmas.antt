@@ -6,10 +6,10 @@ use Rattle.numa_machine.specs.Weights.{weight_at}
 use Rattle.numa_mode.specs.Policy.{PolicyRecord}
 use Rattle.numa_ranges.specs.Runs.{AreApart, AreMaximal, page_at}
 use Rattle.numa_ranges.specs.declared.run.Run.{Run}
-use Rattle.numa_space.specs.declared.command.Command.{Command}
-use Rattle.numa_space.specs.declared.command.Command.TheVariants.{SetTask, Inherit, Map, Unmap}
-use Rattle.numa_space.specs.declared.command.Command.TheVariants.{Mbind, SetHome, SetWeight}
-use Rattle.numa_space.specs.declared.command.Command.TheVariants.{SetMems}
+use Rattle.numa_requests.specs.declared.command.Command.{Command}
+use Rattle.numa_requests.specs.declared.command.Command.TheVariants.{SetTask, Inherit, Map, Unmap}
+use Rattle.numa_requests.specs.declared.command.Command.TheVariants.{Mbind, SetHome, SetWeight}
+use Rattle.numa_requests.specs.declared.command.Command.TheVariants.{SetMems}
 use Rattle.numa_space.specs.Policies.{where_live}
 use Rattle.numa_space.specs.Standing.{SpaceState, record_of, setting_in}
 use Rattle.numa_space.specs.Steps.{IsNext, record_now}

@@ -7,7 +7,7 @@ use Rattle.numa_machine.specs.Machine.{Hardware}
 use Rattle.numa_mode.specs.Policy.{PolicyRecord, is_live}
 use Rattle.numa_ranges.specs.Runs.{AreApart, AreMaximal}
 use Rattle.numa_ranges.specs.declared.run.Run.{Run}
-use Rattle.numa_space.specs.declared.command.Command.TheVariants.{SetWeight}
+use Rattle.numa_requests.specs.declared.command.Command.TheVariants.{SetWeight}
 use Rattle.numa_space.specs.Lists.{list_for}
 use Rattle.numa_space.specs.Policies.{where_live}
 use Rattle.numa_space.specs.Standing.{SpaceState, IsInForce, record_of, setting_in}

@@ -2,7 +2,7 @@
 use Rattle.std.specs.Prelude.{◌≡◌, None}
 use Rattle.numa_space.specs.Changed.{IsChange}
 use Rattle.numa_space.specs.declared.change.Change.{Change}
-use Rattle.numa_space.specs.declared.command.Command.{Command}
+use Rattle.numa_requests.specs.declared.command.Command.{Command}
 use Rattle.numa_space.specs.Standing.{SpaceState, setting_in}
 use Rattle.numa_space.specs.Steps.{IsStep}
 use Rattle.numa_plan.specs.Meaning.{PlanData}

@@ -11,8 +11,8 @@ use Rattle.numa_space.specs.declared.change.Change.{Change}
 use Rattle.numa_space.specs.declared.change.Change.TheVariants.{Nothing, Mapped, Unmapped, Bound}
 use Rattle.numa_space.specs.declared.change.Change.TheVariants.{Homed, TaskSet, Weighed, Allowed}
 use Rattle.numa_space.specs.declared.change.ChangedPages.{ChangedPages}
-use Rattle.numa_space.specs.declared.command.Command.{Command}
-use Rattle.numa_space.specs.declared.command.Command.TheVariants.{SetTask, Inherit}
+use Rattle.numa_requests.specs.declared.command.Command.{Command}
+use Rattle.numa_requests.specs.declared.command.Command.TheVariants.{SetTask, Inherit}
 use Rattle.numa_space.specs.Standing.{SpaceState}
 use Rattle.numa_plan.specs.Building.{with_rule}
 use Rattle.numa_plan.specs.Counted.{Counted}

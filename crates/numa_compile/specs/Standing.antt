@@ -3,7 +3,7 @@ use Rattle.std.specs.Prelude.{◌≡◌, ℕ, ◌<◌, true, false, Option, Some
 use Rattle.std.specs.Option.{option_map}
 use Rattle.numa_machine.specs.Machine.{Hardware}
 use Rattle.numa_ranges.specs.Runs.{page_at}
-use Rattle.numa_space.specs.declared.command.Command.{Command}
+use Rattle.numa_requests.specs.declared.command.Command.{Command}
 use Rattle.numa_space.specs.Lists.{list_for, node_list}
 use Rattle.numa_space.specs.Pages.{is_mapped}
 use Rattle.numa_space.specs.Policies.{policy_that_counts}

@@ -6,7 +6,7 @@ ghost use Rattle.numa_ranges.specs.Runs.{AreApart, AreMaximal};
 ghost use Rattle.numa_plan.specs.Building.{empty_plan};
 ghost use Rattle.numa_plan.specs.Meaning.{planned_list};
 ghost use Rattle.numa_plan.specs.Slots.{rule_in};
-ghost use Rattle.numa_space.specs.declared.command.Command.{Command};
+ghost use Rattle.numa_requests.specs.declared.command.Command.{Command};
 ghost use Rattle.numa_space.specs.Policies.{allowed_nodes};
 ghost use Rattle.numa_space.specs.Standing.{StandsFor, IsNodeList, accepted_of, record_of};
 ghost use Rattle.numa_space.specs.Standing.{setting_in};

@@ -3,7 +3,7 @@ ghost use Rattle.std.specs.Prelude.{◌≡◌, ◌≢◌, ℕ, ◌^◌, ◌<◌,
 ghost use Rattle.numa_machine.specs.Machine.{Hardware};
 ghost use Rattle.numa_plan.specs.Meaning.{PlanData, planned_list, planned_first, planned_count};
 ghost use Rattle.numa_plan.specs.Meaning.{place_refusal, RefusesSpan};
-ghost use Rattle.numa_space.specs.declared.command.Command.{Command};
+ghost use Rattle.numa_requests.specs.declared.command.Command.{Command};
 ghost use Rattle.numa_machine.specs.declared.refusal.PlaceRefusal.{PlaceRefusal};
 ghost use Rattle.numa_space.specs.Lists.{node_list};
 ghost use Rattle.numa_space.specs.Pages.{is_mapped};

@@ -3,7 +3,7 @@ ghost use Rattle.std.specs.Prelude.{◌≡◌, ℕ, ◌<◌, None, IfOk};
 ghost use Rattle.std.specs.Prelude.{IfSome, List, [], Some, true};
 ghost use Rattle.std.specs.Option.{ForSome};
 ghost use Rattle.numa_space.specs.Changed.{IsChange};
-ghost use Rattle.numa_space.specs.declared.command.Command.{Command};
+ghost use Rattle.numa_requests.specs.declared.command.Command.{Command};
 ghost use Rattle.numa_space.specs.Standing.{StandsFor, IsNodeList};
 ghost use Rattle.numa_space.specs.Steps.{IsApplied};
 ghost use Rattle.numa_plan.specs.Meaning.{planned_list};

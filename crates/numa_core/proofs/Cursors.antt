@@ -3,7 +3,7 @@ use Rattle.std.proofs.Common.{zero, suc, ◌≡◌, ◌≢◌, ℕ, ◌+◌, ◌
 use Rattle.std.proofs.Common.{Bool, true, false, not, Option, Some, None, List, [], ◌∷◌, length}
 use Rattle.std.proofs.Common.{refl, sym, ap, subst, arith, slice_index}
 use Rattle.std.proofs.lemmas.Bool.Decides.{eqb_tells}
-use Rattle.numa_space.specs.declared.event.CoreReply.TheVariants.{Still, Exhausted}
+use Rattle.numa_requests.specs.declared.event.CoreReply.TheVariants.{Still, Exhausted}
 use Rattle.numa_core.specs.World.{Setup, FrameSearch, any_below, first_place, current_rank}
 use Rattle.numa_core.specs.Steps.{goes_on, going_on}
 use Rattle.numa_core.specs.Standing.{Busy, met_at, frame_search_in}

@@ -4,10 +4,10 @@ use Rattle.std.proofs.Common.{◌∙◌, not, if◌then◌else◌, slice_index}
 use Rattle.std.specs.Option.{option_map_or}
 use Rattle.std.proofs.lemmas.Bool.{eq-eqb}
 use Rattle.numa_machine.specs.Machine.{frames_of}
-use Rattle.numa_space.specs.declared.event.Event.{Event}
-use Rattle.numa_space.specs.declared.event.Event.TheVariants.{Accept, Publish, Begin, Look, Try}
-use Rattle.numa_space.specs.declared.event.Event.TheVariants.{Give}
-use Rattle.numa_space.specs.declared.event.CoreReply.TheVariants.{Still, Exhausted, Won}
+use Rattle.numa_requests.specs.declared.event.Event.{Event}
+use Rattle.numa_requests.specs.declared.event.Event.TheVariants.{Accept, Publish, Begin, Look, Try}
+use Rattle.numa_requests.specs.declared.event.Event.TheVariants.{Give}
+use Rattle.numa_requests.specs.declared.event.CoreReply.TheVariants.{Still, Exhausted, Won}
 use Rattle.numa_core.specs.World.{Setup, FrameSearch, frame_search_of, owner_of, current_rank}
 use Rattle.numa_core.specs.World.{has_unmet, new_frame_search, frame_search_after_look}
 use Rattle.numa_core.specs.World.{frame_search_past}

@@ -6,12 +6,12 @@ use Rattle.std.specs.List.{list_any}
 use Rattle.std.proofs.lemmas.Bool.{eq-eqb}
 use Rattle.std.proofs.lemmas.Bool.Decides.{nat_tests}
 use Rattle.numa_machine.specs.declared.frame.Frame.{Frame}
-use Rattle.numa_space.specs.declared.event.Event.{Event}
-use Rattle.numa_space.specs.declared.event.Event.TheVariants.{Accept, Publish, Begin, Look, Try}
-use Rattle.numa_space.specs.declared.event.Event.TheVariants.{Give}
-use Rattle.numa_space.specs.declared.event.CoreReply.{CoreReply}
-use Rattle.numa_space.specs.declared.event.CoreReply.TheVariants.{Won}
-use Rattle.numa_space.specs.declared.event.CoreRefusal.{CoreRefusal}
+use Rattle.numa_requests.specs.declared.event.Event.{Event}
+use Rattle.numa_requests.specs.declared.event.Event.TheVariants.{Accept, Publish, Begin, Look, Try}
+use Rattle.numa_requests.specs.declared.event.Event.TheVariants.{Give}
+use Rattle.numa_requests.specs.declared.event.CoreReply.{CoreReply}
+use Rattle.numa_requests.specs.declared.event.CoreReply.TheVariants.{Won}
+use Rattle.numa_requests.specs.declared.event.CoreRefusal.{CoreRefusal}
 use Rattle.numa_core.specs.World.{Setup, World, owner_of, is_frame}
 use Rattle.numa_core.specs.Steps.{refusal_of, reply_of, effect_of, IsAnswer}
 use Rattle.numa_core.specs.Executions.{CoreStep, world_of, IsExecution, IsWin, worker_of}

@@ -7,11 +7,11 @@ use Rattle.std.specs.Option.{option_map_or}
 use Rattle.std.proofs.lemmas.Bool.{eqb-true, ltb-true}
 use Rattle.std.proofs.lemmas.Bool.Decides.{eqb_tells}
 use Rattle.numa_machine.specs.Machine.{frames_of}
-use Rattle.numa_space.specs.declared.request.Request.{Request}
+use Rattle.numa_requests.specs.declared.request.Request.{Request}
 use Rattle.numa_machine.specs.declared.frame.Frame.{Frame}
-use Rattle.numa_space.specs.declared.placement.Placement.{Placement}
-use Rattle.numa_space.specs.declared.event.Event.TheVariants.{Try}
-use Rattle.numa_space.specs.declared.event.CoreReply.TheVariants.{Won}
+use Rattle.numa_requests.specs.declared.placement.Placement.{Placement}
+use Rattle.numa_requests.specs.declared.event.Event.TheVariants.{Try}
+use Rattle.numa_requests.specs.declared.event.CoreReply.TheVariants.{Won}
 use Rattle.numa_core.specs.World.{Setup, FrameSearch, owner_of, any_below, first_place, one_further}
 use Rattle.numa_core.specs.World.{current_rank, at_current, has_unmet}
 use Rattle.numa_core.specs.Steps.{refusal_of, reply_of, placement_of, IsAnswer}

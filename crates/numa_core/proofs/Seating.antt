@@ -6,13 +6,13 @@ use Rattle.std.proofs.Common.{MatchOption, unwrap_or}
 use Rattle.std.specs.Option.{option_map_or}
 use Rattle.std.proofs.lemmas.Bool.{eq-eqb}
 use Rattle.std.proofs.lemmas.Bool.Decides.{eqb_tells}
-use Rattle.numa_space.specs.declared.request.Request.{Request}
+use Rattle.numa_requests.specs.declared.request.Request.{Request}
 use Rattle.numa_machine.specs.declared.frame.Frame.{Frame}
-use Rattle.numa_space.specs.declared.placement.Placement.{Placement}
-use Rattle.numa_space.specs.declared.event.CoreReply.{CoreReply}
-use Rattle.numa_space.specs.declared.event.CoreReply.TheVariants.{Won}
-use Rattle.numa_space.specs.declared.event.CoreRefusal.{CoreRefusal}
-use Rattle.numa_space.specs.declared.event.CoreRefusal.TheVariants.{BadTry, Idle}
+use Rattle.numa_requests.specs.declared.placement.Placement.{Placement}
+use Rattle.numa_requests.specs.declared.event.CoreReply.{CoreReply}
+use Rattle.numa_requests.specs.declared.event.CoreReply.TheVariants.{Won}
+use Rattle.numa_requests.specs.declared.event.CoreRefusal.{CoreRefusal}
+use Rattle.numa_requests.specs.declared.event.CoreRefusal.TheVariants.{BadTry, Idle}
 use Rattle.numa_core.specs.declared.seat.Cursor.{Cursor}
 use Rattle.numa_core.specs.declared.seat.OngoingSearch.{OngoingSearch}
 use Rattle.numa_core.specs.declared.seat.WorkerSeat.{WorkerSeat}

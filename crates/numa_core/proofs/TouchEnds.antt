@@ -1,13 +1,13 @@
 -- How a touch ends in a core that stands for a world.
 use Rattle.std.proofs.Common.{◌≡◌, ℕ, false, Option, Some, None, Ok, Err, is_some, is_none}
 use Rattle.std.proofs.Common.{unwrap_or, List, [], nat_le, refl, sym, ap, subst, ◌∙◌}
-use Rattle.numa_space.specs.declared.request.Request.{Request}
+use Rattle.numa_requests.specs.declared.request.Request.{Request}
 use Rattle.numa_core.specs.declared.state.State.{State}
 use Rattle.numa_core.specs.declared.free_frames.FreeFrame.{FreeFrame}
-use Rattle.numa_space.specs.declared.event.CoreReply.TheVariants.{Exhausted, Won}
-use Rattle.numa_space.specs.declared.event.CoreRefusal.{CoreRefusal}
-use Rattle.numa_space.specs.declared.event.CoreRefusal.TheVariants.{NoSuchWorker, Busy, BadCpu}
-use Rattle.numa_space.specs.declared.event.CoreRefusal.TheVariants.{Unmapped}
+use Rattle.numa_requests.specs.declared.event.CoreReply.TheVariants.{Exhausted, Won}
+use Rattle.numa_requests.specs.declared.event.CoreRefusal.{CoreRefusal}
+use Rattle.numa_requests.specs.declared.event.CoreRefusal.TheVariants.{NoSuchWorker, Busy, BadCpu}
+use Rattle.numa_requests.specs.declared.event.CoreRefusal.TheVariants.{Unmapped}
 use Rattle.numa_core.specs.World.{FrameSearch, World, newest_published, frame_search_of, list_at}
 use Rattle.numa_core.specs.Steps.{with_owner, put_frame}
 use Rattle.numa_core.specs.Standing.{CoreState, CoreStandsFor, setup_of, owner_at, place_in}

@@ -3,9 +3,9 @@ use Rattle.std.proofs.Common.{zero, suc, ◌≡◌, ℕ, Bool, true, false, Opti
 use Rattle.std.proofs.Common.{[], ◌∷◌, ◌++◌, sum, refl, inl, if◌then◌else◌}
 use Rattle.std.specs.Option.{option_map, option_map_or}
 use Rattle.numa_machine.specs.declared.frame.Frame.{Frame}
-use Rattle.numa_space.specs.declared.request.Request.{Request}
-use Rattle.numa_space.specs.declared.event.Event.{Event}
-use Rattle.numa_space.specs.declared.event.Event.TheVariants.{Begin, Try}
+use Rattle.numa_requests.specs.declared.request.Request.{Request}
+use Rattle.numa_requests.specs.declared.event.Event.{Event}
+use Rattle.numa_requests.specs.declared.event.Event.TheVariants.{Begin, Try}
 use Rattle.numa_core.specs.World.{Setup, newest_published}
 use Rattle.numa_core.specs.Steps.{answer_of}
 use Rattle.numa_core.specs.Executions.{CoreStep, IsExecution, world_of, next_core_step}

@@ -13,11 +13,11 @@ use Rattle.numa_machine.specs.declared.refusal.PlaceRefusal.{PlaceRefusal}
 use Rattle.numa_machine.specs.declared.refusal.PlaceRefusal.TheVariants.{BadCpu as NoCpu}
 use Rattle.numa_machine.specs.declared.refusal.PlaceRefusal.TheVariants.{Unmapped as NoPage}
 use Rattle.numa_plan.specs.Meaning.{PlanData, planned_list, place_refusal}
-use Rattle.numa_space.specs.declared.request.Request.{Request}
+use Rattle.numa_requests.specs.declared.request.Request.{Request}
 use Rattle.numa_core.specs.declared.seat.OngoingSearch.{OngoingSearch}
 use Rattle.numa_core.specs.declared.seat.WorkerSeat.{WorkerSeat}
-use Rattle.numa_space.specs.declared.event.Event.TheVariants.{Begin}
-use Rattle.numa_space.specs.declared.event.CoreRefusal.TheVariants.{BadCpu, Unmapped}
+use Rattle.numa_requests.specs.declared.event.Event.TheVariants.{Begin}
+use Rattle.numa_requests.specs.declared.event.CoreRefusal.TheVariants.{BadCpu, Unmapped}
 use Rattle.numa_core.specs.World.{World, newest_published, first_commands, frame_search_of, list_at}
 use Rattle.numa_core.specs.Steps.{refusal_of, first_refusal}
 use Rattle.numa_core.specs.Standing.{CoreState, CoreStandsFor, Busy, setup_of, frame_search_by}

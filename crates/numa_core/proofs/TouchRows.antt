@@ -6,14 +6,15 @@ use Rattle.numa_machine.specs.Machine.{fallback_order}
 use Rattle.numa_machine.specs.Weights.{interleave_node}
 use Rattle.numa_mode.specs.declared.modes.Mode.TheVariants.{Bind, PreferredMany, Interleave}
 use Rattle.numa_mode.specs.declared.modes.NodeFlag.TheVariants.{Plain}
-use Rattle.numa_space.specs.declared.command.Command.{Command}
-use Rattle.numa_space.specs.declared.command.Command.TheVariants.{Map, Mbind, SetTask}
+use Rattle.numa_requests.specs.declared.command.Command.{Command}
+use Rattle.numa_requests.specs.declared.command.Command.TheVariants.{Map, Mbind, SetTask}
 use Rattle.numa_space.proofs.Rows.{asked}
-use Rattle.numa_space.specs.declared.request.Request.{Request}
-use Rattle.numa_space.specs.declared.event.CoreReply.{CoreReply}
-use Rattle.numa_space.specs.declared.event.CoreReply.TheVariants.{Exhausted}
-use Rattle.numa_space.specs.declared.event.CoreRefusal.{CoreRefusal}
-use Rattle.numa_space.specs.declared.event.CoreRefusal.TheVariants.{NoSuchWorker, BadCpu, Unmapped}
+use Rattle.numa_requests.specs.declared.request.Request.{Request}
+use Rattle.numa_requests.specs.declared.event.CoreReply.{CoreReply}
+use Rattle.numa_requests.specs.declared.event.CoreReply.TheVariants.{Exhausted}
+use Rattle.numa_requests.specs.declared.event.CoreRefusal.{CoreRefusal}
+use Rattle.numa_requests.specs.declared.event.CoreRefusal.TheVariants.{NoSuchWorker, BadCpu}
+use Rattle.numa_requests.specs.declared.event.CoreRefusal.TheVariants.{Unmapped}
 use Rattle.numa_core.specs.World.{Setup, World, opening, list_at}
 use Rattle.numa_core.specs.Touching.{result_of_touch}
 use Rattle.numa_core.proofs.Rows.{four_on, with_frames, fault, won}

@@ -5,8 +5,8 @@ use Rattle.std.proofs.Common.{None, Ok, List, [], ◌∷◌, length, refl, ap, a
 use Rattle.std.proofs.Common.{if◌then◌else◌, slice_index}
 use Rattle.std.proofs.lemmas.Bool.{eq-eqb}
 use Rattle.numa_machine.specs.declared.frame.Frame.{Frame}
-use Rattle.numa_space.specs.declared.event.Event.TheVariants.{Try}
-use Rattle.numa_space.specs.declared.event.CoreReply.TheVariants.{Won}
+use Rattle.numa_requests.specs.declared.event.Event.TheVariants.{Try}
+use Rattle.numa_requests.specs.declared.event.CoreReply.TheVariants.{Won}
 use Rattle.numa_core.specs.World.{Setup, FrameSearch, Worker, World, newest_published}
 use Rattle.numa_core.specs.World.{frame_search_of, last_of, owner_of, may_try, frame_search_past}
 use Rattle.numa_core.specs.Steps.{refusal_of, goes_on, going_on, placement_of, with_worker}

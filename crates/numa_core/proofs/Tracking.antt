@@ -4,13 +4,13 @@ use Rattle.std.proofs.Common.{Option, Some, None, Result, Ok, Err, is_some, is_o
 use Rattle.std.proofs.Common.{length, refl, sym, ap, subst, ◌∙◌, arith, if◌then◌else◌}
 use Rattle.std.specs.Option.{option_map_or}
 use Rattle.std.proofs.lemmas.Bool.{eqb-true}
-use Rattle.numa_space.specs.declared.request.Request.{Request}
+use Rattle.numa_requests.specs.declared.request.Request.{Request}
 use Rattle.numa_machine.specs.declared.frame.Frame.{Frame}
-use Rattle.numa_space.specs.declared.event.Event.{Event}
-use Rattle.numa_space.specs.declared.event.Event.TheVariants.{Accept, Publish, Begin, Look, Try}
-use Rattle.numa_space.specs.declared.event.Event.TheVariants.{Give}
-use Rattle.numa_space.specs.declared.event.CoreReply.{CoreReply}
-use Rattle.numa_space.specs.declared.event.CoreRefusal.{CoreRefusal}
+use Rattle.numa_requests.specs.declared.event.Event.{Event}
+use Rattle.numa_requests.specs.declared.event.Event.TheVariants.{Accept, Publish, Begin, Look, Try}
+use Rattle.numa_requests.specs.declared.event.Event.TheVariants.{Give}
+use Rattle.numa_requests.specs.declared.event.CoreReply.{CoreReply}
+use Rattle.numa_requests.specs.declared.event.CoreRefusal.{CoreRefusal}
 use Rattle.numa_core.specs.World.{Setup, FrameSearch, Worker, World, is_frame, is_published}
 use Rattle.numa_core.specs.World.{frame_search_of, owner_of, first_commands, list_at, at_current}
 use Rattle.numa_core.specs.World.{new_frame_search, frame_search_after_look, frame_search_past}
@@ -18,7 +18,7 @@ use Rattle.numa_core.specs.Steps.{refusal_of, effect_of, going_on, IsAnswer, May
 use Rattle.numa_core.specs.Executions.{CoreStep, Begun, world_of, IsExecution, begun_at, last_begin}
 use Rattle.numa_core.specs.Executions.{or_else, finds, found_owned}
 use Rattle.numa_core.proofs.Answered.{replied, one_frame}
-use Rattle.numa_space.specs.declared.command.Command.{Command}
+use Rattle.numa_requests.specs.declared.command.Command.{Command}
 use Rattle.numa_machine.specs.Machine.{Hardware}
 use Rattle.numa_space.specs.Lists.{node_list}
 use Rattle.numa_space.specs.Pages.{is_mapped}

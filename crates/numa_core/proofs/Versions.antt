@@ -6,12 +6,12 @@ use Rattle.std.specs.List.{list_any}
 use Rattle.std.specs.Option.{option_map_or}
 use Rattle.std.proofs.lemmas.Bool.{eq-eqb, eqb-true}
 use Rattle.numa_machine.specs.declared.frame.Frame.{Frame}
-use Rattle.numa_space.specs.declared.event.Event.{Event}
-use Rattle.numa_space.specs.declared.event.Event.TheVariants.{Accept, Publish, Begin, Look, Try}
-use Rattle.numa_space.specs.declared.event.Event.TheVariants.{Give}
-use Rattle.numa_space.specs.declared.event.CoreReply.{CoreReply}
-use Rattle.numa_space.specs.declared.event.CoreReply.TheVariants.{Still, Exhausted, Won}
-use Rattle.numa_space.specs.declared.event.CoreRefusal.{CoreRefusal}
+use Rattle.numa_requests.specs.declared.event.Event.{Event}
+use Rattle.numa_requests.specs.declared.event.Event.TheVariants.{Accept, Publish, Begin, Look, Try}
+use Rattle.numa_requests.specs.declared.event.Event.TheVariants.{Give}
+use Rattle.numa_requests.specs.declared.event.CoreReply.{CoreReply}
+use Rattle.numa_requests.specs.declared.event.CoreReply.TheVariants.{Still, Exhausted, Won}
+use Rattle.numa_requests.specs.declared.event.CoreRefusal.{CoreRefusal}
 use Rattle.numa_core.specs.World.{Setup, FrameSearch, Worker, World, is_published, last_of}
 use Rattle.numa_core.specs.World.{frame_search_of, owner_of, current_rank, new_frame_search}
 use Rattle.numa_core.specs.World.{frame_search_after_look, frame_search_past}

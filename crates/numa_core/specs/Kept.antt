@@ -2,9 +2,9 @@
 use Rattle.std.specs.Prelude.{◌≡◌, ℕ, ◌≤◌, Some, OnErr, length, vec_len, slice_get, Result}
 use Rattle.numa_core.specs.declared.state.State.{State}
 use Rattle.numa_core.specs.declared.seat.WorkerSeat.{WorkerSeat}
-use Rattle.numa_space.specs.declared.event.Event.{Event}
-use Rattle.numa_space.specs.declared.event.CoreReply.{CoreReply}
-use Rattle.numa_space.specs.declared.event.CoreRefusal.{CoreRefusal}
+use Rattle.numa_requests.specs.declared.event.Event.{Event}
+use Rattle.numa_requests.specs.declared.event.CoreReply.{CoreReply}
+use Rattle.numa_requests.specs.declared.event.CoreRefusal.{CoreRefusal}
 use Rattle.numa_core.specs.World.{World, newest_published}
 use Rattle.numa_core.specs.Steps.{IsAnswer, world_after}
 use Rattle.numa_core.specs.Standing.{CoreState, CoreStandsFor, setup_of, frames_before}

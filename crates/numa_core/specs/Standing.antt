@@ -10,10 +10,10 @@ use Rattle.numa_compile.specs.Standing.{PlanStandsFor}
 use Rattle.numa_core.specs.World.{Setup, FrameSearch, World, newest_published, is_published}
 use Rattle.numa_core.specs.World.{first_commands, frame_search_of, last_of}
 use Rattle.numa_core.specs.Executions.{CoreStep, IsExecution, world_of}
-use Rattle.numa_space.specs.declared.request.Request.{Request}
-use Rattle.numa_space.specs.declared.event.Event.{Event}
-use Rattle.numa_space.specs.declared.event.CoreReply.{CoreReply}
-use Rattle.numa_space.specs.declared.event.CoreRefusal.{CoreRefusal}
+use Rattle.numa_requests.specs.declared.request.Request.{Request}
+use Rattle.numa_requests.specs.declared.event.Event.{Event}
+use Rattle.numa_requests.specs.declared.event.CoreReply.{CoreReply}
+use Rattle.numa_requests.specs.declared.event.CoreRefusal.{CoreRefusal}
 
 -- ---- frames in a row
 

@@ -6,21 +6,21 @@ use Rattle.std.specs.Prelude.{List, [], ◌∷◌, length, nat_le, if◌then◌e
 use Rattle.std.specs.Option.{option_map_or}
 use Rattle.numa_space.specs.Refusals.{refusal_of as command_refusal}
 use Rattle.numa_space.specs.Steps.{MayNeedRoom}
-use Rattle.numa_space.specs.declared.refusal.Refusal.{Refusal}
-use Rattle.numa_space.specs.declared.refusal.Refusal.TheVariants.{NoMemory as NoRoom}
+use Rattle.numa_requests.specs.declared.refusal.Refusal.{Refusal}
+use Rattle.numa_requests.specs.declared.refusal.Refusal.TheVariants.{NoMemory as NoRoom}
 use Rattle.numa_machine.specs.declared.frame.Frame.{Frame}
-use Rattle.numa_space.specs.declared.placement.Placement.{Placement}
-use Rattle.numa_space.specs.declared.event.Event.{Event}
-use Rattle.numa_space.specs.declared.event.Event.TheVariants.{Accept, Publish, Begin}
-use Rattle.numa_space.specs.declared.event.Event.TheVariants.{Look, Try, Give}
-use Rattle.numa_space.specs.declared.event.CoreReply.{CoreReply}
-use Rattle.numa_space.specs.declared.event.CoreReply.TheVariants.{Accepted, Published, Still}
-use Rattle.numa_space.specs.declared.event.CoreReply.TheVariants.{Exhausted, Won, Given}
-use Rattle.numa_space.specs.declared.event.CoreRefusal.{CoreRefusal}
-use Rattle.numa_space.specs.declared.event.CoreRefusal.TheVariants.{Command as Because}
-use Rattle.numa_space.specs.declared.event.CoreRefusal.TheVariants.{NoSuchWorker, Busy, Idle}
-use Rattle.numa_space.specs.declared.event.CoreRefusal.TheVariants.{BadTry, NotOwned, BadCpu}
-use Rattle.numa_space.specs.declared.event.CoreRefusal.TheVariants.{Unmapped, NoMemory}
+use Rattle.numa_requests.specs.declared.placement.Placement.{Placement}
+use Rattle.numa_requests.specs.declared.event.Event.{Event}
+use Rattle.numa_requests.specs.declared.event.Event.TheVariants.{Accept, Publish, Begin}
+use Rattle.numa_requests.specs.declared.event.Event.TheVariants.{Look, Try, Give}
+use Rattle.numa_requests.specs.declared.event.CoreReply.{CoreReply}
+use Rattle.numa_requests.specs.declared.event.CoreReply.TheVariants.{Accepted, Published, Still}
+use Rattle.numa_requests.specs.declared.event.CoreReply.TheVariants.{Exhausted, Won, Given}
+use Rattle.numa_requests.specs.declared.event.CoreRefusal.{CoreRefusal}
+use Rattle.numa_requests.specs.declared.event.CoreRefusal.TheVariants.{Command as Because}
+use Rattle.numa_requests.specs.declared.event.CoreRefusal.TheVariants.{NoSuchWorker, Busy, Idle}
+use Rattle.numa_requests.specs.declared.event.CoreRefusal.TheVariants.{BadTry, NotOwned, BadCpu}
+use Rattle.numa_requests.specs.declared.event.CoreRefusal.TheVariants.{Unmapped, NoMemory}
 use Rattle.numa_core.specs.World.{Setup, FrameSearch, World, is_published, last_of, frame_search_of}
 use Rattle.numa_core.specs.World.{owner_of, is_frame, list_at, current_rank, may_look}
 use Rattle.numa_core.specs.World.{may_try, new_frame_search, frame_search_after_look}

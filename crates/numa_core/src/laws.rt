@@ -8,15 +8,15 @@ ghost use Rattle.numa_space.specs.Standing.{IsAccepted, IsNodeList};
 ghost use Rattle.numa_core.specs.World.{Setup, first_commands, is_published};
 ghost use Rattle.numa_core.specs.World.{list_at, newest_published};
 ghost use Rattle.numa_core.specs.Standing.{CoreState, CoreStandsFor, ShowsWorld, setup_of};
-ghost use Rattle.numa_space.specs.declared.request.Request.{Request};
+ghost use Rattle.numa_requests.specs.declared.request.Request.{Request};
 ghost use Rattle.numa_core.specs.Executions.{CoreStep, accepts, world_of, next_core_step};
 ghost use Rattle.numa_core.specs.Executions.{IsExecution};
 ghost use Rattle.numa_core.specs.Executions.{IsRightPlacement, IsExhausted, IsWin, worker_of};
 ghost use Rattle.numa_core.specs.Executions.{gives_back, version_told};
-ghost use Rattle.numa_space.specs.declared.event.Event.{Event};
-ghost use Rattle.numa_space.specs.declared.event.CoreReply.{CoreReply};
+ghost use Rattle.numa_requests.specs.declared.event.Event.{Event};
+ghost use Rattle.numa_requests.specs.declared.event.CoreReply.{CoreReply};
 ghost use Rattle.numa_machine.specs.declared.frame.Frame.{Frame};
-ghost use Rattle.numa_space.specs.declared.placement.Placement.{Placement};
+ghost use Rattle.numa_requests.specs.declared.placement.Placement.{Placement};
 
 /// In every execution, for any machine, limits and number of workers: each Won replies to a Try of
 /// its frame, and its placement is right; at each Exhausted the worker has found every frame of its

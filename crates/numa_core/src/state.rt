@@ -11,7 +11,7 @@ ghost use Rattle.numa_core.specs.Hints.{AreTaken, IsLow};
 ghost use Rattle.numa_core.specs.Seats.{SeatFits, IsSeatCopy};
 ghost use Rattle.numa_core.specs.Touching.{touch_answer, touch_world};
 ghost use Rattle.numa_core.specs.declared.seat.WorkerSeat.{WorkerSeat};
-ghost use Rattle.numa_space.specs.declared.event.Event.{Event};
+ghost use Rattle.numa_requests.specs.declared.event.Event.{Event};
 
 use crate::free_frames::{Known, first_free, known_copy, none_taken};
 use crate::judging::{row_for, seated};
@@ -22,8 +22,7 @@ use crate::unpublished::Unpublished;
 use numa_compile::{PlannedSpace, compile};
 use numa_machine::{Frame, Machine, NoMemory};
 use numa_plan::Plan;
-use numa_space::event::{CoreRefusal, CoreReply};
-use numa_space::{Limits, Placement, Request};
+use numa_space::{CoreRefusal, CoreReply, Limits, Placement, Request};
 use std::alloc::Global;
 
 /// The space of all accepted commands with its working plan, the plan of those that are published,

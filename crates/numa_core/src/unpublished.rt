@@ -2,7 +2,7 @@
 ghost use Rattle.std.specs.Prelude.{◌≡◌, List};
 ghost use Rattle.std.specs.Bool.{OnTrue, OnFalse};
 ghost use Rattle.numa_space.specs.Changed.{IsChange};
-ghost use Rattle.numa_space.specs.declared.command.Command.{Command};
+ghost use Rattle.numa_requests.specs.declared.command.Command.{Command};
 ghost use Rattle.numa_space.specs.Standing.{SpaceState, StandsFor};
 ghost use Rattle.numa_space.specs.Steps.{IsStep};
 ghost use Rattle.numa_plan.specs.Meaning.{PlanData};

@@ -5,8 +5,8 @@ use Rattle.std.specs.Prelude.{Some, Result, Ok, Err, slice_get, slice_index_or, 
 use Rattle.std.proofs.Math.Nat.{div-add-mod, lt_of_mul-lt-mul_left}
 use native.Mathlib.Decide.{ℕ_discrete}
 use Rattle.numa_machine.specs.declared.frame.Frame.{Frame}
-use Rattle.numa_space.specs.declared.placement.Placement.{Placement}
-use Rattle.numa_space.specs.declared.request.Request.{Request}
+use Rattle.numa_requests.specs.declared.placement.Placement.{Placement}
+use Rattle.numa_requests.specs.declared.request.Request.{Request}
 use Rattle.numa_pool.specs.Frames.{is_frame, one_if, times}
 use Rattle.numa_fault.specs.Crew.{HaveSeats, Serves, ServesEach, column, result_of}
 use Rattle.numa_fault.specs.Fault.{Faults}

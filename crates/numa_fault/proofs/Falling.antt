@@ -2,8 +2,8 @@
 use Rattle.std.proofs.Common.{◌≡◌, ℕ, zero, suc, ◌≤◌, List, [], ◌∷◌, ◌++◌, length, sym, ap, ◌∙◌}
 use Rattle.std.proofs.Common.{arith, append_assoc, length-append}
 use Rattle.std.specs.Prelude.{Some}
-use Rattle.numa_space.specs.declared.request.Request.{Request}
-use Rattle.numa_space.specs.declared.command.Command.{Command}
+use Rattle.numa_requests.specs.declared.request.Request.{Request}
+use Rattle.numa_requests.specs.declared.command.Command.{Command}
 use Rattle.numa_publish.specs.Batches.{Extends}
 use Rattle.numa_fault.specs.Crew.{Serves, result_of}
 use Rattle.numa_fault.specs.Fault.{Faults}

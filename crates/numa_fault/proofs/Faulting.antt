@@ -1,8 +1,8 @@
 -- What was served by a view is a fault.
 use Rattle.std.proofs.Common.{ℕ, List}
 use Rattle.std.specs.Prelude.{Result, Ok, Err}
-use Rattle.numa_space.specs.declared.placement.Placement.{Placement}
-use Rattle.numa_space.specs.declared.request.Request.{Request}
+use Rattle.numa_requests.specs.declared.placement.Placement.{Placement}
+use Rattle.numa_requests.specs.declared.request.Request.{Request}
 use Rattle.numa_pool.specs.Seats.{SeatView}
 use Rattle.numa_publish.specs.Shown.{ReaderState}
 use Rattle.numa_fault.specs.Fault.{LetsIn, IsServed, Faults}

@@ -1,6 +1,6 @@
 -- One more request of a worker.
 use Rattle.std.proofs.Common.{◌≡◌, ℕ, suc, List, [], ◌∷◌, ◌++◌, length, refl, ap, subst}
-use Rattle.numa_space.specs.declared.request.Request.{Request}
+use Rattle.numa_requests.specs.declared.request.Request.{Request}
 use Rattle.numa_fault.specs.Crew.{Serves, result_of}
 use Rattle.numa_fault.specs.Fault.{Faults}
 use Rattle.numa_fault.specs.Worker.{Parts}

@@ -3,7 +3,7 @@ use Rattle.std.proofs.Common.{◌≡◌, ℕ, suc, ◌+◌, ◌-◌, ◌<◌, Li
 use Rattle.std.proofs.Common.{refl, sym, subst, ◌∙◌, arith}
 use Rattle.std.proofs.lemmas.Bool.Decides.{nat_tests}
 use Rattle.std.specs.Prelude.{None, nat_le}
-use Rattle.numa_space.specs.declared.placement.Placement.{Placement}
+use Rattle.numa_requests.specs.declared.placement.Placement.{Placement}
 use Rattle.numa_machine.specs.Machine.{Hardware}
 use Rattle.numa_pool.specs.Seats.{SeatView}
 use Rattle.numa_compile.specs.Spans.{SpanIsRefused}
@@ -11,8 +11,8 @@ use Rattle.numa_publish.specs.Spans.{SpanStands}
 use Rattle.numa_machine.specs.declared.refusal.PlaceRefusal.{PlaceRefusal}
 use Rattle.numa_machine.specs.declared.refusal.PlaceRefusal.TheVariants.{BadCpu, Unmapped}
 use Rattle.numa_space.specs.Pages.{is_mapped}
-use Rattle.numa_space.specs.declared.command.Command.{Command}
-use Rattle.numa_space.specs.declared.request.Request.{Request}
+use Rattle.numa_requests.specs.declared.command.Command.{Command}
+use Rattle.numa_requests.specs.declared.request.Request.{Request}
 use Rattle.numa_fault.specs.Fault.{refusal_of, Places}
 use Rattle.numa_fault.specs.Span.{request_at, PlacesEach}
 use Rattle.numa_fault.specs.declared.span.Span.{Span}

@@ -1,7 +1,7 @@
 -- What a migration does: a seat walks one node for a frame, and gives up the old one.
 use Rattle.std.specs.Prelude.{◌≡◌, ℕ, ◌<◌, ◌++◌, List, [], ◌∷◌, Some, None, Result, Ok, Err}
 use Rattle.std.specs.Prelude.{slice_index}
-use Rattle.numa_space.specs.declared.placement.Placement.{Placement}
+use Rattle.numa_requests.specs.declared.placement.Placement.{Placement}
 use Rattle.numa_pool.specs.Frames.{times, without}
 use Rattle.numa_pool.specs.Seats.{SeatView}
 use Rattle.numa_pool.specs.Walk.{IsWalk, LoadsOnce, TriesOnce}

@@ -1,12 +1,12 @@
 -- What a fault on a span of pages does.
 use Rattle.std.specs.Prelude.{◌≡◌, ℕ, ◌+◌, ◌<◌, ◌++◌, List, [], ◌∷◌, length, Result, Ok, Err}
 use Rattle.numa_compile.specs.Spans.{SpanIsRefused}
-use Rattle.numa_space.specs.declared.placement.Placement.{Placement}
-use Rattle.numa_space.specs.declared.request.Request.{Request}
+use Rattle.numa_requests.specs.declared.placement.Placement.{Placement}
+use Rattle.numa_requests.specs.declared.request.Request.{Request}
 use Rattle.numa_machine.specs.Machine.{Hardware}
 use Rattle.numa_pool.specs.Seats.{SeatView}
 use Rattle.numa_publish.specs.Spans.{SpanStands}
-use Rattle.numa_space.specs.declared.command.Command.{Command}
+use Rattle.numa_requests.specs.declared.command.Command.{Command}
 use Rattle.numa_machine.specs.declared.refusal.PlaceRefusal.{PlaceRefusal}
 use Rattle.numa_machine.specs.declared.refusal.PlaceRefusal.TheVariants.{BadCpu as cpu_is_bad}
 use Rattle.numa_machine.specs.declared.refusal.PlaceRefusal.TheVariants.{Unmapped as is_unmapped}

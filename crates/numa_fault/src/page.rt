@@ -1,7 +1,7 @@
 //! Placing one page of a span whose first node is known.
 ghost use Rattle.std.specs.Prelude.{◌≡◌, ◌<◌, ◌++◌, List, None, Some, length, slice_index};
 ghost use Rattle.std.specs.Prelude.{MatchOption, IfSome, slice_get};
-ghost use Rattle.numa_space.specs.declared.placement.Placement.{Placement};
+ghost use Rattle.numa_requests.specs.declared.placement.Placement.{Placement};
 ghost use Rattle.numa_pool.specs.Frames.{with_found, times};
 ghost use Rattle.numa_pool.specs.Walk.{WalksInOrder};
 ghost use Rattle.numa_pool.specs.declared.view.Entry.{Entry};

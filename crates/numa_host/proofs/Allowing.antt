@@ -17,10 +17,10 @@ use Rattle.numa_space.specs.Policies.{mems_of}
 use Rattle.numa_space.specs.Refusals.{lacks_mems, refusal_in, refusal_of}
 use Rattle.numa_space.specs.Standing.{SpaceState, HasHistory}
 use Rattle.numa_space.specs.Steps.{scene_in, IsApplied, IsStep, MayNeedRoom}
-use Rattle.numa_space.specs.declared.command.Command.{Command}
-use Rattle.numa_space.specs.declared.command.Command.TheVariants.{SetMems}
-use Rattle.numa_space.specs.declared.refusal.Refusal.{Refusal}
-use Rattle.numa_space.specs.declared.refusal.Refusal.TheVariants.{NoMemory}
+use Rattle.numa_requests.specs.declared.command.Command.{Command}
+use Rattle.numa_requests.specs.declared.command.Command.TheVariants.{SetMems}
+use Rattle.numa_requests.specs.declared.refusal.Refusal.{Refusal}
+use Rattle.numa_requests.specs.declared.refusal.Refusal.TheVariants.{NoMemory}
 use Rattle.numa_space.proofs.Refused.{refusal-same}
 
 -- a command that never wants memory, and against which nothing stands, isn't refused

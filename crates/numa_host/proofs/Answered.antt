@@ -4,9 +4,9 @@ use Rattle.std.specs.Option.{option_map}
 use Rattle.numa_machine.specs.Machine.{Hardware}
 use Rattle.numa_space.specs.Limited.{Bounds}
 use Rattle.numa_space.specs.Refusals.{refusal_of, scene_of}
-use Rattle.numa_space.specs.declared.command.Command.{Command}
-use Rattle.numa_space.specs.declared.refusal.Refusal.{Refusal}
-use Rattle.numa_space.specs.declared.refusal.Refusal.TheVariants as own
+use Rattle.numa_requests.specs.declared.command.Command.{Command}
+use Rattle.numa_requests.specs.declared.refusal.Refusal.{Refusal}
+use Rattle.numa_requests.specs.declared.refusal.Refusal.TheVariants as own
 use Rattle.numa_space.proofs.Refused.{refusal-not_memory}
 use Rattle.numa_host.specs.declared.refusal.HostRefusal.TheVariants.{OfSpace, NoMemory}
 use Rattle.numa_host.specs.Answers.{of_space}

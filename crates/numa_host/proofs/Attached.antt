@@ -5,7 +5,7 @@ use Rattle.std.proofs.Common.{subst, arith, inl, inr}
 use Rattle.std.proofs.lemmas.Bool.{both_ways, cases_Bool, cases_lt, eq-eqb, eqb-true, ne_eqb}
 use Rattle.std.proofs.lemmas.Simd.{map-map}
 use Rattle.numa_space.specs.Standing.{StandsFor}
-use Rattle.numa_space.specs.declared.command.Command.{Command}
+use Rattle.numa_requests.specs.declared.command.Command.{Command}
 use Rattle.numa_host.specs.declared.command.HostCommand.{HostCommand}
 use Rattle.numa_host.specs.declared.command.HostCommand.TheVariants.{Attach}
 use Rattle.numa_host.specs.declared.process.Process.{Process}

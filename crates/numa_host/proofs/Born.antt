@@ -8,7 +8,7 @@ use Rattle.std.proofs.lemmas.List.Elements.{All-push}
 use Rattle.std.proofs.lemmas.List.Quantifiers.{all_pairs_push}
 use Rattle.std.specs.List.{list_any}
 use Rattle.numa_space.specs.Standing.{StandsFor}
-use Rattle.numa_space.specs.declared.command.Command.{Command}
+use Rattle.numa_requests.specs.declared.command.Command.{Command}
 use Rattle.numa_host.specs.declared.command.HostCommand.{HostCommand}
 use Rattle.numa_host.specs.declared.command.HostCommand.TheVariants.{NewProcess}
 use Rattle.numa_host.specs.declared.process.Process.{Process}

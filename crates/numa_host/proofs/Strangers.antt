@@ -6,8 +6,8 @@ use Rattle.std.proofs.lemmas.Bool.{both_ways, cases_Bool, eqb-true, ne_eqb}
 use Rattle.std.specs.Option.{option_map, option_map_or}
 use Rattle.std.specs.Prelude.{unwrap_or}
 use Rattle.numa_machine.specs.Machine.{Hardware}
-use Rattle.numa_space.specs.declared.command.Command.{Command}
-use Rattle.numa_space.specs.declared.command.Command.TheVariants as own
+use Rattle.numa_requests.specs.declared.command.Command.{Command}
+use Rattle.numa_requests.specs.declared.command.Command.TheVariants as own
 use Rattle.numa_host.specs.declared.command.HostCommand.{HostCommand}
 use Rattle.numa_host.specs.declared.command.HostCommand.TheVariants.{NewGroup, SetGroupMems}
 use Rattle.numa_host.specs.declared.command.HostCommand.TheVariants.{NewProcess, Exit, Attach}

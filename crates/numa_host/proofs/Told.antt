@@ -11,10 +11,10 @@ use Rattle.numa_machine.specs.Machine.{Hardware}
 use Rattle.numa_space.specs.Refusals.{refusal_of}
 use Rattle.numa_space.specs.Standing.{StandsFor}
 use Rattle.numa_space.specs.Steps.{allowed_next, MayNeedRoom}
-use Rattle.numa_space.specs.declared.command.Command.{Command}
-use Rattle.numa_space.specs.declared.command.Command.TheVariants as own
-use Rattle.numa_space.specs.declared.refusal.Refusal.{Refusal}
-use Rattle.numa_space.specs.declared.refusal.Refusal.TheVariants as cause
+use Rattle.numa_requests.specs.declared.command.Command.{Command}
+use Rattle.numa_requests.specs.declared.command.Command.TheVariants as own
+use Rattle.numa_requests.specs.declared.refusal.Refusal.{Refusal}
+use Rattle.numa_requests.specs.declared.refusal.Refusal.TheVariants as cause
 use Rattle.numa_host.specs.declared.command.HostCommand.{HostCommand}
 use Rattle.numa_host.specs.declared.command.HostCommand.TheVariants.{In}
 use Rattle.numa_host.specs.declared.process.Process.{Process}

@@ -1,10 +1,10 @@
 -- What a space answers, as an answer of the host, and the error number of each refusal
 -- (errno(3)).
 use Rattle.numa_space.specs.Errors.{errno_of}
-use Rattle.numa_space.specs.declared.refusal.Errno.TheVariants.{EInval, ENoMem, EExist, ENoSpc}
-use Rattle.numa_space.specs.declared.refusal.Errno.TheVariants.{ENoEnt}
-use Rattle.numa_space.specs.declared.refusal.Refusal.{Refusal}
-use Rattle.numa_space.specs.declared.refusal.Refusal.TheVariants as own
+use Rattle.numa_requests.specs.declared.refusal.Errno.TheVariants.{EInval, ENoMem, EExist, ENoSpc}
+use Rattle.numa_requests.specs.declared.refusal.Errno.TheVariants.{ENoEnt}
+use Rattle.numa_requests.specs.declared.refusal.Refusal.{Refusal}
+use Rattle.numa_requests.specs.declared.refusal.Refusal.TheVariants as own
 use Rattle.numa_host.specs.declared.refusal.HostErrno.{HostErrno}
 use Rattle.numa_host.specs.declared.refusal.HostErrno.TheVariants as number
 use Rattle.numa_host.specs.declared.refusal.HostRefusal.{HostRefusal}

@@ -8,8 +8,8 @@ use Rattle.numa_mask.specs.NodeSet.{members}
 use Rattle.numa_machine.specs.Machine.{Hardware}
 use Rattle.numa_space.specs.Limited.{Bounds}
 use Rattle.numa_space.specs.Refusals.{refusal_of}
-use Rattle.numa_space.specs.declared.command.Command.{Command}
-use Rattle.numa_space.specs.declared.command.Command.TheVariants as own
+use Rattle.numa_requests.specs.declared.command.Command.{Command}
+use Rattle.numa_requests.specs.declared.command.Command.TheVariants as own
 use Rattle.numa_host.specs.declared.command.HostCommand.{HostCommand}
 use Rattle.numa_host.specs.declared.command.HostCommand.TheVariants.{NewGroup, SetGroupMems}
 use Rattle.numa_host.specs.declared.command.HostCommand.TheVariants.{NewProcess, Exit, Attach}

@@ -2,10 +2,10 @@
 use Rattle.std.specs.Prelude.{◌≡◌, ◌≢◌, ◌<◌, ◌&&◌, not, is_some, nat_le, ℕ, Bool, List, ◌∷◌}
 use Rattle.std.specs.Prelude.{length, slice_index_or, Result}
 use Rattle.numa_space.specs.Standing.{SpaceState, StandsFor, record_of}
-use Rattle.numa_space.specs.declared.command.Command.{Command}
-use Rattle.numa_space.specs.declared.command.Command.TheVariants.{Inherit}
+use Rattle.numa_requests.specs.declared.command.Command.{Command}
+use Rattle.numa_requests.specs.declared.command.Command.TheVariants.{Inherit}
 use Rattle.numa_space.specs.Steps.{IsApplied}
-use Rattle.numa_space.specs.declared.refusal.Refusal.{Refusal}
+use Rattle.numa_requests.specs.declared.refusal.Refusal.{Refusal}
 use Rattle.numa_host.specs.declared.process.Process.{Process}
 use Rattle.numa_host.specs.Processes.{when_moved}
 

@@ -6,7 +6,7 @@ ghost use Rattle.std.specs.List.{find, list_any, position};
 ghost use Rattle.numa_host.specs.Causes.{is_the_host_s};
 ghost use Rattle.numa_host.specs.declared.process.Process.{Process};
 ghost use Rattle.numa_mask.specs.NodeSet.{both};
-ghost use Rattle.numa_space.specs.declared.command.Command.{Command};
+ghost use Rattle.numa_requests.specs.declared.command.Command.{Command};
 ghost use Rattle.numa_space.specs.Refusals.{refusal_in};
 ghost use Rattle.numa_space.specs.Standing.{StandsFor};
 ghost use Rattle.numa_space.specs.Steps.{scene_in};

@@ -6,8 +6,8 @@ use Rattle.std.specs.Prelude.{MatchOption, not}
 use Rattle.numa_machine.specs.Machine.{Hardware}
 use Rattle.numa_space.specs.Limited.{Bounds}
 use Rattle.numa_space.specs.Steps.{MayNeedRoom}
-use Rattle.numa_space.specs.declared.command.Command.{Command}
-use Rattle.numa_space.specs.declared.command.Command.TheVariants as own
+use Rattle.numa_requests.specs.declared.command.Command.{Command}
+use Rattle.numa_requests.specs.declared.command.Command.TheVariants as own
 use Rattle.numa_host.specs.Causes.{first_of, host_refusal_of, when}
 use Rattle.numa_host.specs.Standing.{HostState, HostStandsFor, HostMayNeedRoom}
 use Rattle.numa_host.specs.declared.command.HostCommand.{HostCommand}

@@ -5,7 +5,7 @@ use Rattle.numa_mask.specs.declared.list.ListFault.TheVariants.{BackRange}
 use Rattle.numa_machine.specs.Machine.{Hardware}
 use Rattle.numa_machine.specs.declared.fallback.Fallback.TheVariants.{Nearest}
 use Rattle.numa_machine.specs.declared.rules.Rules.TheVariants.{Document}
-use Rattle.numa_space.specs.declared.command.Command.TheVariants as own
+use Rattle.numa_requests.specs.declared.command.Command.TheVariants as own
 use Rattle.numa_host.specs.declared.command.HostCommand.TheVariants as command
 use Rattle.numa_script.specs.Lines.{keyword_of, line_of}
 use Rattle.numa_script.specs.Numbers.{number_of, numeral_of, in_64_bits}

@@ -6,7 +6,7 @@ use Rattle.std.specs.Option.{option_map}
 use Rattle.std.specs.Str.{bytes_eq}
 use Rattle.numa_mask.specs.Lists.{list_of}
 use Rattle.numa_mask.specs.declared.list.ListFault.{ListFault}
-use Rattle.numa_space.specs.declared.command.Command.TheVariants as own
+use Rattle.numa_requests.specs.declared.command.Command.TheVariants as own
 use Rattle.numa_host.specs.declared.command.HostCommand.TheVariants as command
 use Rattle.numa_script.specs.Lines.{line_of}
 use Rattle.numa_script.specs.Numbers.{small_of}

@@ -6,7 +6,7 @@ ghost use Rattle.numa_machine.specs.Machine.{Hardware};
 ghost use Rattle.numa_run.specs.Questions.{question_text};
 ghost use Rattle.numa_run.specs.Ranges.{listing_of};
 ghost use Rattle.numa_space.specs.Standing.{StandsFor};
-ghost use Rattle.numa_space.specs.declared.command.Command.{Command};
+ghost use Rattle.numa_requests.specs.declared.command.Command.{Command};
 
 use numa_compile::compile;
 use numa_lines::Watched;

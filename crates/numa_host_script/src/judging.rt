@@ -14,7 +14,7 @@ ghost use Rattle.numa_run.specs.Judged.{question_refusal};
 ghost use Rattle.numa_run.specs.Questions.{span_refusal_of};
 ghost use Rattle.numa_run.specs.Replies.{bind_nothing};
 ghost use Rattle.numa_space.specs.Standing.{StandsFor};
-ghost use Rattle.numa_space.specs.declared.command.Command.{Command};
+ghost use Rattle.numa_requests.specs.declared.command.Command.{Command};
 
 use crate::fault::LineFault;
 use crate::line::HostLine;

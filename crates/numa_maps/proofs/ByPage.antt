@@ -10,7 +10,7 @@ use Rattle.std.specs.declared.cmp.Ordering.TheVariants.{Less}
 use Rattle.std.proofs.lemmas.Bool.{cases_Bool, cases_eq}
 use Rattle.std.proofs.lemmas.Grind.{common_steps}
 use Rattle.std.proofs.lemmas.List.Sums.{sum_by-cons}
-use Rattle.numa_space.specs.declared.placement.Placement.{Placement}
+use Rattle.numa_requests.specs.declared.placement.Placement.{Placement}
 use Rattle.numa_mode.specs.Policy.{PolicyRecord}
 use Rattle.numa_ranges.specs.Counts.{count_pages}
 use Rattle.numa_ranges.specs.Runs.{in_pages}

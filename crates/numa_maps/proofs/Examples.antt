@@ -1,7 +1,7 @@
 -- Worked examples: the lines that the definitions give.
 use Rattle.std.proofs.Common.{◌≡◌, ℕ, Option, None, List, [], ◌∷◌, codes, refl}
 use Rattle.std.specs.Fmt.{digits}
-use Rattle.numa_space.specs.declared.placement.Placement.{Placement}
+use Rattle.numa_requests.specs.declared.placement.Placement.{Placement}
 use Rattle.numa_mask.specs.NodeSet.{members}
 use Rattle.numa_mode.specs.Policy.{PolicyRecord}
 use Rattle.numa_mode.specs.declared.modes.Mode.TheVariants.{Bind, Interleave, Local, Preferred}
@@ -10,8 +10,8 @@ use Rattle.numa_mode.specs.declared.modes.NodeFlag.TheVariants.{Plain, Static}
 use Rattle.numa_ranges.specs.declared.run.Run.{Run}
 use Rattle.numa_space.proofs.Rows.{flat, asked}
 use Rattle.numa_space.specs.Pages.{resolved_policy}
-use Rattle.numa_space.specs.declared.command.Command.{Command}
-use Rattle.numa_space.specs.declared.command.Command.TheVariants.{Map, Mbind, SetTask}
+use Rattle.numa_requests.specs.declared.command.Command.{Command}
+use Rattle.numa_requests.specs.declared.command.Command.TheVariants.{Map, Mbind, SetTask}
 use Rattle.numa_maps.specs.Listing.{address_text, listing, nodes_text}
 use Rattle.numa_maps.specs.Residents.{Kept}
 

@@ -4,17 +4,18 @@ use Rattle.std.specs.Prelude.{◌≡◌, ℕ, ◌*◌, ◌-◌, ◌==◌, Bool, 
 use Rattle.std.specs.Prelude.{Contains, ◌↔◌, codes, count_by, decimal, filter, length, replicate}
 use Rattle.std.specs.Prelude.{if◌then◌else◌, false}
 use Rattle.std.specs.Fmt.{digits}
-use Rattle.std.specs.List.{flat_map, range_with_len}
+use Rattle.std.specs.List.{flat_map}
 use Rattle.numa_machine.specs.Machine.{Hardware}
-use Rattle.numa_space.specs.declared.placement.Placement.{Placement}
+use Rattle.numa_requests.specs.declared.placement.Placement.{Placement}
 use Rattle.numa_mode.specs.Policy.{PolicyRecord, policy_text}
 use Rattle.numa_ranges.specs.Counts.{IsRange}
 use Rattle.numa_ranges.specs.Runs.{AreApart, in_pages}
 use Rattle.numa_ranges.specs.declared.run.Run.{Run}
+pub use Rattle.numa_requests.specs.NodeCounts.{node_text, nodes_text}
 use Rattle.numa_space.specs.Pages.{page_in, resolved_policy}
 use Rattle.numa_space.specs.Same.{same_record}
 use Rattle.numa_space.specs.Standing.{SpaceState, policy_in}
-use Rattle.numa_space.specs.declared.command.Command.{Command}
+use Rattle.numa_requests.specs.declared.command.Command.{Command}
 use Rattle.numa_maps.specs.Residents.{Kept}
 
 -- ---- the pages that are placed
@@ -31,15 +32,6 @@ pages_on placed node = count_by (λ at. at.1.node == node) placed
 abbrev pub is_on : ℕ → Option Placement → Bool
 is_on node None = false
 is_on node (Some placement) = placement.node == node
-
--- a node with its pages, where it has some
-abbrev pub node_text : ℕ → ℕ → List ℕ
-node_text node pages =
-    if pages == 0 then [] else codes " N" ++ decimal node ++ codes "=" ++ decimal pages
-
--- each node that has pages, the lowest first
-unfoldable pub nodes_text : (ℕ → ℕ) → List ℕ
-nodes_text pages = flat_map (λ node. node_text node (pages node)) (range_with_len 0 256)
 
 -- the pages of a range that lie somewhere, where there are some: how many, how many on each node,
 -- and the size of a page

@@ -4,7 +4,7 @@ ghost use Rattle.numa_lines.specs.Watching.{has_failed, held_in};
 ghost use Rattle.numa_lines.specs.Written.{Said};
 ghost use Rattle.numa_maps.specs.Listing.{IsListing, listing_in};
 ghost use Rattle.numa_space.specs.Standing.{StandsFor};
-ghost use Rattle.numa_space.specs.declared.command.Command.{Command};
+ghost use Rattle.numa_requests.specs.declared.command.Command.{Command};
 
 use crate::line::{LineText, write_line};
 use crate::resident::Resident;

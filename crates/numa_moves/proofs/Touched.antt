@@ -7,7 +7,7 @@ use Rattle.numa_mode.specs.Policy.{PolicyRecord}
 use Rattle.numa_ranges.specs.declared.run.Run.{Run}
 use Rattle.numa_space.specs.Pages.{is_mapped}
 use Rattle.numa_space.specs.Standing.{SpaceState, StandsFor}
-use Rattle.numa_space.specs.declared.command.Command.{Command}
+use Rattle.numa_requests.specs.declared.command.Command.{Command}
 use Rattle.numa_compile.specs.Spans.{SpanIsRefused, first_node, meant_count}
 use Rattle.numa_placed.specs.Shifts.{is_stated}
 use Rattle.numa_placed.proofs.Shared.{count-same}

@@ -1,7 +1,7 @@
 -- Why a command that is tried on a copy of a core has no core after it.
 use Rattle.std.specs.Prelude.{Err}
 use Rattle.numa_core.specs.Standing.{CoreState}
-use Rattle.numa_space.specs.declared.command.Command.{Command}
+use Rattle.numa_requests.specs.declared.command.Command.{Command}
 use Rattle.numa_pages.specs.Changes.{Answers}
 use Rattle.numa_pages.specs.declared.trial.TrialError.{TrialError}
 use Rattle.numa_pages.specs.declared.trial.TrialError.TheVariants.{Refused, NoMemory}

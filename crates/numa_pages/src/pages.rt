@@ -5,7 +5,7 @@ ghost use Rattle.numa_placed.specs.Shifts.{AreRooms, IsShift, endless, room_of, 
 ghost use Rattle.numa_placed.specs.Spots.{spot_at};
 ghost use Rattle.numa_placed.specs.declared.refusal.PlacedRefusal.TheVariants.{NoSuchNode};
 ghost use Rattle.numa_placed.specs.declared.spot.Spot.TheVariants.{Nowhere};
-ghost use Rattle.numa_space.specs.declared.command.Command.{Command};
+ghost use Rattle.numa_requests.specs.declared.command.Command.{Command};
 ghost use Rattle.numa_core.specs.Standing.{setup_of};
 ghost use Rattle.numa_pages.specs.Changes.{Accepted, Accepts, BindsMoving, BindsStrictly, IsCause};
 ghost use Rattle.numa_pages.specs.Changes.{IsPagesCause, Limits, Migrates, MovesMems, MovesPage};

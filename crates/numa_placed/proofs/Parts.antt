@@ -12,7 +12,7 @@ use Rattle.numa_ranges.specs.Runs.{page_at, in_pages, end_of, AreApart}
 use Rattle.numa_ranges.specs.declared.run.Run.{Run}
 use Rattle.numa_ranges.proofs.Apart.{in_pages-true, in_pages-below, in_pages-above, page_at-before}
 use Rattle.numa_ranges.proofs.Counted.{count-none}
-use Rattle.numa_space.specs.declared.placement.Placement.{Placement}
+use Rattle.numa_requests.specs.declared.placement.Placement.{Placement}
 use Rattle.numa_maps.specs.Residents.{Kept, placed_at}
 use Rattle.numa_placed.specs.Spots.{changed_spots, forgotten_spot, part_pages, pages_if}
 use Rattle.numa_placed.specs.Spots.{pages_within, passed_over, spot_at}

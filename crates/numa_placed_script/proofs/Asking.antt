@@ -14,9 +14,9 @@ use Rattle.numa_space.specs.Pages.{is_mapped}
 use Rattle.numa_space.specs.Refusals.{bad_span, cause_in, first_of as first_refusal, refusal_of}
 use Rattle.numa_space.specs.Refusals.{scene_of}
 use Rattle.numa_space.specs.Standing.{SpaceState, StandsFor, list_in, place_refusal_in}
-use Rattle.numa_space.specs.declared.command.Command.{Command}
-use Rattle.numa_space.specs.declared.refusal.Refusal.{Refusal}
-use Rattle.numa_space.specs.declared.refusal.Refusal.TheVariants as refusal
+use Rattle.numa_requests.specs.declared.command.Command.{Command}
+use Rattle.numa_requests.specs.declared.refusal.Refusal.{Refusal}
+use Rattle.numa_requests.specs.declared.refusal.Refusal.TheVariants as refusal
 use Rattle.numa_space.proofs.Lists.{list-same, mapped-same}
 use Rattle.numa_maps.specs.Residents.{Kept}
 use Rattle.numa_placed.specs.Binds.{Asked, IsBound, asked_of as asked_by, bound_spots}

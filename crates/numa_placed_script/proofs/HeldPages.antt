@@ -2,7 +2,7 @@
 use Rattle.std.proofs.Common.{◌≡◌, ℕ, ◌+◌, ◌==◌, not, cond, Bool, true, false, [], ◌∷◌}
 use Rattle.std.proofs.Common.{refl, ap, arith}
 use Rattle.std.proofs.lemmas.List.Sums.{sum_by-cons}
-use Rattle.numa_space.specs.declared.placement.Placement.{Placement}
+use Rattle.numa_requests.specs.declared.placement.Placement.{Placement}
 use Rattle.numa_maps.specs.Residents.{Kept}
 use Rattle.numa_placed.specs.Spots.{pages_if}
 use Rattle.numa_placed.specs.declared.moved.Moved.{Moved}

@@ -8,7 +8,7 @@ use Rattle.numa_lines.specs.Written.{Said}
 use Rattle.numa_lines.specs.declared.watched.Watched.{Watched}
 use Rattle.numa_lines.proofs.Adding.{said_same}
 use Rattle.numa_space.specs.Standing.{SpaceState, StandsFor}
-use Rattle.numa_space.specs.declared.command.Command.{Command}
+use Rattle.numa_requests.specs.declared.command.Command.{Command}
 use Rattle.numa_placed.specs.declared.refusal.PlacedRefusal.TheVariants as cause
 use Rattle.numa_script.specs.Causes.{is_malformed}
 use Rattle.numa_script.specs.Lines.{line_of}

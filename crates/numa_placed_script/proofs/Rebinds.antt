@@ -12,10 +12,11 @@ use Rattle.numa_machine.specs.Machine.{Hardware}
 use Rattle.numa_machine.specs.Rules.{is_linux}
 use Rattle.numa_machine.specs.declared.rules.Rules.{Rules}
 use Rattle.numa_space.specs.Refusals.{refusal_of}
-use Rattle.numa_space.specs.declared.command.Command.{Command}
-use Rattle.numa_space.specs.declared.command.Command.TheVariants.{Map, Unmap, Mbind, SetTask}
-use Rattle.numa_space.specs.declared.command.Command.TheVariants.{Inherit, SetHome, SetWeight, SetMems}
-use Rattle.numa_space.specs.declared.refusal.Refusal.{Refusal}
+use Rattle.numa_requests.specs.declared.command.Command.{Command}
+use Rattle.numa_requests.specs.declared.command.Command.TheVariants.{Map, Unmap, Mbind, SetTask}
+use Rattle.numa_requests.specs.declared.command.Command.TheVariants.{Inherit, SetHome, SetWeight}
+use Rattle.numa_requests.specs.declared.command.Command.TheVariants.{SetMems}
+use Rattle.numa_requests.specs.declared.refusal.Refusal.{Refusal}
 use Rattle.numa_placed.specs.Spots.{too_many}
 use Rattle.numa_placed.specs.declared.refusal.PlacedRefusal.{PlacedRefusal}
 use Rattle.numa_placed.specs.declared.refusal.PlacedRefusal.TheVariants as cause

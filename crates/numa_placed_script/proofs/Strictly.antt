@@ -8,9 +8,10 @@ use Rattle.numa_lines.specs.Written.{Said}
 use Rattle.numa_lines.specs.declared.watched.Watched.{Watched}
 use Rattle.numa_lines.proofs.Adding.{said_same}
 use Rattle.numa_machine.specs.Machine.{Hardware}
-use Rattle.numa_space.specs.declared.command.Command.{Command}
-use Rattle.numa_space.specs.declared.command.Command.TheVariants.{Map, Unmap, Mbind, SetTask}
-use Rattle.numa_space.specs.declared.command.Command.TheVariants.{Inherit, SetHome, SetWeight, SetMems}
+use Rattle.numa_requests.specs.declared.command.Command.{Command}
+use Rattle.numa_requests.specs.declared.command.Command.TheVariants.{Map, Unmap, Mbind, SetTask}
+use Rattle.numa_requests.specs.declared.command.Command.TheVariants.{Inherit, SetHome, SetWeight}
+use Rattle.numa_requests.specs.declared.command.Command.TheVariants.{SetMems}
 use Rattle.numa_placed.specs.declared.refusal.PlacedRefusal.TheVariants as cause
 use Rattle.numa_script.specs.Lines.{keyword_of, line_of}
 use Rattle.numa_script.specs.declared.line.Line.{Line}

@@ -11,7 +11,7 @@ use Rattle.numa_space.specs.Pages.{page_in, resolved_policy}
 use Rattle.numa_space.proofs.Same.{same_record-exact, same_record-refl}
 use Rattle.numa_space.specs.Same.{same_record}
 use Rattle.numa_space.specs.Standing.{SpaceState, StandsFor, policy_in}
-use Rattle.numa_space.specs.declared.command.Command.{Command}
+use Rattle.numa_requests.specs.declared.command.Command.{Command}
 use Rattle.numa_maps.specs.Listing.{address_text, counted_line, node_text, nodes_text}
 use Rattle.numa_maps.specs.Listing.{policy_or_default}
 use Rattle.numa_machine.proofs.Nodes.{flat_map-range_more}

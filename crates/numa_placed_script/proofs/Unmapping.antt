@@ -11,8 +11,9 @@ use Rattle.numa_machine.specs.Machine.{Hardware}
 use Rattle.numa_ranges.proofs.Pages.{any_page-false}
 use Rattle.numa_ranges.specs.declared.run.Run.{Run}
 use Rattle.numa_space.specs.History.{page_of, page_count}
-use Rattle.numa_space.specs.declared.command.Command.TheVariants.{Map, Unmap, Mbind, SetTask}
-use Rattle.numa_space.specs.declared.command.Command.TheVariants.{Inherit, SetHome, SetWeight, SetMems}
+use Rattle.numa_requests.specs.declared.command.Command.TheVariants.{Map, Unmap, Mbind, SetTask}
+use Rattle.numa_requests.specs.declared.command.Command.TheVariants.{Inherit, SetHome, SetWeight}
+use Rattle.numa_requests.specs.declared.command.Command.TheVariants.{SetMems}
 use Rattle.numa_placed.specs.Refusals.{IsRefusal, first_of, span_cause}
 use Rattle.numa_placed.specs.Spots.{spot_at, too_many}
 use Rattle.numa_placed.specs.declared.refusal.PlacedRefusal.{PlacedRefusal}

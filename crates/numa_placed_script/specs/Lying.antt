@@ -8,7 +8,7 @@ use Rattle.numa_space.specs.Limited.{Bounds}
 use Rattle.numa_space.specs.Pages.{page_in}
 use Rattle.numa_space.specs.Policies.{allowed_nodes}
 use Rattle.numa_space.specs.Standing.{SpaceState}
-use Rattle.numa_space.specs.declared.command.Command.{Command}
+use Rattle.numa_requests.specs.declared.command.Command.{Command}
 use Rattle.numa_placed.specs.Moves.{goes, goes_from, is_left, moved_node, moved_spot}
 use Rattle.numa_placed.specs.Shifts.{shift_of, shifted, stated_on, stay_on, sum_below}
 use Rattle.numa_placed.specs.Spots.{pages_where}

@@ -8,7 +8,7 @@ use Rattle.numa_placed.specs.Refusals.{first_of, lacks_node, migrate_cause, move
 use Rattle.numa_placed.specs.Shifts.{endless, first_of as first_move, room_cause, room_moved}
 use Rattle.numa_machine.specs.Machine.{Hardware}
 use Rattle.numa_maps.specs.Residents.{Kept, placed_at}
-use Rattle.numa_space.specs.declared.placement.Placement.{Placement}
+use Rattle.numa_requests.specs.declared.placement.Placement.{Placement}
 use Rattle.numa_placed.specs.Spots.{changed_spots, forgotten_spot, stated_beside, stated_spot}
 use Rattle.numa_placed.specs.Spots.{too_many}
 use Rattle.numa_placed.specs.Astray.{strict_cause}

@@ -3,7 +3,7 @@ use Rattle.std.specs.Prelude.{◌≡◌, ℕ, Option, Some, None, List, [], leng
 use Rattle.std.specs.Option.{option_map}
 use Rattle.numa_machine.specs.Machine.{Hardware}
 use Rattle.numa_space.specs.Standing.{SpaceState, StandsFor}
-use Rattle.numa_space.specs.declared.command.Command.{Command}
+use Rattle.numa_requests.specs.declared.command.Command.{Command}
 use Rattle.numa_maps.specs.Residents.{Kept}
 use Rattle.numa_run.specs.States.{State}
 use Rattle.numa_host_script.specs.Sessions.{Session, Single, Hosted}

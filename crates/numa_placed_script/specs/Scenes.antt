@@ -5,8 +5,8 @@ use Rattle.std.specs.Prelude.{ℕ, suc, ◌==◌, Bool, true, false, Option, Som
 use Rattle.std.specs.Prelude.{codes, if◌then◌else◌, is_some, ◌&&◌, Ok}
 use Rattle.numa_machine.specs.declared.rules.Rules.{Rules}
 use Rattle.numa_space.specs.Refusals.{refusal_of}
-use Rattle.numa_space.specs.declared.command.Command.TheVariants.{SetMems, Unmap}
-use Rattle.numa_space.specs.declared.refusal.Refusal.{Refusal}
+use Rattle.numa_requests.specs.declared.command.Command.TheVariants.{SetMems, Unmap}
+use Rattle.numa_requests.specs.declared.refusal.Refusal.{Refusal}
 use Rattle.numa_placed.specs.Spots.{is_placed}
 use Rattle.numa_script.specs.Causes.{is_malformed}
 use Rattle.numa_script.specs.Lines.{line_of}

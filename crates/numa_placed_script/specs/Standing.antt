@@ -18,7 +18,7 @@ use Rattle.numa_placed.specs.declared.spot.Spot.{Spot}
 use Rattle.numa_ranges.specs.declared.run.Run.{Run}
 use Rattle.numa_space.specs.Refusals.{refusal_of}
 use Rattle.numa_space.specs.Standing.{SpaceState, StandsFor}
-use Rattle.numa_space.specs.declared.command.Command.{Command}
+use Rattle.numa_requests.specs.declared.command.Command.{Command}
 use Rattle.numa_placed_script.specs.Lying.{Ground, LastMove, Lying, Motion, OfNodes, OfPages}
 use Rattle.numa_placed_script.specs.Lying.{Process, Sent}
 use Rattle.numa_placed_script.specs.Lying.{Told, motion, nothing}

@@ -11,9 +11,9 @@ use Rattle.numa_ranges.specs.Runs.{in_pages}
 use Rattle.numa_space.specs.History.{page_of, page_count}
 use Rattle.numa_space.specs.Pages.{page_in}
 use Rattle.numa_space.specs.Refusals.{refusal_of}
-use Rattle.numa_space.specs.declared.command.Command.TheVariants.{Mbind}
-use Rattle.numa_space.specs.declared.refusal.Refusal.{Refusal}
-use Rattle.numa_space.specs.declared.refusal.Refusal.TheVariants.{Hole, NoMemory, TooManyRanges}
+use Rattle.numa_requests.specs.declared.command.Command.TheVariants.{Mbind}
+use Rattle.numa_requests.specs.declared.refusal.Refusal.{Refusal}
+use Rattle.numa_requests.specs.declared.refusal.Refusal.TheVariants.{Hole, NoMemory, TooManyRanges}
 use Rattle.numa_maps.specs.Residents.{Kept}
 use Rattle.numa_placed.specs.Astray.{judged_pages, strict_cause_by}
 use Rattle.numa_placed.specs.declared.spot.Spot.{Spot}

@@ -8,7 +8,7 @@ ghost use Rattle.numa_space.specs.History.{page_count, page_of};
 ghost use Rattle.numa_space.specs.Pages.{page_in};
 ghost use Rattle.numa_space.specs.Refusals.{refusal_of};
 ghost use Rattle.numa_space.specs.Standing.{StandsFor};
-ghost use Rattle.numa_space.specs.declared.command.Command.{Command};
+ghost use Rattle.numa_requests.specs.declared.command.Command.{Command};
 ghost use Rattle.numa_maps.specs.Residents.{Kept};
 ghost use Rattle.numa_placed.specs.Astray.{strict_cause, strict_cause_by};
 ghost use Rattle.numa_placed.specs.Spots.{spot_at};

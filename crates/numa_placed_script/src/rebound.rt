@@ -12,7 +12,7 @@ ghost use Rattle.numa_placed_script.specs.Sending.{with_sent};
 ghost use Rattle.numa_placed_script.specs.Standing.{HasSent, Lies, Sends, ServesScene};
 ghost use Rattle.numa_script.specs.Lines.{line_of};
 ghost use Rattle.numa_space.specs.Standing.{StandsFor};
-ghost use Rattle.numa_space.specs.declared.command.Command.{Command};
+ghost use Rattle.numa_requests.specs.declared.command.Command.{Command};
 
 use crate::beside::Beside;
 use crate::line::{MoveWords, moving_of};

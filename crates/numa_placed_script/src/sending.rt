@@ -9,7 +9,7 @@ ghost use Rattle.numa_placed_script.specs.Sending.{rebinding_of, sent_spots, tel
 ghost use Rattle.numa_placed_script.specs.Standing.{HasPolicy, HasSent, LiesAs, Sends, asked_for};
 ghost use Rattle.numa_space.specs.Refusals.{refusal_of};
 ghost use Rattle.numa_space.specs.Standing.{StandsFor};
-ghost use Rattle.numa_space.specs.declared.command.Command.{Command};
+ghost use Rattle.numa_requests.specs.declared.command.Command.{Command};
 
 use crate::beside::{Beside, rooms_of};
 use crate::last::{Departures, Last, keep};

@@ -6,8 +6,8 @@ use Rattle.std.proofs.lemmas.List.{length-reverse, reverse-append, drop-append-l
 use Rattle.std.proofs.lemmas.Grind.{fold-append}
 use Rattle.logbook.specs.Pages.{Book}
 use Rattle.std.specs.Arc.{arc_value}
-use Rattle.numa_space.specs.declared.command.Command.{Command}
-use Rattle.numa_space.specs.declared.refusal.Refusal.{Refusal}
+use Rattle.numa_requests.specs.declared.command.Command.{Command}
+use Rattle.numa_requests.specs.declared.refusal.Refusal.{Refusal}
 use Rattle.numa_space.specs.Standing.{SpaceState, StandsFor}
 use Rattle.numa_publish.specs.declared.batch.Batch.{Batch}
 use Rattle.numa_publish.specs.declared.issue.Issue.{Issue}

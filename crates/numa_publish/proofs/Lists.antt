@@ -5,7 +5,7 @@ use Rattle.std.proofs.lemmas.List.{append-nil}
 use Rattle.core.specs.Option.{ok_or}
 use Rattle.core.specs.Result.{result_ok}
 use mathlib.Core.List.{IsPrefix}
-use Rattle.numa_space.specs.declared.command.Command.{Command}
+use Rattle.numa_requests.specs.declared.command.Command.{Command}
 use Rattle.numa_publish.specs.declared.batch.Batch.{Batch}
 use Rattle.numa_publish.specs.Batches.{history_of, Extends}
 

@@ -4,7 +4,7 @@ use Rattle.std.proofs.Common.{slice_get, drop, refl, ap, sym, ◌∙◌, subst, 
 use Rattle.std.proofs.Common.{append_assoc, length-append}
 use Rattle.std.proofs.lemmas.List.{append-nil, drop_at}
 use mathlib.Core.List.{IsPrefix}
-use Rattle.numa_space.specs.declared.command.Command.{Command}
+use Rattle.numa_requests.specs.declared.command.Command.{Command}
 use Rattle.numa_publish.specs.declared.batch.Batch.{Batch}
 use Rattle.numa_publish.specs.Batches.{history_of, before_last, versions_of, Extends, HasOldest}
 use Rattle.numa_publish.specs.Batches.{MayFollow, IsLog}

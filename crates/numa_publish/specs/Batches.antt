@@ -1,7 +1,7 @@
 -- The log of accepted commands in batches, and lists of which the newest stands first.
 use Rattle.std.specs.Prelude.{◌≡◌, ◌<◌, ℕ, List, [], ◌∷◌, ◌++◌, drop, length, reverse}
 use mathlib.Core.List.{IsPrefix}
-use Rattle.numa_space.specs.declared.command.Command.{Command}
+use Rattle.numa_requests.specs.declared.command.Command.{Command}
 use Rattle.numa_publish.specs.declared.batch.Batch.{Batch}
 
 -- the history that batches make; they stand in the order in which they came, each with its newest

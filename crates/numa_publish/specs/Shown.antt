@@ -4,8 +4,8 @@ use Rattle.logbook.specs.Pages.{Book}
 use Rattle.numa_machine.specs.Machine.{Hardware}
 use Rattle.numa_space.specs.Limited.{Bounds}
 use Rattle.numa_space.specs.Refusals.{refusal_of}
-use Rattle.numa_space.specs.declared.command.Command.{Command}
-use Rattle.numa_space.specs.declared.refusal.Refusal.{Refusal}
+use Rattle.numa_requests.specs.declared.command.Command.{Command}
+use Rattle.numa_requests.specs.declared.refusal.Refusal.{Refusal}
 
 -- which desk it is: the log of its commands, which no other desk has, and its machine
 pub record DeskIdentity : Type 0 where

@@ -1,6 +1,6 @@
 -- What a submit without a receipt leaves.
 use Rattle.std.specs.Prelude.{◌≡◌, ◌∷◌, length}
-use Rattle.numa_space.specs.declared.command.Command.{Command}
+use Rattle.numa_requests.specs.declared.command.Command.{Command}
 use Rattle.numa_publish.specs.declared.shared.SubmitRefusal.{SubmitRefusal}
 use Rattle.numa_publish.specs.declared.shared.SubmitRefusal.TheVariants.{Refused, Held}
 use Rattle.numa_publish.specs.Shown.{DeskState, Refuses, accepted_commands}

@@ -1,6 +1,6 @@
 //! Desks that threads share.
 ghost use Rattle.std.specs.Prelude.{◌≡◌, ◌∷◌, List, IfOk};
-ghost use Rattle.numa_space.specs.declared.command.Command.{Command};
+ghost use Rattle.numa_requests.specs.declared.command.Command.{Command};
 ghost use Rattle.numa_publish.specs.Shown.{new_reader};
 
 use crate::desk::{Desk, NoReader};

@@ -9,8 +9,8 @@ use Rattle.numa_core.specs.World.{Setup, World, FrameSearch, frame_search_of, ow
 use Rattle.numa_core.specs.World.{may_look, may_try, frame_search_after_look, frame_search_past}
 use Rattle.numa_core.specs.Steps.{answer_of, effect_of, goes_on, going_on, placement_of, with_owner}
 use Rattle.numa_core.specs.Steps.{with_worker}
-use Rattle.numa_space.specs.declared.event.Event.TheVariants.{Look, Try, Give}
-use Rattle.numa_space.specs.declared.event.CoreReply.TheVariants.{Won, Given}
+use Rattle.numa_requests.specs.declared.event.Event.TheVariants.{Look, Try, Give}
+use Rattle.numa_requests.specs.declared.event.CoreReply.TheVariants.{Won, Given}
 
 pub no_less : (a b : ℕ) → b < a → nat_le a b ≡ false
 no_less a b l = grind (arith, nat_tests)

@@ -2,13 +2,13 @@
 use Rattle.std.proofs.Common.{◌≡◌, ℕ, ◌<◌, ◌≤◌, Bool, true, is_ok, List, [], ◌∷◌, ◌++◌, refl, sym}
 use Rattle.std.proofs.Common.{subst, if◌then◌else◌}
 use Rattle.std.specs.Prelude.{slice_index}
-use Rattle.numa_space.specs.declared.command.Command.{Command}
+use Rattle.numa_requests.specs.declared.command.Command.{Command}
 use Rattle.numa_publish.specs.Shown.{DeskState}
 use Rattle.numa_core.specs.World.{Setup}
 use Rattle.numa_core.specs.Steps.{answer_of, effect_of}
 use Rattle.numa_core.specs.Executions.{world_of}
-use Rattle.numa_space.specs.declared.event.Event.TheVariants.{Accept, Publish, Begin, Look, Try}
-use Rattle.numa_space.specs.declared.event.Event.TheVariants.{Give}
+use Rattle.numa_requests.specs.declared.event.Event.TheVariants.{Accept, Publish, Begin, Look, Try}
+use Rattle.numa_requests.specs.declared.event.Event.TheVariants.{Give}
 use Rattle.numa_refinement.specs.WalkSteps.{event_of}
 use Rattle.numa_refinement.specs.Moves.{PoolState}
 use Rattle.numa_refinement.specs.Plays.{Deed, makes_step, splits, has_event, Done, IsPlay}

@@ -6,7 +6,7 @@ use Rattle.std.specs.Option.{option_map_or}
 use Rattle.numa_core.specs.World.{Setup, FrameSearch, first_place, one_further, has_unmet}
 use Rattle.numa_core.specs.World.{at_current, may_look, may_try}
 use Rattle.numa_core.specs.Steps.{goes_on, going_on}
-use Rattle.numa_space.specs.declared.event.CoreReply.TheVariants.{Still, Exhausted}
+use Rattle.numa_requests.specs.declared.event.CoreReply.TheVariants.{Still, Exhausted}
 use Rattle.numa_core.proofs.Cursors.{any_below-true, any_below-false}
 use Rattle.numa_core.proofs.InARow.{is_lt}
 use Rattle.numa_machine.specs.declared.frame.Frame.{Frame}

@@ -8,20 +8,20 @@ use Rattle.std.proofs.lemmas.Bool.{eq-eqb}
 use Rattle.std.proofs.lemmas.Bool.Decides.{nat_tests}
 use Rattle.std.proofs.lemmas.List.{append_assoc, drop_at, length-append, length-drop}
 use Rattle.numa_space.specs.Refusals.{refusal_of as command_refusal}
-use Rattle.numa_space.specs.declared.command.Command.{Command}
-use Rattle.numa_space.specs.declared.refusal.Refusal.{Refusal}
+use Rattle.numa_requests.specs.declared.command.Command.{Command}
+use Rattle.numa_requests.specs.declared.refusal.Refusal.{Refusal}
 use Rattle.numa_publish.specs.Batches.{Extends}
 use Rattle.numa_publish.proofs.Lists.{extends_shorter, extends_trans, no_length}
 use Rattle.numa_publish.specs.Shown.{DeskState, Refuses, ViewState, accepted_commands, and_newest}
 use Rattle.numa_core.specs.World.{Setup, World, first_commands, is_published, opening, owner_of}
 use Rattle.numa_core.specs.Steps.{because, refused_or, effect_of, world_after}
 use Rattle.numa_core.specs.Executions.{worker_of}
-use Rattle.numa_space.specs.declared.event.CoreRefusal.{CoreRefusal}
-use Rattle.numa_space.specs.declared.event.Event.{Event}
-use Rattle.numa_space.specs.declared.event.Event.TheVariants.{Accept, Publish, Begin, Look, Try}
-use Rattle.numa_space.specs.declared.event.Event.TheVariants.{Give}
-use Rattle.numa_space.specs.declared.event.CoreReply.{CoreReply}
-use Rattle.numa_space.specs.declared.event.CoreReply.TheVariants.{Accepted, Published}
+use Rattle.numa_requests.specs.declared.event.CoreRefusal.{CoreRefusal}
+use Rattle.numa_requests.specs.declared.event.Event.{Event}
+use Rattle.numa_requests.specs.declared.event.Event.TheVariants.{Accept, Publish, Begin, Look, Try}
+use Rattle.numa_requests.specs.declared.event.Event.TheVariants.{Give}
+use Rattle.numa_requests.specs.declared.event.CoreReply.{CoreReply}
+use Rattle.numa_requests.specs.declared.event.CoreReply.TheVariants.{Accepted, Published}
 use Rattle.numa_core.proofs.Tracking.{first_commands-more}
 use Rattle.numa_refinement.specs.LegalSteps.{HasPublished, IsPublishedIn, after_core_step}
 use Rattle.numa_refinement.specs.LegalSteps.{core_step_of}

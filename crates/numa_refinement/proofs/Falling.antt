@@ -7,14 +7,14 @@ use Rattle.std.proofs.lemmas.Bool.{eq-eqb}
 use Rattle.std.proofs.lemmas.List.{append_cancel_right}
 use Rattle.std.proofs.lemmas.Option.{get_or_from_slice_get, slice_get_within}
 use Rattle.numa_machine.specs.declared.frame.Frame.{Frame}
-use Rattle.numa_space.specs.declared.command.Command.{Command}
-use Rattle.numa_space.specs.declared.placement.Placement.{Placement}
-use Rattle.numa_space.specs.declared.request.Request.{Request}
+use Rattle.numa_requests.specs.declared.command.Command.{Command}
+use Rattle.numa_requests.specs.declared.placement.Placement.{Placement}
+use Rattle.numa_requests.specs.declared.request.Request.{Request}
 use Rattle.numa_core.specs.World.{Setup, FrameSearch, Worker, World, frame_search_of, last_of}
 use Rattle.numa_core.specs.World.{owner_of}
 use Rattle.numa_core.specs.Steps.{effect_of, with_owner, with_worker}
-use Rattle.numa_space.specs.declared.event.Event.TheVariants.{Try}
-use Rattle.numa_space.specs.declared.event.CoreReply.TheVariants.{Exhausted, Won as replied_won}
+use Rattle.numa_requests.specs.declared.event.Event.TheVariants.{Try}
+use Rattle.numa_requests.specs.declared.event.CoreReply.TheVariants.{Exhausted, Won as replied_won}
 use Rattle.numa_fault.specs.Fault.{FindsNone, Places, Walks, list_of, refusal_of}
 use Rattle.numa_pool.specs.Seats.{SeatView}
 use Rattle.numa_pool.specs.Walk.{IsDistinct, IsWalk}

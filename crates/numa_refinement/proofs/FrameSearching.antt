@@ -3,15 +3,15 @@ use Rattle.std.proofs.Common.{◌≡◌, ℕ, nat_le, List, [], ◌∷◌, Bool,
 use Rattle.std.proofs.Common.{unwrap_or, refl, sym, ap, ◌∙◌, subst, eq-eqb, if◌then◌else◌}
 use Rattle.std.specs.Prelude.{slice_get, ◌||◌}
 use Rattle.numa_machine.specs.declared.frame.Frame.{Frame}
-use Rattle.numa_space.specs.declared.request.Request.{Request}
+use Rattle.numa_requests.specs.declared.request.Request.{Request}
 use Rattle.numa_core.specs.Seats.{fresh}
 use Rattle.numa_core.specs.World.{Setup, World, FrameSearch, frame_search_of, last_of, list_at}
 use Rattle.numa_core.specs.World.{frame_search_after_look, look_finds, frame_search_past, is_frame}
 use Rattle.numa_core.specs.Steps.{effect_of, goes_on, going_on, placement_of, with_owner}
 use Rattle.numa_core.specs.Steps.{with_worker}
-use Rattle.numa_space.specs.declared.event.Event.TheVariants.{Begin}
-use Rattle.numa_space.specs.declared.event.CoreReply.{CoreReply}
-use Rattle.numa_space.specs.declared.event.CoreReply.TheVariants.{Still, Won as replied_won}
+use Rattle.numa_requests.specs.declared.event.Event.TheVariants.{Begin}
+use Rattle.numa_requests.specs.declared.event.CoreReply.{CoreReply}
+use Rattle.numa_requests.specs.declared.event.CoreReply.TheVariants.{Still, Won as replied_won}
 use Rattle.numa_pool.specs.declared.view.Entry.{Entry}
 use Rattle.numa_pool.specs.declared.view.Entry.TheVariants.{Load, Won, Lost, Gave}
 use Rattle.numa_pool.specs.Walk.{met, Searches, IsWalk, IsNext}

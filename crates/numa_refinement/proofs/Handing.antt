@@ -15,9 +15,9 @@ use Rattle.std.specs.Option.{option_map_or}
 use Rattle.numa_core.specs.World.{Setup, World, opening, frame_search_of, last_of, owner_of}
 use Rattle.numa_core.specs.World.{frame_search_past, is_frame}
 use Rattle.numa_core.specs.Steps.{effect_of, going_on, with_owner, with_worker}
-use Rattle.numa_space.specs.declared.event.Event.{Event}
-use Rattle.numa_space.specs.declared.event.Event.TheVariants.{Accept, Publish, Begin, Look, Try}
-use Rattle.numa_space.specs.declared.event.Event.TheVariants.{Give}
+use Rattle.numa_requests.specs.declared.event.Event.{Event}
+use Rattle.numa_requests.specs.declared.event.Event.TheVariants.{Accept, Publish, Begin, Look, Try}
+use Rattle.numa_requests.specs.declared.event.Event.TheVariants.{Give}
 use Rattle.numa_pool.specs.declared.view.View.{View}
 use Rattle.numa_pool.specs.Frames.{times}
 use Rattle.numa_pool.specs.Rule.{Counted, holdings}

@@ -13,8 +13,8 @@ use Rattle.numa_core.specs.World.{Setup, World, FrameSearch, frame_search_of, ow
 use Rattle.numa_core.specs.World.{current_rank, frame_search_after_look, frame_search_past}
 use Rattle.numa_core.specs.Steps.{effect_of, goes_on, going_on, placement_of, put, with_owner}
 use Rattle.numa_core.specs.Steps.{with_worker}
-use Rattle.numa_space.specs.declared.event.CoreReply.TheVariants.{Won as replied_won, Given}
-use Rattle.numa_space.specs.declared.event.Event.TheVariants.{Look, Try, Give}
+use Rattle.numa_requests.specs.declared.event.CoreReply.TheVariants.{Won as replied_won, Given}
+use Rattle.numa_requests.specs.declared.event.Event.TheVariants.{Look, Try, Give}
 use Rattle.numa_pool.specs.declared.view.Entry.{Entry}
 use Rattle.numa_pool.specs.declared.view.Entry.TheVariants.{Load, Won, Lost, Gave}
 use Rattle.numa_pool.specs.declared.view.View.{View}

@@ -5,11 +5,11 @@ use Rattle.std.specs.Prelude.{slice_index}
 use Rattle.numa_core.specs.World.{Setup, World, FrameSearch, new_frame_search, frame_search_of}
 use Rattle.numa_core.specs.Steps.{answer_of, effect_of, going_on, world_after}
 use Rattle.numa_core.specs.Executions.{CoreStep, IsExecution, world_of}
-use Rattle.numa_space.specs.declared.event.Event.{Event}
-use Rattle.numa_space.specs.declared.event.Event.TheVariants.{Accept, Publish, Begin, Look, Try}
-use Rattle.numa_space.specs.declared.event.Event.TheVariants.{Give}
-use Rattle.numa_space.specs.declared.event.CoreReply.{CoreReply}
-use Rattle.numa_space.specs.declared.event.CoreReply.TheVariants.{Won as replied_won, Given}
+use Rattle.numa_requests.specs.declared.event.Event.{Event}
+use Rattle.numa_requests.specs.declared.event.Event.TheVariants.{Accept, Publish, Begin, Look, Try}
+use Rattle.numa_requests.specs.declared.event.Event.TheVariants.{Give}
+use Rattle.numa_requests.specs.declared.event.CoreReply.{CoreReply}
+use Rattle.numa_requests.specs.declared.event.CoreReply.TheVariants.{Won as replied_won, Given}
 use Rattle.numa_core.specs.Steps.{goes_on, placement_of}
 use Rattle.numa_core.specs.World.{frame_search_after_look, frame_search_past}
 use Rattle.numa_pool.specs.declared.view.Entry.{Entry}

@@ -3,15 +3,15 @@ use Rattle.std.proofs.Common.{◌≡◌, ℕ, ◌<◌, ◌≤◌, List, ◌∷�
 use Rattle.std.proofs.Common.{◌∙◌, subst}
 use Rattle.std.specs.Prelude.{slice_index}
 use Rattle.numa_machine.specs.declared.frame.Frame.{Frame}
-use Rattle.numa_space.specs.declared.placement.Placement.{Placement}
+use Rattle.numa_requests.specs.declared.placement.Placement.{Placement}
 use Rattle.numa_core.specs.World.{Setup, World, FrameSearch, frame_search_of}
 use Rattle.numa_core.specs.World.{frame_search_after_look, frame_search_past}
 use Rattle.numa_core.specs.Steps.{answer_of, placement_of}
 use Rattle.numa_core.specs.Executions.{CoreStep, IsRightPlacement, IsExhausted, world_of, worker_of}
-use Rattle.numa_space.specs.declared.event.Event.{Event}
-use Rattle.numa_space.specs.declared.event.Event.TheVariants.{Try}
-use Rattle.numa_space.specs.declared.event.CoreReply.{CoreReply}
-use Rattle.numa_space.specs.declared.event.CoreReply.TheVariants.{Still, Exhausted}
+use Rattle.numa_requests.specs.declared.event.Event.{Event}
+use Rattle.numa_requests.specs.declared.event.Event.TheVariants.{Try}
+use Rattle.numa_requests.specs.declared.event.CoreReply.{CoreReply}
+use Rattle.numa_requests.specs.declared.event.CoreReply.TheVariants.{Still, Exhausted}
 use Rattle.numa_core.proofs.Placing.{right}
 use Rattle.numa_core.proofs.Exhausting.{exhausted}
 use Rattle.numa_pool.specs.declared.view.Entry.{Entry}

@@ -3,7 +3,7 @@ use Rattle.std.specs.Prelude.{◌≡◌, ℕ, ◌+◌, [], ◌∷◌, Some, None
 use Rattle.numa_machine.specs.Machine.{Hardware}
 use Rattle.numa_space.specs.Limited.{Bounds}
 use Rattle.numa_space.specs.Refusals.{refusal_of}
-use Rattle.numa_space.specs.declared.command.Command.{Command}
+use Rattle.numa_requests.specs.declared.command.Command.{Command}
 use Rattle.numa_publish.specs.Shown.{DeskState, accepted_commands, versions_after}
 use Rattle.numa_core.specs.World.{Setup, World}
 use Rattle.numa_core.specs.Executions.{CoreStep}

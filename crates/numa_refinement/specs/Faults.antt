@@ -1,10 +1,10 @@
 -- A fault as it falls among the steps of the core's world, while other threads act between them.
 use Rattle.std.specs.Prelude.{◌≡◌, ℕ, ◌<◌, ◌≤◌, ◌++◌, List, [], ◌∷◌, None, length}
-use Rattle.numa_space.specs.declared.command.Command.{Command}
-use Rattle.numa_space.specs.declared.request.Request.{Request}
+use Rattle.numa_requests.specs.declared.command.Command.{Command}
+use Rattle.numa_requests.specs.declared.request.Request.{Request}
 use Rattle.numa_core.specs.World.{Setup, World, frame_search_of, last_of}
 use Rattle.numa_core.specs.Steps.{effect_of}
-use Rattle.numa_space.specs.declared.event.Event.TheVariants.{Begin}
+use Rattle.numa_requests.specs.declared.event.Event.TheVariants.{Begin}
 use Rattle.numa_pool.specs.Seats.{SeatView}
 use Rattle.numa_refinement.specs.FrameSearches.{TakesTurns, Turn, steps_of, world_left}
 use Rattle.numa_refinement.specs.LegalSteps.{IsPublishedIn}

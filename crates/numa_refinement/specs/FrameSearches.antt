@@ -1,13 +1,13 @@
 -- A seat's walk, step by step, and the frame search that it is.
 use Rattle.std.specs.Prelude.{◌≡◌, ℕ, List, [], ◌∷◌, map, slice_get, Option, Some, None}
 use Rattle.numa_machine.specs.declared.frame.Frame.{Frame}
-use Rattle.numa_space.specs.declared.placement.Placement.{Placement}
-use Rattle.numa_space.specs.declared.request.Request.{Request}
+use Rattle.numa_requests.specs.declared.placement.Placement.{Placement}
+use Rattle.numa_requests.specs.declared.request.Request.{Request}
 use Rattle.numa_core.specs.World.{Setup, World, frame_search_of}
 use Rattle.numa_core.specs.Steps.{effect_of}
-use Rattle.numa_space.specs.declared.event.Event.TheVariants.{Begin}
-use Rattle.numa_space.specs.declared.event.CoreReply.{CoreReply}
-use Rattle.numa_space.specs.declared.event.CoreReply.TheVariants.{Still, Exhausted, Won}
+use Rattle.numa_requests.specs.declared.event.Event.TheVariants.{Begin}
+use Rattle.numa_requests.specs.declared.event.CoreReply.{CoreReply}
+use Rattle.numa_requests.specs.declared.event.CoreReply.TheVariants.{Still, Exhausted, Won}
 use Rattle.numa_pool.specs.declared.view.Entry.{Entry}
 use Rattle.numa_refinement.specs.WalkSteps.{IsCoreStep, event_of}
 use Rattle.numa_refinement.specs.Moves.{PoolState, Makes}

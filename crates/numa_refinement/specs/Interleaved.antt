@@ -1,11 +1,11 @@
 -- Faults and a desk in an interleaving of all that is done.
 use Rattle.std.specs.Prelude.{◌≢◌, ℕ, ◌==◌, List, [], ◌∷◌, ◌++◌, if◌then◌else◌}
-use Rattle.numa_space.specs.declared.request.Request.{Request}
+use Rattle.numa_requests.specs.declared.request.Request.{Request}
 use Rattle.numa_core.specs.World.{Setup, World}
 use Rattle.numa_core.specs.Executions.{world_of}
-use Rattle.numa_space.specs.declared.event.Event.{Event}
-use Rattle.numa_space.specs.declared.event.Event.TheVariants.{Accept, Publish, Begin}
-use Rattle.numa_space.specs.declared.event.Event.TheVariants.{Look, Try, Give}
+use Rattle.numa_requests.specs.declared.event.Event.{Event}
+use Rattle.numa_requests.specs.declared.event.Event.TheVariants.{Accept, Publish, Begin}
+use Rattle.numa_requests.specs.declared.event.Event.TheVariants.{Look, Try, Give}
 use Rattle.numa_publish.specs.Shown.{DeskState}
 use Rattle.numa_refinement.specs.FrameSearches.{Turn}
 use Rattle.numa_refinement.specs.Moves.{PoolState}

@@ -1,13 +1,13 @@
 -- Legal steps of the core's world, one at a time, and the histories that are published in it.
 use Rattle.std.specs.Prelude.{◌≡◌, ℕ, true, Result, List, length}
-use Rattle.numa_space.specs.declared.command.Command.{Command}
+use Rattle.numa_requests.specs.declared.command.Command.{Command}
 use Rattle.numa_publish.specs.Batches.{Extends}
 use Rattle.numa_core.specs.World.{Setup, World, first_commands, is_published}
 use Rattle.numa_core.specs.Steps.{IsAnswer, MayTake, world_after}
 use Rattle.numa_core.specs.Executions.{CoreStep}
-use Rattle.numa_space.specs.declared.event.CoreRefusal.{CoreRefusal}
-use Rattle.numa_space.specs.declared.event.Event.{Event}
-use Rattle.numa_space.specs.declared.event.CoreReply.{CoreReply}
+use Rattle.numa_requests.specs.declared.event.CoreRefusal.{CoreRefusal}
+use Rattle.numa_requests.specs.declared.event.Event.{Event}
+use Rattle.numa_requests.specs.declared.event.CoreReply.{CoreReply}
 
 -- the step may come next: its version may be taken, and the event may have this answer
 abbrev pub IsLegal : Setup → World → CoreStep → Type 0

@@ -1,10 +1,10 @@
 -- What a migration is to the core: a frame search, and a Give.
 use Rattle.std.specs.Prelude.{◌≡◌, ℕ, List, [], ◌∷◌, Some, None, length}
-use Rattle.numa_space.specs.declared.command.Command.{Command}
-use Rattle.numa_space.specs.declared.placement.Placement.{Placement}
-use Rattle.numa_space.specs.declared.request.Request.{Request}
-use Rattle.numa_space.specs.declared.event.Event.TheVariants.{Give}
-use Rattle.numa_space.specs.declared.event.CoreReply.TheVariants.{Given, Won}
+use Rattle.numa_requests.specs.declared.command.Command.{Command}
+use Rattle.numa_requests.specs.declared.placement.Placement.{Placement}
+use Rattle.numa_requests.specs.declared.request.Request.{Request}
+use Rattle.numa_requests.specs.declared.event.Event.TheVariants.{Give}
+use Rattle.numa_requests.specs.declared.event.CoreReply.TheVariants.{Given, Won}
 use Rattle.numa_machine.specs.declared.frame.Frame.{Frame}
 use Rattle.numa_core.specs.World.{Setup, World, owner_of}
 use Rattle.numa_fault.specs.Fault.{list_of, refusal_of}

@@ -3,10 +3,10 @@ use Rattle.std.specs.Prelude.{◌≡◌, ℕ, ◌<◌, true, List, [], ◌∷◌
 use Rattle.numa_core.specs.World.{Setup, World, FrameSearch, frame_search_of}
 use Rattle.numa_core.specs.Steps.{answer_of, put}
 use Rattle.numa_core.specs.Executions.{CoreStep, world_of}
-use Rattle.numa_space.specs.declared.event.Event.{Event}
-use Rattle.numa_space.specs.declared.event.Event.TheVariants.{Accept, Publish, Begin}
-use Rattle.numa_space.specs.declared.event.Event.TheVariants.{Look, Try, Give}
-use Rattle.numa_space.specs.declared.event.CoreReply.{CoreReply}
+use Rattle.numa_requests.specs.declared.event.Event.{Event}
+use Rattle.numa_requests.specs.declared.event.Event.TheVariants.{Accept, Publish, Begin}
+use Rattle.numa_requests.specs.declared.event.Event.TheVariants.{Look, Try, Give}
+use Rattle.numa_requests.specs.declared.event.CoreReply.{CoreReply}
 use Rattle.numa_pool.specs.declared.view.Entry.{Entry}
 use Rattle.numa_pool.specs.declared.view.Entry.TheVariants.{Load, Won, Lost, Gave}
 use Rattle.numa_refinement.specs.WalkSteps.{IsCoreStep, MayCome, event_of}

@@ -5,10 +5,10 @@ use Rattle.numa_core.specs.World.{Setup, World, FrameSearch, frame_search_of, is
 use Rattle.numa_core.specs.World.{list_at}
 use Rattle.numa_core.specs.Executions.{CoreStep}
 use Rattle.numa_core.specs.Steps.{MayTake, answer_of}
-use Rattle.numa_space.specs.declared.event.Event.{Event}
-use Rattle.numa_space.specs.declared.event.Event.TheVariants.{Look, Try, Give}
-use Rattle.numa_space.specs.declared.event.CoreReply.{CoreReply}
-use Rattle.numa_space.specs.declared.request.Request.{Request}
+use Rattle.numa_requests.specs.declared.event.Event.{Event}
+use Rattle.numa_requests.specs.declared.event.Event.TheVariants.{Look, Try, Give}
+use Rattle.numa_requests.specs.declared.event.CoreReply.{CoreReply}
+use Rattle.numa_requests.specs.declared.request.Request.{Request}
 use Rattle.numa_pool.specs.declared.view.Entry.{Entry}
 use Rattle.numa_pool.specs.declared.view.Entry.TheVariants.{Load, Won, Lost, Gave}
 use Rattle.numa_pool.specs.Walk.{IsCurrent, IsNext}

@@ -5,9 +5,9 @@ ghost use Rattle.std.specs.Prelude.{Some, Ok, Err, IfOk, IfErr, OnOk, OnErr};
 ghost use Rattle.numa_publish.specs.Batches.{Extends};
 ghost use Rattle.numa_publish.specs.Shown.{ViewState, accepted_commands};
 ghost use Rattle.numa_core.specs.World.{Setup, World, is_published, opening};
-ghost use Rattle.numa_space.specs.declared.event.CoreRefusal.{CoreRefusal};
-ghost use Rattle.numa_space.specs.declared.event.Event.{Event};
-ghost use Rattle.numa_space.specs.declared.event.CoreReply.{CoreReply};
+ghost use Rattle.numa_requests.specs.declared.event.CoreRefusal.{CoreRefusal};
+ghost use Rattle.numa_requests.specs.declared.event.Event.{Event};
+ghost use Rattle.numa_requests.specs.declared.event.CoreReply.{CoreReply};
 ghost use Rattle.numa_refinement.specs.Desks.{IsDeskOf, LeadsTo};
 ghost use Rattle.numa_refinement.specs.LegalSteps.{HasPublished, IsPublishedIn, core_step_of};
 

@@ -9,7 +9,7 @@ use Rattle.numa_plan.proofs.CountLemmas.{shift}
 use Rattle.numa_ranges.specs.Runs.{page_at}
 use Rattle.numa_space.specs.Pages.{is_mapped}
 use Rattle.numa_space.specs.Standing.{SpaceState, StandsFor}
-use Rattle.numa_space.specs.declared.command.Command.{Command}
+use Rattle.numa_requests.specs.declared.command.Command.{Command}
 use Rattle.numa_machine.specs.declared.refusal.PlaceRefusal.{PlaceRefusal}
 use Rattle.numa_compile.specs.Standing.{PlanStandsFor}
 use Rattle.numa_reports.specs.Common.{AreCommon, AreRising, has_page, span_end}

@@ -10,7 +10,7 @@ use Rattle.numa_ranges.proofs.Counted.{count-split}
 use Rattle.numa_plan.specs.Meaning.{PlanData, is_number, planned_first}
 use Rattle.numa_plan.proofs.CountLemmas.{shift}
 use Rattle.numa_space.specs.Pages.{is_mapped}
-use Rattle.numa_space.specs.declared.command.Command.{Command}
+use Rattle.numa_requests.specs.declared.command.Command.{Command}
 use Rattle.numa_compile.specs.Spans.{first_node}
 use Rattle.numa_compile.specs.Standing.{PlanStandsFor}
 use Rattle.numa_reports.specs.Moved.{AddsMoves, HasRoomFor, meant_moves, moves_in, pairs}

@@ -17,7 +17,7 @@ use Rattle.numa_space.specs.Pages.{index_of, is_mapped, page_in, policy_of_range
 use Rattle.numa_space.specs.Pages.{resolved_policy}
 use Rattle.numa_space.specs.Policies.{policy_that_counts, task_record}
 use Rattle.numa_space.specs.Standing.{SpaceState, StandsFor}
-use Rattle.numa_space.specs.declared.command.Command.{Command}
+use Rattle.numa_requests.specs.declared.command.Command.{Command}
 use Rattle.numa_plan.specs.Meaning.{PlanData}
 use Rattle.numa_compile.specs.Standing.{PlanStandsFor}
 use Rattle.numa_reports.specs.Filled.{planned_nodes}

@@ -13,7 +13,7 @@ use Rattle.numa_compile.specs.Standing.{PlanStandsFor}
 use Rattle.numa_space.specs.Lists.{node_list}
 use Rattle.numa_space.specs.Pages.{is_mapped}
 use Rattle.numa_space.specs.Standing.{SpaceState, StandsFor}
-use Rattle.numa_space.specs.declared.command.Command.{Command}
+use Rattle.numa_requests.specs.declared.command.Command.{Command}
 use Rattle.numa_placed.specs.Spots.{node_of}
 use Rattle.numa_placed.specs.declared.spot.Spot.{Spot}
 use Rattle.numa_reports.specs.Filled.{first_free, one_less, free_behind, nodes_of, planned_nodes}

@@ -10,7 +10,7 @@ use Rattle.numa_plan.specs.Meaning.{PlanData}
 use Rattle.numa_compile.specs.Standing.{PlanStandsFor}
 use Rattle.numa_space.specs.Standing.{SpaceState, StandsFor}
 use Rattle.numa_placed.specs.declared.spot.Spot.{Spot}
-use Rattle.numa_space.specs.declared.command.Command.{Command}
+use Rattle.numa_requests.specs.declared.command.Command.{Command}
 use Rattle.numa_reports.specs.Filled.{free_behind, planned_nodes}
 use Rattle.numa_reports.specs.Lying.{absent_nodes, spots_in}
 use Rattle.numa_reports.specs.Told.{IsFillingBeside, IsTakenBeside, Meaning, Telling, ToldEach}

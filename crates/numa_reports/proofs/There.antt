@@ -14,7 +14,7 @@ use Rattle.numa_ranges.proofs.Apart.{in_pages-true}
 use Rattle.numa_ranges.proofs.Counted.{count-none, count-split}
 use Rattle.numa_space.specs.Pages.{is_mapped}
 use Rattle.numa_space.specs.Standing.{SpaceState, StandsFor}
-use Rattle.numa_space.specs.declared.command.Command.{Command}
+use Rattle.numa_requests.specs.declared.command.Command.{Command}
 use Rattle.numa_plan.specs.Meaning.{PlanData, is_number, planned_first}
 use Rattle.numa_compile.specs.Spans.{first_node}
 use Rattle.numa_compile.specs.Standing.{PlanStandsFor}

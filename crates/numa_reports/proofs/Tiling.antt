@@ -17,7 +17,7 @@ use Rattle.numa_compile.specs.Spans.{meant_count}
 use Rattle.numa_compile.specs.Standing.{PlanStandsFor}
 use Rattle.numa_space.specs.Pages.{is_mapped, page_in}
 use Rattle.numa_space.specs.Standing.{SpaceState, StandsFor}
-use Rattle.numa_space.specs.declared.command.Command.{Command}
+use Rattle.numa_requests.specs.declared.command.Command.{Command}
 
 -- how many pages of the runs pass the test, run by run
 abbrev pub count_runs : {T : Type 0} → (ℕ → Bool) → List (Run T) → ℕ

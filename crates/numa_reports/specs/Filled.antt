@@ -5,7 +5,7 @@ use Rattle.numa_machine.specs.Machine.{Hardware}
 use Rattle.numa_plan.specs.Meaning.{PlanData, planned_list}
 use Rattle.numa_space.specs.Lists.{node_list}
 use Rattle.numa_space.specs.Pages.{is_mapped}
-use Rattle.numa_space.specs.declared.command.Command.{Command}
+use Rattle.numa_requests.specs.declared.command.Command.{Command}
 use Rattle.numa_reports.specs.declared.filling.FreePages.{FreePages}
 
 -- the first node of a list that has a free page

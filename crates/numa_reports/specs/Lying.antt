@@ -8,7 +8,7 @@ use Rattle.numa_machine.specs.Machine.{Hardware}
 use Rattle.numa_ranges.specs.Counts.{count_pages}
 use Rattle.numa_ranges.specs.declared.run.Run.{Run}
 use Rattle.numa_space.specs.Pages.{is_mapped}
-use Rattle.numa_space.specs.declared.command.Command.{Command}
+use Rattle.numa_requests.specs.declared.command.Command.{Command}
 use Rattle.numa_plan.specs.Meaning.{PlanData, is_number, planned_count, planned_first}
 use Rattle.numa_compile.specs.Spans.{first_node}
 use Rattle.numa_placed.specs.Spots.{is_on, node_of, pages_if, pages_within, spot_at}

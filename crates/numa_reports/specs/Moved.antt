@@ -5,7 +5,7 @@ use Rattle.numa_machine.specs.Machine.{Hardware}
 use Rattle.numa_ranges.specs.Counts.{count_pages}
 use Rattle.numa_plan.specs.Meaning.{PlanData, is_number, planned_first}
 use Rattle.numa_space.specs.Pages.{is_mapped}
-use Rattle.numa_space.specs.declared.command.Command.{Command}
+use Rattle.numa_requests.specs.declared.command.Command.{Command}
 use Rattle.numa_compile.specs.Spans.{first_node}
 
 -- a table of 256 rows of 256: the pages from a node to another

@@ -5,7 +5,7 @@ use Rattle.numa_machine.specs.Machine.{Hardware}
 use Rattle.numa_mode.specs.Policy.{PolicyRecord}
 use Rattle.numa_ranges.specs.declared.run.Run.{Run}
 use Rattle.numa_space.specs.Pages.{resolved_policy}
-use Rattle.numa_space.specs.declared.command.Command.{Command}
+use Rattle.numa_requests.specs.declared.command.Command.{Command}
 use Rattle.numa_placed.specs.declared.spot.Spot.{Spot}
 use Rattle.numa_reports.specs.Filled.{free_behind, nodes_of}
 use Rattle.numa_reports.specs.Lying.{absent_nodes, spots_in, there_on}

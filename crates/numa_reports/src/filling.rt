@@ -6,7 +6,7 @@ ghost use Rattle.numa_compile.specs.Standing.{PlanStandsFor};
 ghost use Rattle.numa_plan.specs.Meaning.{RefusesSpan, place_refusal};
 ghost use Rattle.numa_ranges.specs.Runs.{end_of, page_at};
 ghost use Rattle.numa_space.specs.Standing.{StandsFor};
-ghost use Rattle.numa_space.specs.declared.command.Command.{Command};
+ghost use Rattle.numa_requests.specs.declared.command.Command.{Command};
 ghost use Rattle.numa_machine.specs.declared.refusal.PlaceRefusal.TheVariants.{BadCpu};
 ghost use Rattle.numa_reports.specs.declared.fault.ReportError.TheVariants.{Memory, Refused};
 ghost use Rattle.numa_reports.specs.Failing.{FailsBy, FailsForNode};

@@ -3,7 +3,7 @@ ghost use Rattle.std.specs.Prelude.{◌≡◌, ◌-◌, ◌≤◌, ◌<◌, ◌=
 ghost use Rattle.std.specs.Prelude.{Err, IfErr, IfOk, OnOk, nat_lt, if◌then◌else◌};
 ghost use Rattle.numa_compile.specs.Standing.{PlanStandsFor};
 ghost use Rattle.numa_machine.specs.Machine.{Hardware};
-ghost use Rattle.numa_space.specs.declared.command.Command.{Command};
+ghost use Rattle.numa_requests.specs.declared.command.Command.{Command};
 ghost use Rattle.numa_machine.specs.declared.refusal.PlaceRefusal.TheVariants.{BadCpu};
 ghost use Rattle.numa_reports.specs.declared.fault.ReportError.TheVariants.{Refused};
 ghost use Rattle.numa_reports.specs.Failing.{MovesMayFail, RefusesEither};

@@ -2,7 +2,7 @@
 ghost use Rattle.std.specs.Prelude.{◌≡◌, ◌<◌, ◌^◌, ◌++◌, List, map, IfErr, IfOk};
 ghost use Rattle.numa_compile.specs.Standing.{PlanStandsFor};
 ghost use Rattle.numa_space.specs.Standing.{StandsFor};
-ghost use Rattle.numa_space.specs.declared.command.Command.{Command};
+ghost use Rattle.numa_requests.specs.declared.command.Command.{Command};
 ghost use Rattle.numa_reports.specs.Common.{AreCommon, AreRising, common_of, span_end};
 ghost use Rattle.numa_reports.specs.Mapped.{IsOutlook, span_of};
 ghost use Rattle.numa_reports.specs.declared.fault.ReportError.TheVariants as fault;

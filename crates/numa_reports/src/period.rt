@@ -3,7 +3,7 @@ ghost use Rattle.std.specs.Prelude.{◌≡◌, ℕ, List};
 ghost use Rattle.numa_machine.specs.Weights.{total_weight, weight_at};
 ghost use Rattle.numa_space.specs.Lists.{Setting, setting_of};
 ghost use Rattle.numa_space.specs.Standing.{StandsFor};
-ghost use Rattle.numa_space.specs.declared.command.Command.{Command};
+ghost use Rattle.numa_requests.specs.declared.command.Command.{Command};
 ghost use Rattle.numa_reports.specs.Turns.{IsPeriod};
 
 use numa_machine::Weights;

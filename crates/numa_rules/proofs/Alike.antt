@@ -20,14 +20,14 @@ use Rattle.numa_space.specs.Refusals.{PageMap, Scene, cause_in, first_of, when, 
 use Rattle.numa_space.specs.Refusals.{bad_map_span}
 use Rattle.numa_space.specs.Refusals.{lacks_policy, lacks_mems, has_no_node, has_policy}
 use Rattle.numa_space.specs.Standing.{SpaceState}
-use Rattle.numa_space.specs.declared.command.Command.{Command}
-use Rattle.numa_space.specs.declared.command.Command.TheVariants as command
-use Rattle.numa_space.specs.declared.refusal.Refusal.{Refusal}
-use Rattle.numa_space.specs.declared.refusal.Refusal.TheVariants.{OutOfSpace, EmptyLength, Hole}
-use Rattle.numa_space.specs.declared.refusal.Refusal.TheVariants.{NodesNotAllowed, NoPolicy}
-use Rattle.numa_space.specs.declared.refusal.Refusal.TheVariants.{NoSuchNode, BadWeight}
-use Rattle.numa_space.specs.declared.refusal.Refusal.TheVariants.{NotSupported}
-use Rattle.numa_space.specs.declared.refusal.Refusal.TheVariants.{CommandsSpent}
+use Rattle.numa_requests.specs.declared.command.Command.{Command}
+use Rattle.numa_requests.specs.declared.command.Command.TheVariants as command
+use Rattle.numa_requests.specs.declared.refusal.Refusal.{Refusal}
+use Rattle.numa_requests.specs.declared.refusal.Refusal.TheVariants.{OutOfSpace, EmptyLength, Hole}
+use Rattle.numa_requests.specs.declared.refusal.Refusal.TheVariants.{NodesNotAllowed, NoPolicy}
+use Rattle.numa_requests.specs.declared.refusal.Refusal.TheVariants.{NoSuchNode, BadWeight}
+use Rattle.numa_requests.specs.declared.refusal.Refusal.TheVariants.{NotSupported}
+use Rattle.numa_requests.specs.declared.refusal.Refusal.TheVariants.{CommandsSpent}
 use Rattle.numa_rules.specs.Both.{IsAnsweredAlike, scene_by, refusal_by}
 use Rattle.numa_rules.specs.Otherwise.{otherwise_of, with_command}
 use Rattle.numa_rules.specs.declared.otherwise.Otherwise.{Otherwise}

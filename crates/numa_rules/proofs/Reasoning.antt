@@ -16,7 +16,7 @@ use Rattle.numa_space.specs.Pages.{index_of, is_mapped, page_in, range_record}
 use Rattle.numa_space.specs.Refusals.{PageMap}
 use Rattle.numa_space.specs.Same.{same_record}
 use Rattle.numa_space.specs.Standing.{SpaceState, StandsFor, place_refusal_in}
-use Rattle.numa_space.specs.declared.command.Command.{Command}
+use Rattle.numa_requests.specs.declared.command.Command.{Command}
 use Rattle.numa_machine.specs.declared.refusal.PlaceRefusal.TheVariants.{BadCpu, Unmapped}
 use Rattle.numa_rules.specs.Reasons.{ordered_by, rule_by_mode, rule_for, run_with, set_for}
 use Rattle.numa_rules.proofs.Ranges.{in_pages-inside, run-page}

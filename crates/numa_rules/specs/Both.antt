@@ -6,8 +6,8 @@ use Rattle.numa_mode.specs.Policy.{PolicyRecord, record_after}
 use Rattle.numa_ranges.specs.Runs.{page_at}
 use Rattle.numa_space.specs.Refusals.{PageMap, Scene, refusal_in}
 use Rattle.numa_space.specs.Standing.{SpaceState, record_of}
-use Rattle.numa_space.specs.declared.command.Command.{Command}
-use Rattle.numa_space.specs.declared.refusal.Refusal.{Refusal}
+use Rattle.numa_requests.specs.declared.command.Command.{Command}
+use Rattle.numa_requests.specs.declared.refusal.Refusal.{Refusal}
 use Rattle.numa_rules.specs.declared.otherwise.Otherwise.{Otherwise}
 use Rattle.numa_rules.specs.declared.otherwise.Otherwise.TheVariants.{LeavesNodes}
 

@@ -7,7 +7,7 @@ use Rattle.numa_space.specs.Lists.{node_list, setting_of}
 use Rattle.numa_space.specs.Pages.{index_of, page_in, range_record, resolved_policy}
 use Rattle.numa_space.specs.Policies.{allowed_nodes, node_weight, task_record}
 use Rattle.numa_space.specs.Same.{same_record}
-use Rattle.numa_space.specs.declared.command.Command.{Command}
+use Rattle.numa_requests.specs.declared.command.Command.{Command}
 use Rattle.numa_machine.specs.declared.refusal.PlaceRefusal.{PlaceRefusal}
 use Rattle.numa_rules.specs.Reasons.{ordered_by, rule_for, scope_of, set_for}
 use Rattle.numa_rules.specs.declared.explanation.Explanation.{Explanation}

@@ -7,7 +7,7 @@ use Rattle.numa_mode.specs.Policy.{PolicyRecord}
 use Rattle.numa_space.specs.Lists.{node_list}
 use Rattle.numa_space.specs.Pages.{resolved_policy}
 use Rattle.numa_space.specs.Standing.{place_refusal_of}
-use Rattle.numa_space.specs.declared.command.Command.{Command}
+use Rattle.numa_requests.specs.declared.command.Command.{Command}
 use Rattle.numa_rules.specs.declared.page.ByOther.{ByOther}
 
 abbrev pub other_rules : Rules → Rules

@@ -16,8 +16,8 @@ use Rattle.numa_ranges.specs.declared.run.Run.{Run}
 use Rattle.numa_space.specs.History.{page_count, page_of}
 use Rattle.numa_space.specs.Refusals.{bad_span, has_no_node, has_policy}
 use Rattle.numa_space.specs.Standing.{SpaceState}
-use Rattle.numa_space.specs.declared.command.Command.{Command}
-use Rattle.numa_space.specs.declared.command.Command.TheVariants as command
+use Rattle.numa_requests.specs.declared.command.Command.{Command}
+use Rattle.numa_requests.specs.declared.command.Command.TheVariants as command
 use Rattle.numa_rules.specs.declared.otherwise.Otherwise.{Otherwise}
 use Rattle.numa_rules.specs.declared.otherwise.Otherwise.TheVariants.{KeepsLastPage, WantsLength}
 use Rattle.numa_rules.specs.declared.otherwise.Otherwise.TheVariants.{JudgesNodesFirst, PassesHoles}

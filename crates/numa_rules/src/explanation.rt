@@ -1,7 +1,7 @@
 //! Explaining why a page goes where it goes.
 ghost use Rattle.std.specs.Prelude.{◌≡◌, List, IfOk, IfErr};
 ghost use Rattle.numa_space.specs.Standing.{StandsFor, place_refusal_of};
-ghost use Rattle.numa_space.specs.declared.command.Command.{Command};
+ghost use Rattle.numa_requests.specs.declared.command.Command.{Command};
 ghost use Rattle.numa_rules.specs.Explained.{IsExplanation, IsRefusedBy};
 
 use crate::fault::ReasonError;

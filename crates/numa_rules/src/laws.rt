@@ -7,7 +7,7 @@ ghost use Rattle.numa_mode.specs.Policy.{PolicyRecord};
 ghost use Rattle.numa_ranges.specs.declared.run.Run.{Run};
 ghost use Rattle.numa_space.specs.Refusals.{PageMap};
 ghost use Rattle.numa_space.specs.Standing.{SpaceState};
-ghost use Rattle.numa_space.specs.declared.command.Command.{Command};
+ghost use Rattle.numa_requests.specs.declared.command.Command.{Command};
 ghost use Rattle.numa_rules.specs.Both.{AreNodesAlike, IsAnsweredAlike, refusal_by};
 ghost use Rattle.numa_rules.specs.Otherwise.{otherwise_of, parted_in};
 

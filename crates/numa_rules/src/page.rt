@@ -1,7 +1,7 @@
 //! A page by the other rules.
 ghost use Rattle.std.specs.Prelude.{◌≡◌, List, MatchOption};
 ghost use Rattle.numa_space.specs.Standing.{StandsFor};
-ghost use Rattle.numa_space.specs.declared.command.Command.{Command};
+ghost use Rattle.numa_requests.specs.declared.command.Command.{Command};
 ghost use Rattle.numa_rules.specs.Others.{IsByOther, IsSameThere, nodes_in, other_rules, set_for};
 
 use arrayvec::ArrayVec;

@@ -13,10 +13,10 @@ use Rattle.numa_mode.specs.declared.modes.Mode.TheVariants.{Bind}
 use Rattle.numa_mode.specs.declared.modes.NodeFlag.TheVariants.{Plain}
 use Rattle.numa_ranges.specs.Counts.{count_pages}
 use Rattle.numa_ranges.specs.Maps.{any_page}
-use Rattle.numa_space.specs.declared.command.Command.TheVariants.{Map, Mbind}
+use Rattle.numa_requests.specs.declared.command.Command.TheVariants.{Map, Mbind}
 use Rattle.numa_core.specs.World.{World, opening, list_at}
 use Rattle.numa_core.specs.Touching.{result_of_touch}
-use Rattle.numa_space.specs.declared.placement.Placement.{Placement}
+use Rattle.numa_requests.specs.declared.placement.Placement.{Placement}
 use Rattle.numa_maps.specs.Listing.{nodes_text as counts_text}
 use Rattle.numa_script.specs.Lines.{line_of, keyword_of}
 use Rattle.numa_script.specs.Machines.{distances_of}

@@ -33,7 +33,7 @@ use Rattle.numa_run.specs.Standing.{RunsAs, Stands, Replies, Takes, Does}
 use Rattle.numa_run.specs.States.{setup_with}
 use Rattle.numa_script.specs.Texts.{text_of}
 use Rattle.numa_run.specs.Work.{Outcome, event_outcome}
-use Rattle.numa_space.specs.declared.event.Event.TheVariants.{Accept}
+use Rattle.numa_requests.specs.declared.event.Event.TheVariants.{Accept}
 use Rattle.numa_run.specs.declared.running.Running.{Running}
 use Rattle.numa_run.specs.declared.settings.Settings.{Settings}
 use Rattle.numa_run.specs.declared.running.Taken.TheVariants as taken

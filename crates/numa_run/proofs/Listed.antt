@@ -13,7 +13,7 @@ use Rattle.numa_ranges.proofs.Laws.{same-runs}
 use Rattle.numa_space.specs.Pages.{page_in, resolved_policy}
 use Rattle.numa_space.specs.Same.{same_record}
 use Rattle.numa_space.specs.Standing.{SpaceState, StandsFor, policy_in}
-use Rattle.numa_space.specs.declared.command.Command.{Command}
+use Rattle.numa_requests.specs.declared.command.Command.{Command}
 use Rattle.numa_space.proofs.Same.{same_record-exact, same_record-refl}
 use Rattle.numa_space.proofs.Lists.{policy-same}
 use Rattle.numa_maps.specs.Listing.{listing, listing_in}

@@ -6,7 +6,7 @@ use Rattle.numa_ranges.specs.Edits.{maximal_runs}
 use Rattle.numa_ranges.specs.declared.run.Run.{Run}
 use Rattle.numa_space.specs.Pages.{page_in, resolved_policy}
 use Rattle.numa_space.specs.Same.{same_record}
-use Rattle.numa_space.specs.declared.command.Command.{Command}
+use Rattle.numa_requests.specs.declared.command.Command.{Command}
 use Rattle.numa_maps.specs.Listing.{listing}
 use Rattle.numa_maps.specs.Residents.{Kept}
 

@@ -4,7 +4,7 @@ ghost use Rattle.numa_compile.specs.Standing.{PlanStandsFor};
 ghost use Rattle.numa_machine.specs.Machine.{Hardware};
 ghost use Rattle.numa_space.specs.History.{page_of};
 ghost use Rattle.numa_space.specs.Standing.{StandsFor};
-ghost use Rattle.numa_space.specs.declared.command.Command.{Command};
+ghost use Rattle.numa_requests.specs.declared.command.Command.{Command};
 ghost use Rattle.numa_lines.specs.Written.{Said};
 ghost use Rattle.numa_run.specs.Questions.{count_text, place_text, span_text, unless_starved};
 

@@ -4,7 +4,7 @@ ghost use Rattle.numa_lines.specs.Written.{Said};
 ghost use Rattle.numa_core.specs.Standing.{setup_of};
 ghost use Rattle.numa_core.specs.Steps.{accept_answer};
 ghost use Rattle.numa_space.specs.Standing.{StandsFor};
-ghost use Rattle.numa_space.specs.declared.command.Command.{Command};
+ghost use Rattle.numa_requests.specs.declared.command.Command.{Command};
 ghost use Rattle.numa_run.specs.Answers.{State};
 ghost use Rattle.numa_run.specs.Judged.{question_cause};
 ghost use Rattle.numa_run.specs.Questions.{question_text};

@@ -2,7 +2,7 @@
 use Rattle.std.proofs.Common.{◌≡◌, ℕ, ◌+◌, List, [], ◌++◌, refl, ap}
 use Rattle.std.specs.List.{flat_map, range_with_len}
 use Rattle.numa_machine.proofs.Nodes.{flat_map-range_more}
-use Rattle.numa_maps.specs.Listing.{node_text, nodes_text}
+use Rattle.numa_requests.specs.NodeCounts.{node_text, nodes_text}
 
 -- the nodes below a number
 pub counts_below : (ℕ → ℕ) → ℕ → List ℕ

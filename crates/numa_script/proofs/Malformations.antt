@@ -10,9 +10,9 @@ use Rattle.std.proofs.lemmas.Bool.Decides.{nat_tests}
 use Rattle.numa_mask.specs.Lists.{list_of}
 use Rattle.numa_mask.specs.declared.list.ListFault.{ListFault}
 use Rattle.numa_mode.specs.Policy.{Specification}
-use Rattle.numa_space.specs.declared.event.Event.TheVariants as event
-use Rattle.numa_space.specs.declared.command.Command.{Command}
-use Rattle.numa_space.specs.declared.command.Command.TheVariants as command
+use Rattle.numa_requests.specs.declared.event.Event.TheVariants as event
+use Rattle.numa_requests.specs.declared.command.Command.{Command}
+use Rattle.numa_requests.specs.declared.command.Command.TheVariants as command
 use Rattle.numa_script.specs.Causes.{parameters_of, form_of, misfit_of, misfit_else, fault_behind}
 use Rattle.numa_script.specs.Causes.{first_misfit, keyword_fault, words_fault, width_of, empty_word}
 use Rattle.numa_script.specs.Causes.{empty_else, is_stray, stray_else, fault_of, is_malformed}

@@ -3,8 +3,8 @@ use Rattle.std.specs.Prelude.{◌≡◌, true, false, [], ◌∷◌, codes, Ok, 
 use Rattle.numa_mask.specs.Lists.{item_of, ends_of, digit_of, numeral_of as node_numeral_of}
 use Rattle.numa_mask.specs.declared.list.ListFault.TheVariants.{BackRange}
 use Rattle.numa_machine.specs.declared.rules.Rules.TheVariants.{Document, Linux}
-use Rattle.numa_space.specs.declared.event.Event.TheVariants as event
-use Rattle.numa_space.specs.declared.command.Command.TheVariants as command
+use Rattle.numa_requests.specs.declared.event.Event.TheVariants as event
+use Rattle.numa_requests.specs.declared.command.Command.TheVariants as command
 use Rattle.numa_script.specs.Lines.{line_of, keyword_of}
 use Rattle.numa_script.specs.Machines.{distances_of}
 use Rattle.numa_script.specs.Numbers.{number_of, numeral_of, in_64_bits}

@@ -11,8 +11,8 @@ use Rattle.numa_mask.specs.declared.list.ListFault.{ListFault}
 use Rattle.numa_mode.specs.Policy.{Specification}
 use Rattle.numa_mode.specs.declared.modes.Mode.TheVariants as mode
 use Rattle.numa_mode.specs.declared.modes.NodeFlag.TheVariants as flag
-use Rattle.numa_space.specs.declared.command.Command.{Command}
-use Rattle.numa_space.specs.declared.command.Command.TheVariants as command
+use Rattle.numa_requests.specs.declared.command.Command.{Command}
+use Rattle.numa_requests.specs.declared.command.Command.TheVariants as command
 use Rattle.numa_script.specs.Parts.{words_of}
 use Rattle.numa_script.specs.Present.{with_two, with_three, two_of, three_of}
 use Rattle.numa_script.specs.Present.{four_of, two_words, three_words, four_words}

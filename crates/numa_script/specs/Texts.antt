@@ -6,16 +6,16 @@ use Rattle.numa_mode.specs.declared.specification.SpecError.{SpecError}
 use Rattle.numa_mode.specs.declared.specification.SpecError.TheVariants as policy
 use Rattle.numa_machine.specs.declared.fault.MachineFault.{MachineFault}
 use Rattle.numa_machine.specs.declared.fault.MachineFault.TheVariants as machine
-use Rattle.numa_space.specs.Errors.{errno_of}
-use Rattle.numa_space.specs.declared.refusal.Errno.{Errno}
-use Rattle.numa_space.specs.declared.refusal.Errno.TheVariants as errno
-use Rattle.numa_space.specs.declared.refusal.Refusal.{Refusal}
-use Rattle.numa_space.specs.declared.refusal.Refusal.TheVariants as refusal
+use Rattle.numa_requests.specs.Errors.{errno_of}
+use Rattle.numa_requests.specs.declared.refusal.Errno.{Errno}
+use Rattle.numa_requests.specs.declared.refusal.Errno.TheVariants as errno
+use Rattle.numa_requests.specs.declared.refusal.Refusal.{Refusal}
+use Rattle.numa_requests.specs.declared.refusal.Refusal.TheVariants as refusal
 use Rattle.numa_machine.specs.declared.refusal.PlaceRefusal.{PlaceRefusal}
 use Rattle.numa_machine.specs.declared.refusal.PlaceRefusal.TheVariants as place
-use Rattle.numa_space.specs.declared.event.CoreRefusal.{CoreRefusal}
-use Rattle.numa_space.specs.declared.event.CoreRefusal.TheVariants as core
-use Rattle.numa_maps.specs.Listing.{nodes_text as counts_text}
+use Rattle.numa_requests.specs.declared.event.CoreRefusal.{CoreRefusal}
+use Rattle.numa_requests.specs.declared.event.CoreRefusal.TheVariants as core
+use Rattle.numa_requests.specs.NodeCounts.{nodes_text as counts_text}
 use Rattle.numa_script.specs.declared.names.Named.{Named}
 use Rattle.numa_script.specs.declared.names.Named.TheVariants as named
 use Rattle.numa_script.specs.declared.policy.WordError.{WordError}

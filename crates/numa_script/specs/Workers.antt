@@ -1,9 +1,9 @@
 -- What the lines of workers ask for.
 use Rattle.std.specs.Prelude.{ℕ, ◌/◌, List, [], ◌∷◌, Option, Some, None, option_and_then}
 use Rattle.std.specs.Option.{option_map}
-use Rattle.numa_space.specs.declared.event.Event.TheVariants as event
+use Rattle.numa_requests.specs.declared.event.Event.TheVariants as event
 use Rattle.numa_machine.specs.declared.frame.Frame.{Frame}
-use Rattle.numa_space.specs.declared.request.Request.{Request}
+use Rattle.numa_requests.specs.declared.request.Request.{Request}
 use Rattle.numa_script.specs.Numbers.{number_of, small_of, page_of, node_of, frame_number_of}
 use Rattle.numa_script.specs.Present.{with_two, two_words, two_of, three_of}
 use Rattle.numa_script.specs.declared.work.Work.{Work}

@@ -21,8 +21,8 @@ use bitflags::Flags;
 use numa_machine::Rules;
 use numa_mask::{ListFault, NodeMask, read_list};
 use numa_mode::{Mode, PolicyFlags, PolicySpec};
-use numa_space::Command;
-use numa_space::Command::{Inherit, Map, SetHome, SetWeight, Unmap};
+use numa_requests::Command;
+use numa_requests::Command::{Inherit, Map, SetHome, SetWeight, Unmap};
 
 /// The most bytes of a line, without its line feed.
 pub const LIMIT: usize = 4096;

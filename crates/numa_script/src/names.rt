@@ -5,7 +5,7 @@ ghost use Rattle.numa_script.specs.Texts.{name_of};
 use numa_machine::{MachineFault, PlaceRefusal};
 use numa_mask::ListFault;
 use numa_mode::SpecError;
-use numa_space::{Errno, Refusal};
+use numa_requests::{Errno, Refusal};
 
 /// What answers name.
 #[derive(Clone, Copy, Debug, PartialEq, Eq)]

@@ -5,7 +5,7 @@ ghost use Rattle.numa_script.specs.Numbers.{digit_of, in_64_bits, numeral_of, nu
 ghost use Rattle.numa_script.specs.Numbers.{item_of, page_of, node_of, frame_number_of};
 ghost use Rattle.numa_script.specs.Numbers.{few_of, span_pages_of, below, IsNumber};
 
-use numa_space::PAGE_BYTES;
+use numa_requests::PAGE_BYTES;
 
 /// The most hexadecimal digits of a number.
 const HEXADECIMAL_DIGITS: usize = 16;

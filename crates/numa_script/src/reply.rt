@@ -4,7 +4,7 @@ ghost use Rattle.numa_script.specs.Replies.{done_reply, reply_to, win_of};
 
 use crate::policy::WordError;
 use numa_machine::{Frame, MachineFault};
-use numa_space::{CoreRefusal, CoreReply, Placement};
+use numa_requests::{CoreRefusal, CoreReply, Placement};
 
 /// A frame that was won: the version of the fallback list that led to it, its node, its number on
 /// that node, and the node's place in the list, from 0.

@@ -3,8 +3,8 @@
 ghost use Rattle.std.specs.Prelude.{◌≡◌, ℕ, ◌+◌, ◌≤◌, ◌++◌, List, Option, length, decimal, codes};
 ghost use Rattle.std.specs.Prelude.{flat_map, slice_index};
 ghost use Rattle.numa_lines.specs.Written.{Said};
-ghost use Rattle.numa_space.specs.Errors.{errno_of};
-ghost use Rattle.numa_maps.specs.Listing.{node_text as count_of_node, nodes_text as counts_text};
+ghost use Rattle.numa_requests.specs.Errors.{errno_of};
+ghost use Rattle.numa_requests.specs.NodeCounts.{node_text as count_of_node, nodes_text as counts_text};
 ghost use Rattle.numa_script.specs.Texts.{cause_name, counts_answer, errno_name, frame_text};
 ghost use Rattle.numa_script.specs.Texts.{nodes_answer, place_name, ranges_answer, refusal_name};
 ghost use Rattle.numa_script.specs.Texts.{refused_text, text_of, win_answer, word_text};
@@ -16,7 +16,7 @@ use crate::reply::{Reply, Win};
 use crate::short::ShortText;
 use numa_lines::Watched;
 use numa_machine::{Frame, PlaceRefusal};
-use numa_space::{CoreRefusal, Refusal};
+use numa_requests::{CoreRefusal, Refusal};
 use std::io::Write;
 
 /// Writes two texts as a line.

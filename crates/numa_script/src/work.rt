@@ -8,7 +8,7 @@ use crate::number::{frame_number, node, page, small};
 use crate::reading::{three, two, two_words};
 use crate::words::Words;
 use numa_machine::Frame;
-use numa_space::{Event, PAGE_BYTES, Request};
+use numa_requests::{Event, PAGE_BYTES, Request};
 
 /// Work for a worker, or the publication of the commands so far. Workers are numbered from 0.
 #[derive(Clone, Copy, Debug, PartialEq, Eq)]

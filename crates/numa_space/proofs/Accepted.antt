@@ -8,9 +8,9 @@ use Rattle.numa_space.specs.Limited.{Bounds}
 use Rattle.numa_space.specs.Refusals.{refusal_of, scene_of}
 use Rattle.numa_space.specs.Standing.{SpaceState, StandsFor, accepted_next, accepted_of}
 use Rattle.numa_space.specs.Steps.{MayNeedRoom, MayStopAt}
-use Rattle.numa_space.specs.declared.command.Command.{Command}
-use Rattle.numa_space.specs.declared.refusal.Refusal.{Refusal}
-use Rattle.numa_space.specs.declared.refusal.Refusal.TheVariants.{NoMemory}
+use Rattle.numa_requests.specs.declared.command.Command.{Command}
+use Rattle.numa_requests.specs.declared.refusal.Refusal.{Refusal}
+use Rattle.numa_requests.specs.declared.refusal.Refusal.TheVariants.{NoMemory}
 use Rattle.numa_space.proofs.Refused.{refusal-not_memory}
 
 -- one command more at the end

@@ -11,9 +11,9 @@ use Rattle.numa_space.specs.Refusals.{refusal_in, refusal_of}
 use Rattle.numa_space.specs.Standing.{SpaceState, StandsFor, record_of}
 use Rattle.numa_space.specs.Steps.{allowed_next, pages_next, task_next, task_count_next}
 use Rattle.numa_space.specs.Steps.{weight_next, IsNext, scene_in, IsAnswer, IsStep}
-use Rattle.numa_space.specs.declared.command.Command.{Command}
-use Rattle.numa_space.specs.declared.refusal.Refusal.{Refusal}
-use Rattle.numa_space.specs.declared.refusal.Refusal.TheVariants.{NoMemory}
+use Rattle.numa_requests.specs.declared.command.Command.{Command}
+use Rattle.numa_requests.specs.declared.refusal.Refusal.{Refusal}
+use Rattle.numa_requests.specs.declared.refusal.Refusal.TheVariants.{NoMemory}
 use Rattle.numa_space.proofs.Places.{allowed-next}
 use Rattle.numa_space.proofs.Pages.{pages-next}
 use Rattle.numa_space.proofs.Tasks.{weight-next, task-next, task_count-next}

@@ -21,10 +21,10 @@ use Rattle.numa_space.specs.Pages.{page_in}
 use Rattle.numa_space.specs.Same.{same_record}
 use Rattle.numa_space.specs.Refusals.{bad_map_span, when, refusal_of, range_count_of}
 use Rattle.numa_space.specs.Steps.{record_now, policy_with_home}
-use Rattle.numa_space.specs.declared.command.Command.{Command}
-use Rattle.numa_space.specs.declared.command.Command.TheVariants.{Map, Unmap, Mbind, SetTask}
-use Rattle.numa_space.specs.declared.command.Command.TheVariants.{SetHome}
-use Rattle.numa_space.specs.declared.refusal.Refusal.TheVariants.{TooManyRanges}
+use Rattle.numa_requests.specs.declared.command.Command.{Command}
+use Rattle.numa_requests.specs.declared.command.Command.TheVariants.{Map, Unmap, Mbind, SetTask}
+use Rattle.numa_requests.specs.declared.command.Command.TheVariants.{SetHome}
+use Rattle.numa_requests.specs.declared.refusal.Refusal.TheVariants.{TooManyRanges}
 use Rattle.numa_space.proofs.Pages.{pages-next}
 use Rattle.numa_space.proofs.Same.{same_record-exact, same_record-refl}
 use Rattle.numa_space.proofs.Rows.{flat, in_a_row, asked}

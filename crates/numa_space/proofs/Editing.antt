@@ -12,8 +12,8 @@ use Rattle.numa_ranges.specs.Maps.{changed_span}
 use Rattle.numa_ranges.specs.Ranges.{Ranges}
 use Rattle.numa_ranges.specs.declared.fault.RangeError.{RangeError}
 use Rattle.numa_ranges.specs.declared.fault.RangeError.TheVariants as fault
-use Rattle.numa_space.specs.declared.refusal.Refusal.{Refusal}
-use Rattle.numa_space.specs.declared.refusal.Refusal.TheVariants.{Overlap, Hole, TooManyRanges}
+use Rattle.numa_requests.specs.declared.refusal.Refusal.{Refusal}
+use Rattle.numa_requests.specs.declared.refusal.Refusal.TheVariants.{Overlap, Hole, TooManyRanges}
 use Rattle.numa_space.specs.Edits.{PageRanges, IsEdit, too_many, overlap_cause, hole_cause}
 use Rattle.numa_space.specs.Edits.{refusal_from}
 use Rattle.numa_space.specs.Refusals.{PageMap, first_of, when}

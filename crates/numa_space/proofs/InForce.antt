@@ -27,13 +27,13 @@ use Rattle.numa_space.specs.Standing.{SpaceState, record_of, IsInForce, IsSound}
 use Rattle.numa_space.specs.Steps.{record_now, policy_with_home, policy_after, allowed_next}
 use Rattle.numa_space.specs.Steps.{pages_next, task_next, task_count_next, IsNext, scene_in}
 use Rattle.numa_space.specs.Steps.{IsAnswer}
-use Rattle.numa_space.specs.declared.command.Command.{Command}
-use Rattle.numa_space.specs.declared.command.Command.TheVariants.{Map, Unmap, Mbind, SetTask}
-use Rattle.numa_space.specs.declared.command.Command.TheVariants.{Inherit, SetHome, SetWeight}
-use Rattle.numa_space.specs.declared.command.Command.TheVariants.{SetMems}
-use Rattle.numa_space.specs.declared.refusal.Refusal.{Refusal}
-use Rattle.numa_space.specs.declared.refusal.Refusal.TheVariants.{CommandsSpent, NoSuchNode}
-use Rattle.numa_space.specs.declared.refusal.Refusal.TheVariants.{NodesNotAllowed, TooManyTasks}
+use Rattle.numa_requests.specs.declared.command.Command.{Command}
+use Rattle.numa_requests.specs.declared.command.Command.TheVariants.{Map, Unmap, Mbind, SetTask}
+use Rattle.numa_requests.specs.declared.command.Command.TheVariants.{Inherit, SetHome, SetWeight}
+use Rattle.numa_requests.specs.declared.command.Command.TheVariants.{SetMems}
+use Rattle.numa_requests.specs.declared.refusal.Refusal.{Refusal}
+use Rattle.numa_requests.specs.declared.refusal.Refusal.TheVariants.{CommandsSpent, NoSuchNode}
+use Rattle.numa_requests.specs.declared.refusal.Refusal.TheVariants.{NodesNotAllowed, TooManyTasks}
 use Rattle.numa_space.proofs.Answers.{AnswersBy}
 use Rattle.numa_space.proofs.Refused.{first_of-none, when-none}
 use Rattle.numa_space.proofs.NodeLists.{within-both, within-from_both, small-inside}

@@ -5,8 +5,8 @@ use Rattle.numa_machine.specs.Machine.{Hardware}
 use Rattle.numa_space.specs.Inside.{shown_of, IsKept}
 use Rattle.numa_space.specs.Steps.{IsAnswer}
 use Rattle.numa_space.specs.Limited.{Bounds}
-use Rattle.numa_space.specs.declared.command.Command.{Command}
-use Rattle.numa_space.specs.declared.refusal.Refusal.{Refusal}
+use Rattle.numa_requests.specs.declared.command.Command.{Command}
+use Rattle.numa_requests.specs.declared.refusal.Refusal.{Refusal}
 use Rattle.numa_space.specs.declared.space.Space.TheInside.{Inside}
 use Rattle.std.proofs.Common.{◌∷◌, Option, Some, None, Ok, Err}
 use Rattle.numa_space.specs.Standing.{SpaceState, HasHistory, IsAccepted}

@@ -13,7 +13,7 @@ use Rattle.numa_space.specs.Same.{same_record}
 use Rattle.numa_space.specs.Refusals.{range_count_of}
 use Rattle.numa_space.specs.Standing.{SpaceState, StandsFor, setting_in, policy_in, list_in}
 use Rattle.numa_space.specs.Standing.{place_refusal_in, place_refusal_of}
-use Rattle.numa_space.specs.declared.command.Command.{Command}
+use Rattle.numa_requests.specs.declared.command.Command.{Command}
 use Rattle.numa_space.proofs.Refused.{page-is_some}
 use Rattle.numa_space.proofs.Same.{same_record-exact, same_record-refl}
 

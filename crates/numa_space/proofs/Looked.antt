@@ -12,7 +12,7 @@ use Rattle.numa_space.specs.Inside.{shown_of, IsKept}
 use Rattle.numa_space.specs.Lists.{node_list}
 use Rattle.numa_space.specs.Standing.{SpaceState, StandsFor, IsInForce, IsNodeList, policy_in}
 use Rattle.numa_space.specs.Standing.{list_in, place_refusal_in, place_refusal_of}
-use Rattle.numa_space.specs.declared.command.Command.{Command}
+use Rattle.numa_requests.specs.declared.command.Command.{Command}
 use Rattle.numa_machine.specs.declared.refusal.PlaceRefusal.{PlaceRefusal}
 use Rattle.numa_machine.specs.declared.refusal.PlaceRefusal.TheVariants.{BadCpu, Unmapped}
 use Rattle.numa_space.specs.declared.space.Space.TheInside.{Inside}

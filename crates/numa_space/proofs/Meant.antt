@@ -11,7 +11,7 @@ use Rattle.numa_space.specs.Pages.{index_of, page_in, policy_of_range, resolved_
 use Rattle.numa_space.specs.Policies.{allowed_nodes, node_weight, task_record}
 use Rattle.numa_space.specs.Refusals.{PageMap, scene_of}
 use Rattle.numa_space.specs.Standing.{IsAccepted, IsInForce, IsNodeList}
-use Rattle.numa_space.specs.declared.command.Command.{Command}
+use Rattle.numa_requests.specs.declared.command.Command.{Command}
 use Rattle.numa_space.proofs.InForce.{AreInForce, PageHolds, in_force-next}
 use Rattle.numa_space.proofs.NodeLists.{within-both, policy-nodes, resolved-some}
 use Rattle.numa_space.proofs.Pages.{pages-next}

@@ -20,12 +20,12 @@ use Rattle.numa_ranges.proofs.Fewer.{window-few, window-fewer, window-rest, begu
 use Rattle.numa_ranges.proofs.Laws.{same-runs, inside}
 use Rattle.numa_ranges.proofs.Moves.{AreLeft, moves, moves-next, window-now}
 use Rattle.numa_ranges.proofs.Pages.{any_page-true}
-use Rattle.numa_space.specs.declared.command.Command.{Command}
-use Rattle.numa_space.specs.declared.command.Command.TheVariants.{Map, Unmap, Mbind, SetTask}
-use Rattle.numa_space.specs.declared.command.Command.TheVariants.{Inherit, SetHome, SetWeight}
-use Rattle.numa_space.specs.declared.command.Command.TheVariants.{SetMems}
-use Rattle.numa_space.specs.declared.refusal.Refusal.TheVariants.{CommandsSpent, EmptyLength}
-use Rattle.numa_space.specs.declared.refusal.Refusal.TheVariants.{BadOffset, Overlap}
+use Rattle.numa_requests.specs.declared.command.Command.{Command}
+use Rattle.numa_requests.specs.declared.command.Command.TheVariants.{Map, Unmap, Mbind, SetTask}
+use Rattle.numa_requests.specs.declared.command.Command.TheVariants.{Inherit, SetHome, SetWeight}
+use Rattle.numa_requests.specs.declared.command.Command.TheVariants.{SetMems}
+use Rattle.numa_requests.specs.declared.refusal.Refusal.TheVariants.{CommandsSpent, EmptyLength}
+use Rattle.numa_requests.specs.declared.refusal.Refusal.TheVariants.{BadOffset, Overlap}
 use Rattle.numa_space.specs.History.{page_of, page_count}
 use Rattle.numa_space.specs.Refusals.{PageMap, cause_in, first_of, too_many_ranges, when}
 use Rattle.numa_space.specs.Refusals.{bad_map_span}

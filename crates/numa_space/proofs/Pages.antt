@@ -14,10 +14,10 @@ use Rattle.numa_space.specs.Pages.{covers, cover_of, is_unmap, maps_or_unmaps, i
 use Rattle.numa_space.specs.Pages.{index_by, index_of, last_home, at_home, bound_by, range_record}
 use Rattle.numa_space.specs.Pages.{page_in}
 use Rattle.numa_space.specs.Steps.{record_now, policy_with_home, policy_after, pages_next}
-use Rattle.numa_space.specs.declared.command.Command.{Command}
-use Rattle.numa_space.specs.declared.command.Command.TheVariants.{Map, Unmap, Mbind, SetTask}
-use Rattle.numa_space.specs.declared.command.Command.TheVariants.{Inherit, SetHome, SetWeight}
-use Rattle.numa_space.specs.declared.command.Command.TheVariants.{SetMems}
+use Rattle.numa_requests.specs.declared.command.Command.{Command}
+use Rattle.numa_requests.specs.declared.command.Command.TheVariants.{Map, Unmap, Mbind, SetTask}
+use Rattle.numa_requests.specs.declared.command.Command.TheVariants.{Inherit, SetHome, SetWeight}
+use Rattle.numa_requests.specs.declared.command.Command.TheVariants.{SetMems}
 use Rattle.numa_space.proofs.Places.{changes_allowed, IsPlace, last_where-place, allowed-at_place}
 use Rattle.numa_space.proofs.Places.{effective-now, effective-mems, effective-other}
 

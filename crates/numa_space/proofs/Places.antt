@@ -14,10 +14,10 @@ use Rattle.numa_space.specs.History.{Place, last_where, one_later}
 use Rattle.numa_space.specs.Policies.{allowed_nodes, documented_set, rebound_set, effective_set}
 use Rattle.numa_space.specs.Policies.{set_by, mems_of}
 use Rattle.numa_space.specs.Steps.{allowed_next}
-use Rattle.numa_space.specs.declared.command.Command.{Command}
-use Rattle.numa_space.specs.declared.command.Command.TheVariants.{Map, Unmap, Mbind, SetTask}
-use Rattle.numa_space.specs.declared.command.Command.TheVariants.{Inherit, SetHome, SetWeight}
-use Rattle.numa_space.specs.declared.command.Command.TheVariants.{SetMems}
+use Rattle.numa_requests.specs.declared.command.Command.{Command}
+use Rattle.numa_requests.specs.declared.command.Command.TheVariants.{Map, Unmap, Mbind, SetTask}
+use Rattle.numa_requests.specs.declared.command.Command.TheVariants.{Inherit, SetHome, SetWeight}
+use Rattle.numa_requests.specs.declared.command.Command.TheVariants.{SetMems}
 
 -- the nodes that are allowed after one command more
 pub allowed-next : (machine : Hardware) (history : List Command) (command : Command)

@@ -11,8 +11,8 @@ use Rattle.numa_space.specs.Policies.{allowed_nodes, mems_of}
 use Rattle.numa_space.specs.Refusals.{PageMap, range_count_of}
 use Rattle.numa_space.specs.Same.{same_record}
 use Rattle.numa_space.specs.Steps.{policy_after}
-use Rattle.numa_space.specs.declared.command.Command.{Command}
-use Rattle.numa_space.specs.declared.command.Command.TheVariants.{SetTask, SetWeight, SetMems}
+use Rattle.numa_requests.specs.declared.command.Command.{Command}
+use Rattle.numa_requests.specs.declared.command.Command.TheVariants.{SetTask, SetWeight, SetMems}
 use Rattle.numa_space.proofs.Pages.{pages-next}
 use Rattle.numa_space.proofs.Same.{same_record-exact, same_record-refl}
 

@@ -18,15 +18,15 @@ use Rattle.numa_space.specs.Lists.{node_list}
 use Rattle.numa_space.specs.Refusals.{bad_map_span, lacks_policy, refusal_of, too_many_ranges}
 use Rattle.numa_space.specs.Refusals.{scene_of}
 use Rattle.numa_space.specs.Standing.{place_refusal_of}
-use Rattle.numa_space.specs.declared.command.Command.{Command}
-use Rattle.numa_space.specs.declared.command.Command.TheVariants.{Map, Unmap, Mbind, SetTask}
-use Rattle.numa_space.specs.declared.command.Command.TheVariants.{SetHome, SetWeight}
-use Rattle.numa_space.specs.declared.refusal.Refusal.TheVariants.{CommandsSpent, Unaligned}
-use Rattle.numa_space.specs.declared.refusal.Refusal.TheVariants.{OutOfSpace, EmptyLength}
-use Rattle.numa_space.specs.declared.refusal.Refusal.TheVariants.{BadOffset, Overlap, Hole}
-use Rattle.numa_space.specs.declared.refusal.Refusal.TheVariants.{NoSuchNode, BadWeight}
-use Rattle.numa_space.specs.declared.refusal.Refusal.TheVariants.{NodesNotAllowed, NotSupported}
-use Rattle.numa_space.specs.declared.refusal.Refusal.TheVariants.{NoPolicy, TooManyTasks}
+use Rattle.numa_requests.specs.declared.command.Command.{Command}
+use Rattle.numa_requests.specs.declared.command.Command.TheVariants.{Map, Unmap, Mbind, SetTask}
+use Rattle.numa_requests.specs.declared.command.Command.TheVariants.{SetHome, SetWeight}
+use Rattle.numa_requests.specs.declared.refusal.Refusal.TheVariants.{CommandsSpent, Unaligned}
+use Rattle.numa_requests.specs.declared.refusal.Refusal.TheVariants.{OutOfSpace, EmptyLength}
+use Rattle.numa_requests.specs.declared.refusal.Refusal.TheVariants.{BadOffset, Overlap, Hole}
+use Rattle.numa_requests.specs.declared.refusal.Refusal.TheVariants.{NoSuchNode, BadWeight}
+use Rattle.numa_requests.specs.declared.refusal.Refusal.TheVariants.{NodesNotAllowed, NotSupported}
+use Rattle.numa_requests.specs.declared.refusal.Refusal.TheVariants.{NoPolicy, TooManyTasks}
 use Rattle.numa_machine.specs.declared.refusal.PlaceRefusal.TheVariants.{BadCpu, Unmapped}
 use Rattle.numa_space.proofs.Rows.{flat, in_a_row, asked, mems}
 

@@ -14,18 +14,18 @@ use Rattle.numa_space.specs.Refusals.{Scene, first_of, when, bad_span, bad_map_s
 use Rattle.numa_space.specs.Refusals.{too_many_ranges, cause_in, refusal_in, scene_of, refusal_of}
 use Rattle.numa_space.specs.Standing.{SpaceState, StandsFor, record_of}
 use Rattle.numa_space.specs.Steps.{pages_next, scene_in}
-use Rattle.numa_space.specs.declared.command.Command.{Command}
-use Rattle.numa_space.specs.declared.command.Command.TheVariants.{Map, Unmap, Mbind, SetTask}
-use Rattle.numa_space.specs.declared.command.Command.TheVariants.{Inherit, SetHome, SetWeight}
-use Rattle.numa_space.specs.declared.command.Command.TheVariants.{SetMems}
-use Rattle.numa_space.specs.declared.refusal.Refusal.{Refusal}
-use Rattle.numa_space.specs.declared.refusal.Refusal.TheVariants.{CommandsSpent, Unaligned}
-use Rattle.numa_space.specs.declared.refusal.Refusal.TheVariants.{OutOfSpace, EmptyLength}
-use Rattle.numa_space.specs.declared.refusal.Refusal.TheVariants.{BadOffset, Overlap, Hole}
-use Rattle.numa_space.specs.declared.refusal.Refusal.TheVariants.{NoSuchNode, BadWeight}
-use Rattle.numa_space.specs.declared.refusal.Refusal.TheVariants.{NodesNotAllowed, NotSupported}
-use Rattle.numa_space.specs.declared.refusal.Refusal.TheVariants.{NoPolicy, TooManyTasks}
-use Rattle.numa_space.specs.declared.refusal.Refusal.TheVariants.{TooManyRanges, NoMemory}
+use Rattle.numa_requests.specs.declared.command.Command.{Command}
+use Rattle.numa_requests.specs.declared.command.Command.TheVariants.{Map, Unmap, Mbind, SetTask}
+use Rattle.numa_requests.specs.declared.command.Command.TheVariants.{Inherit, SetHome, SetWeight}
+use Rattle.numa_requests.specs.declared.command.Command.TheVariants.{SetMems}
+use Rattle.numa_requests.specs.declared.refusal.Refusal.{Refusal}
+use Rattle.numa_requests.specs.declared.refusal.Refusal.TheVariants.{CommandsSpent, Unaligned}
+use Rattle.numa_requests.specs.declared.refusal.Refusal.TheVariants.{OutOfSpace, EmptyLength}
+use Rattle.numa_requests.specs.declared.refusal.Refusal.TheVariants.{BadOffset, Overlap, Hole}
+use Rattle.numa_requests.specs.declared.refusal.Refusal.TheVariants.{NoSuchNode, BadWeight}
+use Rattle.numa_requests.specs.declared.refusal.Refusal.TheVariants.{NodesNotAllowed, NotSupported}
+use Rattle.numa_requests.specs.declared.refusal.Refusal.TheVariants.{NoPolicy, TooManyTasks}
+use Rattle.numa_requests.specs.declared.refusal.Refusal.TheVariants.{TooManyRanges, NoMemory}
 use Rattle.numa_space.proofs.Pages.{pages-next}
 
 -- ---- pages

@@ -17,10 +17,10 @@ use Rattle.numa_mode.specs.declared.modes.NodeFlag.TheVariants.{Plain, Static, R
 use Rattle.numa_space.specs.Policies.{mems_of}
 use Rattle.numa_space.specs.Policies.{task_record}
 use Rattle.numa_space.specs.Lists.{node_list}
-use Rattle.numa_space.specs.declared.command.Command.{Command}
-use Rattle.numa_space.specs.declared.command.Command.TheVariants.{Map, Unmap, Mbind, SetTask}
-use Rattle.numa_space.specs.declared.command.Command.TheVariants.{Inherit, SetHome, SetWeight}
-use Rattle.numa_space.specs.declared.command.Command.TheVariants.{SetMems}
+use Rattle.numa_requests.specs.declared.command.Command.{Command}
+use Rattle.numa_requests.specs.declared.command.Command.TheVariants.{Map, Unmap, Mbind, SetTask}
+use Rattle.numa_requests.specs.declared.command.Command.TheVariants.{Inherit, SetHome, SetWeight}
+use Rattle.numa_requests.specs.declared.command.Command.TheVariants.{SetMems}
 
 -- ---- machines and specifications
 

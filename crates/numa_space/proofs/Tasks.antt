@@ -15,10 +15,10 @@ use Rattle.numa_space.specs.Policies.{set_by_task, task_before, setter_of, task_
 use Rattle.numa_space.specs.Policies.{node_weight, mems_of}
 use Rattle.numa_space.specs.Steps.{record_now, policy_after, task_next, task_count_next}
 use Rattle.numa_space.specs.Steps.{weight_next}
-use Rattle.numa_space.specs.declared.command.Command.{Command}
-use Rattle.numa_space.specs.declared.command.Command.TheVariants.{Map, Unmap, Mbind, SetTask}
-use Rattle.numa_space.specs.declared.command.Command.TheVariants.{Inherit, SetHome, SetWeight}
-use Rattle.numa_space.specs.declared.command.Command.TheVariants.{SetMems}
+use Rattle.numa_requests.specs.declared.command.Command.{Command}
+use Rattle.numa_requests.specs.declared.command.Command.TheVariants.{Map, Unmap, Mbind, SetTask}
+use Rattle.numa_requests.specs.declared.command.Command.TheVariants.{Inherit, SetHome, SetWeight}
+use Rattle.numa_requests.specs.declared.command.Command.TheVariants.{SetMems}
 use Rattle.numa_space.proofs.Places.{changes_allowed, IsPlace, allowed-at_place, effective-now}
 use Rattle.numa_space.proofs.Places.{effective-mems, effective-other}
 

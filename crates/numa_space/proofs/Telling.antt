@@ -6,7 +6,7 @@ use Rattle.numa_space.specs.declared.change.Change.{Change}
 use Rattle.numa_space.specs.declared.change.Change.TheVariants.{Nothing, Mapped, Unmapped, Bound}
 use Rattle.numa_space.specs.declared.change.Change.TheVariants.{Homed}
 use Rattle.numa_space.specs.declared.change.ChangedPages.{ChangedPages}
-use Rattle.numa_space.specs.declared.command.Command.TheVariants.{Map, Unmap, Mbind, SetHome}
+use Rattle.numa_requests.specs.declared.command.Command.TheVariants.{Map, Unmap, Mbind, SetHome}
 use Rattle.numa_space.specs.History.{page_of, page_count}
 use Rattle.numa_space.specs.Standing.{SpaceState}
 use Rattle.numa_space.specs.Steps.{record_now}

@@ -4,10 +4,10 @@ use Rattle.numa_space.specs.declared.change.Change.{Change}
 use Rattle.numa_space.specs.declared.change.Change.TheVariants.{Nothing, Mapped, Unmapped, Bound}
 use Rattle.numa_space.specs.declared.change.Change.TheVariants.{Homed, TaskSet, Weighed, Allowed}
 use Rattle.numa_space.specs.declared.change.ChangedPages.{ChangedPages}
-use Rattle.numa_space.specs.declared.command.Command.{Command}
-use Rattle.numa_space.specs.declared.command.Command.TheVariants.{Map, Unmap, Mbind, SetTask}
-use Rattle.numa_space.specs.declared.command.Command.TheVariants.{Inherit}
-use Rattle.numa_space.specs.declared.command.Command.TheVariants.{SetHome, SetWeight, SetMems}
+use Rattle.numa_requests.specs.declared.command.Command.{Command}
+use Rattle.numa_requests.specs.declared.command.Command.TheVariants.{Map, Unmap, Mbind, SetTask}
+use Rattle.numa_requests.specs.declared.command.Command.TheVariants.{Inherit}
+use Rattle.numa_requests.specs.declared.command.Command.TheVariants.{SetHome, SetWeight, SetMems}
 use Rattle.numa_space.specs.History.{page_of, page_count}
 use Rattle.numa_space.specs.Policies.{mems_of, weight_given}
 use Rattle.numa_space.specs.Standing.{SpaceState, record_of}

@@ -8,9 +8,9 @@ use Rattle.numa_ranges.specs.Counts.{range_count}
 use Rattle.numa_ranges.specs.declared.run.Run.{Run}
 use Rattle.numa_ranges.specs.declared.fault.RangeError.{RangeError}
 use Rattle.numa_ranges.specs.declared.fault.RangeError.TheVariants as fault
-use Rattle.numa_space.specs.declared.refusal.Refusal.{Refusal}
-use Rattle.numa_space.specs.declared.refusal.Refusal.TheVariants.{Overlap, Hole, TooManyRanges}
-use Rattle.numa_space.specs.declared.refusal.Refusal.TheVariants.{NoMemory}
+use Rattle.numa_requests.specs.declared.refusal.Refusal.{Refusal}
+use Rattle.numa_requests.specs.declared.refusal.Refusal.TheVariants.{Overlap, Hole, TooManyRanges}
+use Rattle.numa_requests.specs.declared.refusal.Refusal.TheVariants.{NoMemory}
 use Rattle.numa_space.specs.Refusals.{PageMap, when, lacks_pages, has_policy, takes_no_home}
 use Rattle.numa_space.specs.declared.page_ranges.PageTest.{PageTest}
 use Rattle.numa_space.specs.declared.page_ranges.PageTest.TheVariants.{IsMapped, HasPolicy}

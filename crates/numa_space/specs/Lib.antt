@@ -1,5 +1,3 @@
-pub mod Errors
-pub mod Limited
 pub mod History
 pub mod Policies
 pub mod Pages
@@ -15,3 +13,5 @@ pub mod Changed
 pub mod Spans
 pub mod Shared
 pub mod Inside
+pub use Rattle.numa_requests.specs.Errors
+pub use Rattle.numa_requests.specs.Limited

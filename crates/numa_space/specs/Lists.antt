@@ -10,7 +10,7 @@ use Rattle.numa_mode.specs.declared.modes.Mode.{Mode}
 use Rattle.numa_mode.specs.declared.modes.Mode.TheVariants.{Default, Preferred, Bind, Interleave}
 use Rattle.numa_mode.specs.declared.modes.Mode.TheVariants.{Local, PreferredMany}
 use Rattle.numa_mode.specs.declared.modes.Mode.TheVariants.{WeightedInterleave}
-use Rattle.numa_space.specs.declared.command.Command.{Command}
+use Rattle.numa_requests.specs.declared.command.Command.{Command}
 use Rattle.numa_space.specs.Policies.{allowed_nodes, node_weight}
 use Rattle.numa_space.specs.Pages.{index_of, resolved_policy}
 

@@ -5,8 +5,8 @@ use Rattle.std.specs.Prelude.{◌∷◌, option_and_then, if◌then◌else◌}
 use Rattle.std.specs.Option.{option_map, option_map_or}
 use Rattle.numa_machine.specs.Machine.{Hardware}
 use Rattle.numa_mode.specs.Policy.{PolicyRecord, takes_home}
-use Rattle.numa_space.specs.declared.command.Command.{Command}
-use Rattle.numa_space.specs.declared.command.Command.TheVariants.{Map, Unmap, Mbind, SetHome}
+use Rattle.numa_requests.specs.declared.command.Command.{Command}
+use Rattle.numa_requests.specs.declared.command.Command.TheVariants.{Map, Unmap, Mbind, SetHome}
 use Rattle.numa_space.specs.History.{Place, last_where, page_of, in_span}
 use Rattle.numa_space.specs.Policies.{record_set, policy_that_counts, task_record}
 

@@ -11,7 +11,7 @@ ghost use Rattle.numa_space.specs.Policies.{allowed_nodes};
 ghost use Rattle.numa_space.specs.Refusals.{range_count_of};
 ghost use Rattle.numa_space.specs.Rows.{IsModeRow};
 ghost use Rattle.numa_space.specs.Standing.{IsAccepted, IsNodeList};
-ghost use Rattle.numa_space.specs.declared.command.Command.{Command};
+ghost use Rattle.numa_requests.specs.declared.command.Command.{Command};
 
 /// The list of a mode, if its set has a node and no weight is 0, is the only one that `IsModeRow`
 /// describes: for BIND the list without repeats whose nodes are those of the set, in the machine's

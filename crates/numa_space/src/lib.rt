@@ -67,35 +67,24 @@
 //! doesn't decide. Mbind and Unmap of no bytes change only the version; so does SetHome of no
 //! bytes, if the machine has its node.
 //!
-//! **Faults.** A page fault is a `Request`, and its result a `Placement`. An `Event` is one atomic
-//! step of a core: a command, a publication, or a worker's step towards a frame. The space itself
-//! handles none of them: they are plain types for the crates that publish its policies and take
-//! frames by them.
+//! **Requests.** Commands, refusals, limits, faults and the events of a core are numa_requests';
+//! the space itself handles no fault and no event.
 #![tactic(auto)]
 
 pub mod change;
 mod choice;
-pub mod command;
-pub mod event;
 pub mod laws;
-pub mod limits;
 mod page_ranges;
-pub mod placement;
 pub mod range_record;
 mod range_rows;
-pub mod refusal;
-pub mod request;
 pub mod space;
 mod task_policies;
 mod task_records;
 
 pub use change::{Change, ChangedPages};
-pub use command::{Command, PAGE_BYTES};
-pub use event::{CoreRefusal, CoreReply, Event};
-pub use limits::Limits;
-pub use placement::Placement;
+pub use numa_requests::{
+    Command, CoreRefusal, CoreReply, Errno, Event, Limits, PAGE_BYTES, Placement, Refusal, Request,
+};
 pub use range_record::RangeRecord;
 pub use range_rows::RangeRows;
-pub use refusal::{Errno, Refusal};
-pub use request::Request;
 pub use space::Space;

@@ -19,11 +19,11 @@ ghost use Rattle.numa_space.specs.Steps.{policy_with_home, policy_after};
 use crate::change::ChangedPages;
 use crate::range_record::RangeRecord;
 use crate::range_rows::RangeRows;
-use crate::refusal::Refusal;
 use numa_machine::Rules;
 use numa_mask::NodeMask;
 use numa_mode::Record;
 use numa_ranges::{RangeError, RangeIter, RangeMap, Run};
+use numa_requests::Refusal;
 use std::alloc::{AllocError, Global};
 use std::marker::Model;
 

@@ -10,7 +10,7 @@ ghost use Rattle.numa_ranges.specs.Numbered.{AreRowsOf};
 ghost use Rattle.numa_ranges.specs.Runs.{AreApart, AreMaximal, page_at};
 ghost use Rattle.numa_ranges.specs.declared.run.Run.{Run};
 ghost use Rattle.numa_space.specs.Changed.{IsChange};
-ghost use Rattle.numa_space.specs.declared.command.Command.{Command};
+ghost use Rattle.numa_requests.specs.declared.command.Command.{Command};
 ghost use Rattle.numa_space.specs.Policies.{allowed_nodes, node_weight, task_record, tasks_of};
 ghost use Rattle.numa_space.specs.Pages.{page_in};
 ghost use Rattle.numa_space.specs.Refusals.{range_count_of};
@@ -20,17 +20,15 @@ ghost use Rattle.numa_space.specs.Standing.{accepted_of, record_of};
 ghost use Rattle.numa_space.specs.Steps.{IsApplied, MayStopAt};
 
 use crate::change::Change;
-use crate::command::Command;
-use crate::limits::Limits;
 use crate::page_ranges::Pages;
 use crate::range_record::RangeRecord;
 use crate::range_rows::RangeRows;
-use crate::refusal::Refusal;
 use crate::task_policies::Tasks;
 use numa_machine::{Machine, NoMemory, Weights};
 use numa_mask::NodeMask;
 use numa_mode::Record;
 use numa_ranges::{RangeIter, Run};
+use numa_requests::{Command, Limits, Refusal};
 use std::alloc::Global;
 use std::marker::Model;
 

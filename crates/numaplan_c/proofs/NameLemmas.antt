@@ -9,8 +9,8 @@ use Rattle.numa_placed.specs.declared.refusal.MoveRefusal.TheVariants as move
 use Rattle.numa_placed.specs.declared.refusal.PlacedRefusal.{PlacedRefusal}
 use Rattle.numa_placed.specs.declared.refusal.PlacedRefusal.TheVariants as placed
 use Rattle.numa_script.specs.Texts.{refusal_name}
-use Rattle.numa_space.specs.declared.refusal.Refusal.{Refusal}
-use Rattle.numa_space.specs.declared.refusal.Refusal.TheVariants as refusal
+use Rattle.numa_requests.specs.declared.refusal.Refusal.{Refusal}
+use Rattle.numa_requests.specs.declared.refusal.Refusal.TheVariants as refusal
 use Rattle.numaplan_c.specs.Codes.{refusal_code}
 use Rattle.numaplan_c.specs.Hosts.{host_cause_code}
 use Rattle.numaplan_c.specs.Names.{answer_errno, answer_name, host_errno_number, refusal_numbered}

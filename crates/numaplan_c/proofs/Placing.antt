@@ -4,7 +4,7 @@ use Rattle.std.proofs.Common.{◌∷◌, ◌++◌, length, refl, sym, ap, subst,
 use Rattle.std.specs.Prelude.{IsSome}
 use Rattle.std.proofs.lemmas.Bool.{cases_Bool, eqb-true, eq-eqb}
 use Rattle.std.proofs.lemmas.List.{append-nil}
-use Rattle.numa_space.specs.declared.placement.Placement.{Placement}
+use Rattle.numa_requests.specs.declared.placement.Placement.{Placement}
 use Rattle.numa_maps.specs.Residents.{Kept, placed_at}
 use Rattle.numaplan_c.specs.Ranges.{RefusesPlaced, one_or_none, placed_on, placement_of}
 use Rattle.numaplan_c.specs.declared.listings.MapsRefusal.{MapsRefusal}

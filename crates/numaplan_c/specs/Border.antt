@@ -4,18 +4,18 @@ use Rattle.std.specs.Prelude.{if◌then◌else◌, List, length, is_some, MatchR
 use Rattle.std.specs.Prelude.{Option, Some, None, IfSome, Result, Ok, Err}
 use Rattle.numa_machine.specs.declared.fallback.Fallback.{Fallback}
 use Rattle.numa_mask.specs.declared.list.ListFault.{ListFault}
-use Rattle.numa_space.specs.declared.command.Command.{Command}
-use Rattle.numa_space.specs.declared.event.Event.{Event}
-use Rattle.numa_space.specs.declared.event.CoreReply.{CoreReply}
-use Rattle.numa_space.specs.declared.event.CoreRefusal.{CoreRefusal}
+use Rattle.numa_requests.specs.declared.command.Command.{Command}
+use Rattle.numa_requests.specs.declared.event.Event.{Event}
+use Rattle.numa_requests.specs.declared.event.CoreReply.{CoreReply}
+use Rattle.numa_requests.specs.declared.event.CoreRefusal.{CoreRefusal}
 use Rattle.numa_core.specs.Standing.{CoreState}
 use Rattle.numa_machine.specs.Faults.{machine_fault, fallback_fault}
 use Rattle.numa_machine.specs.Machine.{Hardware}
 use Rattle.numa_machine.specs.declared.fault.MachineFault.{MachineFault}
 use Rattle.numa_core.specs.World.{Setup}
 use Rattle.numa_space.specs.Limited.{Bounds}
-use Rattle.numa_space.specs.declared.request.Request.{Request}
-use Rattle.numa_space.specs.declared.event.CoreReply.TheVariants as reply
+use Rattle.numa_requests.specs.declared.request.Request.{Request}
+use Rattle.numa_requests.specs.declared.event.CoreReply.TheVariants as reply
 use Rattle.numa_plan.specs.Meaning.{PlanData}
 use Rattle.numaplan_handles.specs.Steps.{Steps, Touches, Compiles, Publishes}
 use Rattle.numaplan_c.specs.declared.opening.NpLimits.{NpLimits}

@@ -23,14 +23,14 @@ use Rattle.numa_script.specs.declared.policy.WordError.{WordError}
 use Rattle.numa_script.specs.declared.policy.WordError.TheVariants as word
 use Rattle.numa_machine.specs.declared.fault.MachineFault.{MachineFault}
 use Rattle.numa_machine.specs.declared.fault.MachineFault.TheVariants as machine
-use Rattle.numa_space.specs.declared.refusal.Refusal.{Refusal}
-use Rattle.numa_space.specs.declared.refusal.Refusal.TheVariants as refusal
+use Rattle.numa_requests.specs.declared.refusal.Refusal.{Refusal}
+use Rattle.numa_requests.specs.declared.refusal.Refusal.TheVariants as refusal
 use Rattle.numa_machine.specs.declared.refusal.PlaceRefusal.{PlaceRefusal}
 use Rattle.numa_machine.specs.declared.refusal.PlaceRefusal.TheVariants as place
-use Rattle.numa_space.specs.declared.event.CoreReply.{CoreReply}
-use Rattle.numa_space.specs.declared.event.CoreReply.TheVariants as reply
-use Rattle.numa_space.specs.declared.event.CoreRefusal.{CoreRefusal}
-use Rattle.numa_space.specs.declared.event.CoreRefusal.TheVariants as cause
+use Rattle.numa_requests.specs.declared.event.CoreReply.{CoreReply}
+use Rattle.numa_requests.specs.declared.event.CoreReply.TheVariants as reply
+use Rattle.numa_requests.specs.declared.event.CoreRefusal.{CoreRefusal}
+use Rattle.numa_requests.specs.declared.event.CoreRefusal.TheVariants as cause
 
 abbrev pub refusal_code : Refusal → ℕ
 refusal_code refusal.CommandsSpent = 10

@@ -13,10 +13,10 @@ use Rattle.numa_placed.specs.declared.refusal.MoveRefusal.TheVariants as move
 use Rattle.numa_placed.specs.declared.refusal.PlacedRefusal.TheVariants as placed
 use Rattle.numa_script.specs.Texts.{refusal_name}
 use Rattle.numa_space.specs.Errors.{errno_of}
-use Rattle.numa_space.specs.declared.refusal.Errno.{Errno}
-use Rattle.numa_space.specs.declared.refusal.Errno.TheVariants as errno
-use Rattle.numa_space.specs.declared.refusal.Refusal.{Refusal}
-use Rattle.numa_space.specs.declared.refusal.Refusal.TheVariants as refusal
+use Rattle.numa_requests.specs.declared.refusal.Errno.{Errno}
+use Rattle.numa_requests.specs.declared.refusal.Errno.TheVariants as errno
+use Rattle.numa_requests.specs.declared.refusal.Refusal.{Refusal}
+use Rattle.numa_requests.specs.declared.refusal.Refusal.TheVariants as refusal
 
 -- ---- refusals of commands
 

@@ -5,7 +5,7 @@ use Rattle.numa_core.specs.Standing.{CoreState}
 use Rattle.numaplan_handles.specs.Asked.{HasListing}
 use Rattle.numa_mode.specs.Policy.{PolicyRecord, policy_text}
 use Rattle.numa_ranges.specs.declared.run.Run.{Run}
-use Rattle.numa_space.specs.declared.placement.Placement.{Placement}
+use Rattle.numa_requests.specs.declared.placement.Placement.{Placement}
 use Rattle.numa_maps.specs.Residents.{IsRising, Kept, placed_at}
 use Rattle.numaplan_c.specs.Texts.{IsWritten}
 use Rattle.numaplan_c.specs.declared.ranges.NpRange.{NpRange}

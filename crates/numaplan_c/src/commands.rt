@@ -1,8 +1,8 @@
 //! Commands, and their publication.
 ghost use Rattle.numa_mask.specs.Lists.{list_of};
 ghost use Rattle.numa_script.specs.Policies.{policy_of};
-ghost use Rattle.numa_space.specs.declared.event.Event.{Event};
-ghost use Rattle.numa_space.specs.declared.command.Command.{Command};
+ghost use Rattle.numa_requests.specs.declared.event.Event.{Event};
+ghost use Rattle.numa_requests.specs.declared.command.Command.{Command};
 ghost use Rattle.numaplan_c.specs.Border.{Answers, AnswersRead};
 ghost use Rattle.numaplan_c.specs.Codes.{word_code, list_code};
 ghost use Rattle.numaplan_handles.specs.Handles.{core_in};

@@ -2,7 +2,7 @@
 ghost use Rattle.numa_mask.specs.Lists.{list_of};
 ghost use Rattle.numa_pages.specs.Changes.{Accepts, BindsStrictly};
 ghost use Rattle.numa_script.specs.Policies.{policy_of};
-ghost use Rattle.numa_space.specs.declared.command.Command.{Command};
+ghost use Rattle.numa_requests.specs.declared.command.Command.{Command};
 ghost use Rattle.numaplan_c.specs.Codes.{list_code, word_code};
 ghost use Rattle.numaplan_c.specs.Placed.{PagesAnswer, PagesAnswerRead, change_code};
 ghost use Rattle.numaplan_handles.specs.Handles.{pages_in};

@@ -7,7 +7,7 @@ ghost use Rattle.numaplan_handles.specs.Asked.{HasRanges};
 ghost use Rattle.numa_maps.specs.Listing.{AreRangesOf};
 ghost use Rattle.numa_ranges.specs.Runs.{end_of};
 ghost use Rattle.numa_space.specs.Standing.{StandsFor};
-ghost use Rattle.numa_space.specs.declared.command.Command.{Command};
+ghost use Rattle.numa_requests.specs.declared.command.Command.{Command};
 ghost use Rattle.numaplan_c.specs.Border.{Asked};
 ghost use Rattle.numaplan_c.specs.Ranges.{TellsRange, own_word, range_span};
 ghost use Rattle.numaplan_c.specs.Texts.{IsWritten};

@@ -8,7 +8,7 @@ ghost use Rattle.numa_mask.specs.Words.{number_of};
 ghost use Rattle.numa_mode.specs.Policy.{PolicyRecord};
 ghost use Rattle.numa_space.specs.History.{page_of};
 ghost use Rattle.numa_space.specs.Standing.{StandsFor};
-ghost use Rattle.numa_space.specs.declared.command.Command.{Command};
+ghost use Rattle.numa_requests.specs.declared.command.Command.{Command};
 ghost use Rattle.numaplan_c.specs.Border.{Asked};
 ghost use Rattle.numaplan_c.specs.Standing.{TellsPolicy, TellsRangePolicy, home_number};
 

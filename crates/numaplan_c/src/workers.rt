@@ -1,7 +1,7 @@
 //! Workers that look for frames.
 ghost use Rattle.std.specs.Prelude.{◌≡◌, MatchOption};
 ghost use Rattle.numaplan_handles.specs.Handles.{core_in};
-ghost use Rattle.numa_space.specs.declared.event.Event.{Event};
+ghost use Rattle.numa_requests.specs.declared.event.Event.{Event};
 ghost use Rattle.numaplan_c.specs.Border.{Answers, Places, Touched, Tried};
 ghost use Rattle.numaplan_c.specs.Codes.{answer_code};
 

@@ -5,7 +5,7 @@ use Rattle.numa_host.specs.Standing.{HostState, HostStandsFor}
 use Rattle.numa_host.specs.declared.command.HostCommand.{HostCommand}
 use Rattle.numa_machine.specs.Machine.{Hardware}
 use Rattle.numa_space.specs.Standing.{SpaceState, StandsFor}
-use Rattle.numa_space.specs.declared.command.Command.{Command}
+use Rattle.numa_requests.specs.declared.command.Command.{Command}
 
 module _ {A : Type 0} (told : Hardware → List Command → A → Type 0) where
   -- what a space says that stands for the commands of a process

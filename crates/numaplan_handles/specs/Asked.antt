@@ -8,7 +8,7 @@ use Rattle.numa_ranges.specs.declared.run.Run.{Run}
 use Rattle.numa_space.specs.Policies.{task_record}
 use Rattle.numa_space.specs.Refusals.{range_count_of}
 use Rattle.numa_space.specs.Standing.{StandsFor, record_of}
-use Rattle.numa_space.specs.declared.command.Command.{Command}
+use Rattle.numa_requests.specs.declared.command.Command.{Command}
 use Rattle.numa_maps.specs.Listing.{AreRangesOf, IsListing, listing_in}
 use Rattle.numa_maps.specs.Residents.{Kept}
 

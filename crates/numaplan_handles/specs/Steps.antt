@@ -7,11 +7,11 @@ use Rattle.numa_core.specs.World.{World, first_commands, newest_published}
 use Rattle.numa_compile.specs.Standing.{IsPlanOf, PlanStandsFor}
 use Rattle.numa_plan.specs.Meaning.{PlanData}
 use Rattle.numa_space.specs.Standing.{StandsFor}
-use Rattle.numa_space.specs.declared.command.Command.{Command}
-use Rattle.numa_space.specs.declared.request.Request.{Request}
-use Rattle.numa_space.specs.declared.event.Event.{Event}
-use Rattle.numa_space.specs.declared.event.CoreReply.{CoreReply}
-use Rattle.numa_space.specs.declared.event.CoreRefusal.{CoreRefusal}
+use Rattle.numa_requests.specs.declared.command.Command.{Command}
+use Rattle.numa_requests.specs.declared.request.Request.{Request}
+use Rattle.numa_requests.specs.declared.event.Event.{Event}
+use Rattle.numa_requests.specs.declared.event.CoreReply.{CoreReply}
+use Rattle.numa_requests.specs.declared.event.CoreRefusal.{CoreRefusal}
 
 -- the event took the core from the one state to the other with this answer: each execution that led
 -- to the first leads with this step to the second, and a refusal changes nothing

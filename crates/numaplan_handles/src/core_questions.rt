@@ -4,7 +4,7 @@ ghost use Rattle.std.specs.Prelude.{IfOk, length, slice_get};
 ghost use Rattle.numa_maps.specs.Listing.{AreRangesOf, IsListing, listing_in};
 ghost use Rattle.numa_ranges.specs.Runs.{end_of};
 ghost use Rattle.numa_space.specs.Standing.{StandsFor};
-ghost use Rattle.numa_space.specs.declared.command.Command.{Command};
+ghost use Rattle.numa_requests.specs.declared.command.Command.{Command};
 ghost use Rattle.numaplan_handles.specs.Handles.{core_in};
 ghost use Rattle.numaplan_handles.specs.Asked.{HasRanges, HasRangeAt, HasListing, HasPlaceOf};
 ghost use Rattle.numaplan_handles.specs.Asked.{HasTaskPolicy};

@@ -7,7 +7,7 @@ ghost use Rattle.numa_host.specs.Standing.{HostStandsFor, member_of};
 ghost use Rattle.numa_host.specs.declared.command.HostCommand.{HostCommand};
 ghost use Rattle.numa_ranges.specs.Runs.{end_of};
 ghost use Rattle.numa_space.specs.Standing.{StandsFor};
-ghost use Rattle.numa_space.specs.declared.command.Command.{Command};
+ghost use Rattle.numa_requests.specs.declared.command.Command.{Command};
 ghost use Rattle.numaplan_handles.specs.Calls.{Asks};
 ghost use Rattle.numaplan_handles.specs.Handles.{host_in};
 ghost use Rattle.numaplan_handles.specs.Hosts.{ChoosesBy, CountsRanges, FindsPolicy, FindsRange};

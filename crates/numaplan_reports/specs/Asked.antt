@@ -10,7 +10,7 @@ use Rattle.numa_reports.specs.Filled.{free_behind, nodes_of}
 use Rattle.numa_reports.specs.Predicted.{AreFirsts}
 use Rattle.numa_reports.specs.declared.fault.ReportError.{ReportError}
 use Rattle.numa_space.specs.Standing.{SpaceState, StandsFor, place_refusal_of}
-use Rattle.numa_space.specs.declared.command.Command.{Command}
+use Rattle.numa_requests.specs.declared.command.Command.{Command}
 
 -- how many mapped pages would go to each node, if the task touched each of them now on a CPU of a
 -- node; else the machine lacks the node, or there was no memory

@@ -10,7 +10,7 @@ use Rattle.numa_reports.specs.Mapped.{span_of}
 use Rattle.numa_reports.specs.declared.differences.SpanMove.{SpanMove}
 use Rattle.numa_reports.specs.declared.fault.ReportError.{ReportError}
 use Rattle.numa_space.specs.Standing.{SpaceState, StandsFor}
-use Rattle.numa_space.specs.declared.command.Command.{Command}
+use Rattle.numa_requests.specs.declared.command.Command.{Command}
 use Rattle.numa_traces.specs.Replaying.{IsReplay, Replayed}
 use Rattle.numa_traces.specs.Routes.{route_told}
 use Rattle.numa_traces.specs.Whole.{EndsTrace}

@@ -2,7 +2,7 @@
 ghost use Rattle.std.specs.Prelude.{◌≡◌, List, Some, true};
 ghost use Rattle.numa_compile.specs.Standing.{PlanStandsFor};
 ghost use Rattle.numa_space.specs.Standing.{StandsFor};
-ghost use Rattle.numa_space.specs.declared.command.Command.{Command};
+ghost use Rattle.numa_requests.specs.declared.command.Command.{Command};
 ghost use Rattle.numaplan_handles.specs.Calls.{Asks};
 ghost use Rattle.numaplan_handles.specs.Handles.{core_in};
 ghost use Rattle.numaplan_handles.specs.Kinds.{core_of, is_core};

@@ -1,6 +1,6 @@
 //! Recompiling for a task's policy.
 ghost use Rattle.std.specs.Prelude.{◌≡◌, OnOk, OnErr};
-ghost use Rattle.numa_space.specs.declared.command.Command.{Command};
+ghost use Rattle.numa_requests.specs.declared.command.Command.{Command};
 ghost use Rattle.numa_space.specs.Standing.{record_of};
 ghost use Rattle.numa_compile.specs.Follows.{Follows, IsBehind};
 ghost use Rattle.numa_compile.specs.Recompiling.{GivesTask, KeepsRuns, WritesRules};

@@ -3,7 +3,7 @@ ghost use Rattle.std.specs.Prelude.{◌≡◌, ◌≢◌, ℕ, ◌≤◌, ◌^�
 ghost use Rattle.std.specs.Prelude.{count_by, MatchOption};
 ghost use Rattle.std.specs.Option.{ForSome};
 ghost use Rattle.numa_mode.specs.Policy.{is_live};
-ghost use Rattle.numa_space.specs.declared.command.Command.{Command};
+ghost use Rattle.numa_requests.specs.declared.command.Command.{Command};
 ghost use Rattle.numa_space.specs.Standing.{IsInForce};
 ghost use Rattle.numa_plan.specs.Rows.{HasRows, Kept};
 ghost use Rattle.numa_plan.specs.Slots.{kept_in, policy_in};

@@ -11,7 +11,7 @@ ghost use Rattle.numa_ranges.specs.Maps.{any_page};
 ghost use Rattle.numa_ranges.specs.Runs.{page_at};
 ghost use Rattle.numa_space.specs.Changed.{IsChange};
 ghost use Rattle.numa_space.specs.declared.change.Change.{Change};
-ghost use Rattle.numa_space.specs.declared.command.Command.{Command};
+ghost use Rattle.numa_requests.specs.declared.command.Command.{Command};
 ghost use Rattle.numa_space.specs.History.{page_of, page_count};
 ghost use Rattle.numa_ranges.specs.Maps.{IsSpan};
 ghost use Rattle.numa_space.specs.Policies.{weight_given};
@@ -23,14 +23,13 @@ ghost use Rattle.numa_space.specs.Standing.{SpaceState, record_of};
 ghost use Rattle.numa_space.specs.Steps.{IsAnswer, MayNeedRoom, record_now};
 
 use crate::change::{Change, ChangedPages};
-use crate::command::{Command, PAGE_BYTES};
 use crate::page_ranges::PageTest;
 use crate::range_record::RangeRecord;
-use crate::refusal::Refusal;
 use crate::space::Space;
 use numa_machine::{Rules, WeightError};
 use numa_mask::NodeMask;
 use numa_mode::{Mode, PolicySpec, Record};
+use numa_requests::{Command, PAGE_BYTES, Refusal};
 
 /// The first page of a span and the number of its pages.
 fn span_of(start: u64, length: u64) -> Result<(u64, u64), Refusal>

@@ -5,7 +5,7 @@ ghost use Rattle.numa_mask.specs.NodeSet.{has};
 ghost use Rattle.numa_machine.specs.Machine.{fallback_order};
 ghost use Rattle.numa_mode.specs.Policy.{PolicyRecord, is_live};
 ghost use Rattle.numa_ranges.specs.Runs.{page_at};
-ghost use Rattle.numa_space.specs.declared.command.Command.{Command};
+ghost use Rattle.numa_requests.specs.declared.command.Command.{Command};
 ghost use Rattle.numa_space.specs.Lists.{list_by_mode, list_for, near, node_list, within};
 ghost use Rattle.numa_space.specs.Pages.{resolved_policy};
 ghost use Rattle.numa_space.specs.Policies.{policy_that_counts, where_live};

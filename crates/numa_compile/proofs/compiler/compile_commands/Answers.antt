@@ -3,7 +3,7 @@ use Rattle.std.proofs.lemmas.Result.{IfOk-weaker}
 use Rattle.std.specs.Option.{ForSome}
 use Rattle.numa_machine.specs.Machine.{Hardware}
 use Rattle.numa_plan.specs.Meaning.{planned_list}
-use Rattle.numa_space.specs.declared.command.Command.{Command}
+use Rattle.numa_requests.specs.declared.command.Command.{Command}
 use Rattle.numa_space.specs.Policies.{allowed_nodes}
 use Rattle.numa_space.specs.Standing.{SpaceState, StandsFor, IsNodeList, accepted_of}
 use Rattle.numa_compile.specs.Standing.{PlanStandsFor}

@@ -4,7 +4,7 @@ use Rattle.numa_space.specs.declared.change.Change.{Change}
 use Rattle.numa_space.specs.declared.change.Change.TheVariants.{Mapped, Unmapped, Bound, Homed}
 use Rattle.numa_space.specs.declared.change.Change.TheVariants.{Nothing, TaskSet, Weighed}
 use Rattle.numa_space.specs.declared.change.ChangedPages.{ChangedPages}
-use Rattle.numa_space.specs.declared.command.Command.TheVariants.{Unmap, Mbind}
+use Rattle.numa_requests.specs.declared.command.Command.TheVariants.{Unmap, Mbind}
 use Rattle.numa_space.specs.Standing.{SpaceState}
 use Rattle.numa_plan.specs.Counted.{Counted}
 use Rattle.numa_plan.specs.Meaning.{PlanData}

@@ -7,10 +7,10 @@ use Rattle.numa_space.specs.Refusals.{refusal_of}
 use Rattle.numa_space.specs.Standing.{SpaceState, StandsFor}
 use Rattle.numa_space.specs.Steps.{IsApplied, IsStep}
 use Rattle.numa_space.specs.declared.change.Change.{Change}
-use Rattle.numa_space.specs.declared.command.Command.{Command}
-use Rattle.numa_space.specs.declared.refusal.Refusal.{Refusal}
-use Rattle.numa_space.specs.declared.event.Event.TheVariants.{Accept}
-use Rattle.numa_space.specs.declared.event.CoreReply.TheVariants.{Accepted}
+use Rattle.numa_requests.specs.declared.command.Command.{Command}
+use Rattle.numa_requests.specs.declared.refusal.Refusal.{Refusal}
+use Rattle.numa_requests.specs.declared.event.Event.TheVariants.{Accept}
+use Rattle.numa_requests.specs.declared.event.CoreReply.TheVariants.{Accepted}
 use Rattle.numa_core.specs.Executions.{CoreStep}
 use Rattle.numa_core.specs.Kept.{core_state, Follows}
 use Rattle.numa_core.specs.Standing.{CoreState, LeadsTo, core_step_after, setup_of}

@@ -1,8 +1,8 @@
 use Rattle.std.proofs.Common.{◌∷◌, List, sym, subst}
 use Rattle.numa_core.specs.Executions.{CoreStep}
 use Rattle.numa_core.specs.Standing.{CoreState, LeadsTo, setup_of, core_step_after}
-use Rattle.numa_space.specs.declared.event.Event.TheVariants.{Publish, Begin, Look, Try}
-use Rattle.numa_space.specs.declared.event.Event.TheVariants.{Give}
+use Rattle.numa_requests.specs.declared.event.Event.TheVariants.{Publish, Begin, Look, Try}
+use Rattle.numa_requests.specs.declared.event.Event.TheVariants.{Give}
 use Rattle.numa_core.specs.Kept.{core_state, Follows}
 use Rattle.numa_core.proofs.CoreExecutions.{leads_on, past_more}
 use Rattle.numa_core.proofs.Core.step.Goals as goal

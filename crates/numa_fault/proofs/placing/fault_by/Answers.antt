@@ -1,7 +1,7 @@
 use Rattle.std.proofs.Common.{◌∙◌, sym, subst, List, ℕ}
 use Rattle.numa_publish.specs.Batches.{Extends}
 use Rattle.numa_publish.specs.Shown.{DeskIdentity}
-use Rattle.numa_space.specs.declared.command.Command.{Command}
+use Rattle.numa_requests.specs.declared.command.Command.{Command}
 use Rattle.numa_fault.specs.Fault.{LetsIn, IsServed}
 use Rattle.numa_fault.proofs.Faulting.{serves}
 use Rattle.numa_fault.proofs.placing.fault_by.Goals as goal

@@ -1,6 +1,6 @@
 use Rattle.std.proofs.Common.{◌+◌, ◌∷◌, ◌++◌, ◌∙◌, [], List, ap, sym, subst, refl, arith, length}
 use Rattle.std.proofs.Common.{drop, get_or, append_assoc, length-append}
-use Rattle.numa_space.specs.declared.request.Request.{Request}
+use Rattle.numa_requests.specs.declared.request.Request.{Request}
 use Rattle.numa_fault.specs.Crew.{column, Serves}
 use Rattle.numa_fault.specs.Worker.{Parts, parts_of}
 use Rattle.numa_fault.specs.declared.answer.Answer.{Answer}

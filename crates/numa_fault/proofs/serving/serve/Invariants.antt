@@ -1,5 +1,5 @@
 use Rattle.std.proofs.Common.{length, ◌-◌, ◌≡◌, ◌≤◌, ◌+◌, ◌/◌, ◌++◌, List, drop}
-use Rattle.numa_space.specs.declared.request.Request.{Request}
+use Rattle.numa_requests.specs.declared.request.Request.{Request}
 use Rattle.numa_fault.specs.Crew.{column, Serves}
 use Rattle.numa_fault.specs.Worker.{parts_of}
 use Rattle.numa_fault.proofs.serving.serve.Given as goal

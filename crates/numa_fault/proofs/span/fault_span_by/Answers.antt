@@ -1,7 +1,7 @@
 use Rattle.std.proofs.Common.{◌∙◌, sym, subst, List, ℕ}
 use Rattle.numa_publish.specs.Batches.{Extends}
 use Rattle.numa_publish.specs.Shown.{DeskIdentity}
-use Rattle.numa_space.specs.declared.command.Command.{Command}
+use Rattle.numa_requests.specs.declared.command.Command.{Command}
 use Rattle.numa_fault.specs.Fault.{LetsIn}
 use Rattle.numa_fault.specs.Span.{SpanIsServed}
 use Rattle.numa_fault.proofs.Faulting.{serves-span}

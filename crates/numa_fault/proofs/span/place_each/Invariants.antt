@@ -1,5 +1,5 @@
 use Rattle.std.proofs.Common.{◌≡◌, ◌≤◌, ◌+◌, ◌++◌, List, length, vec_len, vec_capacity}
-use Rattle.numa_space.specs.declared.placement.Placement.{Placement}
+use Rattle.numa_requests.specs.declared.placement.Placement.{Placement}
 use Rattle.numa_fault.specs.Span.{PlacesEach}
 use Rattle.numa_fault.proofs.span.place_each.Given as goal
 

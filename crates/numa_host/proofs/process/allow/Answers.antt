@@ -1,7 +1,7 @@
 use Rattle.std.proofs.Common.{◌∙◌}
 use Rattle.numa_host.proofs.Allowing.{accepted-step, mems-same, never-refused, mems-free}
 use Rattle.numa_host.proofs.Allowing.{below-nodes}
-use Rattle.numa_space.specs.declared.command.Command.TheVariants.{SetMems}
+use Rattle.numa_requests.specs.declared.command.Command.TheVariants.{SetMems}
 use Rattle.numa_host.proofs.process.allow.Goals as goal
 
 pub unreachable-requires : goal.unreachable-requires

@@ -1,6 +1,6 @@
 use Rattle.std.proofs.Common.{◌∷◌}
 use Rattle.numa_host.specs.declared.process.Process.{Process}
-use Rattle.numa_space.specs.declared.command.Command.TheVariants.{SetWeight}
+use Rattle.numa_requests.specs.declared.command.Command.TheVariants.{SetWeight}
 use Rattle.numa_host.specs.Following.{HasMore}
 use Rattle.numa_host.proofs.Following.{ArePartly}
 use Rattle.numa_host.proofs.process.weigh_all.Given as goal

@@ -1,6 +1,6 @@
 use Rattle.std.proofs.Common.{◌≡◌, Option, Some, None, refl}
 use Rattle.std.specs.Option.{option_map}
-use Rattle.numa_space.specs.declared.event.CoreRefusal.{CoreRefusal}
+use Rattle.numa_requests.specs.declared.event.CoreRefusal.{CoreRefusal}
 use Rattle.numa_script.specs.declared.reply.Reply.TheVariants as reply
 use Rattle.numa_run.specs.Replies.{outcome_of}
 use Rattle.numa_host_script.specs.Judged.{of_cause, of_reply}

@@ -1,7 +1,7 @@
 -- The shares of the ranges so far, and of those that are left, are all.
 use Rattle.std.proofs.Common.{◌≡◌, ◌++◌, List, map}
 use Rattle.numa_space.specs.Standing.{StandsFor}
-use Rattle.numa_space.specs.declared.command.Command.{Command}
+use Rattle.numa_requests.specs.declared.command.Command.{Command}
 use Rattle.numa_compile.specs.Standing.{PlanStandsFor}
 use Rattle.numa_reports.specs.Mapped.{span_of}
 use Rattle.numa_reports.proofs.Refusing.{AreLeft}

@@ -4,7 +4,7 @@ use Rattle.std.specs.Prelude.{◌==◌}
 use Rattle.numa_lines.proofs.Adding.{said_same}
 use Rattle.numa_maps.specs.Listing.{counted_line, placed_in}
 use Rattle.numa_space.specs.Standing.{policy_in}
-use Rattle.numa_space.specs.declared.placement.Placement.{Placement}
+use Rattle.numa_requests.specs.declared.placement.Placement.{Placement}
 use Rattle.numa_placed_script.specs.Listings.{count_in, pages_in, stated_in}
 use Rattle.numa_placed_script.proofs.There.{line-same, sum-same}
 use Rattle.numa_placed_script.proofs.listing.say_range.Goals as goal

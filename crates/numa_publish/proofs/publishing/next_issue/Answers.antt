@@ -1,7 +1,7 @@
 use Rattle.std.proofs.Common.{subst, sym, List}
 use Rattle.std.proofs.lemmas.Result.{IfOk-weaker}
 use Rattle.std.specs.Arc.{arc_value}
-use Rattle.numa_space.specs.declared.command.Command.{Command}
+use Rattle.numa_requests.specs.declared.command.Command.{Command}
 use Rattle.numa_space.specs.Standing.{StandsFor}
 use Rattle.numa_publish.specs.Kept.{IsDeskKept}
 use Rattle.numa_publish.proofs.Desks.{next_issue}

@@ -1,5 +1,5 @@
 use Rattle.std.proofs.Common.{ℕ, List, subst, sym}
-use Rattle.numa_space.specs.declared.command.Command.{Command}
+use Rattle.numa_requests.specs.declared.command.Command.{Command}
 use Rattle.numa_publish.specs.Batches.{Extends}
 use Rattle.numa_refinement.proofs.Desking.{compared}
 use Rattle.numa_refinement.proofs.desk.compare.Goals as goal

@@ -1,6 +1,6 @@
 use Rattle.std.proofs.Common.{sym, subst, List, ℕ}
 use Rattle.std.proofs.lemmas.Result.{IfOk-weaker}
-use Rattle.numa_space.specs.declared.command.Command.{Command}
+use Rattle.numa_requests.specs.declared.command.Command.{Command}
 use Rattle.numa_refinement.specs.LegalSteps.{HasPublished, IsPublishedIn}
 use Rattle.numa_refinement.proofs.Desking.{all-shown, shows}
 use Rattle.numa_refinement.proofs.desk.publish.Goals as goal

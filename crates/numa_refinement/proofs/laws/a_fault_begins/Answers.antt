@@ -1,7 +1,7 @@
 use Rattle.std.proofs.Common.{◌≡◌, Err, subst, sym}
 use Rattle.numa_core.specs.Steps.{answer_of}
-use Rattle.numa_space.specs.declared.event.CoreRefusal.TheVariants.{Unmapped}
-use Rattle.numa_space.specs.declared.event.Event.TheVariants.{Begin}
+use Rattle.numa_requests.specs.declared.event.CoreRefusal.TheVariants.{Unmapped}
+use Rattle.numa_requests.specs.declared.event.Event.TheVariants.{Begin}
 use Rattle.numa_refinement.proofs.Begins.{bad-cpu, unmapped, has-list}
 use Rattle.numa_refinement.proofs.laws.a_fault_begins.Goals as goal
 

@@ -2,7 +2,7 @@ use Rattle.std.proofs.Common.{◌≡◌, ◌<◌, List}
 use Rattle.numa_ranges.specs.Runs.{AreApart}
 use Rattle.numa_compile.specs.Standing.{PlanStandsFor}
 use Rattle.numa_space.specs.Standing.{StandsFor}
-use Rattle.numa_space.specs.declared.command.Command.{Command}
+use Rattle.numa_requests.specs.declared.command.Command.{Command}
 use Rattle.numa_reports.specs.Filled.{planned_nodes}
 use Rattle.numa_reports.specs.Lying.{absent_nodes, spots_in}
 use Rattle.numa_reports.specs.Told.{IsTakenBeside, LacksOne}

@@ -2,7 +2,7 @@ use Rattle.std.proofs.Common.{◌≡◌, ℕ, ◌+◌, ◌<◌, List, get_or, le
 use Rattle.numa_plan.specs.Meaning.{is_number}
 use Rattle.numa_ranges.specs.Runs.{AreApart}
 use Rattle.numa_space.specs.Standing.{StandsFor}
-use Rattle.numa_space.specs.declared.command.Command.{Command}
+use Rattle.numa_requests.specs.declared.command.Command.{Command}
 use Rattle.numa_compile.specs.Standing.{PlanStandsFor}
 use Rattle.numa_reports.specs.Lying.{planned_node, spots_in}
 use Rattle.numa_reports.specs.Predicted.{AreNone, IsLying}

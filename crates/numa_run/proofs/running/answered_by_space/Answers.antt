@@ -3,7 +3,7 @@ use Rattle.numa_lines.proofs.Adding.{said_same}
 use Rattle.numa_core.specs.Standing.{CoreState}
 use Rattle.numa_space.specs.History.{page_of}
 use Rattle.numa_space.specs.Standing.{SpaceState, StandsFor}
-use Rattle.numa_space.specs.declared.request.Request.{Request}
+use Rattle.numa_requests.specs.declared.request.Request.{Request}
 use Rattle.numa_run.specs.Questions.{place_text}
 use Rattle.numa_run.proofs.running.answered_by_space.Goals as goal
 

@@ -2,7 +2,7 @@ use Rattle.std.proofs.Common.{◌≡◌, OnErr, OnOk, Result, subst}
 use Rattle.std.proofs.lemmas.Result.{IfOk-at_ok}
 use Rattle.numa_space.specs.Changed.{IsChange}
 use Rattle.numa_space.specs.declared.change.Change.{Change}
-use Rattle.numa_space.specs.declared.refusal.Refusal.{Refusal}
+use Rattle.numa_requests.specs.declared.refusal.Refusal.{Refusal}
 use Rattle.numa_space.specs.Steps.{IsStep}
 use Rattle.numa_compile.specs.Follows.{Follows}
 use Rattle.numa_compile.proofs.planned.PlannedSpace.apply.Goals as goal

@@ -1,5 +1,5 @@
 use Rattle.std.proofs.Common.{◌+◌, refl, sym, ◌∙◌, arith}
-use Rattle.numa_space.specs.declared.command.Command.TheVariants.{Map}
+use Rattle.numa_requests.specs.declared.command.Command.TheVariants.{Map}
 use Rattle.numa_compile.proofs.CommandLemmas.{map-inside, map-rest, map-window}
 use Rattle.numa_compile.proofs.SpanLemmas.{open-found}
 use Rattle.numa_compile.proofs.recompiler.map.mapped_window.Goals as goal

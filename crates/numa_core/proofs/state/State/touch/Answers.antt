@@ -1,6 +1,6 @@
 use Rattle.std.proofs.Common.{◌≡◌, ℕ, Some, Ok, sym, ap, subst, ◌∙◌}
 use Rattle.std.proofs.lemmas.Result.{err_from_is_err_and}
-use Rattle.numa_space.specs.declared.event.CoreReply.TheVariants.{Exhausted, Won}
+use Rattle.numa_requests.specs.declared.event.CoreReply.TheVariants.{Exhausted, Won}
 use Rattle.numa_core.specs.Kept.{core_state}
 use Rattle.numa_core.specs.Standing.{setup_of, CoreStandsFor, owner_at, place_in}
 use Rattle.numa_core.specs.Steps.{put_frame}

@@ -16,7 +16,7 @@ use Rattle.numa_host.proofs.Forked.{fork-adds, fork-crowded, fork-none}
 use Rattle.numa_host.proofs.Refusing.{fork-absent, fork-exists, fork-many}
 use Rattle.numa_host.proofs.Steps.{refused}
 use Rattle.numa_space.specs.Limited.{Bounds}
-use Rattle.numa_space.specs.declared.refusal.Refusal.TheVariants.{TooManyTasks}
+use Rattle.numa_requests.specs.declared.refusal.Refusal.TheVariants.{TooManyTasks}
 use Rattle.numa_host.proofs.host.Host.fork.Goals as goal
 
 pub returns-then-is_there : goal.returns-then-is_there

@@ -1,7 +1,7 @@
 use Rattle.std.proofs.Common.{◌≡◌, ◌≢◌, ℕ, Option, Some, Result, Ok, Err, OnOk, OnErr, ap, sym, ◌∙◌}
 use native.Mathlib.Decide.{ℕ_discrete}
 use Rattle.std.specs.Option.{ForSome}
-use Rattle.numa_space.specs.declared.placement.Placement.{Placement}
+use Rattle.numa_requests.specs.declared.placement.Placement.{Placement}
 use Rattle.numa_maps.specs.Residents.{Kept, placed_at}
 use Rattle.numa_maps.proofs.resident.Resident.record.Goals as goal
 

@@ -1,5 +1,5 @@
 use Rattle.std.proofs.Common.{subst}
-use Rattle.numa_space.specs.declared.command.Command.TheVariants.{Mbind}
+use Rattle.numa_requests.specs.declared.command.Command.TheVariants.{Mbind}
 use Rattle.numa_pages.specs.Changes.{Accepted, PagesState}
 use Rattle.numa_pages.proofs.pages.Pages.bind_moving.Goals as goal
 

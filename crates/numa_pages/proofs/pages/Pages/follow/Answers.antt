@@ -2,7 +2,7 @@ use Rattle.std.proofs.Common.{refl, sym, ap, ◌∙◌, subst}
 use Rattle.numa_core.specs.Standing.{CoreState, setup_of}
 use Rattle.numa_placed.specs.Shifts.{IsShift}
 use Rattle.numa_placed.specs.Spots.{spot_at}
-use Rattle.numa_space.specs.declared.command.Command.TheVariants.{SetMems}
+use Rattle.numa_requests.specs.declared.command.Command.TheVariants.{SetMems}
 use Rattle.numa_pages.specs.Changes.{Accepted, PagesState}
 use Rattle.numa_pages.proofs.pages.Pages.follow.Goals as goal
 

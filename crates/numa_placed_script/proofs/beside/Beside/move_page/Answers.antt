@@ -1,6 +1,6 @@
 use Rattle.std.proofs.Common.{Option, sym, subst}
 use Rattle.numa_space.specs.History.{page_of}
-use Rattle.numa_space.specs.declared.placement.Placement.{Placement}
+use Rattle.numa_requests.specs.declared.placement.Placement.{Placement}
 use Rattle.numa_placed_script.specs.Lying.{ground_in}
 use Rattle.numa_placed_script.specs.Outcomes.{move_where}
 use Rattle.numa_placed_script.specs.Standing.{AnswersAs}

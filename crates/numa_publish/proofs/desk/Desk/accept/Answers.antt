@@ -1,7 +1,7 @@
 use Rattle.std.proofs.Common.{◌≡◌, List, refl, inl, sym, add-one, reverse, ap, ◌∙◌, ◌++◌, ◌∷◌, []}
 use Rattle.std.proofs.lemmas.List.{reverse-append}
 use Rattle.numa_space.specs.Standing.{SpaceState}
-use Rattle.numa_space.specs.declared.command.Command.{Command}
+use Rattle.numa_requests.specs.declared.command.Command.{Command}
 use Rattle.numa_publish.specs.Shown.{DeskIdentity, DeskState}
 use Rattle.numa_publish.proofs.Desks.{answered, accepted_kept, with_pending}
 use Rattle.numa_publish.proofs.desk.Desk.accept.Goals as goal

@@ -1,7 +1,7 @@
 use Rattle.std.proofs.Common.{◌≡◌, ◌<◌, ◌∷◌, List, [], refl, rules, length, reverse, sym, ap, ◌∙◌}
 use borrow.Author.Tests.{tests}
 use Rattle.std.specs.Arc.{arc_value}
-use Rattle.numa_space.specs.declared.command.Command.{Command}
+use Rattle.numa_requests.specs.declared.command.Command.{Command}
 use Rattle.numa_publish.specs.declared.issue.Issue.{Issue}
 use Rattle.numa_publish.specs.declared.issue.Shown.{Shown}
 use Rattle.numa_publish.specs.Batches.{history_of, versions_of}

@@ -5,8 +5,8 @@ use Rattle.numa_core.specs.Steps.{accept_answer}
 use Rattle.numa_machine.specs.Machine.{Hardware}
 use Rattle.numa_machine.specs.Rules.{is_linux}
 use Rattle.numa_space.specs.Standing.{SpaceState}
-use Rattle.numa_space.specs.declared.command.Command.{Command}
-use Rattle.numa_space.specs.declared.event.Event.TheVariants.{Accept}
+use Rattle.numa_requests.specs.declared.command.Command.{Command}
+use Rattle.numa_requests.specs.declared.event.Event.TheVariants.{Accept}
 use Rattle.numa_script.specs.Replies.{reply_to}
 use Rattle.numa_run.specs.Standing.{Does}
 use Rattle.numa_run.specs.Work.{event_outcome}

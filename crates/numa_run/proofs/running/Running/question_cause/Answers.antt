@@ -1,7 +1,7 @@
 use Rattle.std.proofs.Common.{◌∙◌, sym, ap, refl, false, Some, length}
 use Rattle.std.specs.Option.{option_map}
 use Rattle.numa_core.specs.Standing.{CoreState}
-use Rattle.numa_space.specs.declared.event.CoreRefusal.TheVariants.{Unmapped}
+use Rattle.numa_requests.specs.declared.event.CoreRefusal.TheVariants.{Unmapped}
 use Rattle.numa_run.specs.Judged.{cause_at, question_cause}
 use Rattle.numa_run.proofs.Doing.{same-core}
 use Rattle.numa_run.proofs.JudgeLemmas.{plain-cause}

@@ -1,6 +1,6 @@
 use Rattle.std.proofs.Common.{refl}
 use Rattle.std.specs.Prelude.{Ok, Err}
-use Rattle.numa_space.specs.declared.event.Event.TheVariants.{Accept}
+use Rattle.numa_requests.specs.declared.event.Event.TheVariants.{Accept}
 use Rattle.numa_core.specs.Steps.{accept_answer}
 use Rattle.numa_run.specs.Work.{event_outcome, work_outcome}
 use Rattle.numa_script.specs.Replies.{reply_to}

@@ -1,8 +1,8 @@
 use Rattle.std.proofs.Common.{◌≡◌, IfOk, IfErr, sym, subst}
 use Rattle.numa_space.specs.Changed.{IsChange}
 use Rattle.numa_space.specs.Steps.{IsAnswer, MayNeedRoom}
-use Rattle.numa_space.specs.declared.command.Command.{Command}
-use Rattle.numa_space.specs.declared.refusal.Refusal.TheVariants.{NoMemory}
+use Rattle.numa_requests.specs.declared.command.Command.{Command}
+use Rattle.numa_requests.specs.declared.refusal.Refusal.TheVariants.{NoMemory}
 use Rattle.numa_space.proofs.space.Space.answer.Goals as goal
 
 pub returns-in-Map : goal.returns-in-Map

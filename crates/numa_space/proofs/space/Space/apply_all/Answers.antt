@@ -2,7 +2,7 @@ use Rattle.std.proofs.Common.{◌≡◌, ◌++◌, [], ◌∷◌, ◌+◌, false
 use Rattle.std.proofs.Common.{rules}
 use Rattle.std.proofs.lemmas.List.{take_more}
 use Rattle.numa_space.specs.Standing.{SpaceState, StandsFor, accepted_of}
-use Rattle.numa_space.specs.declared.command.Command.{Command}
+use Rattle.numa_requests.specs.declared.command.Command.{Command}
 use Rattle.numa_space.proofs.Accepted.{wanted_memory, applied-more, stops-at}
 use Rattle.numa_space.proofs.space.Space.apply_all.Goals as goal
 

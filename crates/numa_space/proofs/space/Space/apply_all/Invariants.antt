@@ -1,6 +1,6 @@
 use Rattle.std.proofs.Common.{◌≡◌, List, take}
 use Rattle.numa_space.specs.Standing.{StandsFor, accepted_of}
-use Rattle.numa_space.specs.declared.command.Command.{Command}
+use Rattle.numa_requests.specs.declared.command.Command.{Command}
 use Rattle.numa_space.proofs.space.Space.apply_all.Given as goal
 
 abbrev pub invariant-loop-done : goal.invariant-loop-done

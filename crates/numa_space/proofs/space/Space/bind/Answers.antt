@@ -1,13 +1,13 @@
 use Rattle.std.proofs.Common.{◌≡◌, ◌+◌, Ok, Err, refl, rules, arith, ap, ◌∙◌}
 use Rattle.numa_space.specs.Inside.{shown_of}
 use Rattle.numa_space.specs.Steps.{IsAnswer}
-use Rattle.numa_space.specs.declared.command.Command.TheVariants.{Mbind}
+use Rattle.numa_requests.specs.declared.command.Command.TheVariants.{Mbind}
 use Rattle.numa_space.specs.declared.space.Space.TheInside.{Inside}
 use Rattle.numa_space.proofs.Kept.{kept-answer}
 use Rattle.numa_space.proofs.space.Space.bind.Goals as goal
 use Rattle.std.proofs.Common.{subst}
 use Rattle.numa_space.specs.Standing.{SpaceState}
-use Rattle.numa_space.specs.declared.refusal.Refusal.{Refusal}
+use Rattle.numa_requests.specs.declared.refusal.Refusal.{Refusal}
 use Rattle.std.proofs.Common.{Result}
 use Rattle.numa_space.specs.declared.change.Change.{Change}
 use Rattle.numa_space.proofs.Answers.{answer-done, answer-refused}

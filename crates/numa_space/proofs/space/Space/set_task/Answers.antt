@@ -3,7 +3,7 @@ use Rattle.std.specs.Result.{is_err}
 use Rattle.std.specs.declared.alloc.AllocError.{AllocError}
 use Rattle.numa_space.specs.Inside.{shown_of}
 use Rattle.numa_space.specs.Steps.{IsAnswer}
-use Rattle.numa_space.specs.declared.command.Command.TheVariants.{SetTask}
+use Rattle.numa_requests.specs.declared.command.Command.TheVariants.{SetTask}
 use Rattle.numa_space.specs.declared.space.Space.TheInside.{Inside}
 use Rattle.numa_space.proofs.Kept.{kept-answer}
 use Rattle.numa_space.proofs.space.Space.set_task.Goals as goal

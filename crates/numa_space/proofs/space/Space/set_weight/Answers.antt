@@ -1,7 +1,7 @@
 use Rattle.std.proofs.Common.{◌+◌, Ok, refl, rules}
 use Rattle.numa_space.specs.Inside.{shown_of}
 use Rattle.numa_space.specs.Steps.{IsAnswer}
-use Rattle.numa_space.specs.declared.command.Command.TheVariants.{SetWeight}
+use Rattle.numa_requests.specs.declared.command.Command.TheVariants.{SetWeight}
 use Rattle.numa_space.specs.declared.space.Space.TheInside.{Inside}
 use Rattle.numa_space.proofs.Kept.{kept-answer}
 use Rattle.numa_space.proofs.space.Space.set_weight.Goals as goal

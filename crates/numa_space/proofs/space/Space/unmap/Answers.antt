@@ -1,7 +1,7 @@
 use Rattle.std.proofs.Common.{◌+◌, Ok, refl, rules}
 use Rattle.numa_space.specs.Inside.{shown_of}
 use Rattle.numa_space.specs.Steps.{IsAnswer}
-use Rattle.numa_space.specs.declared.command.Command.TheVariants.{Unmap}
+use Rattle.numa_requests.specs.declared.command.Command.TheVariants.{Unmap}
 use Rattle.numa_space.specs.declared.space.Space.TheInside.{Inside}
 use Rattle.std.proofs.Common.{◌≡◌, ◌<◌, ◌==◌, false, ap, arith}
 use Rattle.std.proofs.lemmas.Bool.{ne_eqb}

@@ -12,7 +12,7 @@ pub struct Limits {
 }
 
 impl Model for Limits {
-    ghost use Rattle.numa_space.specs.Limited.{Bounds, AreBounds};
+    ghost use Rattle.numa_requests.specs.Limited.{Bounds, AreBounds};
 
     ghost Value = { Bounds };
 

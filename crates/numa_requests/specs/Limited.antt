@@ -1,6 +1,6 @@
 -- How large a space may grow.
 use Rattle.std.specs.Prelude.{◌≤◌}
-use Rattle.numa_space.specs.declared.limits.Limits.TheInside.{Inside}
+use Rattle.numa_requests.specs.declared.limits.Limits.TheInside.{Inside}
 
 -- how many ranges, task policies and accepted commands there may be
 abbrev pub Bounds : Type 0

@@ -1,6 +1,6 @@
 //! Why a command is refused.
 ghost use Rattle.std.specs.Prelude.{◌≡◌};
-ghost use Rattle.numa_space.specs.Errors.{errno_of};
+ghost use Rattle.numa_requests.specs.Errors.{errno_of};
 
 /// Why a command was refused: the first of these that applies.
 #[derive(Clone, Copy, Debug, PartialEq, Eq)]
