@@ -7,7 +7,8 @@ use crate::many::{FlatRow, POLICIES, RANGES, bind_page, choices, policy, rows_of
 use numa_compile::{PlannedSpace, compile};
 use numa_plan::Plan;
 use numa_reports::{Format, prediction_text};
-use numa_space::{Command, Space};
+use numa_requests::Command;
+use numa_space::Space;
 use std::alloc::{AllocError, Global};
 use std::collections::HashMap;
 use std::io;

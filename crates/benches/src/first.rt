@@ -6,7 +6,7 @@ use numa_machine::Machine;
 use numa_mask::read_list;
 use numa_mode::PolicySpec;
 use numa_plan::Plan;
-use numa_space::{Command, Limits};
+use numa_requests::{Command, Limits};
 use std::alloc::Global;
 use std::io;
 

@@ -7,7 +7,7 @@ use numa_machine::Machine;
 use numa_mask::{NodeId, NodeMask};
 use numa_mode::PolicySpec;
 use numa_plan::{Plan, Steps};
-use numa_space::Command;
+use numa_requests::Command;
 use std::alloc::{AllocError, Global};
 use std::hint::black_box;
 

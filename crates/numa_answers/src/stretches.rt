@@ -2,8 +2,9 @@
 use crate::reasons::put_fields;
 use numa_machine::PlaceRefusal;
 use numa_reports::{Format, Items, Largest, Object, Touch};
+use numa_requests::PAGE_BYTES;
 use numa_rules::{Explanation, ReasonError, explain, say_stretch, say_unmapped};
-use numa_space::{PAGE_BYTES, Space};
+use numa_space::Space;
 use std::alloc::{AllocError, Global};
 
 /// Pages: the first, and the one after the last.

@@ -2,8 +2,8 @@
 ghost use Rattle.std.specs.Prelude.{◌≡◌, ◌*◌};
 ghost use Rattle.numa_command_line.specs.Values.{pages_in, unit_of, whole_pages};
 
+use numa_requests::PAGE_BYTES;
 use numa_script::number::number;
-use numa_space::PAGE_BYTES;
 
 /// The bytes of the unit with this letter: a power of 1,024.
 fn unit_of(letter: u8) -> Option<u64>

@@ -24,7 +24,8 @@ use numa_machine::{Machine, NoMemory};
 use numa_mode::Record;
 use numa_plan::{Plan, Steps};
 use numa_ranges::Run;
-use numa_space::{Command, Limits, Space};
+use numa_requests::{Command, Limits};
+use numa_space::Space;
 use std::alloc::Global;
 
 /// Tells the proof the facts of every space and its machine.

@@ -5,7 +5,7 @@ ghost use Rattle.numa_core.specs.Judging.{Judges, Lists, cause_at};
 use crate::seat::WorkerSeat;
 use numa_machine::PlaceRefusal;
 use numa_plan::Plan;
-use numa_space::{CoreRefusal, Request};
+use numa_requests::{CoreRefusal, Request};
 
 /// Refuses a worker that has no seat.
 pub(crate) fn seated(seats: &Vec<WorkerSeat>, worker: u32) -> Result<(), CoreRefusal>

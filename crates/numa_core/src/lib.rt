@@ -26,7 +26,8 @@ pub use crate::judging::cause_at;
 use crate::state::State;
 use numa_machine::{Machine, NoMemory};
 use numa_plan::Plan;
-use numa_space::{Command, CoreRefusal, CoreReply, Event, Limits, Refusal, Request, Space};
+use numa_requests::{Command, CoreRefusal, CoreReply, Event, Limits, Refusal, Request};
+use numa_space::Space;
 use std::alloc::Global;
 use std::marker::Model;
 

@@ -17,7 +17,7 @@ use crate::places::Places;
 use crate::tables::{clear, is_met, meet, meet_owned, none_met};
 use arrayvec::ArrayVec;
 use numa_machine::Frame;
-use numa_space::{CoreRefusal, CoreReply, Placement, Request};
+use numa_requests::{CoreRefusal, CoreReply, Placement, Request};
 use std::alloc::{AllocError, Global};
 
 /// A place in a list of nodes, from 0, and the number of a frame of the node there.

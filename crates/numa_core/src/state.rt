@@ -22,7 +22,7 @@ use crate::unpublished::Unpublished;
 use numa_compile::{PlannedSpace, compile};
 use numa_machine::{Frame, Machine, NoMemory};
 use numa_plan::Plan;
-use numa_space::{CoreRefusal, CoreReply, Limits, Placement, Request};
+use numa_requests::{CoreRefusal, CoreReply, Limits, Placement, Request};
 use std::alloc::Global;
 
 /// The space of all accepted commands with its working plan, the plan of those that are published,

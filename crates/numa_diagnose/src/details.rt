@@ -4,10 +4,11 @@ use crate::pages::{first_mapped, first_unmapped, first_without_home, is_mapped};
 use numa_machine::Machine;
 use numa_mask::ListFault;
 use numa_mask::parts::first_place;
+use numa_requests::{Command, CoreRefusal, Event, Refusal};
 use numa_run::Script;
 use numa_script::parts::{items, words};
 use numa_script::{Line, Question, Reply, WordError, Work, why_malformed};
-use numa_space::{Command, CoreRefusal, Event, Refusal, Space};
+use numa_space::Space;
 
 /// The size of a page in bytes.
 const PAGE: u64 = 4096;

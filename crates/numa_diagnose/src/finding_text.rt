@@ -4,12 +4,12 @@ use crate::hint::HostHint;
 use crate::host_text::{put_host_cause, put_host_refused};
 use crate::words::{list_words, machine_words, policy_words, worker_words};
 use numa_host_script::LineFault;
+use numa_requests::{CoreRefusal, Refusal};
 use numa_rules::{Text, say_hint, say_otherwise};
 use numa_script::keyword::Keyword;
 use numa_script::names::Named;
 use numa_script::parameter::parameters;
 use numa_script::{Cause, Form, Misfit, Parameter, Reply, WordError};
-use numa_space::{CoreRefusal, Refusal};
 use std::alloc::AllocError;
 
 /// What RULES isn't.

@@ -7,10 +7,11 @@ ghost use Rattle.numa_diagnose.specs.Hints.{hint_for, rules_text, turned_bytes};
 use numa_host::{Host, HostCommand, Process};
 use numa_host_script::{HostLine, HostScript, LineFault, parse_host};
 use numa_machine::{NoMemory, Rules};
+use numa_requests::Command;
 use numa_rules::{Otherwise, other_rules, otherwise_of, otherwise_of_empty_bind};
 use numa_script::Line;
 use numa_script::line::parse;
-use numa_space::{Command, Space};
+use numa_space::Space;
 use std::alloc::Global;
 
 /// What a running kernel would do differently with a line of a process: one of a host's, or that of

@@ -4,8 +4,8 @@ use crate::finding::Detail;
 use crate::host_words::why_malformed_in;
 use numa_host::{Host, HostCommand, HostRefusal};
 use numa_host_script::{HostLine, LineFault, parse_host};
+use numa_requests::{CoreRefusal, Refusal};
 use numa_script::{Line, Reply, WordError};
-use numa_space::{CoreRefusal, Refusal};
 
 /// The details of a line that has no place where it stands.
 fn state_detail(line: &[u8], said: &HostLine<'_>) -> Detail {

@@ -5,9 +5,9 @@ use crate::host_words::HostCause;
 use numa_host::HostRefusal;
 use numa_host_script::keyword::HostKeyword;
 use numa_host_script::tell::{errno_name, refusal_name};
+use numa_requests::{CoreRefusal, Refusal};
 use numa_rules::Text;
 use numa_script::Misfit;
-use numa_space::{CoreRefusal, Refusal};
 
 /// What a keyword's line wants, after a semicolon.
 fn usage_words(keyword: HostKeyword) -> &'static str {

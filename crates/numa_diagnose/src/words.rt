@@ -2,7 +2,7 @@
 use numa_machine::MachineFault;
 use numa_mask::ListFault;
 use numa_mode::SpecError;
-use numa_space::{CoreRefusal, Refusal};
+use numa_requests::{CoreRefusal, Refusal};
 
 /// What is wrong with a node list.
 pub(crate) fn list_words(fault: ListFault) -> &'static str {

@@ -3,7 +3,7 @@
 //! WEIGHTED_INTERLEAVE, and one of these with 0x8000 has STATIC_NODES, with 0x4000 RELATIVE_NODES.
 use crate::sets::set_of;
 use numa_mode::PolicySpec;
-use numa_space::Command;
+use numa_requests::Command;
 use std::alloc::Global;
 
 /// A command. Policies are a mode word and nodes.

@@ -2,7 +2,8 @@
 ghost use Rattle.std.specs.Prelude.{◌≡◌};
 
 use crate::machines::flat_machine;
-use numa_space::{Limits, Space};
+use numa_requests::Limits;
+use numa_space::Space;
 use std::alloc::Global;
 
 /// Limits of 64 ranges, 8 task policies and 1,000 commands.

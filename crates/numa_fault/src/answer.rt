@@ -1,6 +1,6 @@
 //! The answers of a crew.
 use crate::refusal::FaultRefusal;
-use numa_space::Placement;
+use numa_requests::Placement;
 
 /// The answer to one request.
 #[derive(PartialEq, Eq, Debug, Drop)]

@@ -11,7 +11,7 @@ use crate::gathering::{gather, give_back, make_room};
 use crate::serving::serve;
 use crate::worker::FaultWorker;
 use numa_pool::Pools;
-use numa_space::Request;
+use numa_requests::Request;
 use std::alloc::Global;
 use std::thread;
 use std::thread::Threads;

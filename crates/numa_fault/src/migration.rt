@@ -5,7 +5,7 @@ ghost use Rattle.numa_fault.specs.Migration.{Migrates};
 
 use crate::refusal::MigrateRefusal;
 use numa_pool::{PoolSeat, Pools};
-use numa_space::Placement;
+use numa_requests::Placement;
 
 /// Moves the page of a placement: takes a frame of the node, and then gives up the old one.
 pub(crate) fn migrate_by(

@@ -14,7 +14,7 @@ use numa_machine::Frame;
 use numa_pool::laws::{walk_is_sparing, walks_compose};
 use numa_pool::{PoolSeat, Pools, take_along};
 use numa_publish::PlanView;
-use numa_space::{Placement, Request};
+use numa_requests::{Placement, Request};
 
 /// The placement of a request's page in a frame that was taken.
 #[inline(always)]

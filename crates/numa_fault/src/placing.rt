@@ -8,7 +8,7 @@ use numa_machine::PlaceRefusal;
 use numa_pool::laws::{walk_is_sparing, walks_compose};
 use numa_pool::{PoolSeat, Pools, take_along};
 use numa_publish::{PlanReader, PlanView};
-use numa_space::{Placement, Request};
+use numa_requests::{Placement, Request};
 
 /// Serves a request by the view: takes a frame of the first node of the page's list that has one.
 #[inline(always)]

@@ -1,5 +1,5 @@
 //! Why a fault wasn't served, or a page wasn't moved.
-use numa_space::Placement;
+use numa_requests::Placement;
 
 /// Why a page wasn't placed: the first of these that applies.
 #[derive(Clone, Copy, PartialEq, Eq, Debug, Drop)]

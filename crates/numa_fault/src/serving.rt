@@ -8,7 +8,7 @@ use crate::answer::Answer;
 use crate::crew::Gate;
 use crate::worker::FaultWorker;
 use numa_pool::Pools;
-use numa_space::Request;
+use numa_requests::Request;
 
 /// Serves one request.
 fn answer(worker: &mut FaultWorker, pools: &Pools, request: Request) -> Answer

@@ -14,7 +14,7 @@ use crate::refusal::SpanRefusal;
 use numa_machine::PlaceRefusal;
 use numa_pool::{PoolSeat, Pools};
 use numa_publish::{PlanReader, PlanView};
-use numa_space::{Placement, Request};
+use numa_requests::{Placement, Request};
 use std::alloc::Global;
 
 /// A span of pages that a task touches from CPUs of one node: the first page, and their number.

@@ -15,7 +15,7 @@ use crate::refusal::{FaultRefusal, MigrateRefusal, SpanRefusal};
 use crate::span::{Span, fault_span_by};
 use numa_pool::{PoolSeat, Pools};
 use numa_publish::PlanReader;
-use numa_space::{Placement, Request};
+use numa_requests::{Placement, Request};
 use std::alloc::Global;
 use std::marker::Model;
 use std::mem;

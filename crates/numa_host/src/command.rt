@@ -1,6 +1,6 @@
 //! The commands that a host obeys.
 use numa_mask::NodeMask;
-use numa_space::Command;
+use numa_requests::Command;
 
 /// What a user asks of a host. The root of the groups is 0.
 #[derive(Clone, Copy, Debug, PartialEq, Eq)]

@@ -17,7 +17,8 @@ use crate::refusal::HostRefusal;
 use arrayvec::ArrayVec;
 use numa_machine::{Machine, NoMemory, PlaceRefusal};
 use numa_mask::NodeMask;
-use numa_space::{Limits, Space};
+use numa_requests::Limits;
+use numa_space::Space;
 use std::alloc::Global;
 use std::marker::Model;
 

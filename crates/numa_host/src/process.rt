@@ -18,7 +18,8 @@ ghost use Rattle.numa_host.specs.Following.{IsMoved, IsTold, lacks_place};
 use crate::group::{ControlGroup, effective, has_own_mems, is_within};
 use numa_machine::NoMemory;
 use numa_mask::NodeMask;
-use numa_space::{Command, Refusal, Space};
+use numa_requests::{Command, Refusal};
+use numa_space::Space;
 use std::alloc::Global;
 
 /// A process: its number, its group, and its space.

@@ -2,7 +2,7 @@
 ghost use Rattle.std.specs.Prelude.{◌≡◌};
 ghost use Rattle.numa_host.specs.Answers.{host_errno_of, of_space};
 
-use numa_space::{Errno, Refusal};
+use numa_requests::{Errno, Refusal};
 
 /// Why a command of a host was refused: the first cause that applies, in the order of the command.
 #[derive(Clone, Copy, Debug, PartialEq, Eq)]

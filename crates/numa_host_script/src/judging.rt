@@ -23,9 +23,10 @@ use numa_compile::compile;
 use numa_host::{Host, HostCommand, HostRefusal};
 use numa_machine::PlaceRefusal;
 use numa_plan::Plan;
+use numa_requests::{Command, CoreRefusal, PAGE_BYTES};
 use numa_script::line::empty_bind;
 use numa_script::{Line, Question, Reply, WordError};
-use numa_space::{Command, CoreRefusal, PAGE_BYTES, Space};
+use numa_space::Space;
 use std::alloc::Global;
 
 /// The first cause that refuses a question about a span of pages by a plan.

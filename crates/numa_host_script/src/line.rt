@@ -9,10 +9,10 @@ use crate::cutting::{cut, one, two};
 use crate::keyword::{HostKeyword, read_host_keyword};
 use numa_host::HostCommand;
 use numa_mask::read_list;
+use numa_requests::Command;
 use numa_script::line::{LIMIT, parse};
 use numa_script::number::small;
 use numa_script::{Line, WordError};
-use numa_space::Command;
 
 /// A line of a host's script.
 #[derive(Drop)]

@@ -19,11 +19,11 @@ use crate::tell::say_refusal;
 use numa_host::{Host, HostRefusal};
 use numa_lines::{Serve, Watched};
 use numa_machine::{Machine, Rules};
+use numa_requests::Limits;
 use numa_run::Script;
 use numa_script::line::parse;
 use numa_script::tell::say_reply;
 use numa_script::{Line, Reply};
-use numa_space::Limits;
 use std::alloc::Global;
 use std::io::Write;
 

@@ -13,10 +13,10 @@ use crate::line::HostLine;
 use crate::tell::say_refusal;
 use numa_host::{Host, HostCommand, HostRefusal};
 use numa_lines::Watched;
+use numa_requests::Command;
 use numa_script::line::empty_bind;
 use numa_script::tell::say_reply;
 use numa_script::{Line, Question, Reply, WordError};
-use numa_space::Command;
 use std::alloc::Global;
 use std::io::Write;
 

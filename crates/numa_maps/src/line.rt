@@ -12,7 +12,8 @@ use arrayvec::ArrayString;
 use itoa::Buffer;
 use numa_mode::Record;
 use numa_ranges::Run;
-use numa_space::{PAGE_BYTES, RangeRecord};
+use numa_requests::PAGE_BYTES;
+use numa_space::RangeRecord;
 
 /// The text of a line. It has room for an address of 16 digits, a space, a policy of 1024 bytes,
 /// the number of placed pages in 26 bytes, 256 nodes of 26 bytes each, the size of a page in 20

@@ -7,7 +7,8 @@ ghost use Rattle.numa_maps.specs.Residents.{placed_at, with_placement, without_p
 ghost use Rattle.numa_maps.specs.Residents.{IsRising};
 
 use numa_ranges::Run;
-use numa_space::{Placement, RangeRecord};
+use numa_requests::Placement;
+use numa_space::RangeRecord;
 use std::alloc::Global;
 use std::collections::BTreeMap;
 use std::collections::btree_map::{Entry, Iter, Range};

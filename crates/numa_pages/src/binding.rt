@@ -14,7 +14,8 @@ use numa_core::Core;
 use numa_machine::Rules;
 use numa_mode::PolicySpec;
 use numa_placed::{Bound, Placed, PlacedRefusal, Rooms};
-use numa_space::{Command, Refusal, Space};
+use numa_requests::{Command, Refusal};
+use numa_space::Space;
 
 /// What setting a policy did, and moving the pages to where it puts them.
 #[derive(Clone, Copy, Drop)]

@@ -19,7 +19,7 @@ use numa_machine::NoMemory;
 use numa_mask::NodeMask;
 use numa_mode::PolicySpec;
 use numa_placed::{MoveRefusal, Moved, Placed, PlacedRefusal, Rooms, lacks_node};
-use numa_space::Command;
+use numa_requests::Command;
 use std::alloc::Global;
 use std::marker::Model;
 use std::mem::replace;

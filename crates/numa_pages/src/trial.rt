@@ -5,7 +5,7 @@ ghost use Rattle.numa_pages.specs.Changes.{Accepted};
 ghost use Rattle.numa_pages.specs.Trials.{IsTrialError};
 
 use numa_core::Core;
-use numa_space::{Command, Refusal};
+use numa_requests::{Command, Refusal};
 
 /// Why a command has no core after it.
 #[derive(Clone, Copy)]

@@ -16,7 +16,8 @@ use crate::spot::Spot;
 use numa_machine::NoMemory;
 use numa_maps::Resident;
 use numa_ranges::{RangeMap, Run};
-use numa_space::{PAGE_BYTES, RangeRecord, Space};
+use numa_requests::PAGE_BYTES;
+use numa_space::{RangeRecord, Space};
 
 /// The first page of a span and the number of its pages.
 pub(crate) fn span_of(start: u64, length: u64) -> Result<(u64, u64), PlacedRefusal>

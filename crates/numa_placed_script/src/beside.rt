@@ -26,9 +26,10 @@ use numa_machine::NoMemory;
 use numa_maps::Resident;
 use numa_mask::NodeMask;
 use numa_placed::{MoveRefusal, Moved, Placed, PlacedRefusal, Rooms, Spot, judge_move, lacks_node};
+use numa_requests::PAGE_BYTES;
 use numa_script::tell::say_reply;
 use numa_script::{Reply, WordError};
-use numa_space::{PAGE_BYTES, Space};
+use numa_space::Space;
 use std::alloc::Global;
 use std::io::Write;
 

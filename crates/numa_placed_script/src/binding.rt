@@ -24,8 +24,9 @@ use numa_maps::Resident;
 use numa_mask::NodeMask;
 use numa_mode::PolicySpec;
 use numa_placed::{Placed, PlacedRefusal, judged_pages};
+use numa_requests::{Command, PAGE_BYTES, Refusal};
 use numa_script::Line;
-use numa_space::{Command, PAGE_BYTES, Refusal, Space};
+use numa_space::Space;
 use std::alloc::Global;
 
 /// A command that may be refused for the pages of its span: those on other nodes than its list has.

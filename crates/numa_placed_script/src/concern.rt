@@ -3,8 +3,8 @@ ghost use Rattle.std.specs.Prelude.{◌≡◌};
 ghost use Rattle.numa_placed_script.specs.Scenes.{concern_of};
 ghost use Rattle.numa_script.specs.Causes.{is_malformed};
 
+use numa_requests::Command;
 use numa_script::{Line, Work};
-use numa_space::Command;
 
 /// What a line of every script has to do with pages that are there.
 #[derive(Clone, Copy, Drop)]

@@ -19,9 +19,10 @@ use numa_machine::{NoMemory, Rules};
 use numa_maps::Resident;
 use numa_mode::PolicySpec;
 use numa_placed::{Placed, PlacedRefusal, Rooms};
+use numa_requests::{Command, Refusal};
 use numa_script::Line;
 use numa_script::line::empty_bind;
-use numa_space::{Command, Refusal, Space};
+use numa_space::Space;
 use std::alloc::Global;
 use std::mem;
 

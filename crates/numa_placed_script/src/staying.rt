@@ -18,7 +18,8 @@ use crate::sending::Rebinding;
 use numa_machine::NoMemory;
 use numa_maps::Resident;
 use numa_placed::{Placed, Rooms, node_with_room};
-use numa_space::{PAGE_BYTES, Space};
+use numa_requests::PAGE_BYTES;
+use numa_space::Space;
 
 /// How many more pages each node takes, once the pages below one went.
 #[derive(Clone, Copy)]

@@ -1,5 +1,5 @@
 //! Entries of the log of accepted commands.
-use numa_space::Command;
+use numa_requests::Command;
 use std::collections::LinkedList;
 
 /// Commands that were logged together, and the versions that were published before that; the newest

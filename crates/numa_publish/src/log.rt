@@ -8,7 +8,7 @@ ghost use Rattle.numa_publish.specs.LogRule.{count_word};
 use crate::batch::Batch;
 use logbook::{Gain, Offer, Plain, Play, Seen, Start, Word};
 use numa_ghost::{BareRule, Holding};
-use numa_space::Command;
+use numa_requests::Command;
 
 /// The log's word is the number of its commands.
 pub struct CommandCount;

@@ -7,7 +7,7 @@ use crate::desk::{Desk, NoReader};
 use crate::reader::PlanReader;
 use crate::receipt::Receipt;
 use core::mem::ManuallyDrop;
-use numa_space::{Command, Refusal};
+use numa_requests::{Command, Refusal};
 use std::marker::{Brand, Model, PhantomData};
 use std::sync::{Mutex, Wait};
 

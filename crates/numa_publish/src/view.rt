@@ -21,7 +21,7 @@ use crate::rule::ShownReading;
 use numa_compile::every_plan;
 use numa_machine::PlaceRefusal;
 use numa_plan::{Steps, Tally};
-use numa_space::Request;
+use numa_requests::Request;
 use std::marker::Model;
 
 /// A reader with the published plan at which it looks, which doesn't change while the view is held.

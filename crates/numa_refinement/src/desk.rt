@@ -14,7 +14,7 @@ ghost use Rattle.numa_refinement.specs.LegalSteps.{HasPublished, IsPublishedIn, 
 use numa_machine::{Machine, NoMemory};
 use numa_publish::laws::equal_versions_agree;
 use numa_publish::{Desk, PlanReader, Receipt};
-use numa_space::{Command, Limits, Refusal};
+use numa_requests::{Command, Limits, Refusal};
 use std::alloc::Global;
 use std::sync::Wait;
 

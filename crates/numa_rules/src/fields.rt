@@ -4,7 +4,7 @@ use crate::rule::OrderRule;
 use crate::scope::Scope;
 use numa_mask::list_text;
 use numa_mode::Record;
-use numa_space::PAGE_BYTES;
+use numa_requests::PAGE_BYTES;
 
 /// Receives the fields of an explanation.
 pub trait TakeField {

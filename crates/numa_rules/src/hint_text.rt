@@ -6,7 +6,7 @@ use crate::text::Text;
 use numa_machine::Rules;
 use numa_mask::{NodeMask, list_text};
 use numa_mode::{Mode, Record};
-use numa_space::PAGE_BYTES;
+use numa_requests::PAGE_BYTES;
 use std::alloc::AllocError;
 
 /// The end of every hint.

@@ -13,7 +13,8 @@ use crate::parted::{Parted, parted_in};
 use crate::span::{SpanTest, has_hole, has_page, span_of};
 use numa_mask::NodeMask;
 use numa_mode::{Mode, PolicySpec, Record};
-use numa_space::{Command, Space};
+use numa_requests::Command;
+use numa_space::Space;
 
 /// What a running kernel does with a command, where that differs from the documents
 /// (docs/KERNEL.md).

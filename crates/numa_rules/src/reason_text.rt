@@ -6,7 +6,7 @@ use crate::text::Text;
 use numa_machine::{Fallback, Machine};
 use numa_mask::{NodeMask, list_text};
 use numa_mode::Record;
-use numa_space::PAGE_BYTES;
+use numa_requests::PAGE_BYTES;
 use std::alloc::AllocError;
 
 /// Writes the first line: the question, and the nodes in order.

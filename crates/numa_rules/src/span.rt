@@ -8,7 +8,8 @@ ghost use Rattle.numa_space.specs.Refusals.{bad_span};
 ghost use Rattle.numa_rules.specs.Pages.{passes, reaches};
 
 use numa_ranges::Run;
-use numa_space::{PAGE_BYTES, RangeRecord, Space};
+use numa_requests::PAGE_BYTES;
+use numa_space::{RangeRecord, Space};
 
 /// A test of the pages of a span.
 #[derive(Clone, Copy)]

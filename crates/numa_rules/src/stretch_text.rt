@@ -4,7 +4,7 @@ use crate::reason_text::{is_kernel_order, put_policy, put_sets};
 use crate::rule::OrderRule;
 use crate::text::Text;
 use numa_machine::Machine;
-use numa_space::PAGE_BYTES;
+use numa_requests::PAGE_BYTES;
 use std::alloc::AllocError;
 
 /// Writes the addresses of a stretch: of its first byte, and behind its last.

@@ -8,8 +8,8 @@ ghost use Rattle.numa_run.specs.Questions.{span_refusal_of};
 
 use numa_machine::{MachineFault, PlaceRefusal};
 use numa_plan::Plan;
+use numa_requests::{CoreRefusal, PAGE_BYTES, Refusal};
 use numa_script::{Question, Reply};
-use numa_space::{CoreRefusal, PAGE_BYTES, Refusal};
 
 /// The reply, if it is an error or a refusal.
 pub(crate) fn fault_in(reply: Reply) -> Option<Reply>

@@ -10,8 +10,9 @@ ghost use Rattle.numa_run.specs.Questions.{count_text, place_text, span_text, un
 
 use numa_lines::Watched;
 use numa_plan::Plan;
+use numa_requests::{PAGE_BYTES, Request};
 use numa_script::tell::{say_counts, say_nodes, say_place_refusal, say_starved};
-use numa_space::{PAGE_BYTES, Request, Space};
+use numa_space::Space;
 use std::alloc::Global;
 use std::io::Write;
 

@@ -20,10 +20,10 @@ use numa_core::Core;
 use numa_lines::Watched;
 use numa_machine::{Frame, PlaceRefusal};
 use numa_maps::{RecordRefusal, Resident, say_maps};
+use numa_requests::{CoreRefusal, CoreReply, Event, Placement, Refusal, Request};
 use numa_script::line::empty_bind;
 use numa_script::tell::{say_ranges, say_starved};
 use numa_script::{Line, Question, Reply, Win, WordError, Work};
-use numa_space::{CoreRefusal, CoreReply, Event, Placement, Refusal, Request};
 use std::alloc::Global;
 use std::io::Write;
 

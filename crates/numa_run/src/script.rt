@@ -17,10 +17,10 @@ use numa_lines::{Serve, Watched};
 use numa_machine::{MachineFault, Rules};
 use numa_maps::Resident;
 use numa_mask::{ListFault, NodeMask};
+use numa_requests::Limits;
 use numa_script::line::parse;
 use numa_script::tell::say_reply;
 use numa_script::{Line, MachineLine, Reply, WordError};
-use numa_space::Limits;
 use std::alloc::Global;
 use std::io::Write;
 

@@ -1,7 +1,7 @@
 //! Settings of the machine to come.
 use numa_machine::Rules;
 use numa_mask::NodeMask;
-use numa_space::Limits;
+use numa_requests::Limits;
 
 /// What the lines before a machine have set for it: its limits, its rules, and its nodes with CPUs,
 /// if a line named them.

@@ -82,9 +82,6 @@ mod task_policies;
 mod task_records;
 
 pub use change::{Change, ChangedPages};
-pub use numa_requests::{
-    Command, CoreRefusal, CoreReply, Errno, Event, Limits, PAGE_BYTES, Placement, Refusal, Request,
-};
 pub use range_record::RangeRecord;
 pub use range_rows::RangeRows;
 pub use space::Space;

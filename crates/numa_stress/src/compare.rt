@@ -1,7 +1,8 @@
 //! Comparing answers with the slow resolution.
 use crate::setting::{FIRST_COMMANDS, POLICIES, command, limits, machine};
 use numa_fault::{Answer, FaultRefusal};
-use numa_space::{Placement, Request, Space};
+use numa_requests::{Placement, Request};
+use numa_space::Space;
 use std::alloc::Global;
 
 /// A new space after the first `version` commands. `None` if one is refused.

@@ -7,7 +7,7 @@ use crate::gate::Together;
 use numa_fault::{Answer, Crew, FaultWorker};
 use numa_pool::{PoolSeat, Pools};
 use numa_publish::{DeskName, Receipt, SharedDesk};
-use numa_space::Request;
+use numa_requests::Request;
 use std::alloc::Global;
 use std::sync::Wait;
 use std::thread::Threads;

@@ -18,7 +18,7 @@ use numa_fault::{Answer, FaultWorker};
 use numa_lines::{RunFault, Watched};
 use numa_pool::{Closed, PoolSeat, Pools};
 use numa_publish::{Desk, DeskName, Receipt, SharedDesk};
-use numa_space::Request;
+use numa_requests::Request;
 use std::alloc::Global;
 use std::io::Write;
 use std::marker::Brand;

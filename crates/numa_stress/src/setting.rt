@@ -5,7 +5,7 @@ use bitflags::Flags;
 use numa_machine::Machine;
 use numa_mask::{NodeId, NodeMask};
 use numa_mode::{Mode, PolicyFlags, PolicySpec};
-use numa_space::{Command, Limits, Request};
+use numa_requests::{Command, Limits, Request};
 use std::alloc::Global;
 
 /// The number of policies that are submitted while the workers run.

@@ -12,10 +12,10 @@ use numa_host_script::{HostScript, LineFault};
 use numa_lines::{RunFault, TakeLine, Watched};
 use numa_machine::Rules;
 use numa_reports::Format;
+use numa_requests::{CoreRefusal, Refusal};
 use numa_rules::other_rules;
 use numa_run::Script;
 use numa_script::Reply;
-use numa_space::{CoreRefusal, Refusal};
 use std::alloc::Global;
 use std::io::Write;
 

@@ -5,8 +5,8 @@ ghost use Rattle.numaplan_c.specs.Codes.{list_code, word_code, place_code};
 
 use numa_machine::{MachineFault, PlaceRefusal};
 use numa_mask::ListFault;
+use numa_requests::{CoreRefusal, CoreReply, Refusal};
 use numa_script::WordError;
-use numa_space::{CoreRefusal, CoreReply, Refusal};
 
 /// The result codes that need a name here, as in the header. Those of refusals of commands and
 /// questions, and of errors in machines, lists and policies, are counted from the first of their

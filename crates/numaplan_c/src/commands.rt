@@ -9,8 +9,8 @@ ghost use Rattle.numaplan_handles.specs.Handles.{core_in};
 
 use crate::codes::{Code, answer_code, list_code, word_code};
 use numa_mask::read_list;
+use numa_requests::{Command, Event};
 use numa_script::policy::read_policy;
-use numa_space::{Command, Event};
 use numaplan_handles::CoreHandle;
 use std::alloc::Global;
 

@@ -12,8 +12,8 @@ use crate::codes::{Code, list_code, word_code};
 use crate::host_codes::host_code;
 use numa_host::HostCommand;
 use numa_mask::read_list;
+use numa_requests::Command;
 use numa_script::policy::read_policy;
-use numa_space::Command;
 use numaplan_handles::HostHandle;
 use std::alloc::Global;
 

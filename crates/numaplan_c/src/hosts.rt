@@ -15,7 +15,7 @@ use crate::machines::machine_of;
 use crate::opening::{NpLimits, limits_cause};
 use crate::options::{NpOptions, Options, options_of};
 use numa_host::Host;
-use numa_space::Limits;
+use numa_requests::Limits;
 use numaplan_handles::HostHandle;
 use std::alloc::Global;
 

@@ -14,7 +14,7 @@ use crate::texts::write;
 use crate::workers::NpPlacement;
 use numa_machine::Frame;
 use numa_maps::{RecordRefusal, Resident};
-use numa_space::Placement;
+use numa_requests::Placement;
 use numaplan_handles::CoreHandle;
 use std::alloc::Global;
 

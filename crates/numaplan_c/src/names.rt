@@ -11,8 +11,8 @@ use crate::codes::Code;
 use crate::texts::write;
 use numa_host::{HostErrno, HostRefusal};
 use numa_placed::{MoveRefusal, PlacedRefusal};
+use numa_requests::{Errno, Refusal};
 use numa_script::names::Named;
-use numa_space::{Errno, Refusal};
 
 /// The command's refusal with this code.
 fn refusal_numbered(code: u32) -> Option<Refusal>

@@ -14,7 +14,7 @@ use crate::keeping::{ensure_closed, kept_code, memory_code};
 use crate::machines::machine_of;
 use crate::options::{NpOptions, Options, documents, options_of};
 use numa_core::Core;
-use numa_space::Limits;
+use numa_requests::Limits;
 use numaplan_handles::CoreHandle;
 use std::alloc::Global;
 

@@ -11,8 +11,8 @@ use crate::codes::{Code, list_code, word_code};
 use crate::placed_codes::changed_code;
 use numa_mask::read_list;
 use numa_mode::PolicySpec;
+use numa_requests::Command;
 use numa_script::policy::read_policy;
-use numa_space::Command;
 use numaplan_handles::PagesHandle;
 use std::alloc::Global;
 

@@ -16,8 +16,8 @@ use numa_mask::{NodeMask, read_list};
 use numa_mode::PolicySpec;
 use numa_pages::{ChangeRefusal, Rebound};
 use numa_placed::Moved;
+use numa_requests::PAGE_BYTES;
 use numa_script::policy::read_policy;
-use numa_space::PAGE_BYTES;
 use numaplan_handles::PagesHandle;
 use std::alloc::Global;
 

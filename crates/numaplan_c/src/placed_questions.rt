@@ -15,7 +15,7 @@ use crate::differences::write_items;
 use crate::placed_codes::{PlacedCode, placed_code};
 use crate::plans::NpCounts;
 use numa_pages::PageRun;
-use numa_space::PAGE_BYTES;
+use numa_requests::PAGE_BYTES;
 use numaplan_handles::PagesHandle;
 use std::alloc::Global;
 

@@ -13,8 +13,8 @@ use crate::texts::write;
 use numa_machine::Rules;
 use numa_mask::{NodeMask, read_list};
 use numa_mode::{PolicySpec, Record};
+use numa_requests::Refusal;
 use numa_script::policy::read_policy;
-use numa_space::Refusal;
 
 /// The record of a policy that is set while these nodes are allowed.
 fn record_of(spec: PolicySpec, allowed: &NodeMask) -> Result<Record, u32>

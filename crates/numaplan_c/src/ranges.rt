@@ -16,7 +16,8 @@ use crate::codes::Code;
 use crate::texts::write;
 use numa_mode::Record;
 use numa_ranges::Run;
-use numa_space::{PAGE_BYTES, RangeRecord};
+use numa_requests::PAGE_BYTES;
+use numa_space::RangeRecord;
 use numaplan_handles::CoreHandle;
 use std::alloc::Global;
 

@@ -16,7 +16,7 @@ use crate::codes::Code;
 use crate::nodes::NpNodes;
 use numa_mask::NodeMask;
 use numa_mode::Record;
-use numa_space::PAGE_BYTES;
+use numa_requests::PAGE_BYTES;
 use numaplan_handles::CoreHandle;
 use std::alloc::Global;
 

@@ -8,7 +8,7 @@ ghost use Rattle.numaplan_c.specs.Codes.{answer_code};
 use crate::codes::{Code, answer_code};
 use crate::commands::answer;
 use numa_machine::Frame;
-use numa_space::{CoreRefusal, CoreReply, Event, Request};
+use numa_requests::{CoreRefusal, CoreReply, Event, Request};
 use numaplan_handles::CoreHandle;
 use std::alloc::Global;
 

@@ -10,7 +10,7 @@ use crate::kept::Kept;
 use numa_core::Core;
 use numa_machine::NoMemory;
 use numa_plan::Plan;
-use numa_space::{CoreRefusal, CoreReply, Event, Request};
+use numa_requests::{CoreRefusal, CoreReply, Event, Request};
 use std::alloc::{AllocError, Global};
 
 /// A core that a C caller keeps, or none.

@@ -13,7 +13,7 @@ use numa_core::Core;
 use numa_machine::NoMemory;
 use numa_mode::PolicySpec;
 use numa_pages::{ChangeRefusal, Pages};
-use numa_space::Command;
+use numa_requests::Command;
 use std::alloc::{AllocError, Global};
 
 /// A core with its pages that a C caller keeps, or none.

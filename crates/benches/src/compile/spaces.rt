@@ -1,7 +1,7 @@
 //! The spaces that are compiled.
 use crate::many::{bind, eight_nodes, map, policy};
 use numa_compile::PlannedSpace;
-use numa_space::{Command, Limits};
+use numa_requests::{Command, Limits};
 use std::alloc::Global;
 
 /// Maps `ranges` ranges, with the policies in turn, and gives a task the first policy.

@@ -5,7 +5,7 @@ use crate::fault::setting::{FIRST, machine_of, request_of};
 use numa_fault::FaultWorker;
 use numa_pool::{PoolSeat, Pools};
 use numa_publish::Desk;
-use numa_space::{Placement, Request};
+use numa_requests::{Placement, Request};
 use std::alloc::Global;
 use std::hint::black_box;
 

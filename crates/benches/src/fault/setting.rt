@@ -2,7 +2,7 @@
 use numa_examples::{flat_machine, spec_of};
 use numa_machine::Machine;
 use numa_publish::Desk;
-use numa_space::{Command, Limits, Request};
+use numa_requests::{Command, Limits, Request};
 use std::alloc::Global;
 use std::sync::Wait;
 

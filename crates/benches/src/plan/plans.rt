@@ -3,7 +3,8 @@ use crate::many::{RANGES, bind, eight_nodes, map, spec_of_bits};
 use numa_compile::{compile, compile_commands};
 use numa_mode::PolicySpec;
 use numa_plan::Plan;
-use numa_space::{Command, Limits, Space};
+use numa_requests::{Command, Limits};
+use numa_space::Space;
 use std::alloc::Global;
 
 /// Weights 3, 2, 1 and 2 of four nodes.

@@ -2,7 +2,7 @@
 use crate::many::page_of;
 use numa_plan::Steps;
 use numa_publish::PlanReader;
-use numa_space::Request;
+use numa_requests::Request;
 use std::hint::black_box;
 
 /// Looks `count` times, and sums the versions that are seen.

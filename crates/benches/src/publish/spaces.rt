@@ -1,7 +1,7 @@
 //! What is published.
 use crate::many::{RANGES, bind, bind_page, eight_nodes, map, policy};
 use numa_publish::Desk;
-use numa_space::{Command, Limits};
+use numa_requests::{Command, Limits};
 use std::alloc::Global;
 use std::sync::Wait;
 

@@ -12,7 +12,7 @@ use crate::process::{
 };
 use crate::refusal::{HostRefusal, of_space};
 use numa_mask::NodeMask;
-use numa_space::{Command, Refusal};
+use numa_requests::{Command, Refusal};
 
 /// The most groups below the root.
 const MAX_GROUPS: usize = 1_024;

@@ -7,7 +7,8 @@ use crate::sheet::scale::Scale;
 use crate::sheet::written::Written;
 use crate::sheet::{objects, pictures};
 use crate::touch::Touch;
-use numa_space::{PAGE_BYTES, Space};
+use numa_requests::PAGE_BYTES;
+use numa_space::Space;
 use std::alloc::AllocError;
 
 /// The ranges of a picture or a page.

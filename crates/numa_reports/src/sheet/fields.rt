@@ -1,7 +1,7 @@
 //! The fields of a prediction.
 
 use crate::sheet::nodes::NodePages;
-use numa_space::PAGE_BYTES;
+use numa_requests::PAGE_BYTES;
 
 /// The size of this many pages in bytes, which is also the address of page number `pages`. The
 /// pages of a space end below 2^47 bytes.

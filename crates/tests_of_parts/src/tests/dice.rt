@@ -4,7 +4,8 @@ ghost use Rattle.std.specs.Prelude.{◌<◌};
 use numa_examples::ShortCommand::{Home, Map, Mbind, Mems, Task, Unmap, Weight};
 use numa_examples::{command_of, machine_of};
 use numa_machine::Machine;
-use numa_space::{Command, Limits, Space};
+use numa_requests::{Command, Limits};
+use numa_space::Space;
 use std::alloc::Global;
 
 /// How many commands a history has.

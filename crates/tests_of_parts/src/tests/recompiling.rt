@@ -9,7 +9,8 @@ use crate::tests::dice::{ACCEPTED, COMMANDS, Dice, SEEDS, rough_space};
 use numa_compile::{compile, recompile};
 use numa_examples::mark;
 use numa_plan::{Plan, Steps};
-use numa_space::{Change, Command, Space};
+use numa_requests::Command;
+use numa_space::{Change, Space};
 use std::alloc::Global;
 use std::process::Abort;
 

@@ -5,7 +5,7 @@ use crate::tests::spaces::COMMANDS;
 use numa_core::Core;
 use numa_examples::{commands_of, flat_machine, limits};
 use numa_machine::Frame;
-use numa_space::{Command, CoreRefusal, Event, Refusal, Request};
+use numa_requests::{Command, CoreRefusal, Event, Refusal, Request};
 use std::alloc::Global;
 use std::process::Abort;
 

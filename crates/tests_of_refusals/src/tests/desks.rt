@@ -6,7 +6,7 @@ use numa_examples::{commands_of, flat_machine, limits};
 use numa_machine::{Machine, NoMemory};
 use numa_publish::Desk;
 use numa_refinement::desk;
-use numa_space::{Command, Refusal};
+use numa_requests::{Command, Refusal};
 use std::alloc::Global;
 use std::process::Abort;
 use std::sync::Wait;

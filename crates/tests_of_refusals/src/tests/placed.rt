@@ -2,7 +2,7 @@
 use crate::tests::same::{mark, same};
 use numa_machine::Frame;
 use numa_maps::{RecordRefusal, Resident};
-use numa_space::Placement;
+use numa_requests::Placement;
 use std::alloc::Global;
 use std::process::Abort;
 

@@ -3,7 +3,8 @@ use crate::tests::same::{mark, same};
 use crate::tests::shown::shown;
 use numa_examples::ShortCommand::{Home, Map, Mbind, Mems, Task, Unmap, Weight};
 use numa_examples::{ShortCommand, commands_of, flat_space};
-use numa_space::{Command, Refusal, Space};
+use numa_requests::{Command, Refusal};
+use numa_space::Space;
 use std::alloc::Global;
 use std::process::Abort;
 

@@ -4,7 +4,7 @@ ghost use Rattle.std.specs.Prelude.{◌≡◌};
 use crate::tests::setting::{Seen, desk_for, look, map_one, prefer, same, see, wait_until};
 use numa_machine::PlaceRefusal;
 use numa_publish::{Desk, DeskName, PlanReader, SharedDesk};
-use numa_space::Command;
+use numa_requests::Command;
 use std::marker::Brand;
 use std::process::Abort;
 use std::sync::Wait;

@@ -8,7 +8,7 @@ use crate::tests::setting::{desk_of, machine_of, new_reader, publish_as, publish
 use numa_fault::{Answer, Crew, CrewRefusal, FaultWorker, Gate};
 use numa_pool::{PoolSeat, Pools};
 use numa_publish::{Desk, PlanReader};
-use numa_space::Request;
+use numa_requests::Request;
 use std::alloc::Global;
 use std::process::Abort;
 use std::sync::Wait;

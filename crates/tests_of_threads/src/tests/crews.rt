@@ -2,7 +2,7 @@
 use crate::tests::crew_setting::{Workers, desk, placed, requests};
 use crate::tests::setting::same;
 use numa_fault::{Answer, CrewRefusal, Gate};
-use numa_space::Request;
+use numa_requests::Request;
 use std::alloc::Global;
 use std::process::Abort;
 use std::sync::Wait;

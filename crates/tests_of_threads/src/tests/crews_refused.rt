@@ -5,7 +5,7 @@ use crate::tests::crews::Counting;
 use crate::tests::refused::mark;
 use crate::tests::setting::same;
 use numa_fault::{Answer, CrewRefusal, Gate};
-use numa_space::Request;
+use numa_requests::Request;
 use std::alloc::Global;
 use std::process::Abort;
 use std::thread::Threads;

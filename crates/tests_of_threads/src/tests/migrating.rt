@@ -11,7 +11,7 @@ use crate::tests::setting::same;
 use numa_fault::{Answer, FaultRefusal, FaultWorker, MigrateRefusal};
 use numa_machine::Frame;
 use numa_pool::Pools;
-use numa_space::{Placement, Request};
+use numa_requests::{Placement, Request};
 use std::alloc::Global;
 use std::process::Abort;
 use std::sync::Wait;

@@ -3,7 +3,7 @@
 use crate::tests::setting::{desk_of, publish_map};
 use numa_machine::Frame;
 use numa_publish::Desk;
-use numa_space::{Placement, Request};
+use numa_requests::{Placement, Request};
 use std::alloc::Global;
 use std::process::Abort;
 use std::sync::Wait;

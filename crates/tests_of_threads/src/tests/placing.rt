@@ -5,7 +5,7 @@ use crate::tests::setting::{machine_of, new_reader, same};
 use numa_fault::{FaultRefusal, FaultWorker, MigrateRefusal, SpanRefusal};
 use numa_pool::Pools;
 use numa_publish::Desk;
-use numa_space::{Placement, Request};
+use numa_requests::{Placement, Request};
 use std::alloc::Global;
 use std::process::Abort;
 

@@ -8,7 +8,7 @@ use crate::tests::setting::{
 };
 use numa_machine::PlaceRefusal;
 use numa_publish::{Desk, DeskName, SharedDesk, SubmitRefusal};
-use numa_space::{Command, Refusal};
+use numa_requests::{Command, Refusal};
 use std::alloc::Global;
 use std::marker::Brand;
 use std::process::Abort;

@@ -3,7 +3,7 @@ use crate::tests::refused::mark;
 use crate::tests::setting::{accept_both, desk_for, machine_of, map_one, publish_as, same};
 use numa_machine::NoMemory;
 use numa_publish::Desk;
-use numa_space::{Limits, Refusal};
+use numa_requests::{Limits, Refusal};
 use std::alloc::Global;
 use std::process::Abort;
 use std::sync::Wait;

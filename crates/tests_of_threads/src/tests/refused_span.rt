@@ -4,7 +4,7 @@ use crate::tests::placing::Placing;
 use crate::tests::refused::mark;
 use crate::tests::setting::same;
 use numa_fault::SpanRefusal;
-use numa_space::Placement;
+use numa_requests::Placement;
 use std::alloc::Global;
 use std::process::Abort;
 use std::sync::Wait;

@@ -4,7 +4,7 @@ ghost use Rattle.std.specs.Prelude.{◌≡◌, ◌≤◌};
 use numa_examples::{flat_machine, spec_of};
 use numa_machine::{Machine, PlaceRefusal};
 use numa_publish::{Desk, PlanReader, Receipt};
-use numa_space::{Command, Limits};
+use numa_requests::{Command, Limits};
 use std::alloc::Global;
 use std::fmt::Debug;
 use std::process::Abort;

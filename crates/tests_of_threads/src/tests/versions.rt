@@ -1,7 +1,7 @@
 //! Many versions on a desk.
 use crate::tests::setting::{desk_for, prefer, same};
 use numa_publish::Desk;
-use numa_space::Command;
+use numa_requests::Command;
 use std::sync::Wait;
 
 /// How often a desk publishes, one command each time.
