@@ -136,7 +136,7 @@ def values(path, core, after, rules):
     by, then = f"--rules={rules}", [f"--then={line}" for line in THEN]
     told = json.loads(program("diff", by, "--task=1", "--node=0", "--format=json", *then, path))
     theirs = [(span["start"], span["end"], one["from"], one["to"], one["pages"])
-              for span in told["spans"] for one in span["moves"]]
+              for span in told["spans"] for one in span["differences"]]
     mine = [(one.first * 4096, (one.first + one.pages) * 4096, one.before, one.after, one.moved)
             for one in core.diff(after, 1, 0)]
     want(mine, theirs, f"the moves of {path}")
@@ -178,7 +178,7 @@ with Core([1, 1], [[10, 20], [20, 10]]) as one, Core([1], [[10]], rules="linux")
     one.set_task(1, "bind:1")
     want([tuple(each) for each in one.diff(other, 1, 0)], [(0x11, 1, 1, 1, 0)], "two machines")
     want(one.diff_text(other, 1, 0).text,
-         "00011000-00012000 moved=1 N1->N0=1\ntotal moved=1 N1->N0=1\n", "two machines, as a text")
+         "00011000-00012000 differs=1 N1->N0=1\ntotal differs=1 N1->N0=1\n", "two machines, as a text")
     want(one.diff(one, 1, 0), [], "a core and itself")
     for both in ((one, other), (other, one)):
         want(library(both[0].diff_text, both[1], 1, 1), None, "a node that one machine lacks")

@@ -68,7 +68,7 @@ static void words(void) {
     forget();
     WANT(np_diff(TEXT(HOST), TEXT("mems 0\nmems 7"), &asked, room, sizeof room, &told), NP_OK);
     WANT(told.faulty, 1);
-    WANT(memcmp(room + told.answer - 23, "total moved=2 N1->N0=2\n", 23), 0);
+    WANT(memcmp(room + told.answer - 25, "total differs=2 N1->N0=2\n", 25), 0);
     WANT(memcmp(room + told.answer, "--then:2: refused", 17), 0);
     forget();
     WANT(np_explain(TEXT(HOST), TEXT(""), &asked, 0x11, room, sizeof room, &told), NP_OK);
@@ -300,7 +300,7 @@ static void texts(void) {
     other.rules = 99; /* which doesn't count */
     forget();
     WANT(np_core_diff_text(&core, &after, &other, room, sizeof room, &told), NP_OK);
-    WANT(is_told("00010000-00014000 moved=2 N1->N0=2\ntotal moved=2 N1->N0=2\n", ""), 1);
+    WANT(is_told("00010000-00014000 differs=2 N1->N0=2\ntotal differs=2 N1->N0=2\n", ""), 1);
     forget();
     WANT(np_core_diff_text(&core, &after, &other, room, 4, &told), NP_NO_ROOM);
     WANT(told.answer == 58 && is_untouched(), 1);

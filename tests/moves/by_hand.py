@@ -30,14 +30,14 @@ ROWS = [
 # indexes 48 to 51, and 2 and 3, are on 0 1 2 0 and 2 0 before, and on 0 1 0 1 and 0 1 after.
 DIFFERENCES = [
     (["--then", "mems 0-1"],
-     "00030000-00034000 moved=2 N0->N1=1 N2->N0=1\n"
-     "00040000-00042000 moved=2 N0->N1=1 N2->N0=1\n"
-     "total moved=4 N0->N1=2 N2->N0=2\n"
+     "00030000-00034000 differs=2 N0->N1=1 N2->N0=1\n"
+     "00040000-00042000 differs=2 N0->N1=1 N2->N0=1\n"
+     "total differs=4 N0->N1=2 N2->N0=2\n"
      "pages that are there\n" + ROWS[0][1]),
     # a policy moves nothing that is there, and migrate nothing that isn't
     (["--then", "mbind 0x40000 0x2000 bind:1", "--then", "migrate 2 3"],
-     "00040000-00042000 moved=2 N0->N1=1 N2->N1=1\n"
-     "total moved=2 N0->N1=1 N2->N1=1\n"
+     "00040000-00042000 differs=2 N0->N1=1 N2->N1=1\n"
+     "total differs=2 N0->N1=1 N2->N1=1\n"
      "pages that are there\n"
      "then mbind 0x40000 0x2000 bind:1\n"
      "00030000-00034000 placed=3 moved=0 stays=3 N0=1 N2=2\n"

@@ -139,9 +139,9 @@ def difference(text, rows, nodes, left=None, number=DRAWN):
 def moves_difference(picture, page, lines, number):
     """What is wrong with a picture and the spans of a page of a difference, whose spans have these
     lines as text and of which so many are shown, or None."""
-    moved = [int(re.search(r" moved=(\d+)", line)[1]) for line in lines]
-    order = sorted(sorted(range(len(lines)), key=lambda k: (-moved[k], k))[:number])
-    rest = [moved[k] for k in range(len(lines)) if k not in order]
+    differ = [int(re.search(r" differs=(\d+)", line)[1]) for line in lines]
+    order = sorted(sorted(range(len(lines)), key=lambda k: (-differ[k], k))[:number])
+    rest = [differ[k] for k in range(len(lines)) if k not in order]
     root = ElementTree.fromstring(picture)
     groups = [it for it in root.findall(SVG + "g") if it.get("class") == "span"]
     told = [it.find(SVG + "text").text.split(" of ")[0] for it in groups]
@@ -158,11 +158,11 @@ def moves_difference(picture, page, lines, number):
     behind = f", of them {sum(rest)} in {said(len(rest), 'span')} that " if rest else ""
     behind += ("isn't drawn" if len(rest) == 1 else "aren't drawn") if rest else ""
     total = root.find(f"{SVG}text[@class='total']").text
-    if total != f"total moved={sum(moved)}{behind}":
+    if total != f"total differs={sum(differ)}{behind}":
         return f"{total!r} behind the spans"
-    starts = [f"{it['start']:08x}-{it['end']:08x} moved={it['moved']}" for it in page["spans"]]
+    starts = [f"{it['start']:08x}-{it['end']:08x} differs={it['differs']}" for it in page["spans"]]
     if starts != told or page.get("others") != (
-            {"spans": len(rest), "moved": sum(rest)} if rest else None):
+            {"spans": len(rest), "differs": sum(rest)} if rest else None):
         return f"page: {starts} and {page.get('others')}"
     return None
 

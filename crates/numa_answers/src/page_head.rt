@@ -22,7 +22,7 @@ tbody tr:hover, tr.chosen { background: #eef4ff; }
 .strip { display: flex; height: 34px; margin: 2px 0; border: 1px solid #333; max-width: 1200px; }
 .cell { flex: 1; overflow: hidden; text-align: center; line-height: 34px; font: 11px/34px monospace;
   border-right: 1px solid #fff; cursor: pointer; min-width: 0; }
-.moved { outline: 3px solid #000; outline-offset: -3px; }
+.differs { outline: 3px solid #000; outline-offset: -3px; }
 .bar { display: inline-block; height: 12px; border: 1px solid #333; }
 .mark { display: inline-block; min-width: 20px; text-align: center; border: 1px solid #333; }
 pre { background: #f6f6f6; padding: 8px; max-width: 1184px; white-space: pre-wrap; }

@@ -198,7 +198,7 @@ function strips(views, start, end, trail) {
   }
 }
 
-function isMoved(views, from, behind) {
+function differs(views, from, behind) {
   if (views.length < 2 || behind - from > 4096) return false;
   const [before, after] = views.map((it) => nodeOf(it[1], from));
   return before !== undefined && after !== undefined && before !== after;
@@ -215,7 +215,7 @@ function cellOf(views, view, strip, from, behind, whole, trail) {
   } else {
     paintShares(cell, shares);
   }
-  if (isMoved(views, from, behind)) cell.classList.add('moved');
+  if (differs(views, from, behind)) cell.classList.add('differs');
   const names = [...shares.keys()].map((it) => (it === undefined ? 'none' : it)).join(', ');
   cell.title = hex(from) + (pages > 1 ? ', ' + pagesText(pages) : '') + ': node ' + names;
   cell.onclick = () => {
@@ -303,10 +303,11 @@ function say(text) {
   said.textContent = text;
 }
 
-const movesText = (list) => list.map((m) => 'N' + m.from + '->N' + m.to + '=' + m.pages).join(' ');
+const pairsText = (list) => list.map((m) => 'N' + m.from + '->N' + m.to + '=' + m.pages).join(' ');
 const placedText = ({ anon, exhausted }) => pagesText(anon)
   + (exhausted ? ', ' + exhausted + ' exhausted' : '');
-const movedText = ({ moved, moves }) => moved + (moved ? ', ' + movesText(moves) : '');
+const differsText = ({ differs: pages, differences }) => pages
+  + (pages ? ', ' + pairsText(differences) : '');
 
 function leftPart(left) {
   if (left) table('Left', ['node', 'pages'], left.map((it) => ({ cells: [it.node, it.pages] })));
@@ -335,33 +336,33 @@ function difference(from) {
   const [before, after] = [viewOf(from.before), viewOf(from.after)];
   const views = [['before', before], ['after', after]];
   say('Pages that would go elsewhere if task ' + task + ' touched them on node ' + cpu + ': '
-    + movedText(total));
+    + differsText(total));
   totals('Before', before.prediction.total);
   totals('After', after.prediction.total);
   table(
-    'Moves',
-    ['start', 'end', 'moved', 'from and to'],
+    'Differences',
+    ['start', 'end', 'differs', 'from and to'],
     spans.map((it) => ({
       value: it,
       cells: [
         { key: it.start, text: hex(it.start) },
         { key: it.end, text: hex(it.end) },
-        it.moved,
-        movesText(it.moves),
+        it.differs,
+        pairsText(it.differences),
       ],
     })),
     (it) => strips(views, it.start, it.end, []),
   );
   if (others) {
     make('p', page, 'These are the largest. Others: ' + others.spans + ', with '
-      + pagesText(others.moved) + ' that move', 'others');
+      + pagesText(others.differs) + ' that differ', 'others');
   }
   rangesPart('Ranges after', after, views);
   pagesPart(views);
 }
 
 function differences({ total }) {
-  say('Pages that would go elsewhere: ' + movedText(total));
+  say('Pages that would go elsewhere: ' + differsText(total));
 }
 
 // What the accesses of a trace met.

@@ -161,7 +161,7 @@ impl Core {
     /// let mut after = core.copy()?;
     /// after.set_task(1, "bind:1")?;
     /// let report = core.diff_text(&mut after, 1, 0, numaplan::Format::Text)?;
-    /// assert_eq!(report.text.lines().last(), Some("total moved=4 N0->N1=4"));
+    /// assert_eq!(report.text.lines().last(), Some("total differs=4 N0->N1=4"));
     /// # Ok::<(), Box<dyn std::error::Error>>(())
     /// ```
     pub fn diff_text(

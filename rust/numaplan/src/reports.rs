@@ -16,7 +16,7 @@ use crate::{Refused, Rules};
 ///
 /// let host = "machine 2 0-1 0 flat\nmap 0x10000 0x4000 0x10\ntask 1 interleave:0-1\n";
 /// let report = Question { lines: "mems 0", ..Question::of(host) }.diff(Format::Text)?;
-/// assert_eq!(report.text.lines().last(), Some("total moved=2 N1->N0=2"));
+/// assert_eq!(report.text.lines().last(), Some("total differs=2 N1->N0=2"));
 /// let report = Question::of(host).predict(Format::Json, &[(0, 1)])?;
 /// assert!(report.messages.is_empty());
 /// # Ok::<(), numaplan::Unanswered>(())

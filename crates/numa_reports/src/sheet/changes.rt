@@ -69,7 +69,7 @@ pub(crate) fn moved(table: &[u64], told: &[u64], nodes: u32) -> u64 {
 /// Writes the end of a line: the number of pages that go to another node, and from each node to
 /// each other, where it isn't 0.
 pub(crate) fn put_moves(text: &mut Written, table: &[u64], told: &[u64], nodes: u32) {
-    text.put_form(b" moved=$", &[moved(table, told, nodes)]);
+    text.put_form(b" differs=$", &[moved(table, told, nodes)]);
     for from in 0..nodes {
         put_from(text, table, told, nodes, from);
     }

@@ -43,8 +43,8 @@ fn put_moves(object: &mut Object, table: &[u64], told: &[u64], nodes: u32) {
     for from in 0..nodes {
         put_from(&mut items, table, told, nodes, from);
     }
-    object.put_number("moved", moved(table, told, nodes));
-    object.put_items("moves", items);
+    object.put_number("differs", moved(table, told, nodes));
+    object.put_items("differences", items);
 }
 
 /// Begins a span in the list.
@@ -77,7 +77,7 @@ pub(crate) fn end_spans(text: &mut Written) {
 pub(crate) fn put_others(text: &mut Written, shown: ShownSpans) {
     if shown.others > 0 {
         text.put_form(
-            b",\"others\":{\"spans\":$,\"moved\":$}",
+            b",\"others\":{\"spans\":$,\"differs\":$}",
             &[shown.others, shown.moved],
         );
     }

@@ -2,7 +2,7 @@
 //!
 //! A span is a line of text and two bars, the pages before the change above those after it. A part
 //! of a bar is the pages that go from one node to one other, in the same place of both; those that
-//! move have a thick frame.
+//! differ have a thick frame.
 
 use crate::outlook::PageSpan;
 use crate::sheet::bars::{Rectangle, put_part};
@@ -53,7 +53,7 @@ fn put_pages(text: &mut Written, place: Rectangle, from: u64, to: u64, node: u64
     }
     let numbers = [place.left, place.top, place.width, place.height];
     text.put_form(
-        b"<rect class=\"moved\" x=\"$\" y=\"$\" width=\"$\" height=\"$\" fill=\"none\" \
+        b"<rect class=\"differs\" x=\"$\" y=\"$\" width=\"$\" height=\"$\" fill=\"none\" \
         stroke=\"#000000\" stroke-width=\"3\"/>",
         &numbers,
     );
@@ -119,7 +119,7 @@ pub(crate) fn put_span(
     let end = span.first.saturating_add(span.pages);
     text.put_addresses(bytes(span.first), bytes(end));
     text.put_form(
-        b" moved=$ of $</text>",
+        b" differs=$ of $</text>",
         &[moved(table, told, nodes), span.pages],
     );
     let width = scale.width(span.pages);
@@ -133,7 +133,7 @@ pub(crate) fn put_span(
 /// Ends the picture, behind these spans, with all pages.
 pub(crate) fn put_total(text: &mut Written, shown: ShownSpans, table: &[u64], nodes: u32) {
     text.put_form(
-        b"<text class=\"total\" x=\"16\" y=\"$\">total moved=$",
+        b"<text class=\"total\" x=\"16\" y=\"$\">total differs=$",
         &[
             below(shown.rows).saturating_add(20),
             moved(table, &[], nodes),

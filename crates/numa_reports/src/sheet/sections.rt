@@ -122,11 +122,11 @@ pub(crate) fn put_placed(
     text.put(b"</svg>\n");
 }
 
-/// Writes a whole picture: the sections, and how many pages of all processes move.
+/// Writes a whole picture: the sections, and how many pages of all processes differ.
 pub(crate) fn put_moved(text: &mut Written, sections: &[u8], end: u64, moved: u64) {
     let top = put_sections(text, sections, end, MOVED_ROWS);
     text.put_form(
-        b"<text class=\"total\" x=\"16\" y=\"$\">total moved=$</text>\n</svg>\n",
+        b"<text class=\"total\" x=\"16\" y=\"$\">total differs=$</text>\n</svg>\n",
         &[top.saturating_add(16), moved],
     );
 }
