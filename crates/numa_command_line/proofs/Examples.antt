@@ -1,5 +1,5 @@
 -- Command lines, and what they ask for.
-use Rattle.std.proofs.Common.{◌≡◌, List, [], ◌∷◌, Some, None, codes, map, refl, true}
+use Rattle.std.proofs.Common.{◌≡◌, List, [], ◌∷◌, Some, None, codes, map, refl, true, false}
 use Rattle.clap.specs.Words.{Text, fault_of}
 use Rattle.clap.specs.declared.error.kind.ErrorKind.TheVariants as kind
 use Rattle.clap.proofs.OnLiterals.{clap_on_literals}
@@ -10,8 +10,10 @@ use Rattle.numa_script.specs.Numbers.{in_64_bits, number_of, numeral_of}
 use Rattle.numa_command_line.specs.Grammar.{AreChoices, Choices, diff_formats, plain_formats}
 use Rattle.numa_command_line.specs.Grammar.{moves_formats, predict_formats, program, replay_formats}
 use Rattle.numa_command_line.specs.Grammar.{rules_names, test_formats}
-use Rattle.numa_command_line.specs.Jobs.{check, run, scripts, storm}
+use Rattle.numa_command_line.specs.Jobs.{ask, check, explain, run, scripts, storm}
 use Rattle.numa_command_line.specs.Usage.{Names}
+use Rattle.numa_command_line.specs.Values.{address_of}
+use Rattle.numa_reports.specs.declared.asked.CpuAsked.TheVariants.{Each}
 
 -- names that lie nowhere
 abbrev names_of : List Text → Names
@@ -80,3 +82,37 @@ help_of_run : (c : Choices)
     ∷ []
 unfolding clap_on_literals
 help_of_run c = refl
+
+-- addresses as answers print them, and as people type them
+printed : address_of (codes "00011000") ≡ Some (record { value = 69632; hexadecimal = None })
+unfolding number_of numeral_of in_64_bits
+printed = refl
+
+with_a_letter : address_of (codes "7f12a") ≡ Some (record { value = 520490; hexadecimal = None })
+unfolding number_of numeral_of in_64_bits
+with_a_letter = refl
+
+seven_digits : address_of (codes "0011000")
+    ≡ Some (record { value = 11000; hexadecimal = Some 69632 })
+unfolding number_of numeral_of in_64_bits
+seven_digits = refl
+
+no_address : address_of (codes "0x1g") ≡ None
+unfolding number_of numeral_of in_64_bits
+no_address = refl
+
+-- the task may be left out, and each node asked
+explain_on_each_node : (c : Choices)
+    → doings_asked (program c) (codes "numaplan" ∷ codes "explain" ∷ codes "--cpu" ∷ codes "all"
+    ∷ codes "0x11000" ∷ codes "a" ∷ [])
+    ≡ Some (scripts (codes "a" ∷ []) Document None (ask (record { task = None; cpu = Each })
+    (explain (record { value = 69632; hexadecimal = None }) None format.Text) false))
+unfolding clap_on_literals number_of numeral_of in_64_bits
+explain_on_each_node c = refl
+
+no_picture_of_each_node : (c : Choices)
+    → doings_asked (program c) (codes "numaplan" ∷ codes "predict" ∷ codes "--node" ∷ codes "all"
+    ∷ codes "--format" ∷ codes "svg" ∷ [])
+    ≡ None
+unfolding clap_on_literals
+no_picture_of_each_node c = refl

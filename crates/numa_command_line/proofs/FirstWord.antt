@@ -7,14 +7,15 @@ use Rattle.std.specs.Str.{bytes_eq}
 use Rattle.std.proofs.lemmas.Slice.Eq.{bytes_eq-Decides}
 use Rattle.clap.specs.Words.{Row, subcommand_of}
 use Rattle.numa_reports.specs.declared.filling.FreePages.{FreePages}
-use Rattle.numa_reports.specs.declared.touch.Touch.{Touch}
+use Rattle.numa_reports.specs.declared.asked.TouchAsked.{TouchAsked}
 use Rattle.numa_reports.specs.declared.sheet.Format.{Format}
-use Rattle.numa_command_line.specs.Asked.{Answers, asking_name, doing_name, predict_by}
+use Rattle.numa_command_line.specs.Asked.{Answers, ask_by, asking_name, can_ask, doing_name}
+use Rattle.numa_command_line.specs.Asked.{predict_by}
 use Rattle.numa_command_line.specs.Asked.{job_named, name_of, rows_behind, scripts_asked}
 use Rattle.numa_command_line.specs.Asked.{word_named, work_asked}
 use Rattle.numa_command_line.specs.Jobs.{Asking, Doing, Doings, Text, ask, diff, doings_of, explain}
 use Rattle.numa_command_line.specs.Jobs.{predict, scripts, storm}
-use Rattle.numa_command_line.specs.Values.{format_in, frees_in, is_on, page_in, process_in}
+use Rattle.numa_command_line.specs.Values.{address_in, format_in, frees_in, is_on, process_in}
 use Rattle.numa_command_line.specs.Values.{rules_in, small_at}
 use Rattle.numa_command_line.specs.Values.{texts_at, touch_in, workers_in}
 use Rattle.numa_command_line.specs.declared.command.Subcommand.{Subcommand}
@@ -58,15 +59,21 @@ named_word name found =
     (one_of_words name word.Replay found _
     (one_of_words name word.Shell found None (λ none. cc)))))))))
 
-asked_name : (touch : Option Touch) (lenient : Bool) (question : Option Asking) (named : Text)
+given_ask : (passes : Bool) (asked : Doing) (doing : Doing) → cond passes (Some asked) None
+    ≡ Some doing → asked ≡ doing
+given_ask true asked doing e = some_is asked doing e
+given_ask false asked doing e = cc
+
+asked_name : (touch : Option TouchAsked) (lenient : Bool) (question : Option Asking) (named : Text)
     (doing : Doing)
     → ((what : Asking) → question ≡ Some what → asking_name what ≡ named)
-    → option_and_then (λ what. option_map (λ t. ask t what lenient) touch) question ≡ Some doing
+    → option_and_then (λ what. option_and_then (ask_by lenient what) touch) question ≡ Some doing
     → doing_name doing ≡ named
 asked_name touch lenient None named doing names e = cc
 asked_name None lenient (Some what) named doing names e = cc
 asked_name (Some t) lenient (Some what) named doing names e =
-    ap doing_name (sym (some_is (ask t what lenient) doing e)) ∙ names what refl
+    ap doing_name (sym (given_ask (can_ask t what) (ask t what lenient) doing e))
+    ∙ names what refl
 
 mapped_name : {X : Type 0} (make : X → Asking) (named : Text)
     → ((x : X) → asking_name (make x) ≡ named)
@@ -111,8 +118,8 @@ work_name word.Diff rows doing e =
 work_name word.Moves rows doing e = moves_name _ (λ free. refl) (frees_in rows) doing e
 work_name word.Explain rows doing e =
     asked_name (touch_in rows) (is_on (codes "lenient") rows) _ (codes "explain") doing
-    (mapped_name (λ page. explain page (small_at (codes "pages") rows) (format_in rows))
-    (codes "explain") (λ page. refl) (page_in rows)) e
+    (mapped_name (λ address. explain address (small_at (codes "pages") rows) (format_in rows))
+    (codes "explain") (λ address. refl) (address_in rows)) e
 work_name word.Replay rows doing e = ap doing_name (sym (some_is _ doing e))
 work_name word.Shell rows doing e = ap doing_name (sym (some_is _ doing e))
 

@@ -11,13 +11,17 @@ use Rattle.clap.specs.declared.error.kind.ErrorKind.TheVariants as kind
 use Rattle.numa_reports.specs.declared.filling.FreePages.{FreePages}
 use Rattle.numa_reports.specs.declared.sheet.Format.{Format}
 use Rattle.numa_reports.specs.declared.sheet.Format.TheVariants.{Svg, Html}
+use Rattle.numa_reports.specs.declared.sheet.Format.TheVariants as format
+use Rattle.numa_reports.specs.declared.asked.CpuAsked.{CpuAsked}
+use Rattle.numa_reports.specs.declared.asked.CpuAsked.TheVariants.{Node, Each}
+use Rattle.numa_reports.specs.declared.asked.TouchAsked.{TouchAsked}
 use Rattle.numa_command_line.specs.Grammar.{IsProgram}
 use Rattle.numa_command_line.specs.Jobs.{Asking, Doing, Doings, Text, ask, check, diff, doings_of}
 use Rattle.numa_command_line.specs.Jobs.{expect, explain, moves, predict, replay, run, scripts}
 use Rattle.numa_command_line.specs.Jobs.{shell, storm}
-use Rattle.numa_command_line.specs.Values.{format_in, frees_in, is_on, page_in, rules_in, small_at}
-use Rattle.numa_command_line.specs.Values.{process_in}
-use Rattle.numa_command_line.specs.Values.{texts_at, touch_in, workers_in}
+use Rattle.numa_command_line.specs.Values.{address_in, format_in, frees_in, is_on, one_touch_in}
+use Rattle.numa_command_line.specs.Values.{process_in, rules_in, small_at, texts_at, touch_in}
+use Rattle.numa_command_line.specs.Values.{workers_in}
 use Rattle.numa_command_line.specs.declared.command.Subcommand.{Subcommand}
 use Rattle.numa_command_line.specs.declared.command.Subcommand.TheVariants as word
 use Rattle.numa_command_line.specs.declared.jobs.Job.{Job}
@@ -38,10 +42,32 @@ word_named name =
     else if bytes_eq name (codes "shell") then Some word.Shell
     else None
 
+-- text and JSON
+abbrev pub is_plain : Format → Bool
+is_plain format.Text = true
+is_plain format.Json = true
+is_plain other = false
+
+abbrev pub is_plainly_asked : Asking → Bool
+is_plainly_asked (predict at format free) = is_plain format
+is_plainly_asked (diff at lines format) = is_plain format
+is_plainly_asked (explain address pages format) = is_plain format
+
+-- what is asked of each node is told as text or JSON
+abbrev pub can_ask_on : CpuAsked → Asking → Bool
+can_ask_on (Node node) what = true
+can_ask_on Each what = is_plainly_asked what
+
+abbrev pub can_ask : TouchAsked → Asking → Bool
+can_ask touch what = can_ask_on touch.cpu what
+
 -- a question of where a task touches pages
+abbrev pub ask_by : Bool → Asking → TouchAsked → Option Doing
+ask_by lenient what touch = if can_ask touch what then Some (ask touch what lenient) else None
+
 abbrev pub asked_in : List Row → Option Asking → Option Doing
-asked_in rows question = option_and_then (λ what. option_map (λ touch.
-    ask touch what (is_on (codes "lenient") rows)) (touch_in rows)) question
+asked_in rows question = option_and_then (λ what. option_and_then
+    (ask_by (is_on (codes "lenient") rows) what) (touch_in rows)) question
 
 -- pictures and pages
 abbrev pub is_drawn : Format → Bool
@@ -74,10 +100,11 @@ work_asked word.Predict rows = asked_in rows
 work_asked word.Diff rows = asked_in rows
     (diff_by (texts_at (codes "at") rows) (texts_at (codes "then") rows) (format_in rows))
 work_asked word.Moves rows = option_map (λ free. moves (texts_at (codes "at") rows)
-    (texts_at (codes "then") rows) (touch_in rows) free (format_in rows)
+    (texts_at (codes "then") rows) (one_touch_in rows) free (format_in rows)
     (is_on (codes "lenient") rows)) (frees_in rows)
 work_asked word.Explain rows = asked_in rows (option_map
-    (λ page. explain page (small_at (codes "pages") rows) (format_in rows)) (page_in rows))
+    (λ address. explain address (small_at (codes "pages") rows) (format_in rows))
+    (address_in rows))
 work_asked word.Replay rows = Some (replay (texts_at (codes "trace") rows) (format_in rows)
     (is_on (codes "lenient") rows))
 work_asked word.Shell rows = Some shell
@@ -112,7 +139,7 @@ doings_asked program words = doings_found words (subcommand_of program words)
 abbrev pub asking_name : Asking → Text
 asking_name (predict at format free) = codes "predict"
 asking_name (diff at lines format) = codes "diff"
-asking_name (explain page pages format) = codes "explain"
+asking_name (explain address pages format) = codes "explain"
 
 abbrev pub doing_name : Doing → Text
 doing_name (run echo format) = codes "run"

@@ -3,7 +3,7 @@ use Rattle.std.specs.Prelude.{◌≡◌, ◌∷◌, [], List, Bool, true, codes,
 use Rattle.clap.specs.Words.{App, Rule, Shape, Text, with_rule, with_subcommand}
 use Rattle.clap.specs.Simple.{new_shape}
 use Rattle.numa_command_line.specs.Usage.{Names, bare, choice, flag, needed, number, number_or}
-use Rattle.numa_command_line.specs.Usage.{option, options, rule_said, words}
+use Rattle.numa_command_line.specs.Usage.{option, option_or, options, rule_said, words}
 use Rattle.numa_command_line.specs.declared.usage.SubcommandHelp.{SubcommandHelp}
 
 -- ---- arguments
@@ -15,10 +15,10 @@ abbrev pub lenient : Rule
 lenient = flag (codes "lenient")
 
 abbrev pub task : Rule
-task = needed true (number (codes "task"))
+task = number (codes "task")
 
 abbrev pub node : Rule
-node = needed true (number_or (codes "node") (codes "cpu"))
+node = needed true (option_or (codes "node") (codes "cpu"))
 
 -- which process of a host is asked for
 abbrev pub process : Rule
@@ -85,7 +85,7 @@ diff_arguments formats =
 
 abbrev pub moves_arguments : Names → List Rule
 moves_arguments formats =
-    option (codes "at") ∷ number (codes "task") ∷ number_or (codes "node") (codes "cpu")
+    option (codes "at") ∷ task ∷ number_or (codes "node") (codes "cpu")
     ∷ needed true (options (codes "then")) ∷ option (codes "free") ∷ process ∷ format formats
     ∷ largest ∷ lenient ∷ files ∷ []
 

@@ -5,7 +5,8 @@ use Rattle.std.specs.String.{string_bytes}
 use Rattle.numa_machine.specs.declared.rules.Rules.{Rules}
 use Rattle.numa_reports.specs.declared.filling.FreePages.{FreePages}
 use Rattle.numa_reports.specs.declared.sheet.Format.{Format}
-use Rattle.numa_reports.specs.declared.touch.Touch.{Touch}
+use Rattle.numa_reports.specs.declared.asked.AddressAsked.{AddressAsked}
+use Rattle.numa_reports.specs.declared.asked.TouchAsked.{TouchAsked}
 use Rattle.numa_command_line.specs.declared.jobs.Job.{Job}
 use Rattle.numa_command_line.specs.declared.jobs.Job.TheVariants.{Scripts, Storm}
 use Rattle.numa_command_line.specs.declared.jobs.JobFault.{JobFault}
@@ -29,15 +30,15 @@ Text = List ℕ
 pub data Asking : Type 0 where
   predict : List Text → Format → List FreePages → Asking
   diff : List Text → List Text → Format → Asking
-  explain : ℕ → Option ℕ → Format → Asking
+  explain : AddressAsked → Option ℕ → Format → Asking
 
 -- with the rules that count where the scripts say nothing of them
 pub data Doing : Type 0 where
   run : Bool → Format → Doing
   check : Format → Doing
   expect : Format → Bool → Bool → Doing
-  ask : Touch → Asking → Bool → Doing
-  moves : List Text → List Text → Option Touch → List FreePages → Format → Bool → Doing
+  ask : TouchAsked → Asking → Bool → Doing
+  moves : List Text → List Text → Option TouchAsked → List FreePages → Format → Bool → Doing
   replay : List Text → Format → Bool → Doing
   shell : Doing
 
@@ -49,7 +50,7 @@ abbrev pub question_of : PageQuestion → Asking
 question_of (Predict at format free) = predict (map string_bytes at.items) format free.items
 question_of (Diff at lines format) =
     diff (map string_bytes at.items) (map string_bytes lines.items) format
-question_of (Explain page pages format) = explain page pages format
+question_of (Explain address pages format) = explain address pages format
 
 abbrev pub work_of : ScriptJob → Doing
 work_of (Run echo format) = run echo format

@@ -13,8 +13,8 @@ use Rattle.numa_command_line.specs.declared.usage.Argument.{Argument}
 use Rattle.numa_command_line.specs.declared.usage.SubcommandHelp.{SubcommandHelp}
 use Rattle.numa_command_line.specs.declared.usage.Takes.{Takes}
 use Rattle.numa_command_line.specs.declared.usage.Takes.TheVariants.{Nothing, Text as One, Texts}
-use Rattle.numa_command_line.specs.declared.usage.Takes.TheVariants.{Number, NumberOr, OneOf, Bare}
-use Rattle.numa_command_line.specs.declared.usage.Takes.TheVariants.{Files}
+use Rattle.numa_command_line.specs.declared.usage.Takes.TheVariants.{Number, NumberOr, TextOr}
+use Rattle.numa_command_line.specs.declared.usage.Takes.TheVariants.{OneOf, Bare, Files}
 
 -- the texts that are one of these
 abbrev pub Names : Type 0
@@ -32,7 +32,11 @@ option name = record (new_rule name) { long = Some name; action = Some Set; valu
 abbrev pub options : Text → Rule
 options name = record (option name) { action = Some Append }
 
--- the same, where the value is a number below 2^32
+-- an argument with a value, which has another name
+abbrev pub option_or : Text → Text → Rule
+option_or name other = record (option name) { aliases = other ∷ [] }
+
+-- one with a value that is a number below 2^32
 abbrev pub number : Text → Rule
 number name = record (option name) { parser = Some (parser.Signed (pos 0) (pos 4294967295)) }
 
@@ -65,6 +69,7 @@ rule_by One name = option name
 rule_by Texts name = options name
 rule_by Number name = number name
 rule_by (NumberOr other) name = number_or name other.now
+rule_by (TextOr other) name = option_or name other.now
 rule_by (OneOf default names) name = choice name default.now names
 rule_by Bare name = bare name
 rule_by Files name = words name

@@ -1,22 +1,26 @@
 -- What the parse found for an argument, as a value.
 use Rattle.std.specs.Prelude.{ℕ, ◌==◌, ◌^◌, ◌&&◌, ◌||◌, ◌++◌, ◌∷◌, ◌/◌, ◌*◌, ◌-◌, ◌%◌, [], List}
-use Rattle.std.specs.Prelude.{Bool, false}
+use Rattle.std.specs.Prelude.{Bool, false, not}
 use Rattle.std.specs.Prelude.{Option, Some, None, codes, length, nat_lt, nat_le}
 use Rattle.std.specs.Prelude.{slice_get}
 use Rattle.std.specs.Prelude.{take, unwrap_or, if◌then◌else◌, option_and_then, option_map}
-use Rattle.std.specs.Char.{digit_value}
+use Rattle.std.specs.Char.{digit_value, is_digit}
 use Rattle.std.specs.List.{list_all, list_any}
 use Rattle.std.specs.Option.{option_map_or}
 use Rattle.std.specs.Str.{bytes_eq}
 use Rattle.std.specs.Str.Parse.{digits_value, without_leading_plus}
 use Rattle.clap.specs.Words.{Row, all_of, first_of, one_of}
+use Rattle.numa_lines.specs.Worked.{begins_with}
 use Rattle.numa_machine.specs.declared.rules.Rules.{Rules}
 use Rattle.numa_machine.specs.declared.rules.Rules.TheVariants.{Document, Linux}
 use Rattle.numa_mask.specs.Parts.{parts_of}
 use Rattle.numa_reports.specs.declared.filling.FreePages.{FreePages}
 use Rattle.numa_reports.specs.declared.sheet.Format.{Format}
 use Rattle.numa_reports.specs.declared.sheet.Format.TheVariants as format
-use Rattle.numa_reports.specs.declared.touch.Touch.{Touch}
+use Rattle.numa_reports.specs.declared.asked.AddressAsked.{AddressAsked}
+use Rattle.numa_reports.specs.declared.asked.CpuAsked.{CpuAsked}
+use Rattle.numa_reports.specs.declared.asked.CpuAsked.TheVariants.{Node, Each}
+use Rattle.numa_reports.specs.declared.asked.TouchAsked.{TouchAsked}
 use Rattle.numa_script.specs.Numbers.{node_of, number_of, small_of}
 use Rattle.numa_command_line.specs.Jobs.{Text}
 
@@ -79,17 +83,48 @@ crew_of workers = if nat_le 1 workers && nat_le workers 16 then Some workers els
 abbrev pub workers_in : List Row → Option ℕ
 workers_in rows = option_and_then crew_of (small_at (codes "workers") rows)
 
-abbrev pub touch_of : Option ℕ → Option ℕ → Option Touch
-touch_of (Some task) (Some cpu) = Some (record { task = task; cpu = cpu })
-touch_of _ _ = None
+-- the node on whose CPUs pages are touched, or each with CPUs
+abbrev pub cpu_named : Text → Option CpuAsked
+cpu_named name =
+    if bytes_eq name (codes "all") then Some Each else option_map Node (small_of name)
 
-abbrev pub touch_in : List Row → Option Touch
-touch_in rows = touch_of (small_at (codes "task") rows) (small_at (codes "node") rows)
+abbrev pub cpu_in : List Row → Option CpuAsked
+cpu_in rows = option_and_then cpu_named (first_of (codes "node") rows)
 
--- the page of an address
-abbrev pub page_in : List Row → Option ℕ
-page_in rows = option_map (λ address. address / 4096)
-    (number_of (unwrap_or (first_of (codes "ADDRESS") rows) []))
+-- the task is given, or is the one that scripts name
+abbrev pub touch_in : List Row → Option TouchAsked
+touch_in rows = option_map
+    (λ cpu. record { task = small_at (codes "task") rows; cpu = cpu }) (cpu_in rows)
+
+-- the same, where the node is a number
+abbrev pub one_touch_in : List Row → Option TouchAsked
+one_touch_in rows = option_map
+    (λ node. record { task = small_at (codes "task") rows; cpu = Node node })
+    (small_at (codes "node") rows)
+
+-- ---- addresses
+
+-- digits without 0x are hexadecimal where one is a letter, and as eight or more of which the first
+-- is 0, as answers print addresses
+abbrev pub is_hexadecimal : Text → Bool
+is_hexadecimal text = not (list_all (λ c. is_digit c 10) text)
+    || (nat_le 8 (length text) && begins_with (codes "0") text)
+
+-- an address that can be read in one way
+abbrev pub sure : Option ℕ → Option AddressAsked
+sure read = option_map (λ value. record { value = value; hexadecimal = None }) read
+
+-- other digits are decimal, or may be hexadecimal
+abbrev pub address_of : Text → Option AddressAsked
+address_of text =
+    if begins_with (codes "0x") text then sure (number_of text)
+    else if is_hexadecimal text then sure (number_of (codes "0x" ++ text))
+    else option_map
+    (λ value. record { value = value; hexadecimal = number_of (codes "0x" ++ text) })
+    (number_of text)
+
+abbrev pub address_in : List Row → Option AddressAsked
+address_in rows = address_of (unwrap_or (first_of (codes "ADDRESS") rows) [])
 
 -- ---- free pages
 

@@ -2,7 +2,7 @@
 ghost use Rattle.numa_command_line.specs.Jobs.{IsRefusal};
 
 use numa_machine::Rules;
-use numa_reports::{Format, FreePages, Touch};
+use numa_reports::{AddressAsked, Format, FreePages, TouchAsked};
 use std::alloc::{AllocError, Global};
 
 /// A question about pages that a task would touch.
@@ -22,10 +22,10 @@ pub enum PageQuestion {
         lines: Vec<String>,
         format: Format,
     },
-    /// Why this page goes where it goes; with `pages`, by which rules the pages go from it on, as
-    /// many as that.
+    /// Why the page of this address goes where it goes; with `pages`, by which rules the pages go
+    /// from it on, as many as that.
     Explain {
-        page: u64,
+        address: AddressAsked,
         pages: Option<u32>,
         format: Format,
     },
@@ -53,7 +53,7 @@ pub enum ScriptJob {
     /// Answer a question about the state that they lead to. With `lenient`, malformed and refused
     /// lines are no error.
     Ask {
-        asked: Touch,
+        asked: TouchAsked,
         question: PageQuestion,
         lenient: bool,
     },
@@ -62,7 +62,7 @@ pub enum ScriptJob {
     Moves {
         at: Vec<String>,
         lines: Vec<String>,
-        asked: Option<Touch>,
+        asked: Option<TouchAsked>,
         free: Vec<FreePages>,
         format: Format,
         lenient: bool,

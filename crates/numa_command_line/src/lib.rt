@@ -21,3 +21,4 @@ pub use files::{Source, Texts, open_all, open_with_typed, without_names};
 pub use folders::open_worked;
 pub use jobs::{Job, JobFault, PageQuestion, ScriptJob};
 pub use output::{Outlet, Output};
+pub use words::address::address;

@@ -20,6 +20,8 @@ pub enum Takes {
     Number,
     /// A number after `--NAME`, or after this other name.
     NumberOr(&'static str),
+    /// A text after `--NAME`, or after this other name.
+    TextOr(&'static str),
     /// One of these names after `--NAME`, and by default this one.
     OneOf(&'static str, &'static [&'static str]),
     /// One word.
@@ -117,6 +119,7 @@ fn arg_of<'a>(alloc: Global, said: &'a Argument) -> Result<Arg<'a>, AllocError>
         Takes::Texts => Ok(option(alloc, said).action(ArgAction::Append)),
         Takes::Number => Ok(number(alloc, said)),
         Takes::NumberOr(other) => number(alloc, said).visible_alias(other),
+        Takes::TextOr(other) => option(alloc, said).visible_alias(other),
         Takes::OneOf(default, names) => Ok(choice(alloc, said, default, names)),
         Takes::Bare => Ok(begun(alloc, said).action(ArgAction::Set)),
         Takes::Files => Ok(begun(alloc, said).num_args(0..).action(ArgAction::Append)),

@@ -1,4 +1,5 @@
 //! The subcommands, a file for each, with its help and its job.
+pub mod address;
 pub mod asked;
 pub mod at;
 pub mod check;

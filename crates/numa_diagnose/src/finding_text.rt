@@ -34,6 +34,10 @@ const TAB: &str =
 const DECIMAL_START: &str = "START begins with 0 and has no 0x, so it is decimal, and no multiple \
 of 4096; write 0x before hexadecimal digits";
 
+/// The message for a binary text.
+pub const BINARY: &str =
+    "a byte 0, as in a binary file; scripts are text, so nothing behind it is looked at";
+
 /// The text after a page that is mapped but not published.
 const UNPUBLISHED: &str = " is mapped, but not published yet; publish first";
 
@@ -349,6 +353,20 @@ pub fn say_hint_line(
     say_otherwise(text, &hint.otherwise)?;
     text.push(b'\n')?;
     Ok(())
+}
+
+/// Appends a message about a text that is binary, at the line that shows it.
+///
+/// # Errors
+/// `AllocError`: out of memory. A part may have been appended.
+pub fn say_binary(text: &mut Vec<u8>, name: &str, place: u64) -> Result<(), AllocError> {
+    let mut written = Text::of(text);
+    written.put(name);
+    written.put_number(":", place);
+    written.put(": bad words: ");
+    written.put(BINARY);
+    written.put("\n");
+    written.end(text)
 }
 
 /// Appends a message about `count` lines that weren't judged.

@@ -19,7 +19,10 @@ pub(crate) fn list_words(fault: ListFault) -> &'static str {
 /// What is wrong with a policy.
 pub(crate) fn policy_words(fault: SpecError) -> &'static str {
     match fault {
-        SpecError::UnknownMode => "what stands before the colon is no policy with its flag",
+        SpecError::UnknownMode => {
+            "what stands before the colon is none of default, local, bind, prefer, many, \
+interleave and weighted, nor one of these with =static or =relative"
+        }
         SpecError::BothFlags => "static and relative exclude each other; choose one",
         SpecError::NodesForbidden => "default and local take no list; leave it out",
         SpecError::FlagsForbidden => {

@@ -7,6 +7,7 @@
 
 mod absent;
 mod account;
+mod asked;
 mod differences;
 mod fault;
 mod filling;
@@ -22,6 +23,7 @@ mod turns;
 mod watch;
 
 pub use account::{Account, fill_more};
+pub use asked::{AddressAsked, CpuAsked, TouchAsked};
 pub use differences::{SpanMove, all_moves};
 pub use fault::ReportError;
 pub use filling::{FreePages, fill_all};

@@ -1,5 +1,6 @@
 //! The fields of an explanation, for a form with names.
 use crate::explanation::Explanation;
+use crate::reason_text::asked_of;
 use crate::rule::OrderRule;
 use crate::scope::Scope;
 use numa_mask::list_text;
@@ -39,6 +40,9 @@ fn give_policies<T: TakeField>(taker: &mut T, said: &Explanation) {
     give_policy(taker, "task_policy", &said.task_policy);
     if let Some(policy) = &said.policy {
         taker.take_text("effective", Some(list_text(&policy.effective()).as_str()));
+    }
+    if let Some(asked) = asked_of(said) {
+        taker.take_text("asked", Some(list_text(&asked).as_str()));
     }
     taker.take_text("allowed", Some(list_text(&said.allowed).as_str()));
 }

@@ -82,6 +82,16 @@ pub(crate) fn put_policy(text: &mut Text, said: &Explanation) {
     put_others_passed(text, said);
 }
 
+/// The nodes that were asked for by the policy that applies, if it hasn't just these.
+pub(crate) fn asked_of(said: &Explanation) -> Option<NodeMask> {
+    let policy = said.policy.as_ref()?;
+    let asked = policy.spec().mask();
+    if asked == policy.effective() {
+        return None;
+    }
+    Some(asked)
+}
+
 /// Writes words and a set of nodes, `none` if it is empty.
 fn put_set(text: &mut Text, words: &str, set: &NodeMask) {
     text.put(words);
@@ -91,13 +101,18 @@ fn put_set(text: &mut Text, words: &str, set: &NodeMask) {
     text.put(list_text(set).as_str());
 }
 
-/// The line of the sets.
+/// The line of the sets; the nodes that were asked for stand there if the policy hasn't just these.
 pub(crate) fn put_sets(text: &mut Text, said: &Explanation) {
+    text.put("\n");
     let effective = match &said.policy {
         Some(policy) => policy.effective(),
         None => NodeMask::empty(),
     };
-    put_set(text, "\neffective nodes: ", &effective);
+    if let Some(asked) = asked_of(said) {
+        put_set(text, "asked for: ", &asked);
+        text.put("; ");
+    }
+    put_set(text, "effective nodes: ", &effective);
     put_set(text, "; allowed nodes: ", &said.allowed);
 }
 

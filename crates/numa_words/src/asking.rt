@@ -111,14 +111,14 @@ pub fn predicted(
 
 /// Where all mapped pages would go after the lines so far, if they were touched now, but that those
 /// that are there stay where they lie, as a text. `there` is where they lie in the one space, or in
-/// each process of a host if none is named, in the order in which they were made. The format is
-/// none of a page.
+/// each process of a host if none is named, in the order in which they were made; nothing if none
+/// is there, as in a page.
 ///
 /// # Errors
 /// Why there is no answer.
-pub fn prediction_there<T: Write, P: Watch>(
+pub fn prediction_there<P: Watch>(
     alloc: Global,
-    findings: &Findings<T>,
+    script: &HostScript,
     process: Option<u32>,
     asked: Touch,
     format: Format,
@@ -132,7 +132,7 @@ pub fn prediction_there<T: Write, P: Watch>(
         free,
         there,
     };
-    match subject_of(findings.script(), process) {
+    match subject_of(script, process) {
         Ok(subject) => prediction_of(alloc, subject, asked, watch),
         Err(halt) => Err(halt),
     }

@@ -6,6 +6,7 @@ use crate::playing::{Scripts, play};
 use crate::question::{Subject, member, subject_of, write};
 use numa_answers::{PageData, page_of, view_text};
 use numa_host::{Host, Process};
+use numa_host_script::HostScript;
 use numa_lines::{RunFault, TakeLine};
 use numa_reports::{
     ByProcess, Format, MoveSum, Outlook, Touch, Watch, difference_more, difference_text, outlook_of,
@@ -25,14 +26,25 @@ pub(crate) fn outlook_in(alloc: Global, space: &Space) -> Result<Outlook, Halt> 
     }
 }
 
-/// Plays the added lines, and finishes the messages.
-fn play_lines<T: Write>(findings: &mut Findings<T>, lines: &[String]) -> Result<(), RunFault> {
+/// Plays added lines, whose messages have the name `--then` and numbers from 1 on.
+///
+/// # Errors
+/// `Write` or `Memory`, as [`Findings`] takes lines.
+pub fn play_added<T: Write>(findings: &mut Findings<T>, lines: &[String]) -> Result<(), RunFault> {
     let mut place = 1u64;
     for line in lines {
         if let Err(why) = findings.take(ADDED, place, line.as_str().as_bytes(), &mut ()) {
             return Err(why);
         }
         place = place.saturating_add(1);
+    }
+    Ok(())
+}
+
+/// Plays the added lines, and finishes the messages.
+fn play_lines<T: Write>(findings: &mut Findings<T>, lines: &[String]) -> Result<(), RunFault> {
+    if let Err(why) = play_added(findings, lines) {
+        return Err(why);
     }
     findings.end()
 }
@@ -342,30 +354,30 @@ fn difference_of_each<P: Watch>(
     text
 }
 
-/// The states to which the script led.
-fn states_of<T: Write>(
+/// The states to which a script led, with which [`difference_since`] compares.
+///
+/// # Errors
+/// Why there is no answer.
+pub fn states_of(
     alloc: Global,
-    findings: &Findings<T>,
+    script: &HostScript,
     asked: DiffAsked,
 ) -> Result<StatesBefore, Halt> {
-    match subject_of(findings.script(), asked.process) {
+    match subject_of(script, asked.process) {
         Ok(Subject::One(space)) => before_of_one(alloc, space, asked),
         Ok(Subject::Each(host)) => before_of_each(alloc, host, asked),
         Err(halt) => Err(halt),
     }
 }
 
-/// The states to which the script led, with which [`difference_since`] compares. If they can't be
-/// had, what is wrong with the script is written first.
-///
-/// # Errors
-/// Why there is no answer.
-pub fn states_before<T: Write>(
+/// The states to which the script led. If they can't be had, what is wrong with the script is
+/// written first.
+fn states_before<T: Write>(
     alloc: Global,
     findings: &mut Findings<T>,
     asked: DiffAsked,
 ) -> Result<StatesBefore, Halt> {
-    match states_of(alloc, findings, asked) {
+    match states_of(alloc, findings.script(), asked) {
         Ok(before) => Ok(before),
         Err(halt) => match findings.end() {
             Ok(()) => Err(halt),
@@ -374,18 +386,18 @@ pub fn states_before<T: Write>(
     }
 }
 
-/// Which pages go elsewhere by the lines that were played since these states, as a text.
+/// Which pages go elsewhere by the lines that a script was played since these states, as a text.
 ///
 /// # Errors
 /// Why there is no answer.
-pub fn difference_since<T: Write, P: Watch>(
+pub fn difference_since<P: Watch>(
     alloc: Global,
     before: &StatesBefore,
-    findings: &Findings<T>,
+    script: &HostScript,
     asked: DiffAsked,
     watch: &mut P,
 ) -> Result<Vec<u8>, Halt> {
-    match subject_of(findings.script(), asked.process) {
+    match subject_of(script, asked.process) {
         Ok(Subject::One(space)) => difference_of_one(alloc, before, space, asked, watch),
         Ok(Subject::Each(host)) => difference_of_each(alloc, before, host, asked, watch),
         Err(halt) => Err(halt),
@@ -404,7 +416,7 @@ fn difference_from<T: Write, P: Watch>(
     if let Err(why) = play_lines(findings, lines) {
         return Err(Halt::Stopped(why));
     }
-    difference_since(alloc, before, findings, asked, watch)
+    difference_since(alloc, before, findings.script(), asked, watch)
 }
 
 /// Which pages go elsewhere after the lines, as a text.

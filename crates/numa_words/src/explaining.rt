@@ -1,5 +1,5 @@
 //! Why pages go where they go, after scripts.
-use crate::findings::{Ended, Findings, Look};
+use crate::findings::{Ended, Findings, Look, Twin};
 use crate::halt::{Halt, halt_by};
 use crate::playing::{Scripts, play};
 use crate::question::{Subject, subject_of, write};
@@ -172,7 +172,7 @@ fn reasons_of_each(
 }
 
 /// The one space of the other script, if there is one.
-fn other_space(other: Option<&HostScript>, process: Option<u32>) -> Option<&Space> {
+pub(crate) fn other_space(other: Option<&HostScript>, process: Option<u32>) -> Option<&Space> {
     match subject_of(other?, process) {
         Ok(Subject::One(space)) => Some(space),
         _ => None,
@@ -214,6 +214,29 @@ pub fn explained(
     reasons_after(alloc, script, None, process, asked)
 }
 
+/// Why pages go where they go after a script, in any format, and by which rules, if `other`, the
+/// same by the other rules, has them go elsewhere: of a process, or of each of a host's that has
+/// mapped the page, if none is named.
+///
+/// # Errors
+/// `NoMachine`, `NoNode`, `NoHost`, `NoProcess`, `Unmapped`, or `Stopped`: out of memory.
+pub fn explanation(
+    alloc: Global,
+    script: &HostScript,
+    other: Option<&HostScript>,
+    process: Option<u32>,
+    touch: Touch,
+    pages: AskedPages,
+    format: Format,
+) -> Result<Vec<u8>, Halt> {
+    let asked = Asked {
+        touch,
+        pages,
+        format,
+    };
+    reasons_after(alloc, script, other, process, asked)
+}
+
 /// Finishes the messages, and returns the explanation.
 fn explanation_after<T: Write>(
     alloc: Global,
@@ -251,7 +274,7 @@ pub fn explain<R: Read + Drop, W: Write, T: Write + Drop>(
     } = scripts;
     let look = Look {
         hints: false,
-        other: true,
+        other: Twin::Always,
         process: None,
         format: Format::Text,
     };

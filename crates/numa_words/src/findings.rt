@@ -2,10 +2,11 @@
 ghost use Rattle.std.specs.Prelude.{◌≡◌};
 ghost use Rattle.numa_words.specs.Faults.{ended_by, has_faults};
 
-use crate::found_objects::{put_finding, put_hint, put_unjudged};
+use crate::found_objects::{put_binary, put_finding, put_hint, put_unjudged};
+use crate::named::{Named, TasksNamed};
 use numa_diagnose::{
-    Detail, Finding, HostHint, hint_in, hint_of, judge, judge_by_other, say_hint_line, say_line,
-    say_unjudged,
+    Detail, Finding, HostHint, hint_in, hint_of, judge, judge_by_other, say_binary, say_hint_line,
+    say_line, say_unjudged,
 };
 use numa_host::HostRefusal;
 use numa_host_script::{HostScript, LineFault};
@@ -13,11 +14,14 @@ use numa_lines::{RunFault, TakeLine, Watched};
 use numa_machine::Rules;
 use numa_reports::Format;
 use numa_requests::{CoreRefusal, Refusal};
-use numa_rules::other_rules;
+use numa_rules::{Text, other_rules};
 use numa_run::Script;
 use numa_script::Reply;
-use std::alloc::Global;
+use std::alloc::{AllocError, Global};
 use std::io::Write;
+
+/// The remark that by the other rules an answer would be another.
+const BY_OTHER: &str = "rules: those of the documents; by rules linux the answer is another\n";
 
 /// The lines of the scripts on which an answer is based.
 #[derive(Clone, Copy, Debug, PartialEq, Eq)]
@@ -28,13 +32,24 @@ pub enum Ended {
     Faulty,
 }
 
+/// Whether lines are also played by the rules other than those that apply.
+#[derive(Clone, Copy, PartialEq, Eq)]
+pub enum Twin {
+    /// They aren't.
+    None,
+    /// They are.
+    Always,
+    /// They are if the documents' rules apply only since no line chooses any.
+    UnlessChosen,
+}
+
 /// What is looked for in lines, beside errors and refusals, and how messages are written.
 #[derive(Clone, Copy)]
 pub struct Look {
     /// Whether hints are written: what a running kernel would do differently.
     pub hints: bool,
     /// Whether the lines are also played by the rules other than those that apply.
-    pub other: bool,
+    pub other: Twin,
     /// The process of a host, if messages are wanted of its lines alone.
     pub process: Option<u32>,
     /// Text or JSON.
@@ -44,7 +59,7 @@ pub struct Look {
 /// Errors and refusals alone, as text.
 pub(crate) const PLAIN: Look = Look {
     hints: false,
-    other: false,
+    other: Twin::None,
     process: None,
     format: Format::Text,
 };
@@ -58,6 +73,10 @@ pub struct Findings<W> {
     // The same script by the other rules, if requested.
     other: Option<HostScript>,
     look: Look,
+    // What lines name.
+    named: Named,
+    // Whether the text whose lines are taken is binary.
+    is_binary: bool,
     output: Watched<W>,
     // What is told of a line.
     text: Vec<u8>,
@@ -68,11 +87,11 @@ pub struct Findings<W> {
 }
 
 /// A script by the rules other than these, if requested.
-fn other_script(rules: Rules, is_wanted: bool) -> Option<HostScript> {
-    if is_wanted {
-        Some(HostScript::by(other_rules(rules)))
-    } else {
-        None
+fn other_script(rules: Rules, twin: Twin) -> Option<HostScript> {
+    match twin {
+        Twin::None => None,
+        Twin::UnlessChosen if rules.is_linux() => None,
+        _ => Some(HostScript::by(other_rules(rules))),
     }
 }
 
@@ -88,6 +107,8 @@ impl<W: Write> Findings<W> {
             script: HostScript::by(rules),
             other: other_script(rules, look.other),
             look,
+            named: Named::new(None, None),
+            is_binary: false,
             output,
             text: Vec::new(alloc),
             told: 0,
@@ -98,6 +119,34 @@ impl<W: Write> Findings<W> {
     /// The script that the lines led to by the other rules, if they are played by those.
     pub fn other(&self) -> Option<&HostScript> {
         self.other.as_ref()
+    }
+
+    /// The same, where this process of a host and this task are asked for, if they are given.
+    pub fn asking(self, process: Option<u32>, task: Option<u32>) -> Findings<W> {
+        let mut findings = self;
+        findings.named = Named::new(process, task);
+        findings
+    }
+
+    /// What lines name so far.
+    pub(crate) fn named(&self) -> &Named {
+        &self.named
+    }
+
+    /// Notes what lines name that will be played.
+    pub fn note_all(&mut self, lines: &[String]) {
+        for line in lines {
+            self.note(line.as_str().as_bytes());
+        }
+    }
+
+    /// Notes what a line names.
+    fn note(&mut self, line: &[u8]) {
+        let is_ready = match self.script.script() {
+            Some(script) => script.core().is_some(),
+            None => true,
+        };
+        self.named.note(line, is_ready);
     }
 
     /// The script after the lines so far.
@@ -206,6 +255,70 @@ impl<W: Write> Findings<W> {
         }
     }
 
+    /// Drops the script by the other rules if a line chooses rules, where it is played only unless
+    /// one does.
+    fn heed_rules(&mut self, line: &[u8]) {
+        if self.look.other == Twin::UnlessChosen && line.starts_with(b"rules ") {
+            drop(self.other.take());
+        }
+    }
+
+    /// Writes that a text is binary, at its first line with a byte 0, and returns whether it is:
+    /// then its further lines are passed over.
+    fn is_binary(&mut self, name: &str, place: u64, line: &[u8]) -> Result<bool, RunFault> {
+        if place == 1 {
+            self.is_binary = false;
+        }
+        if self.is_binary || !line.contains(&0) {
+            return Ok(self.is_binary);
+        }
+        self.is_binary = true;
+        self.text.clear();
+        let text = &mut self.text;
+        let said = match self.look.format {
+            Format::Json => put_binary(self.alloc, text, name, place),
+            _ => say_binary(text, name, place),
+        };
+        if said.is_err() {
+            return Err(RunFault::Memory);
+        }
+        self.output.say(self.text.as_slice());
+        self.told = self.told.saturating_add(1);
+        Ok(true)
+    }
+
+    /// Writes a remark of one line on an answer.
+    fn remark(&mut self, words: &str) {
+        self.output.say(words.as_bytes());
+    }
+
+    /// Writes the gathered remarks.
+    ///
+    /// # Errors
+    /// `Write`: writing failed.
+    pub(crate) fn end_remarks(&mut self) -> Result<(), RunFault> {
+        self.output.hand_over()
+    }
+
+    /// Writes that by the other rules an answer would be another.
+    pub fn tell_other(&mut self) {
+        self.remark(BY_OTHER);
+    }
+
+    /// Writes that no line names the task that is asked for, if lines name others alone.
+    ///
+    /// # Errors
+    /// `AllocError`: out of memory.
+    pub fn tell_unnamed(&mut self) -> Result<(), AllocError> {
+        let Some((task, tasks)) = self.named.unnamed() else {
+            return Ok(());
+        };
+        self.text.clear();
+        say_unnamed(&mut self.text, task, tasks)?;
+        self.output.say(self.text.as_slice());
+        Ok(())
+    }
+
     /// Writes the number of lines that weren't judged, if any, and the gathered text.
     ///
     /// # Errors
@@ -225,6 +338,23 @@ impl<W: Write> Findings<W> {
         }
         self.output.hand_over()
     }
+}
+
+/// Appends that lines name these tasks, and not this one.
+fn say_unnamed(text: &mut Vec<u8>, task: u32, tasks: TasksNamed) -> Result<(), AllocError> {
+    let mut written = Text::of(text);
+    written.put_number("task ", u64::from(task));
+    written.put(" has no policy: no line names it");
+    match tasks {
+        TasksNamed::Nobody => {}
+        TasksNamed::One(first) => written.put_number("; lines name task ", u64::from(first)),
+        TasksNamed::Several(first, second) => {
+            written.put_number("; lines name tasks, as ", u64::from(first));
+            written.put_number(" and ", u64::from(second));
+        }
+    }
+    written.put("\n");
+    written.end(text)
 }
 
 /// Whether a line is refused only for the number of commands, as by a kernel's rules too.
@@ -271,6 +401,11 @@ impl<W: Write> TakeLine<()> for Findings<W> {
         line: &[u8],
         _output: &mut (),
     ) -> Result<(), RunFault> {
+        if self.is_binary(name, place, line)? {
+            return Ok(());
+        }
+        self.note(line);
+        self.heed_rules(line);
         if let Err(why) = self.follow(line) {
             return Err(why);
         }

@@ -1,7 +1,7 @@
 //! What is wrong with lines, as lines of JSON.
 ghost use Rattle.std.specs.Prelude.{◌≤◌, length};
 
-use numa_diagnose::{Finding, HostHint, say_finding};
+use numa_diagnose::{BINARY, Finding, HostHint, say_finding};
 use numa_reports::Object;
 use numa_rules::say_otherwise;
 use std::alloc::{AllocError, Global};
@@ -62,6 +62,22 @@ pub(crate) fn put_finding(
     }
     put_process(&mut object, finding.process);
     put_parts(&mut object, said.as_slice());
+    object.say_line(text)
+}
+
+/// Appends an object which says that a text is binary, as [`numa_diagnose::say_binary`] says it.
+///
+/// # Errors
+/// `AllocError`: out of memory. A part may have been appended.
+pub(crate) fn put_binary(
+    alloc: Global,
+    text: &mut Vec<u8>,
+    name: &str,
+    place: u64,
+) -> Result<(), AllocError> {
+    let mut object = object_of(alloc, "fault", name, place);
+    object.put_text("answer", "bad words");
+    object.put_text("cause", BINARY);
     object.say_line(text)
 }
 

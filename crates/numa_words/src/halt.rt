@@ -24,6 +24,11 @@ pub enum Halt {
     NoFreeNode(u8, u32),
     /// The page in question isn't mapped.
     Unmapped,
+    /// The digits of the address in question may be decimal or hexadecimal, and the pages of both
+    /// are mapped.
+    TwoPages,
+    /// No task is asked for, and lines name several: these two first.
+    ManyTasks(u32, u32),
     /// A line of the trace, from 1, can't be replayed.
     BadAccess(u64, ReplayError),
     /// A process is asked for, and the scripts are of one process.

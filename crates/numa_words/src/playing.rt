@@ -1,5 +1,5 @@
 //! Playing scripts to their end.
-use crate::findings::{Ended, Findings, Look};
+use crate::findings::{Ended, Findings, Look, Twin};
 use crate::halt::Halt;
 use numa_lines::{Lines, RunFault, read_all};
 use numa_machine::Rules;
@@ -70,7 +70,7 @@ pub fn check<R: Read + Drop, W: Write + Drop>(
     } = scripts;
     let look = Look {
         hints: true,
-        other: false,
+        other: Twin::None,
         process,
         format,
     };

@@ -1,13 +1,14 @@
 //! Replaying traces after scripts.
 use crate::each::shown_as;
-use crate::findings::{Ended, Findings, PLAIN};
+use crate::explaining::other_space;
+use crate::findings::{Ended, Findings, Look, PLAIN, Twin};
 use crate::halt::{Halt, halt_of};
 use crate::playing::{Scripts, play};
-use crate::question::{Subject, subject_after, write};
+use crate::question::{Subject, subject_of, write};
 use numa_answers::{PageData, page_of, view_text};
 use numa_compile::compile;
 use numa_host::{Host, Process};
-use numa_lines::RunFault;
+use numa_lines::{RunFault, TakeLine};
 use numa_plan::Plan;
 use numa_reports::{ByProcess, Format, ReportError, Touch};
 use numa_space::Space;
@@ -89,45 +90,174 @@ fn met(
     shown_as(alloc, format, "replay", text)
 }
 
-/// Replays a trace in a space by its plan, and returns the report as a text. The space is that of a
+/// A replay, and the same by the other rules, if that is wanted.
+#[derive(Drop)]
+struct ByBoth<T> {
+    first: T,
+    other: Option<T>,
+}
+
+impl<T: TakeLine<()>> TakeLine<()> for ByBoth<T> {
+    fn take(
+        &mut self,
+        name: &str,
+        place: u64,
+        line: &[u8],
+        output: &mut (),
+    ) -> Result<(), RunFault> {
+        if let Err(why) = self.first.take(name, place, line, output) {
+            return Err(why);
+        }
+        match &mut self.other {
+            Some(other) => other.take(name, place, line, output),
+            None => Ok(()),
+        }
+    }
+
+    fn hand_over(&mut self, _output: &mut ()) -> Result<(), RunFault> {
+        Ok(())
+    }
+}
+
+/// A report, and whether it is another by the other rules.
+#[derive(Drop)]
+pub(crate) struct Replayed {
+    pub(crate) text: Vec<u8>,
+    is_other: bool,
+}
+
+/// A report, beside that by the other rules, if that is wanted.
+fn beside(
+    text: Result<Vec<u8>, Halt>,
+    other: Option<Result<Vec<u8>, Halt>>,
+) -> Result<Replayed, Halt> {
+    let is_other = match (&text, &other) {
+        (Ok(text), Some(Ok(other))) => text.as_slice() != other.as_slice(),
+        (Ok(_), Some(Err(_))) => true,
+        _ => false,
+    };
+    drop(other);
+    match text {
+        Ok(text) => Ok(Replayed { text, is_other }),
+        Err(halt) => Err(halt),
+    }
+}
+
+/// A space and its plan.
+#[derive(Clone, Copy)]
+struct Planned<'a> {
+    space: &'a Space,
+    plan: &'a Plan,
+}
+
+/// What a trace meets before its first line in a space by its plan.
+fn begun_in<'a>(
+    alloc: Global,
+    planned: Planned<'a>,
+    process: Option<u32>,
+) -> Result<Replaying<'a>, Halt> {
+    match Replaying::new(alloc, planned.space.machine(), planned.plan, process) {
+        Ok(replaying) => Ok(replaying),
+        Err(_) => Err(Halt::Stopped(RunFault::Memory)),
+    }
+}
+
+/// The same, and in another space, if there is one.
+fn both_begun<'a>(
+    alloc: Global,
+    planned: Planned<'a>,
+    other: Option<Planned<'a>>,
+    process: Option<u32>,
+) -> Result<ByBoth<Replaying<'a>>, Halt> {
+    let first = begun_in(alloc, planned, process)?;
+    let Some(other) = other else {
+        return Ok(ByBoth { first, other: None });
+    };
+    match begun_in(alloc, other, process) {
+        Ok(other) => Ok(ByBoth {
+            first,
+            other: Some(other),
+        }),
+        Err(halt) => {
+            drop(first);
+            Err(halt)
+        }
+    }
+}
+
+/// Replays a trace in a space by its plan, and in another, if there is one. The space is that of a
 /// host's process with this number, if there is one: what others do is left out.
 fn replayed_by<S: Read + Drop>(
     alloc: Global,
-    space: &Space,
-    plan: &Plan,
+    planned: Planned<'_>,
+    other: Option<Planned<'_>>,
     process: Option<u32>,
     trace: Vec<(String, S)>,
     format: Format,
-) -> Result<Vec<u8>, Halt> {
-    let Ok(replaying) = Replaying::new(alloc, space.machine(), plan, process) else {
-        drop(trace);
-        return Err(Halt::Stopped(RunFault::Memory));
+) -> Result<Replayed, Halt> {
+    let both = match both_begun(alloc, planned, other, process) {
+        Ok(both) => both,
+        Err(halt) => {
+            drop(trace);
+            return Err(halt);
+        }
     };
-    match replay_lines(alloc, trace, replaying) {
-        Ok(replaying) => {
-            let text = met(alloc, space, plan, &replaying, format);
-            drop(replaying);
-            text
+    match replay_lines(alloc, trace, both) {
+        Ok(both) => {
+            let text = met(alloc, planned.space, planned.plan, &both.first, format);
+            let by_other = match (other, &both.other) {
+                (Some(other), Some(replaying)) => {
+                    Some(met(alloc, other.space, other.plan, replaying, format))
+                }
+                _ => None,
+            };
+            drop(both);
+            beside(text, by_other)
         }
         Err(why) => Err(Halt::Stopped(why)),
     }
 }
 
-/// Replays a trace in a space by the plan of all accepted commands.
-pub(crate) fn replayed_in<S: Read + Drop>(
+/// Replays a trace in a space by its plan, and in another space, if there is one.
+fn replayed_beside<S: Read + Drop>(
     alloc: Global,
-    space: &Space,
+    planned: Planned<'_>,
+    other: Option<&Space>,
     process: Option<u32>,
     trace: Vec<(String, S)>,
     format: Format,
-) -> Result<Vec<u8>, Halt> {
+) -> Result<Replayed, Halt> {
+    let Some(space) = other else {
+        return replayed_by(alloc, planned, None, process, trace, format);
+    };
     let Ok(plan) = compile(alloc, space) else {
         drop(trace);
         return Err(Halt::Stopped(RunFault::Memory));
     };
-    let text = replayed_by(alloc, space, &plan, process, trace, format);
+    let other = Planned { space, plan: &plan };
+    let replayed = replayed_by(alloc, planned, Some(other), process, trace, format);
     drop(plan);
-    text
+    replayed
+}
+
+/// Replays a trace in a space by the plan of all accepted commands, and in another space, if there
+/// is one.
+pub(crate) fn replayed_in<S: Read + Drop>(
+    alloc: Global,
+    space: &Space,
+    other: Option<&Space>,
+    process: Option<u32>,
+    trace: Vec<(String, S)>,
+    format: Format,
+) -> Result<Replayed, Halt> {
+    let Ok(plan) = compile(alloc, space) else {
+        drop(trace);
+        return Err(Halt::Stopped(RunFault::Memory));
+    };
+    let planned = Planned { space, plan: &plan };
+    let replayed = replayed_beside(alloc, planned, other, process, trace, format);
+    drop(plan);
+    replayed
 }
 
 /// Adds a process, which goes by the plan of all its accepted commands.
@@ -225,46 +355,108 @@ fn met_in_each(
     text
 }
 
+/// All processes of a host before the first access, and of another host, if there is one.
+fn both_hosts_begun(
+    alloc: Global,
+    host: &Host,
+    other: Option<&Host>,
+) -> Result<ByBoth<HostReplaying>, Halt> {
+    let first = HostReplaying::new(begun(alloc, host)?);
+    let Some(other) = other else {
+        return Ok(ByBoth { first, other: None });
+    };
+    match begun(alloc, other) {
+        Ok(other) => Ok(ByBoth {
+            first,
+            other: Some(HostReplaying::new(other)),
+        }),
+        Err(halt) => {
+            drop(first);
+            Err(halt)
+        }
+    }
+}
+
 /// Replays a trace whose lines name processes of a host, each by its own plan, on frames that all
-/// share.
+/// share, and in another host, if there is one.
 fn replayed_in_each<S: Read + Drop>(
     alloc: Global,
     host: &Host,
+    other: Option<&Host>,
     trace: Vec<(String, S)>,
     format: Format,
-) -> Result<Vec<u8>, Halt> {
-    let replay = match begun(alloc, host) {
-        Ok(replay) => replay,
+) -> Result<Replayed, Halt> {
+    let both = match both_hosts_begun(alloc, host, other) {
+        Ok(both) => both,
         Err(halt) => {
             drop(trace);
             return Err(halt);
         }
     };
-    match replay_lines(alloc, trace, HostReplaying::new(replay)) {
-        Ok(replaying) => {
-            let text = met_in_each(alloc, host, &replaying, format);
-            drop(replaying);
-            text
+    match replay_lines(alloc, trace, both) {
+        Ok(both) => {
+            let text = met_in_each(alloc, host, &both.first, format);
+            let by_other = match (other, &both.other) {
+                (Some(other), Some(replaying)) => {
+                    Some(met_in_each(alloc, other, replaying, format))
+                }
+                _ => None,
+            };
+            drop(both);
+            beside(text, by_other)
         }
         Err(why) => Err(Halt::Stopped(why)),
     }
 }
 
-/// Finishes the messages, replays a trace by the plans of all accepted commands, and returns the
-/// report as a text.
+/// Finishes the messages, replays a trace by the plans of all accepted commands, and by the other
+/// rules, if the lines were played by them.
 fn replayed<S: Read + Drop, T: Write>(
     alloc: Global,
     findings: &mut Findings<T>,
     process: Option<u32>,
     trace: Vec<(String, S)>,
     format: Format,
-) -> Result<Vec<u8>, Halt> {
-    match subject_after(findings, process) {
-        Ok(Subject::One(space)) => replayed_in(alloc, space, process, trace, format),
-        Ok(Subject::Each(host)) => replayed_in_each(alloc, host, trace, format),
+) -> Result<Replayed, Halt> {
+    if let Err(why) = findings.end() {
+        drop(trace);
+        return Err(Halt::Stopped(why));
+    }
+    let other = findings.other();
+    match subject_of(findings.script(), process) {
+        Ok(Subject::One(space)) => {
+            let other = other_space(other, process);
+            replayed_in(alloc, space, other, process, trace, format)
+        }
+        Ok(Subject::Each(host)) => {
+            let other = match other {
+                Some(other) => other.host(),
+                None => None,
+            };
+            replayed_in_each(alloc, host, other, trace, format)
+        }
         Err(halt) => {
             drop(trace);
             Err(halt)
+        }
+    }
+}
+
+/// The report of a replay, after the remark that it is another by the other rules, if it is.
+fn told_of<T: Write>(
+    findings: &mut Findings<T>,
+    replayed: Result<Replayed, Halt>,
+) -> Result<Vec<u8>, Halt> {
+    let Replayed { text, is_other } = replayed?;
+    if !is_other {
+        return Ok(text);
+    }
+    findings.tell_other();
+    match findings.end_remarks() {
+        Ok(()) => Ok(text),
+        Err(why) => {
+            drop(text);
+            Err(Halt::Stopped(why))
         }
     }
 }
@@ -273,7 +465,8 @@ fn replayed<S: Read + Drop, T: Write>(
 /// accepted commands, and writes the report. Of a host without a process the lines of the trace
 /// name theirs, the report is by process and of all, and all processes take the same frames; with
 /// one the lines that name others are left out. What is wrong with a line of the scripts is written
-/// to `told`, and the line is skipped. The answer is complete before its first byte is written.
+/// to `told`, and the line is skipped; so is, with this twin, that by the other rules the report is
+/// another. The answer is complete before its first byte is written.
 ///
 /// # Errors
 /// Why there is no answer; `BadAccess` is the first line of the trace that can't be replayed. Text
@@ -283,6 +476,7 @@ pub fn replay<R: Read + Drop, S: Read + Drop, W: Write, T: Write + Drop>(
     scripts: Scripts<R>,
     trace: Vec<(String, S)>,
     format: Format,
+    twin: Twin,
     output: &mut W,
     told: T,
 ) -> Result<Ended, Halt> {
@@ -291,14 +485,19 @@ pub fn replay<R: Read + Drop, S: Read + Drop, W: Write, T: Write + Drop>(
         rules,
         process,
     } = scripts;
-    let mut findings = match play(alloc, texts, Findings::new(alloc, rules, PLAIN, told)) {
+    let look = Look {
+        other: twin,
+        ..PLAIN
+    };
+    let mut findings = match play(alloc, texts, Findings::new(alloc, rules, look, told)) {
         Ok(findings) => findings,
         Err(why) => {
             drop(trace);
             return Err(Halt::Stopped(why));
         }
     };
-    let text = replayed(alloc, &mut findings, process, trace, format);
+    let replayed = replayed(alloc, &mut findings, process, trace, format);
+    let text = told_of(&mut findings, replayed);
     let ended = findings.ended();
     drop(findings);
     write(text, ended, output)

@@ -114,5 +114,6 @@ pub fn replay_space<S: Read + Drop>(
     trace: Vec<(String, S)>,
     format: Format,
 ) -> Result<Vec<u8>, Halt> {
-    replayed_in(alloc, space, None, trace, format)
+    let replayed = replayed_in(alloc, space, None, None, trace, format)?;
+    Ok(replayed.text)
 }

@@ -1,7 +1,8 @@
 //! Exit statuses and messages.
+use crate::words::texts::{Asking, Question};
 use numa_command_line::{JobFault, Outlet};
 use numa_lines::RunFault;
-use numa_reports::Touch;
+use numa_reports::AddressAsked;
 use numa_words::{Ended, Halt};
 use std::io;
 use std::io::{ErrorKind, Write};
@@ -13,9 +14,6 @@ const NOT_AS_ASKED: u8 = 3;
 
 /// The message if no machine is ready.
 const NO_MACHINE: &str = "error: no machine is ready after the scripts";
-
-/// The message if the page in question isn't mapped.
-const NO_PAGE: &str = "error: the page of '<ADDRESS>' isn't mapped after the scripts";
 
 /// The message if a process is asked for, and the scripts are of one process.
 const NO_HOST: &str = "error: '--process <P>': no line of the scripts is 'host'";
@@ -118,18 +116,50 @@ pub fn status_of(ended: Ended, lenient: bool) -> ExitCode {
     }
 }
 
+/// Ends because the page of an address isn't mapped, by either reading of its digits.
+fn lack_page(rt: &impl Eprint, asked: AddressAsked) -> ExitCode {
+    let first = asked.value;
+    let _ = match asked.hexadecimal {
+        Some(other) if other != first => eprintln!(rt;
+            "error: no page is mapped after the scripts at address {first}, nor at {other:#x}"
+        ),
+        _ => eprintln!(rt; "error: no page is mapped after the scripts at address {first:#x}"),
+    };
+    ExitCode::from(2)
+}
+
+/// Ends because the digits of an address may be decimal or hexadecimal, and both pages are mapped.
+fn lack_radix(rt: &impl Eprint, asked: AddressAsked) -> ExitCode {
+    let first = asked.value;
+    let other = asked.hexadecimal.unwrap_or(first);
+    let _ = eprintln!(rt;
+        "error: address {first} is mapped as decimal digits, and so it is as hexadecimal ones; \
+write {first:#x} or {other:#x}"
+    );
+    ExitCode::from(2)
+}
+
 /// Ends with the answer to a question about played scripts, or the reason why there is none.
 pub fn answered(
     rt: &impl Eprint,
-    asked: Touch,
+    asking: Asking<'_>,
     answer: Result<Ended, Halt>,
-    lenient: bool,
     outlet: &Outlet,
 ) -> ExitCode {
-    if let Err(Halt::NoNode(nodes)) = answer {
-        return lack_node(rt, "--node ", asked.cpu, "", nodes);
+    match (answer, asking.question) {
+        (Err(Halt::NoNode(nodes)), _) => lack_node(rt, "--node ", asking.node(), "", nodes),
+        (Err(Halt::Unmapped), Question::Explain(asked, _)) => lack_page(rt, asked),
+        (Err(Halt::TwoPages), Question::Explain(asked, _)) => lack_radix(rt, asked),
+        (answer, _) => ended(rt, "", answer, asking.lenient, outlet),
     }
-    ended(rt, "", answer, lenient, outlet)
+}
+
+/// Ends because no task is given, and lines name several.
+fn lack_task(rt: &impl Eprint, first: u32, second: u32) -> ExitCode {
+    let _ = eprintln!(rt;
+        "error: '--task <T>' is wanted: lines name several tasks, as {first} and {second}"
+    );
+    ExitCode::from(2)
 }
 
 /// Ends with an answer about played scripts and this trace, or the reason why there is none.
@@ -148,7 +178,8 @@ pub fn ended(
         Err(Halt::NoFreeNode(node, nodes)) => {
             lack_node(rt, "--free ", u32::from(node), "=..", nodes)
         }
-        Err(Halt::Unmapped) => end_with(rt, 2, NO_PAGE),
+        Err(Halt::Unmapped | Halt::TwoPages) => ExitCode::from(2),
+        Err(Halt::ManyTasks(first, second)) => lack_task(rt, first, second),
         Err(Halt::BadAccess(place, fault)) => end_trace(rt, trace, place, fault.text()),
         Err(Halt::NoHost) => end_with(rt, 2, NO_HOST),
         Err(Halt::NoProcess(process)) => lack_process(rt, process),

@@ -12,6 +12,7 @@ ghost use Rattle.numa_command_line.specs.Jobs.{CanBeDone};
 mod answering;
 mod endings;
 mod lacking;
+mod noticing;
 mod progress;
 mod rewriting;
 mod shell;
@@ -30,8 +31,8 @@ use std::rt::{Clock, Files};
 use std::sync::Wait;
 use std::thread::Threads;
 use std::{env, io};
-use words::moves::Moving;
-use words::{asked, check, expect, moves, replay, run, storm};
+use words::texts::{Asking, Question};
+use words::{asked, check, expect, replay, run, storm};
 
 /// The message for an argument that isn't UTF-8.
 const NOT_UTF_8: &str = "error: an argument isn't UTF-8\n\nFor more information, try '--help'.\n";
@@ -102,7 +103,10 @@ where
             asked,
             question,
             lenient,
-        } => asked::answer(rt, scripts, *asked, question, *lenient, tells),
+        } => {
+            let asking = Asking::of_pages(*asked, question, *lenient);
+            asked::answer(rt, scripts, asking, tells)
+        }
         ScriptJob::Moves {
             at,
             lines,
@@ -111,15 +115,14 @@ where
             format,
             lenient,
         } => {
-            let moving = Moving {
+            let asking = Asking {
                 at: at.as_slice(),
-                lines: lines.as_slice(),
-                asked: *asked,
-                free: free.as_slice(),
+                touch: *asked,
+                question: Question::Moves(lines.as_slice(), free.as_slice()),
                 format: *format,
                 lenient: *lenient,
             };
-            moves::answer(rt, scripts, moving, tells)
+            asked::answer(rt, scripts, asking, tells)
         }
         ScriptJob::Replay {
             trace,

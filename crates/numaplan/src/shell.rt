@@ -1,11 +1,12 @@
 //! Questions of a shell, beside those of scripts.
+use numa_command_line::address;
 use numa_host_script::HostScript;
 use numa_mask::parts::first_place;
-use numa_reports::Touch;
+use numa_reports::{AddressAsked, Touch};
 use numa_script::number::{number, small};
 use numa_script::parts::words;
-use numa_words::{Halt, explained, predicted};
-use std::alloc::Global;
+use numa_words::{Halt, explained, page_meant, predicted};
+use std::alloc::{AllocError, Global};
 
 /// The help on the lines of a shell.
 pub const SHELL_LINES: &str = "\
@@ -20,15 +21,15 @@ help, quit                     this help; the end
 const PREDICT: &str = "predict wants TASK NODE, in decimal or 0x and hexadecimal";
 
 /// The message for other words behind `explain`.
-const EXPLAIN: &str = "explain wants TASK ADDR NODE, in decimal or 0x and hexadecimal";
+const EXPLAIN: &str = "explain wants TASK ADDR NODE, in decimal or hexadecimal digits";
 
 /// A question of a shell.
 #[derive(Clone, Copy)]
 pub enum ShellQuestion {
     /// Where all mapped pages would go.
     Predict(Touch),
-    /// Why this page goes where it goes.
-    Explain(Touch, u64),
+    /// Why the page of this address goes where it goes.
+    Explain(Touch, AddressAsked),
     /// None: the words behind the first aren't as this message says.
     Malformed(&'static str),
 }
@@ -67,40 +68,69 @@ fn handed(line: &[u8]) -> Option<(u32, &[u8])> {
 
 /// The question of a line, which may stand behind `in P`; `None` if it begins with another word.
 /// Else this process is asked, if one is given.
-pub fn asked_of(line: &[u8], process: Option<u32>) -> Option<AskedProcess> {
+///
+/// # Errors
+/// `AllocError`: out of memory.
+pub fn asked_of(
+    alloc: Global,
+    line: &[u8],
+    process: Option<u32>,
+) -> Result<Option<AskedProcess>, AllocError> {
     let (process, line) = match handed(line) {
         Some((process, line)) => (Some(process), line),
         None => (process, line),
     };
-    match question_of(line) {
-        Some(question) => Some(AskedProcess { process, question }),
-        None => None,
+    match question_of(alloc, line)? {
+        Some(question) => Ok(Some(AskedProcess { process, question })),
+        None => Ok(None),
+    }
+}
+
+/// The address of a line, if there is a word left.
+fn address_of(alloc: Global, word: Option<&[u8]>) -> Result<Option<AddressAsked>, AllocError> {
+    match word {
+        Some(word) => address(alloc, word),
+        None => Ok(None),
     }
 }
 
 /// The question of a line; `None` if it begins with another word.
-fn question_of(line: &[u8]) -> Option<ShellQuestion> {
+fn question_of(alloc: Global, line: &[u8]) -> Result<Option<ShellQuestion>, AllocError> {
     let mut words = words(line);
     let Some(first) = words.next() else {
-        return None;
+        return Ok(None);
     };
     let is_explain = first == b"explain".as_slice();
     if !is_explain && first != b"predict".as_slice() {
-        return None;
+        return Ok(None);
     }
     let task = number_of(words.next());
     let address = if is_explain {
-        number_of(words.next())
+        address_of(alloc, words.next())?
     } else {
         None
     };
     let touch = touch_of(task, number_of(words.next()));
     let is_over = words.next().is_none();
-    Some(match (touch, address) {
+    Ok(Some(match (touch, address) {
         (Some(touch), None) if is_over && !is_explain => ShellQuestion::Predict(touch),
-        (Some(touch), Some(address)) if is_over => ShellQuestion::Explain(touch, address / 4096),
+        (Some(touch), Some(address)) if is_over => ShellQuestion::Explain(touch, address),
         _ => ShellQuestion::Malformed(if is_explain { EXPLAIN } else { PREDICT }),
-    })
+    }))
+}
+
+/// Why the page of an address goes where it goes.
+fn explained_at(
+    alloc: Global,
+    script: &HostScript,
+    process: Option<u32>,
+    touch: Touch,
+    address: AddressAsked,
+) -> Result<Vec<u8>, Halt> {
+    match page_meant(script, process, address) {
+        Ok(page) => explained(alloc, script, process, touch, page),
+        Err(halt) => Err(halt),
+    }
 }
 
 /// The answer to a question about a script.
@@ -115,7 +145,9 @@ pub fn answer_to(
     let AskedProcess { process, question } = asked;
     let answer = match question {
         ShellQuestion::Predict(touch) => predicted(alloc, script, process, touch),
-        ShellQuestion::Explain(touch, page) => explained(alloc, script, process, touch, page),
+        ShellQuestion::Explain(touch, address) => {
+            explained_at(alloc, script, process, touch, address)
+        }
         ShellQuestion::Malformed(message) => return Err(Some(message)),
     };
     match answer {
@@ -123,6 +155,9 @@ pub fn answer_to(
         Err(Halt::NoMachine) => Err(Some("no machine is ready; limits and machine come first")),
         Err(Halt::NoNode(_)) => Err(Some("the machine lacks the node")),
         Err(Halt::Unmapped) => Err(Some("the page of ADDR isn't mapped")),
+        Err(Halt::TwoPages) => {
+            Err(Some("ADDR is mapped in decimal and in hexadecimal digits; write 0x"))
+        }
         Err(Halt::NoHost) => Err(Some("no process can be named before a line host")),
         Err(Halt::NoProcess(_)) => Err(Some("the host has no such process")),
         Err(_) => Err(None),

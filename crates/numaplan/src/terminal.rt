@@ -146,7 +146,10 @@ impl<W: Write, T: Write> Typed<W, T> {
 
     /// Answers a question of a shell, and returns whether the line is one.
     fn ask(&mut self, line: &[u8]) -> Result<bool, RunFault> {
-        let Some(asked) = asked_of(line, self.process) else {
+        let Ok(asked) = asked_of(self.alloc, line, self.process) else {
+            return Err(RunFault::Memory);
+        };
+        let Some(asked) = asked else {
             return Ok(false);
         };
         match answer_to(self.alloc, &self.judged, asked) {

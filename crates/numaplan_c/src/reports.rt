@@ -78,6 +78,8 @@ fn halt_code(halt: Halt) -> u32
         Halt::Unmapped => Code::Unmapped as u32,
         Halt::BadAccess(_, _) => Code::BadAccess as u32,
         Halt::NoHost | Halt::NoProcess(_) | Halt::ManyProcesses => Code::ManyProcesses as u32,
+        // (A task and a page are always given.)
+        Halt::ManyTasks(_, _) | Halt::TwoPages => Code::Unmapped as u32,
     }
 }
 

@@ -5,7 +5,7 @@ use crate::report::{Report, report_of};
 use crate::sources::{ScriptText, first_of, named, scripts_of};
 use numa_reports::{Format, FreePages, Touch, Written};
 use numa_traces::ReplayError;
-use numa_words::{AskedPages, Ended, Halt};
+use numa_words::{AskedPages, Ended, Halt, Twin};
 use std::alloc::{AllocError, Global};
 
 /// What is wrong with the lines of a script, and what a running kernel would do differently with
@@ -172,6 +172,14 @@ pub fn replay(
     };
     let mut answer = Vec::new(alloc);
     let mut told = Vec::new(alloc);
-    let ended = numa_words::replay(alloc, scripts, traces, format, &mut answer, &mut told);
+    let ended = numa_words::replay(
+        alloc,
+        scripts,
+        traces,
+        format,
+        Twin::None,
+        &mut answer,
+        &mut told,
+    );
     replay_of(alloc, answer, told, ended)
 }

@@ -46,18 +46,23 @@ const FORMAT: Argument = Argument {
 static WORD: SubcommandHelp = SubcommandHelp {
     name: "diff",
     line: "Tells which pages would go elsewhere if lines were added to scripts",
-    about: "Tells which pages would go to another node if script lines were added to the scripts, \
-and a task touched each of them on a CPU of one node: for each span of pages of which some do, \
-how many from which node to which, and in all. Pages that are mapped only before or only after \
-are left out. With --at it tells behind that what becomes of pages that are there, as `moves` \
-does: they lie as lines `at START LENGTH NODE` of the scripts and of that file state, and lines \
-`migrate FROM TO` move them too. Of a host it tells that by process and in all, or with --process \
-of process P alone. \
-Lines that are faulty or refused are told on standard error as by `check`, and \
-passed over. The status is 3 where some are, unless --lenient is given, and where no machine is \
-ready after the scripts.",
-    more: "Example, from the top of the repository:\n  ./numaplan diff --task 1 --node 0 --then \
-'mems 0' examples/interleaved-range.numaplan",
+    about: "Tells which pages would go elsewhere if lines were added to scripts\n\nExamples, \
+from the top of the repository:\n  ./numaplan diff --node 0 --then 'mems 0' \
+examples/interleaved-range.numaplan\n  ./numaplan diff --task 1 --node all --then 'task 1 \
+bind:2' examples/before-a-node-goes.numaplan",
+    more: "Pages that are there don't move by it: it compares first touches after the lines \
+with those before them, and `moves` tells what becomes of pages that are there. For each span \
+of pages of which some would go to another node it tells how many (differs=), from which node \
+to which, and in all, if the task touched each of them on a CPU of the node. Pages that are \
+mapped only before or only after are left out.\n\nWith --at it tells behind that what becomes \
+of pages that are there, as `moves` does: they lie as lines `at START LENGTH NODE` of the \
+scripts and of that file state, and lines `migrate FROM TO` move them too; without it such \
+lines of the scripts are passed over. Of a host it tells that by process and in all, or with \
+--process of process P alone.\n\nLines that are faulty or refused are told on standard error as \
+by `check`, and passed over. The status is 3 where some are, unless --lenient is given, and \
+where no machine is ready after the scripts. Where the documents' rules count only since \
+nothing else is said, and by a kernel's the answer would be another, a line on standard error \
+says so.",
     reads_lines: true,
     arguments: &[
         TASK, NODE, THEN, AT, PROCESS, FORMAT, LARGEST, LENIENT, FILES,
@@ -104,7 +109,7 @@ fn question(
 /// The job of a command line with this subcommand.
 ///
 /// # Errors
-/// `Usage`: `--task` or `--node` has no number, or `--at` wants another format. `NoMemory`: out of
+/// `Usage`: `--node` is invalid, or `--at` or `--node` wants another format. `NoMemory`: out of
 /// memory.
 pub fn work(alloc: Global, matches: &ArgMatches<'_>) -> Result<ScriptJob, JobFault>
     ensures { IsMade work_of (work_asked word.Diff (rows_of (found_of matches.now))) result }

@@ -45,19 +45,21 @@ const UPDATE: Argument = Argument {
 static WORD: SubcommandHelp = SubcommandHelp {
     name: "expect",
     line: "Compares the answers that scripts hold with those that they get",
-    about: "Answers worked scripts, which hold the answers that are wanted as `run --echo` writes \
-them, and tells each answer that is another. Each file is a script of its own. A line holds a \
-script line and its answer, as LINE => ANSWER, or a script line alone, or, behind `=> `, the next \
-line of the answer to the script line above; a script line of which no answer stands there is \
-carried out and not compared, but a fault or a refusal isn't wanted there. The last line on \
-standard output counts the lines of answers: as wanted, not so, and not compared. Of a folder the \
-files *.answers are taken, and those *.numaplan that hold an answer.",
-    more: "With --format tap each answer is a test of the Test Anything Protocol, and with \
---format json a line of JSON. With --update each file gets the answers that its lines get, where \
-one stands now: it is written anew beside itself and then takes its own place, and standard output shows the \
-lines that change.\n\nThe status is 0 where each file holds answers and all are as wanted, or are \
-written anew, and else 3.\n\nExample, from the top of the \
-repository:\n  ./numaplan expect examples/*.answers",
+    about: "Compares the answers that scripts hold with those that they get\n\nExamples, from \
+the top of the repository:\n  ./numaplan expect examples/*.answers\n  ./numaplan expect \
+--format tap examples",
+    more: "Worked scripts hold the answers that are wanted as `run --echo` writes them; each \
+answer that is another is told. Each file is a script of its own. A line holds a script line \
+and its answer, as LINE => ANSWER, or a script line alone, or, behind `=> `, the next line of \
+the answer to the script line above; a script line of which no answer stands there is carried \
+out and not compared, but a fault or a refusal isn't wanted there. The last line on standard \
+output counts the lines of answers: as wanted, not so, and not compared. Of a folder the files \
+*.answers are taken, and those *.numaplan that hold an answer.\n\nWith --format tap each answer \
+is a test of the Test Anything Protocol, and with --format json a line of JSON. With --update \
+each file gets the answers that its lines get, where one stands now: it is written anew beside \
+itself and then takes its own place, and standard output shows the lines that change.\n\nThe \
+status is 0 where each file holds answers and all are as wanted, or are written anew, and else \
+3.",
     reads_lines: true,
     arguments: &[FORMAT, ANY_VERSION, UPDATE, WORKED],
 };

@@ -11,18 +11,18 @@ ghost use Rattle.numa_command_line.specs.declared.command.Subcommand.TheVariants
 use crate::found::{small_at, text_at};
 use crate::jobs::{JobFault, PageQuestion, ScriptJob};
 use crate::usage::{Argument, FILES, SubcommandHelp, Takes};
+use crate::words::address::address;
 use crate::words::asked;
 use crate::words::asked::{NODE, TASK};
 use crate::words::format::{PLAIN, format_in};
 use crate::words::lenient::LENIENT;
 use crate::words::process::PROCESS;
 use clap::ArgMatches;
-use numa_script::number::number;
 use std::alloc::Global;
 
 /// The message for an invalid address.
 const BAD_ADDRESS: &str =
-    "error: '<ADDRESS>' takes a number below 2^64, decimal or 0x and hexadecimal\n\nFor more \
+    "error: '<ADDRESS>' takes a number below 2^64, in decimal or hexadecimal digits\n\nFor more \
 information, try '--help'.\n";
 
 /// The argument `ADDRESS`.
@@ -47,16 +47,20 @@ const PAGES: Argument = Argument {
 static WORD: SubcommandHelp = SubcommandHelp {
     name: "explain",
     line: "Tells why a page goes where it goes",
-    about: "Tells why memory for a page is looked for on its nodes, if a task touched the page \
-now on a CPU of one node: in six lines the nodes in order, the range with the page's index, which \
-policy counts and why the other doesn't, the sets of nodes, the rule that chose the first node \
-with its arithmetic, and the order of the others with their distances. Lines that are faulty or \
-refused are told on standard error as by `check`, and passed over. The status is 3 where some \
-are, unless --lenient is given, and where no machine is ready after the scripts. With --pages it \
-tells for each stretch of so many pages from there on which policy counts, and its rule. Of a host \
-it tells that for each process that has mapped the page, or with --process for process P alone.",
-    more: "Example, from the top of the repository:\n  ./numaplan explain --task 1 --node 3 \
-0x32000 examples/interleaved-range.numaplan",
+    about: "Tells why a page goes where it goes\n\nExamples, from the top of the repository:\n  \
+./numaplan explain --node 3 0x32000 examples/interleaved-range.numaplan\n  ./numaplan explain \
+--task 1 --node all 00032000 examples/interleaved-range.numaplan",
+    more: "It tells why memory for the page is looked for on its nodes, if the task touched it \
+now on a CPU of the node: in six lines the nodes in order, the range with the page's index, \
+which policy counts and why the other doesn't, the sets of nodes, the rule that chose the first \
+node with its arithmetic, and the order of the others with their distances.\n\nADDRESS is \
+hexadecimal behind 0x, with a letter, or as eight digits or more of which the first is 0, as \
+answers print it. Other digits are decimal, or hexadecimal where that page alone is mapped; \
+where both pages are, say which.\n\nWith --pages it tells for each stretch of so many pages \
+from there on which policy counts, and its rule. Of a host it tells that for each process that \
+has mapped the page, or with --process for process P alone.\n\nLines that are faulty or refused \
+are told on standard error as by `check`, and passed over. The status is 3 where some are, \
+unless --lenient is given, and where no machine is ready after the scripts.",
     reads_lines: true,
     arguments: &[TASK, NODE, PAGES, PROCESS, PLAIN, LENIENT, ADDRESS, FILES],
 };
@@ -72,16 +76,16 @@ pub fn word() -> &'static SubcommandHelp
 /// The job of a command line with this subcommand.
 ///
 /// # Errors
-/// `Usage`: the address is invalid, or an option has no number. `NoMemory`: out of memory.
+/// `Usage`: the address or the node is invalid. `NoMemory`: out of memory.
 pub fn work(alloc: Global, matches: &ArgMatches<'_>) -> Result<ScriptJob, JobFault>
     ensures { IsMade work_of (work_asked word.Explain (rows_of (found_of matches.now))) result }
 {
     let word = text_at(matches, "ADDRESS").unwrap_or("");
-    let Some(address) = number(word.as_bytes()) else {
+    let Some(address) = address(alloc, word.as_bytes())? else {
         return Err(JobFault::usage(alloc, BAD_ADDRESS));
     };
     let question = PageQuestion::Explain {
-        page: address / 4096,
+        address,
         pages: small_at(matches, "pages"),
         format: format_in(matches),
     };

@@ -10,7 +10,7 @@ ghost use Rattle.numa_command_line.specs.declared.command.Subcommand.TheVariants
 use crate::found::{is_on, texts_at};
 use crate::jobs::{JobFault, ScriptJob};
 use crate::usage::{Argument, FILES, SubcommandHelp, Takes};
-use crate::words::asked::touch_in;
+use crate::words::asked::one_touch_in;
 use crate::words::at::AT;
 use crate::words::format::{LARGEST, format_in};
 use crate::words::free::named;
@@ -23,7 +23,8 @@ use std::alloc::Global;
 const TASK: Argument = Argument {
     name: "task",
     value: "T",
-    help: "Pages lie where this task would touch them, and not as lines at state",
+    help: "The task that would touch the pages; where scripts name one task or none, it may be \
+left out",
     is_required: false,
     takes: Takes::Number,
 };
@@ -32,7 +33,8 @@ const TASK: Argument = Argument {
 const NODE: Argument = Argument {
     name: "node",
     value: "N",
-    help: "The node of the CPU on which it would",
+    help: "Pages lie where the task would touch them on a CPU of this node, and not as lines at \
+state",
     is_required: false,
     takes: Takes::NumberOr("cpu"),
 };
@@ -69,21 +71,24 @@ const FORMAT: Argument = Argument {
 static WORD: SubcommandHelp = SubcommandHelp {
     name: "moves",
     line: "Tells what becomes of pages that are there when lines move them",
-    about: "Tells what becomes of pages that are there when the nodes change that they may lie on, \
-or when people migrate them: for each range how many pages go from which node to which (N2->N0=), \
-how many need not go (stays=) and how many find no room (noroom=), and in all. A line of --then is \
-`mems LIST`, which moves pages as a control group of version 2 does; `migrate FROM TO`, two lists \
-of nodes, as migrate_pages(2) does; or in a host `cgroup-mems`, `attach`, or `in P migrate ..`. \
-Pages lie as lines `at START LENGTH NODE` of the scripts and of the file of --at state (in a host \
-`in P at ..`); with --task and --node where task T would touch them on a CPU of node N, while \
-every node had room. With \
---free the named nodes take so many more pages, and the others never fill: nodes go one by one, \
-the lowest pages first, and a node that fills ends the move. Of a host it tells that by process, \
-in the order in which they were made, and in all, or with --process of process P alone. Lines that \
-are faulty or refused are told on standard error as by `check`, and passed over. The status is 3 \
-where some are, unless --lenient is given, and where no machine is ready after the scripts.",
-    more: "Example, from the top of the repository:\n  ./numaplan moves --task 1 --node 0 --then \
-'mems 0-1' examples/interleaved-range.numaplan",
+    about: "Tells what becomes of pages that are there when lines move them\n\nExamples, from \
+the top of the repository:\n  ./numaplan moves --node 0 --then 'mems 0-1' \
+examples/interleaved-range.numaplan\n  ./numaplan moves --at examples/interleaved-range.at \
+--free 0=3 --then 'mems 0-1' examples/interleaved-range.numaplan",
+    more: "It tells that when the nodes change that pages may lie on, or when people migrate \
+them: for each range how many pages go from which node to which (N2->N0=), how many need not go \
+(stays=) and how many find no room (noroom=), and in all. A line of --then is `mems LIST`, \
+which moves pages as a control group of version 2 does; `migrate FROM TO`, two lists of nodes, \
+as migrate_pages(2) does; or in a host `cgroup-mems`, `attach`, or `in P migrate ..`.\n\nPages \
+lie as lines `at START LENGTH NODE` of the scripts and of the file of --at state (in a host `in \
+P at ..`); with --node where the task would touch them on a CPU of node N, while every node had \
+room. With --free the named nodes take so many more pages, and the others never fill: nodes go \
+one by one, the lowest pages first, and a node that fills ends the move. Of a host it tells \
+that by process, in the order in which they were made, and in all, or with --process of process \
+P alone.\n\nLines that are faulty or refused are told on standard error as by `check`, and \
+passed over. The status is 3 where some are, unless --lenient is given, and where no machine is \
+ready after the scripts. Where the documents' rules count only since nothing else is said, and \
+by a kernel's the answer would be another, a line on standard error says so.",
     reads_lines: true,
     arguments: &[
         AT, TASK, NODE, THEN, FREE, PROCESS, FORMAT, LARGEST, LENIENT, FILES,
@@ -111,7 +116,7 @@ pub fn work(alloc: Global, matches: &ArgMatches<'_>) -> Result<ScriptJob, JobFau
     Ok(ScriptJob::Moves {
         at,
         lines,
-        asked: touch_in(matches),
+        asked: one_touch_in(matches),
         free,
         format: format_in(matches),
         lenient: is_on(matches, "lenient"),

@@ -40,20 +40,23 @@ const FORMAT: Argument = Argument {
 static WORD: SubcommandHelp = SubcommandHelp {
     name: "predict",
     line: "Tells where pages would go after scripts, if a task touched them",
-    about: "Tells where all mapped pages would go after the scripts, if a task touched each of \
-them now on a CPU of one node: the first node of each page's list, range by range and in all. \
-With --at pages that are there stay: they are counted where lines `at START LENGTH NODE` of the \
-scripts and of that file state that they lie, and take no free page. \
-With --free the named nodes have so many free pages, and the others never run out: each page, the \
-lowest first, goes to the first node of its list that has one left; the answer tells how many \
-pages find none (exhausted=) and what is left on the named nodes. Of a host it tells that by \
-process, in the order in which they were made, and in all: the free pages are those of the whole \
-host, and each process takes of what those before it have left. With --process it tells of process \
-P alone. Lines that are faulty or \
-refused are told on standard error as by `check`, and passed over. The status is 3 where some \
-are, unless --lenient is given, and where no machine is ready after the scripts.",
-    more: "Example, from the top of the repository:\n  ./numaplan predict --task 1 --node 0 \
-examples/interleaved-range.numaplan",
+    about: "Tells where pages would go after scripts, if a task touched them\n\nExamples, from \
+the top of the repository:\n  ./numaplan predict --node 0 examples/interleaved-range.numaplan\n  \
+./numaplan predict --task 1 --node all --free 0=2,1=0 examples/interleaved-range.numaplan",
+    more: "All mapped pages are counted by the first node of each page's list, range by range \
+and in all, as if the task touched each of them now on a CPU of the node.\n\nWith --at pages \
+that are there stay: they are counted where lines `at START LENGTH NODE` of the scripts and of \
+that file state that they lie, and take no free page; without it such lines are passed \
+over.\n\nWith --free the named nodes have so many free pages, and the others never run out: \
+each page, the lowest first, goes to the first node of its list that has one left; the answer \
+tells how many pages find none (exhausted=) and what is left on the named nodes.\n\nOf a host \
+it tells that by process, in the order in which they were made, and in all: the free pages are \
+those of the whole host, and each process takes of what those before it have left. With \
+--process it tells of process P alone.\n\nLines that are faulty or refused are told on standard \
+error as by `check`, and passed over. The status is 3 where some are, unless --lenient is \
+given, and where no machine is ready after the scripts. Where the documents' rules count only \
+since nothing else is said, and by a kernel's the answer would be another, a line on standard \
+error says so.",
     reads_lines: true,
     arguments: &[
         TASK, NODE, AT, PROCESS, FORMAT, LARGEST, FREE, LENIENT, FILES,
@@ -99,7 +102,7 @@ fn question(
 /// The job of a command line with this subcommand.
 ///
 /// # Errors
-/// `Usage`: an option has no number, `--free` is invalid, or `--at` doesn't go with another option.
+/// `Usage`: `--node` or `--free` is invalid, or `--at` or `--node` doesn't go with another option.
 /// `NoMemory`: out of memory.
 pub fn work(alloc: Global, matches: &ArgMatches<'_>) -> Result<ScriptJob, JobFault>
     ensures { IsMade work_of (work_asked word.Predict (rows_of (found_of matches.now))) result }

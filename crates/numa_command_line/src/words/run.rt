@@ -19,14 +19,16 @@ const ECHO: Argument = Argument {
 static WORD: SubcommandHelp = SubcommandHelp {
     name: "run",
     line: "Answers the scripts of files, or of standard input",
-    about: "Answers a script. The script is read from the files in turn, or from standard input, \
-and its answers are written to standard output: one line for each line of the script, but none \
-for an empty line or a comment, and for `maps` one for each range. At a terminal, where no file is \
-named, there is a prompt, what is wrong with a line is told too, and a line `help` tells the \
-lines. With --format json there is a line of JSON for each answer.",
-    more: "Example, from the top of the repository:\n  ./numaplan run \
-examples/first-run.numaplan\n\nThe language of scripts is told in docs/SCRIPT.md of the \
-repository.",
+    about: "Answers the scripts of files, or of standard input\n\nExamples, from the top of the \
+repository:\n  ./numaplan run examples/first-run.numaplan\n  ./numaplan run --echo \
+examples/first-run.numaplan",
+    more: "The script is read from the files in turn, or from standard input, and its answers \
+are written to standard output: one line for each line of the script, but none for an empty \
+line or a comment, and for `maps` one for each range. With --format json there is a line of \
+JSON for each answer.\n\nAt a terminal, where no file is named, there is a prompt, what is \
+wrong with a line is told too, and a line `help` tells the lines. Where answers stand behind \
+`=>` in a script, a line on standard error says so at the end: `expect` compares them.\n\nThe \
+language of scripts is told in docs/SCRIPT.md of the repository.",
     reads_lines: true,
     arguments: &[ECHO, PLAIN, FILES],
 };

@@ -28,13 +28,14 @@ const WORKERS: Argument = Argument {
 static WORD: SubcommandHelp = SubcommandHelp {
     name: "storm",
     line: "Lets workers place pages while policies change, and compares each placement",
-    about: "Lets K workers, each in a thread of its own, place 320 pages on a machine of 4 nodes \
-with 64 frames each, while one more thread changes the policy of their task eight times. Then \
-each placement is compared with the list of nodes that the space of its version gives. Five lines \
-on standard output tell how many workers there were, how many pages were placed and for how many \
+    about: "Lets workers place pages while policies change, and compares each \
+placement\n\nExample, from the top of the repository:\n  ./numaplan storm --workers 4",
+    more: "K workers, each in a thread of its own, place 320 pages on a machine of 4 nodes with \
+64 frames each, while one more thread changes the policy of their task eight times. Then each \
+placement is compared with the list of nodes that the space of its version gives. Five lines on \
+standard output tell how many workers there were, how many pages were placed and for how many \
 no frame was free, whether all placements match, and how many frames are held at the end. The \
 status is 0 where all is as it must be whichever thread is first, and else 1.",
-    more: "Example, from the top of the repository:\n  ./numaplan storm --workers 4",
     reads_lines: false,
     arguments: &[WORKERS],
 };

@@ -1,113 +1,66 @@
-//! Subcommands that ask about pages that a task would touch.
-use crate::endings::{StandardError, answered, fail};
-use crate::progress::{PacedPages, with_progress};
-use crate::words::differing::Differing;
-use crate::words::predicting::Predicting;
-use crate::words::{differing, predicting};
-use numa_command_line::{JobFault, Outlet, PageQuestion};
-use numa_lines::RunFault;
-use numa_reports::{Touch, Watch};
-use numa_words::{AskedPages, Scripts, diff, explain, predict};
+//! Questions about the state that scripts lead to: where pages would go or lie, which would go
+//! elsewhere, why, and what becomes of those that are there.
+use crate::endings::answered;
+use crate::progress::PacedPages;
+use crate::words::texts::{Asking, text_of};
+use crate::words::there::{opened, read_all, write_told};
+use numa_command_line::{JobFault, Outlet};
+use numa_reports::Watch;
+use numa_words::{Ended, Halt, Scripts};
 use std::io;
 use std::io::{IsTerminal, Read};
 use std::process::ExitCode;
 use std::rt::{Clock, Files};
 
-/// Answers a question about the state that scripts lead to.
-fn answer_by<R, S>(
+/// Plays scripts, and answers.
+fn answer_to<R, S, A, P>(
     rt: &R,
     scripts: Scripts<S>,
-    asked: Touch,
-    question: &PageQuestion,
-    lenient: bool,
-    tells: bool,
-) -> ExitCode
+    texts_at: Vec<(String, A)>,
+    asking: Asking<'_>,
+    outlet: &Outlet,
+    watch: &mut P,
+) -> Result<Ended, Halt>
 where
-    R: Clock + Files + Print + Eprint + AllocGlobal,
+    R: Print + Eprint + AllocGlobal,
     S: Read + Drop,
+    A: Read + Drop,
+    P: Watch,
 {
-    let Scripts {
-        texts,
-        rules,
-        process,
-    } = scripts;
-    match with_progress(rt, texts, tells) {
-        Ok(texts) => answer_all(
-            rt,
-            Scripts {
-                texts,
-                rules,
-                process,
-            },
-            asked,
-            question,
-            lenient,
-            tells,
-        ),
-        Err(_) => fail(rt, RunFault::Memory),
-    }
+    let process = scripts.process;
+    let read = read_all(rt, scripts, texts_at, asking.task(), asking.twin());
+    let (mut findings, at) = match read {
+        Ok(read) => read,
+        Err(why) => return Err(Halt::Stopped(why)),
+    };
+    let mut faults = 0u64;
+    let text = text_of(rt, &mut findings, &at, process, asking, &mut faults, watch);
+    drop(at);
+    let mut output = outlet.writer(io::writer(rt));
+    let ended = write_told(&mut findings, text, faults, &mut output);
+    drop(output);
+    drop(findings);
+    ended
 }
 
-/// Answers a question about the state that scripts lead to.
-fn answer_all<R, S>(
+/// Answers, and ends. With `tells`, standard error shows how far counting is.
+fn answer_by<R, S, A>(
     rt: &R,
     scripts: Scripts<S>,
-    asked: Touch,
-    question: &PageQuestion,
-    lenient: bool,
+    texts_at: Vec<(String, A)>,
+    asking: Asking<'_>,
     tells: bool,
 ) -> ExitCode
 where
     R: Clock + Print + Eprint + AllocGlobal,
     S: Read + Drop,
+    A: Read + Drop,
 {
-    let alloc = rt.alloc();
     let outlet = Outlet::new();
-    let mut output = outlet.writer(io::writer(rt));
-    let told = StandardError { rt };
     let mut watch = PacedPages::new(rt, tells);
-    let answer = match question {
-        PageQuestion::Predict { format, free, .. } => {
-            let watch = &mut watch;
-            predict(
-                alloc,
-                scripts,
-                asked,
-                *format,
-                free,
-                &mut output,
-                told,
-                watch,
-            )
-        }
-        PageQuestion::Diff { lines, format, .. } => {
-            let watch = &mut watch;
-            diff(
-                alloc,
-                scripts,
-                lines,
-                asked,
-                *format,
-                &mut output,
-                told,
-                watch,
-            )
-        }
-        PageQuestion::Explain {
-            page,
-            pages,
-            format,
-        } => {
-            let asked_for = AskedPages {
-                page: *page,
-                pages: *pages,
-            };
-            explain(alloc, scripts, asked, asked_for, *format, &mut output, told)
-        }
-    };
-    drop(output);
+    let answer = answer_to(rt, scripts, texts_at, asking, &outlet, &mut watch);
     watch.end();
-    answered(rt, asked, answer, lenient, &outlet)
+    answered(rt, asking, answer, &outlet)
 }
 
 /// Answers a question about the state that scripts lead to. With `tells`, standard error shows how
@@ -118,9 +71,7 @@ where
 pub fn answer<R, S>(
     rt: &R,
     scripts: Scripts<S>,
-    asked: Touch,
-    question: &PageQuestion,
-    lenient: bool,
+    asking: Asking<'_>,
     tells: bool,
 ) -> Result<ExitCode, JobFault>
 where
@@ -128,27 +79,8 @@ where
     R::Reader: IsTerminal,
     S: Read + Drop,
 {
-    match question {
-        PageQuestion::Predict { at, format, free } if !at.is_empty() => {
-            let predicting = Predicting {
-                at: at.as_slice(),
-                touch: asked,
-                free: free.as_slice(),
-                format: *format,
-                lenient,
-            };
-            predicting::answer(rt, scripts, predicting, tells)
-        }
-        PageQuestion::Diff { at, lines, format } if !at.is_empty() => {
-            let differing = Differing {
-                at: at.as_slice(),
-                lines: lines.as_slice(),
-                touch: asked,
-                format: *format,
-                lenient,
-            };
-            differing::answer(rt, scripts, differing, tells)
-        }
-        _ => Ok(answer_by(rt, scripts, asked, question, lenient, tells)),
+    match opened(rt, scripts, asking.at, tells) {
+        Ok((scripts, texts_at)) => Ok(answer_by(rt, scripts, texts_at, asking, tells)),
+        Err(fault) => Err(fault),
     }
 }

@@ -1,119 +1,277 @@
-//! Tells what becomes of pages that are there.
-use crate::endings::answered;
-use crate::words::there::{Playing, moves_of, opened, read_all, write_told};
-use numa_command_line::{JobFault, Outlet};
-use numa_moves::{AtLines, Origin, PassOver};
-use numa_reports::{Format, FreePages, Touch};
-use numa_words::{Ended, Findings, Halt, Scripts};
-use std::io;
-use std::io::{IsTerminal, Read, Write};
-use std::process::ExitCode;
-use std::rt::{Clock, Files};
+//! Playing lines that move pages that are there, and telling what becomes of these.
+use crate::words::there::{scene_of, tell, tell_at};
+use numa_host_script::HostScript;
+use numa_lines::{RunFault, TakeLine};
+use numa_mask::NodeMask;
+use numa_moves::{
+    Asked, AtLines, Holdings, MoveLine, Origin, PassOver, Step, moves_text, read_move,
+};
+use numa_reports::{Format, FreePages, ReportError};
+use numa_words::{Findings, Halt};
+use std::alloc::Global;
+use std::io::Write;
 
-/// What is asked.
+/// The name of the added lines in messages.
+const ADDED: &str = "--then";
+
+/// The messages of lines that move nothing.
+const MALFORMED: &str = "bad words; write migrate FROM TO, each a list of nodes as 0-1,3";
+
+const OTHER: &str = "moves takes lines mems, migrate, cgroup-mems and attach";
+
+const AWAY: &str = "diff --at takes no line that takes pages away";
+
+const NOT_ALLOWED: &str = "refused NodesNotAllowed EINVAL: no node of TO is allowed";
+
+const WHICH: &str = "refused NoSuchProcess ESRCH: there is no such process; write in P migrate ..";
+
+/// Lines that are played.
 #[derive(Clone, Copy)]
-pub struct Moving<'a> {
-    /// A file with further lines that state where pages lie, if there is one.
-    pub at: &'a [String],
-    /// The lines that move pages.
+pub struct Playing<'a> {
+    /// The lines.
     pub lines: &'a [String],
-    /// The task that would touch the pages, if they lie where it would, and not as lines state.
-    pub asked: Option<Touch>,
+    /// Whether those that move no pages are played too.
+    pub plays_all: bool,
+    /// The process of a host, if not all are asked for.
+    pub process: Option<u32>,
     /// How many more pages nodes take.
     pub free: &'a [FreePages],
     /// Text, JSON or SVG.
     pub format: Format,
-    /// Whether malformed and refused lines are no error.
-    pub lenient: bool,
 }
 
-/// What becomes of pages, as a text.
-fn text_of<R: Eprint + AllocGlobal, T: Write>(
+/// An answer, and, if the lines were played by the other rules too, the one by those.
+#[derive(Drop)]
+pub struct BothTexts {
+    pub text: Vec<u8>,
+    pub other: Option<Result<Vec<u8>, Halt>>,
+}
+
+/// Where pages lie by one set of rules, and what the lines so far did to them.
+#[derive(Drop)]
+struct Course {
+    holdings: Holdings,
+    steps: Vec<Step>,
+}
+
+/// Refuses free pages of nodes that a machine with so many lacks.
+fn judge_free(free: &[FreePages], nodes: u32) -> Result<(), Halt> {
+    match free.iter().find(|one| u32::from(one.node) >= nodes) {
+        Some(lacking) => Err(Halt::NoFreeNode(lacking.node, nodes)),
+        None => Ok(()),
+    }
+}
+
+/// The process of a name, where one is asked for, or else of the scripts.
+fn process_of(named: Option<u32>, asked: Option<u32>) -> u32 {
+    named.or(asked).unwrap_or(0)
+}
+
+/// Where pages lie before the first line. What is wrong with lines that state it is told, if
+/// `faults` counts it.
+fn begin<R: Eprint + AllocGlobal>(
+    rt: &R,
+    script: &HostScript,
+    at: &AtLines<PassOver>,
+    origin: Origin<'_>,
+    playing: Playing<'_>,
+    faults: Option<&mut u64>,
+) -> Result<Course, Halt> {
+    let scene = scene_of(script, playing.process, playing.format)?;
+    let nodes = scene.nodes();
+    judge_free(playing.free, nodes)?;
+    let mut refused = Vec::new(rt.alloc());
+    let holdings = Holdings::new(rt.alloc(), scene, origin, playing.free, &mut refused);
+    if let Some(faults) = faults {
+        tell_at(rt, faults, at, refused.as_slice());
+    }
+    drop(refused);
+    match holdings {
+        Ok(holdings) => Ok(Course {
+            holdings,
+            steps: Vec::new(rt.alloc()),
+        }),
+        Err(ReportError::Refused(_)) => Err(Halt::NoNode(nodes)),
+        Err(ReportError::Memory) => Err(Halt::Stopped(RunFault::Memory)),
+    }
+}
+
+/// Why the pages of a process may not migrate to a set, if they may not.
+fn why_not(holdings: &Holdings, process: u32, to: &NodeMask) -> Option<&'static str> {
+    let Some(allowed) = holdings.allowed(process) else {
+        return Some(WHICH);
+    };
+    if to.and(&allowed).is_empty() {
+        return Some(NOT_ALLOWED);
+    }
+    None
+}
+
+/// Why a line is passed over, if it is.
+fn why_passed(line: &MoveLine, plays_all: bool) -> Option<&'static str> {
+    match line {
+        MoveLine::Bad => Some(MALFORMED),
+        MoveLine::Away if plays_all => Some(AWAY),
+        MoveLine::Away => Some(OTHER),
+        MoveLine::Other if !plays_all => Some(OTHER),
+        _ => None,
+    }
+}
+
+/// Plays a line in the scripts, if it is one of theirs, and tells what is wrong with it.
+fn play_line<R: Eprint, T: Write>(
+    rt: &R,
+    findings: &mut Findings<T>,
+    holdings: &Holdings,
+    playing: Playing<'_>,
+    place: u64,
+    line: &str,
+    faults: &mut u64,
+) -> Result<(), Halt> {
+    let moving = read_move(line.as_bytes());
+    if let Some(why) = why_passed(&moving, playing.plays_all) {
+        tell(rt, faults, ADDED, place, why);
+        return Ok(());
+    }
+    let MoveLine::Migrate { process, to, .. } = moving else {
+        return match findings.take(ADDED, place, line.as_bytes(), &mut ()) {
+            Ok(()) => Ok(()),
+            Err(why) => Err(Halt::Stopped(why)),
+        };
+    };
+    if let Some(why) = why_not(holdings, process_of(process, playing.process), &to) {
+        tell(rt, faults, ADDED, place, why);
+    }
+    Ok(())
+}
+
+/// What a line does to the pages of a script that has played it.
+fn step_of(
+    alloc: Global,
+    script: &HostScript,
+    holdings: &mut Holdings,
+    playing: Playing<'_>,
+    line: &str,
+) -> Result<Step, Halt> {
+    let moving = read_move(line.as_bytes());
+    if why_passed(&moving, playing.plays_all).is_some() {
+        return Ok(holdings.stay(alloc)?);
+    }
+    match moving {
+        MoveLine::Migrate { process, from, to } => {
+            let process = process_of(process, playing.process);
+            Ok(holdings.migrate(alloc, process, &from, &to)?)
+        }
+        _ => match scene_of(script, playing.process, playing.format) {
+            Ok(scene) => Ok(holdings.follow(alloc, scene)?),
+            Err(halt) => Err(halt),
+        },
+    }
+}
+
+impl Course {
+    /// Goes on by a line that a script has played.
+    fn go_on(
+        &mut self,
+        alloc: Global,
+        script: &HostScript,
+        playing: Playing<'_>,
+        line: &str,
+    ) -> Result<(), Halt> {
+        let step = step_of(alloc, script, &mut self.holdings, playing, line)?;
+        match self.steps.push(step) {
+            Ok(()) => Ok(()),
+            Err(_) => Err(Halt::Stopped(RunFault::Memory)),
+        }
+    }
+}
+
+/// Goes on by a line by the other rules, as long as there is a course by them.
+fn go_on_beside(
+    alloc: Global,
+    other: &mut Option<Course>,
+    script: Option<&HostScript>,
+    playing: Playing<'_>,
+    line: &str,
+) {
+    let (Some(course), Some(script)) = (&mut *other, script) else {
+        return;
+    };
+    if course.go_on(alloc, script, playing, line).is_err() {
+        *other = None;
+    }
+}
+
+/// Plays the lines, and notes what each did to the pages that are there.
+fn play_lines<R: Eprint + AllocGlobal, T: Write>(
+    rt: &R,
+    findings: &mut Findings<T>,
+    course: &mut Course,
+    other: &mut Option<Course>,
+    playing: Playing<'_>,
+    faults: &mut u64,
+) -> Result<(), Halt> {
+    let alloc = rt.alloc();
+    let mut place = 1u64;
+    for line in playing.lines {
+        let line = line.as_str();
+        play_line(rt, findings, &course.holdings, playing, place, line, faults)?;
+        course.go_on(alloc, findings.script(), playing, line)?;
+        go_on_beside(alloc, other, findings.other(), playing, line);
+        place = place.saturating_add(1);
+    }
+    Ok(())
+}
+
+/// What became of the pages, as texts by both sets of rules.
+fn texts_of(
+    alloc: Global,
+    course: &Course,
+    other: &Option<Course>,
+    told: Asked<'_>,
+) -> Result<BothTexts, Halt> {
+    let text = moves_text(alloc, course.steps.as_slice(), told)?;
+    let other = match other {
+        Some(other) => match moves_text(alloc, other.steps.as_slice(), told) {
+            Ok(text) => Some(Ok(text)),
+            Err(_) => None,
+        },
+        None => None,
+    };
+    Ok(BothTexts { text, other })
+}
+
+/// Plays lines, and returns what becomes of the pages that are there, as a text.
+///
+/// # Errors
+/// Why there is no answer.
+pub fn moves_of<R: Eprint + AllocGlobal, T: Write>(
     rt: &R,
     findings: &mut Findings<T>,
     at: &AtLines<PassOver>,
-    process: Option<u32>,
-    moving: Moving<'_>,
+    origin: Origin<'_>,
+    playing: Playing<'_>,
     faults: &mut u64,
-) -> Result<Vec<u8>, Halt> {
-    let origin = match moving.asked {
-        Some(asked) => Origin::Touched(asked),
-        None => Origin::Stated(at.lines.as_slice()),
+) -> Result<BothTexts, Halt> {
+    let scene = scene_of(findings.script(), playing.process, playing.format)?;
+    let told = Asked {
+        lines: playing.lines,
+        is_each: scene.is_each(),
+        nodes: scene.nodes(),
+        free: playing.free,
+        format: playing.format,
     };
-    let playing = Playing {
-        lines: moving.lines,
-        plays_all: false,
-        process,
-        free: moving.free,
-        format: moving.format,
+    let mut course = begin(rt, findings.script(), at, origin, playing, Some(faults))?;
+    let mut other = match findings.other() {
+        Some(other) => begin(rt, other, at, origin, playing, None).ok(),
+        None => None,
     };
-    moves_of(rt, findings, at, origin, playing, faults)
-}
-
-/// Plays scripts, and tells what becomes of the pages that are there.
-fn moved<R, S, A>(
-    rt: &R,
-    scripts: Scripts<S>,
-    texts_at: Vec<(String, A)>,
-    moving: Moving<'_>,
-    outlet: &Outlet,
-) -> Result<Ended, Halt>
-where
-    R: Print + Eprint + AllocGlobal,
-    S: Read + Drop,
-    A: Read + Drop,
-{
-    let process = scripts.process;
-    let (mut findings, at) = match read_all(rt, scripts, texts_at) {
-        Ok(read) => read,
-        Err(why) => return Err(Halt::Stopped(why)),
+    let played = play_lines(rt, findings, &mut course, &mut other, playing, faults);
+    let texts = match played {
+        Ok(()) => texts_of(rt.alloc(), &course, &other, told),
+        Err(halt) => Err(halt),
     };
-    let mut faults = 0u64;
-    let text = text_of(rt, &mut findings, &at, process, moving, &mut faults);
-    drop(at);
-    let mut output = outlet.writer(io::writer(rt));
-    let ended = write_told(&mut findings, text, faults, &mut output);
-    drop(output);
-    drop(findings);
-    ended
-}
-
-/// Tells what becomes of pages after scripts, and ends.
-fn answer_by<R, S, A>(
-    rt: &R,
-    scripts: Scripts<S>,
-    texts_at: Vec<(String, A)>,
-    moving: Moving<'_>,
-) -> ExitCode
-where
-    R: Print + Eprint + AllocGlobal,
-    S: Read + Drop,
-    A: Read + Drop,
-{
-    let outlet = Outlet::new();
-    let answer = moved(rt, scripts, texts_at, moving, &outlet);
-    let asked = moving.asked.unwrap_or(Touch { task: 0, cpu: 0 });
-    answered(rt, asked, answer, moving.lenient, &outlet)
-}
-
-/// Tells what becomes of pages after scripts. With `tells`, standard error shows how far reading
-/// is.
-///
-/// # Errors
-/// `Usage`: a file can't be opened. `NoMemory`: out of memory.
-pub fn answer<R, S>(
-    rt: &R,
-    scripts: Scripts<S>,
-    moving: Moving<'_>,
-    tells: bool,
-) -> Result<ExitCode, JobFault>
-where
-    R: Clock + Files + Input + Print + Eprint + AllocGlobal,
-    R::Reader: IsTerminal,
-    S: Read + Drop,
-{
-    match opened(rt, scripts, moving.at, tells) {
-        Ok((scripts, texts_at)) => Ok(answer_by(rt, scripts, texts_at, moving)),
-        Err(fault) => Err(fault),
-    }
+    drop(course);
+    drop(other);
+    texts
 }

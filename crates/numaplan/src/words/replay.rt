@@ -3,7 +3,7 @@ use crate::endings::{StandardError, ended};
 use crate::progress::with_progress;
 use numa_command_line::{JobFault, Outlet, open_all};
 use numa_reports::Format;
-use numa_words::Scripts;
+use numa_words::{Scripts, Twin};
 use std::io;
 use std::io::{IsTerminal, Read};
 use std::process::ExitCode;
@@ -30,6 +30,7 @@ where
         scripts,
         traces,
         format,
+        Twin::UnlessChosen,
         &mut output,
         StandardError { rt },
     );

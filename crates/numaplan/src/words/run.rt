@@ -1,12 +1,14 @@
 //! Answers scripts.
 use crate::answering::Answering;
 use crate::endings::fail;
+use crate::noticing::{Notice, noticed_by};
 use numa_answers::Answers;
 use numa_command_line::without_names;
 use numa_lines::{Echo, Joined, Lines, RunFault, Watched, read_all};
 use numa_placed_script::run_by;
 use numa_reports::Format;
 use numa_words::Scripts;
+use std::alloc::{AllocError, Global};
 use std::io;
 use std::io::Read;
 use std::process::ExitCode;
@@ -65,17 +67,85 @@ where
     read
 }
 
-/// Answers scripts; with `echo`, writes each line too, as lines of JSON do anyway.
+/// Answers scripts in a format; with `echo`, writes each line too, as lines of JSON do anyway.
+fn answer_by<R, S>(rt: &R, scripts: Scripts<S>, echo: bool, format: Format) -> Result<(), RunFault>
+where
+    R: Print + AllocGlobal,
+    S: Read + Drop,
+{
+    match format {
+        Format::Json => answer_by_objects(rt, scripts),
+        _ if echo => echo_all(rt, scripts),
+        _ => answer_all(rt, scripts),
+    }
+}
+
+/// The names of texts.
+fn names_of<S>(alloc: Global, texts: &[(String, S)]) -> Result<Vec<String>, AllocError> {
+    let mut names = Vec::new(alloc);
+    for (name, _) in texts {
+        names.push(String::from_str(alloc, name.as_str())?)?;
+    }
+    Ok(names)
+}
+
+/// Tells that a script holds answers, if one does.
+fn tell_answers<R: Eprint>(rt: &R, names: &[String], notice: &Notice) {
+    let Some((text, line)) = notice.place() else {
+        return;
+    };
+    if let Some(name) = names.get(text) {
+        let _ = eprintln!(rt;
+            "{name}:{line}: answers stand behind =>: numaplan expect compares them"
+        );
+    }
+}
+
+/// Answers scripts, and notes where one holds an answer.
+fn answer_noticed<R, S>(
+    rt: &R,
+    scripts: Scripts<S>,
+    echo: bool,
+    format: Format,
+    notice: &Notice,
+) -> Result<(), RunFault>
+where
+    R: Print + AllocGlobal,
+    S: Read + Drop,
+{
+    let Scripts {
+        texts,
+        rules,
+        process,
+    } = scripts;
+    match noticed_by(rt.alloc(), texts, notice) {
+        Ok(texts) => {
+            let scripts = Scripts {
+                texts,
+                rules,
+                process,
+            };
+            answer_by(rt, scripts, echo, format)
+        }
+        Err(_) => Err(RunFault::Memory),
+    }
+}
+
+/// Answers scripts; with `echo`, writes each line too, as lines of JSON do anyway. At the end a
+/// line on standard error tells that a script holds answers, if one does.
 pub fn answer<R, S>(rt: &R, scripts: Scripts<S>, echo: bool, format: Format) -> ExitCode
 where
     R: Print + Eprint + AllocGlobal,
     S: Read + Drop,
 {
-    let run = match format {
-        Format::Json => answer_by_objects(rt, scripts),
-        _ if echo => echo_all(rt, scripts),
-        _ => answer_all(rt, scripts),
+    let Ok(names) = names_of(rt.alloc(), scripts.texts.as_slice()) else {
+        drop(scripts);
+        return fail(rt, RunFault::Memory);
     };
+    let notice = Notice::new();
+    let run = answer_noticed(rt, scripts, echo, format, &notice);
+    tell_answers(rt, names.as_slice(), &notice);
+    drop(names);
     match run {
         Ok(()) => ExitCode::SUCCESS,
         Err(fault) => fail(rt, fault),
