@@ -100,13 +100,16 @@ else:
 
 
 def _ensure_version() -> None:
-    """The library has to be of the version of this module."""
+    """The library has to be of the version of this module, which tells where it isn't proved."""
+    global __version__
     major, minor, patch = map(int, __version__.split("."))
-    found = LIBRARY.np_version()
+    is_unproved, found = divmod(LIBRARY.np_version(), 1 << 31)
     if found != major * 1_000_000 + minor * 1_000 + patch:
         parts = f"{found // 1_000_000}.{found // 1_000 % 1_000}.{found % 1_000}"
         raise ImportError(f"libnumaplan.so is of version {parts}, this module of {__version__}; "
                           "'./numaplan library PREFIX' makes both")
+    if is_unproved:
+        __version__ += "+unproved"
 
 
 _ensure_version()

@@ -9,6 +9,7 @@ from ctypes import POINTER, c_bool, c_char_p, c_size_t, c_uint8, c_uint16, c_uin
 from ctypes import c_void_p
 
 NAME = "libnumaplan.so.0"
+UNPROVED = "libnumaplan-unproved.so.0"
 
 
 class Handle(ctypes.Structure):
@@ -258,9 +259,10 @@ _SIGNATURES = {
 
 def _find() -> ctypes.CDLL:
     """The library that NUMAPLAN_LIBRARY names; else that of this module's folder, of the PREFIX
-    that it is installed in, or of the system."""
+    that it is installed in, where need be one without a proof, or of the system."""
     here = os.path.dirname(os.path.abspath(__file__))
-    beside = [os.path.join(here, NAME), os.path.join(here, "..", "..", "..", "lib", NAME)]
+    beside = [os.path.join(here, *folder, name) for name in (NAME, UNPROVED)
+              for folder in ([], ["..", "..", "..", "lib"])]
     found = [path for path in beside if os.path.exists(path)]
     path = os.environ.get("NUMAPLAN_LIBRARY") or (found + [NAME])[0]
     try:

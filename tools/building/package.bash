@@ -42,7 +42,7 @@ pack_documents() {
 make_tree() {
     local tree=$1 made=$2
     # (a subshell each, since they end the script where they fail)
-    (install_in "$tree") && (library_in "$tree") && pack_documents "$tree" &&
+    (install_in "$tree") && (library_in "$tree" library) && pack_documents "$tree" &&
         find "$tree/share/numaplan" -name __pycache__ -prune -exec rm -r {} + && # (made where it is installed)
         sed -i 's@^prefix=.*@prefix=${pcfiledir}/../..@' "$tree/lib/pkgconfig/numaplan.pc" &&
         write_record "$tree" >"$room/PROOF" &&

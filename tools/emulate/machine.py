@@ -4,11 +4,10 @@ proved."""
 import numaplan
 
 from .cpus import read_cpus
-from .words import Unfit, list_text
+from .words import RULES, Unfit, list_text
 
 KILOBYTES = 4 << 20  # that each node with memory shows
 TAKEN = ("limits", "rules", "cpus", "machine", "weight", "mems")
-RULES = ("document", "linux")
 KERNEL_ORDERS = "kernel:"
 
 

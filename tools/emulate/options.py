@@ -4,8 +4,7 @@ quarter of a start.) Not proved."""
 import os
 import sys
 
-from .machine import RULES
-from .words import Unfit
+from .words import OWN_FAULT, RULES, Unfit, tell
 
 ABOUT_EMULATE = """Runs a program as if on a NUMA machine: its calls about memory policies are answered by
 numaplan, its pages are placed as they are first touched, and /sys and /proc show the machine.
@@ -46,8 +45,8 @@ class Words:
         rest = iter(words)
         self.program = []
         for word in rest:
-            if word in ("-h", "--help"):
-                print(help_text(is_real))
+            if word in ("-h", "--help", "--version"):
+                print(version_text() if word == "--version" else help_text(is_real))
                 sys.exit(0)
             if word == "--" or not word.startswith("-") or word == "-":
                 self.program = [word] * (word != "--") + list(rest)
@@ -74,8 +73,25 @@ class Words:
         setattr(self, name, value)
 
 
+def read_words(is_real):
+    """The words of the command line. This needs no library."""
+    try:
+        return Words(sys.argv[1:], is_real)
+    except Unfit as fault:
+        tell(fault)
+        sys.exit(OWN_FAULT)
+
+
 def unfit(what):
     raise Unfit(f"{what}; --help tells more")
+
+
+def version_text():
+    """The version of the Python module, which isn't run for that."""
+    from importlib.util import find_spec
+
+    with open(find_spec("numaplan").origin, encoding="utf-8") as file:
+        return "numaplan " + next(line for line in file if line.startswith("__version__")).split('"')[1]
 
 
 def help_text(is_real):

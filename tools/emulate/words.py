@@ -4,6 +4,7 @@ import os
 import sys
 
 OWN_FAULT = 125  # the status where the command itself can't go on
+RULES = ("document", "linux")
 
 
 class Unfit(Exception):
