@@ -11,7 +11,7 @@ questions and the answer to each line.
 
     tests/model/model.py < examples/first-run.numaplan
 
-tests/model/run-built compares it with the built program."""
+tests/model/run-program compares it with the built program."""
 
 import sys
 
