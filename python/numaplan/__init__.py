@@ -8,8 +8,9 @@
 
 Addresses and lengths are in bytes, pages are numbered by address / 4096. A refused call raises the
 class that is named as its cause, and has changed nothing. A number that the library can't hold is a
-ValueError. The library is looked for in NUMAPLAN_LIBRARY, then beside this module, then where the
-system keeps libraries. Not proved; what it calls is.
+ValueError. Threads may share each object: a call waits while another thread is in a call of it. The
+library is looked for in NUMAPLAN_LIBRARY, then beside this module, then where the system keeps
+libraries. Not proved; what it calls is.
 """
 
 from __future__ import annotations

@@ -1,17 +1,14 @@
-"""How the library is called: texts, answers, and what is closed at the end. Not proved."""
+"""How the library is called: texts and answers. Not proved."""
 
 from __future__ import annotations
 
 from ctypes import byref, c_size_t, c_uint8, c_uint32
-from types import TracebackType
-from typing import Any, Callable, TypeVar
+from typing import Any, Callable
 
-from ._causes import Closed, NoRoom, refusal
-from ._library import LIBRARY, Handle, NodeSet
+from ._causes import NoRoom, refusal
+from ._library import LIBRARY, NodeSet
 
 STILL = 40  # (no failure: a worker goes on)
-
-_Itself = TypeVar("_Itself", bound="Owner")
 
 
 def untyped(name: str) -> Callable[..., int]:
@@ -58,40 +55,3 @@ def members(words: NodeSet) -> list[int]:
     """The nodes of a set."""
     bits = int.from_bytes(bytes(words), "little")
     return [node for node in range(bits.bit_length()) if bits >> node & 1]
-
-
-class Owner:
-    """What is closed at the end of a `with`, or when nothing refers to it."""
-
-    _kind = ""
-
-    def __init__(self) -> None:
-        self._at, self._is_closed = byref(Handle()), False
-
-    def close(self) -> None:
-        """Frees it; a second time does nothing."""
-        self._is_closed = True
-        getattr(LIBRARY, f"np_{self._kind}_close")(self._at)
-
-    def _shown(self) -> str:
-        """What is told of it beside its class; raises Closed where it keeps nothing."""
-        if self._is_closed:
-            raise Closed
-        return ""
-
-    def __repr__(self) -> str:
-        try:
-            shown = self._shown()
-        except Closed:
-            shown = ", closed"
-        return f"<numaplan.{type(self).__name__}{shown}>"
-
-    def __enter__(self: _Itself) -> _Itself:
-        return self
-
-    def __exit__(self, kind: "type[BaseException] | None", fault: "BaseException | None",
-                 trace: "TracebackType | None") -> None:
-        self.close()
-
-    def __del__(self) -> None:
-        self.close()

@@ -6,10 +6,11 @@ from __future__ import annotations
 from ctypes import Array, byref, c_size_t
 from typing import TYPE_CHECKING, Any, Callable, Iterable, Mapping, NamedTuple, Type, TypeVar
 
-from ._calls import Owner, code_of
+from ._calls import code_of
 from ._causes import BadAccess, NoRoom, refusal
 from ._judged import format_number, u8, u32, u64
 from ._library import Access, AskedReport, FreePages, SpanMove, ToldRoute
+from ._owners import Owner, in_order
 
 if TYPE_CHECKING:
     from ._reports import Report, Text
@@ -52,10 +53,12 @@ class CoreReports(Owner):
         other. Pages that one of the two lacks aren't compared. The time grows with the pages."""
         if after is self:
             return []
-        touch = u32("task", task), u32("cpu", cpu)
+        touch, (first, second) = (u32("task", task), u32("cpu", cpu)), in_order(self, after)
+        with first._alone(), second._alone():
+            found = _listed(SpanMove, lambda room, size, count: code_of(
+                "core_diff", self._at, after._at, *touch, room, size, count))
         return [Move(one.first, one.pages, one.moved, getattr(one, "from"), one.to)
-                for one in _listed(SpanMove, lambda room, size, count: code_of(
-                    "core_diff", self._at, after._at, *touch, room, size, count))]
+                for one in found]
 
     def replay(self, trace: "Iterable[tuple[int, ...]]") -> list[Route]:
         """What a trace meets if no page is placed before it: the routes of its accesses, in order of
@@ -64,10 +67,12 @@ class CoreReports(Owner):
         access that can't be replayed, from 0."""
         accesses = [_access(*one) for one in trace]
         whole = (Access * max(len(accesses), 1))(*accesses)
+        with self._alone():
+            found = _listed(ToldRoute, lambda room, size, count: code_of(
+                "core_replay", self._at, whole, len(accesses), room, size, count))
         return [Route(one.task, one.cpu, one.node if one.node < NO_FRAME else None, one.accesses,
                       one.faults)
-                for one in _listed(ToldRoute, lambda room, size, count: code_of(
-                    "core_replay", self._at, whole, len(accesses), room, size, count))]
+                for one in found]
 
     def predict_text(self, task: int = 1, cpu: int = 0, free: "Mapping[int, int] | None" = None, *,
                      format: str = "json") -> Report:
@@ -76,9 +81,10 @@ class CoreReports(Owner):
         from ._reports import answered
         named = [FreePages(u64("free pages", pages), u8("a node of free", node))
                  for node, pages in (free or {}).items()]
-        room = (FreePages * max(len(named), 1))(*named)
-        return answered("core_predict_text", self._at, _question(task, cpu, format), byref(room),
-                        c_size_t(len(named)))
+        room, asked = (FreePages * max(len(named), 1))(*named), _question(task, cpu, format)
+        with self._alone():
+            return answered("core_predict_text", self._at, asked, byref(room),
+                            c_size_t(len(named)))
 
     def diff_text(self, after: CoreReports, task: int = 1, cpu: int = 0, *,
                   format: str = "text") -> Report:
@@ -87,23 +93,28 @@ class CoreReports(Owner):
         from ._reports import answered
         if after is self:
             raise ValueError("the two cores are one")
-        return answered("core_diff_text", self._at, after._at, _question(task, cpu, format))
+        asked, (first, second) = _question(task, cpu, format), in_order(self, after)
+        with first._alone(), second._alone():
+            return answered("core_diff_text", self._at, after._at, asked)
 
     def explain_text(self, page: int, task: int = 1, cpu: int = 0, *,
                      format: str = "text") -> Report:
         """Why the page of a number (address / 4096) would go where it goes, as numaplan.explain tells
         it of a script. Raises BadCpu or Unmapped."""
         from ._reports import answered
-        return answered("core_explain_text", self._at, _question(task, cpu, format),
-                        u64("page", page))
+        asked, number = _question(task, cpu, format), u64("page", page)
+        with self._alone():
+            return answered("core_explain_text", self._at, asked, number)
 
     def replay_text(self, trace: Text, *, format: str = "json") -> Report:
         """What a trace meets if no page is placed before it, as numaplan.replay tells it of a script:
         the name of a file, or its text as bytes. Raises BadAccess."""
         from ._reports import answered, read
         name, accesses = read(trace, "trace")
-        return answered("core_replay_text", self._at, accesses, c_size_t(len(accesses)),
-                        _question(0, 0, format), names={"trace": name})
+        asked = _question(0, 0, format)
+        with self._alone():
+            return answered("core_replay_text", self._at, accesses, c_size_t(len(accesses)), asked,
+                            names={"trace": name})
 
 
 def _question(task: int, cpu: int, format: str) -> Any:

@@ -5,7 +5,7 @@ from __future__ import annotations
 from ctypes import byref, c_size_t, c_uint8, c_uint64
 from typing import Iterable, Iterator, Mapping, NamedTuple, Sequence
 
-from ._calls import STILL, Owner, call, encoded, members, written
+from ._calls import STILL, encoded, members, written
 from ._core_reports import CoreReports
 from ._judged import list_of, u8, u16, u32, u64
 from ._library import Limits, PlacedPage, Span, StandingPolicy, ToldExplanation
@@ -98,7 +98,7 @@ class Core(CoreReports):
         super().__init__()
         limits = Limits(u32("max_ranges", max_ranges), u32("max_tasks", max_tasks),
                         u32("max_commands", max_commands))
-        call("core_open_by", self._at, *description(frames, distances, memory), byref(limits),
+        self._call("core_open_by", *description(frames, distances, memory), byref(limits),
              u32("workers", workers), byref(options_of(rules, orders, cpus)))
 
     @classmethod
@@ -122,64 +122,65 @@ class Core(CoreReports):
         """A core that stands as this one does, to be asked "what if": what is done to one of the
         two doesn't change the other."""
         other = Core.__new__(Core)
-        Owner.__init__(other)
-        call("core_copy", self._at, other._at)
+        self._call("core_copy", other._at)
         return other
+
+    __copy__ = copy
 
     def map(self, start: int, length: int, offset: "int | None" = None) -> None:
         """Maps `length` bytes of unmapped pages from address `start` on. The first page has the
         index `offset`, in pages; without one start / 4096, as private anonymous memory has."""
         start = u64("start", start)
         offset = start // 4096 if offset is None else u64("offset", offset)
-        call("core_map", self._at, start, u64("length", length), offset)
+        self._call("core_map", start, u64("length", length), offset)
 
     def unmap(self, start: int, length: int) -> None:
         """Unmaps the pages of `length` bytes from address `start` on, those that are mapped."""
-        call("core_unmap", self._at, u64("start", start), u64("length", length))
+        self._call("core_unmap", u64("start", start), u64("length", length))
 
     def mbind(self, start: int, length: int, policy: str) -> None:
         """Gives the pages of `length` bytes from address `start` on a policy of their own, as
         "bind:0-1" or "interleave=static:0-3" (mbind(2)); "default" takes it away."""
-        call("core_mbind", self._at, u64("start", start), u64("length", length), *encoded(policy))
+        self._call("core_mbind", u64("start", start), u64("length", length), *encoded(policy))
 
     def set_task(self, task: int, policy: str) -> None:
         """Gives a task its policy (set_mempolicy(2)); "default" takes it away."""
-        call("core_set_task", self._at, u32("task", task), *encoded(policy))
+        self._call("core_set_task", u32("task", task), *encoded(policy))
 
     def inherit(self, task: int, from_task: int) -> None:
         """Gives a task the policy that another has, or none, as a new thread has its maker's."""
-        call("core_inherit", self._at, u32("task", task), u32("from_task", from_task))
+        self._call("core_inherit", u32("task", task), u32("from_task", from_task))
 
     def set_home(self, start: int, length: int, node: int) -> None:
         """Gives the policies of the pages of `length` bytes from address `start` on a home node
         (set_mempolicy_home_node(2))."""
-        call("core_set_home", self._at, u64("start", start), u64("length", length),
+        self._call("core_set_home", u64("start", start), u64("length", length),
               u32("node", node))
 
     def set_weight(self, node: int, weight: int) -> None:
         """Gives a node its weight for weighted interleaving, from 1 to 255."""
-        call("core_set_weight", self._at, u32("node", node), u32("weight", weight))
+        self._call("core_set_weight", u32("node", node), u32("weight", weight))
 
     def set_mems(self, nodes: "str | Sequence[int]") -> None:
         """Changes the nodes on which memory may be placed, as "0-1" or [0, 1] (cpuset.mems)."""
         text = list_of("nodes", nodes)
-        call("core_set_mems", self._at, text, len(text))
+        self._call("core_set_mems", text, len(text))
 
     def publish(self) -> None:
         """Publishes all accepted commands: workers place pages by them from then on."""
-        call("core_publish", self._at)
+        self._call("core_publish")
 
     @property
     def versions(self) -> tuple[int, int]:
         """How many commands are accepted, and how many of them are published."""
         accepted, published = c_uint64(), c_uint64()
-        call("core_versions", self._at, byref(accepted), byref(published))
+        self._call("core_versions", byref(accepted), byref(published))
         return accepted.value, published.value
 
     def _range(self, place: int) -> Range:
         """The range at a place, from 0, in order of address."""
         length, found, policy = c_size_t(), Span(), (c_uint8 * 1024)()
-        call("core_range", self._at, place, byref(found), policy, 1024, byref(length))
+        self._call("core_range", place, byref(found), policy, 1024, byref(length))
         word = bytes(policy[:length.value]).decode()
         return Range(found.start, found.length, found.offset, word or None)
 
@@ -187,18 +188,19 @@ class Core(CoreReports):
         """The ranges of pages by all accepted commands that have an address from `start` to below
         `end` (bytes), in order of address: the first is found by one search. `for each in core`
         takes one after the other."""
-        return list(self._ranges(self._place_of(start), end))
+        with self._alone():
+            return list(self._ranges(self._place_of(start), end))
 
     def _place_of(self, address: int) -> int:
         """The place of the range that has an address, or else of the next one."""
         place = c_size_t()
-        call("core_range_at", self._at, u64("address", address), byref(place))
+        self._call("core_range_at", u64("address", address), byref(place))
         return place.value
 
     def _ranges(self, place: int, end: int) -> Iterator[Range]:
         """The ranges from a place on that begin below an address."""
         count = c_size_t()
-        call("core_ranges", self._at, byref(count))
+        self._call("core_ranges", byref(count))
         for each in range(place, count.value):
             found = self._range(each)
             if found.start >= end:
@@ -210,7 +212,7 @@ class Core(CoreReports):
         is seen."""
         address = 0
         while True:
-            found = next(self._ranges(self._place_of(address), 2**64 - 1), None)
+            found = self._first(address, 2**64 - 1)
             if found is None:
                 return
             yield found
@@ -218,20 +220,27 @@ class Core(CoreReports):
 
     def range_at(self, address: int) -> "Range | None":
         """The range that has an address, in one search; None where it isn't mapped."""
-        return next(self._ranges(self._place_of(address), address + 1), None)
+        return self._first(address, address + 1)
+
+    def _first(self, address: int, end: int) -> "Range | None":
+        """The first range that has an address from this one to below another."""
+        with self._alone():
+            return next(self._ranges(self._place_of(address), end), None)
 
     def policy_at(self, address: int) -> "Policy | None":
         """The policy of its own that the range of an address has; None where it has none, or the
         address isn't mapped."""
-        policy, place = StandingPolicy(), self._place_of(address)
-        if any(self._ranges(place, address + 1)):
-            call("core_range_policy", self._at, place, byref(policy))
+        policy = StandingPolicy()
+        with self._alone():
+            place = self._place_of(address)
+            if any(self._ranges(place, address + 1)):
+                self._call("core_range_policy", place, byref(policy))
         return policy_of(policy)
 
     def task_policy(self, task: int) -> "Policy | None":
         """The policy of a task; None where it has none."""
         policy = StandingPolicy()
-        call("core_task_policy", self._at, u32("task", task), byref(policy))
+        self._call("core_task_policy", u32("task", task), byref(policy))
         return policy_of(policy)
 
     def predict(self, task: int, cpu: int,
@@ -240,24 +249,24 @@ class Core(CoreReports):
         now on a CPU of node `cpu`, in order of address. By `free` nodes have so many free pages,
         and others never run out."""
         touch, counts = (u32("task", task), u32("cpu", cpu)), (c_uint64 * 256)()
-        call("core_predict", self._at, *touch, byref(counts))
-        mapped = sum(counts)
-        if not free:
-            return Prediction(_some(counts), 0, {})
         named = {u8("a node of free", node): u64("free pages", pages)
-                 for node, pages in free.items()}
+                 for node, pages in (free or {}).items()}
         room = [min(named.get(node, ALL_PAGES), ALL_PAGES) for node in range(256)]
         left = (c_uint64 * 256)(*room)
-        call("core_fill", self._at, *touch, byref(left))
+        with self._alone():
+            self._call("core_predict", *touch, byref(counts))
+            if not named:
+                return Prediction(_some(counts), 0, {})
+            self._call("core_fill", *touch, byref(left))
         taken = [before - after for before, after in zip(room, left)]
         rest = {node: pages - taken[node] for node, pages in named.items()}
-        return Prediction(_some(taken), mapped - sum(taken), rest)
+        return Prediction(_some(taken), sum(counts) - sum(taken), rest)
 
     def explain(self, task: int, page: int, cpu: int) -> Explanation:
         """Why the page of a number (address / 4096) would go where it goes by all accepted commands,
         if a task touched it now on a CPU of node `cpu`."""
         told = ToldExplanation()
-        call("core_explain", self._at, u32("task", task), u64("page", page), u32("cpu", cpu),
+        self._call("core_explain", u32("task", task), u64("page", page), u32("cpu", cpu),
              byref(told))
         turn = (told.place, told.places) if told.places else None
         return Explanation(SCOPES[told.scope], policy_of(told.policy), RULES[told.rule], told.node,
@@ -267,49 +276,50 @@ class Core(CoreReports):
         """The ranges as /proc/PID/numa_maps shows them, with the policy by which a fault of this
         task is served, and with the pages of these placements."""
         placed = (PlacedPage * max(len(placements), 1))(*map(_placed, placements))
-        return written("core_maps", self._at, u32("task", task), placed, len(placements),
-                        room=4096)
+        number = u32("task", task)
+        with self._alone():
+            return written("core_maps", self._at, number, placed, len(placements), room=4096)
 
     def touch(self, worker: int, task: int, page: int, cpu: int) -> Placement:
         """A worker places the page of a number (address / 4096) that a task touched on a CPU of
         node `cpu`: on the lowest free frame of the first node of its list that has one. Raises
         Exhausted where none has."""
         placed = PlacedPage()
-        call("core_touch", self._at, *_request(worker, task, page, cpu), byref(placed))
+        self._call("core_touch", *_request(worker, task, page, cpu), byref(placed))
         return _placement(placed)
 
     def begin(self, worker: int, task: int, page: int, cpu: int) -> None:
         """An idle worker begins to look for a frame for the page of a number (address / 4096).
         Raises Exhausted where no node of its list has a frame."""
-        call("core_begin", self._at, *_request(worker, task, page, cpu))
+        self._call("core_begin", *_request(worker, task, page, cpu))
 
     def look(self, worker: int, word: int) -> None:
         """A worker looks at the 64 frames of a word of its current node, and meets those that are
         taken. Raises Exhausted where it has then met each frame of each listed node."""
-        call("core_look", self._at, u32("worker", worker), u32("word", word))
+        self._call("core_look", u32("worker", worker), u32("word", word))
 
     def try_frame(self, worker: int, node: int, frame: int) -> "Placement | None":
         """A worker tries a frame of its current node: None where it is taken, and the worker goes
         on. Raises Exhausted as `look` does."""
         placed = PlacedPage()
-        code = call("core_try", self._at, u32("worker", worker), u8("node", node),
+        code = self._call("core_try", u32("worker", worker), u8("node", node),
                      u16("frame", frame), byref(placed))
         return None if code == STILL else _placement(placed)
 
     def give(self, worker: int, node: int, frame: int) -> None:
         """A worker gives one of its frames back."""
-        call("core_give", self._at, u32("worker", worker), u8("node", node), u16("frame", frame))
+        self._call("core_give", u32("worker", worker), u8("node", node), u16("frame", frame))
 
     def compile(self) -> Plan:
         """The plan of all accepted commands."""
         plan = Plan()
-        call("core_compile", self._at, plan._at)
+        self._call("core_compile", plan._at)
         return plan
 
     def published_plan(self) -> Plan:
         """The plan of the published commands, by which workers place pages."""
         plan = Plan()
-        call("core_plan", self._at, plan._at)
+        self._call("core_plan", plan._at)
         return plan
 
 

@@ -5,11 +5,12 @@ from __future__ import annotations
 from ctypes import byref, c_size_t, c_uint8, c_uint64
 from typing import Iterator, NamedTuple, Sequence
 
-from ._calls import Owner, call, encoded, members
+from ._calls import encoded, members
 from ._cores import Policy, Range, policy_of
 from ._judged import list_of, u32, u64
 from ._library import Limits, NodeSet, Span, StandingPolicy, ToldGroup, ToldProcess
 from ._machines import description, options_of, read_hardware
+from ._owners import Owner
 from ._plans import Plan
 
 
@@ -46,7 +47,7 @@ class Host(Owner):
         super().__init__()
         limits = Limits(u32("max_ranges", max_ranges), u32("max_tasks", max_tasks),
                         u32("max_commands", max_commands))
-        call("host_open", self._at, *description(frames, distances, memory), byref(limits),
+        self._call("host_open", *description(frames, distances, memory), byref(limits),
              byref(options_of(rules, orders, cpus)))
 
     @classmethod
@@ -65,69 +66,70 @@ class Host(Owner):
         """A host that stands as this one does, to be asked "what if": what is done to one of the
         two doesn't change the other."""
         other = Host.__new__(Host)
-        Owner.__init__(other)
-        call("host_copy", self._at, other._at)
+        self._call("host_copy", other._at)
         return other
+
+    __copy__ = copy
 
     @property
     def version(self) -> int:
         """How many commands are accepted."""
         version = c_uint64()
-        call("host_version", self._at, byref(version))
+        self._call("host_version", byref(version))
         return version.value
 
     # ---- groups
 
     def new_group(self, group: int, parent: int = 0) -> None:
         """Makes a group below another, without a list of its own; the root is 0."""
-        call("host_new_group", self._at, u32("group", group), u32("parent", parent))
+        self._call("host_new_group", u32("group", group), u32("parent", parent))
 
     def set_group_mems(self, group: int, nodes: "str | Sequence[int] | None") -> None:
         """Gives a group a list of its own, as "0-1" or [0, 1] (cpuset.mems); None takes it away.
         The policies of each process whose allowed nodes change follow, in all or in none."""
         if nodes is None:
-            call("host_unset_group_mems", self._at, u32("group", group))
+            self._call("host_unset_group_mems", u32("group", group))
         else:
             text = list_of("nodes", nodes)
-            call("host_set_group_mems", self._at, u32("group", group), text, len(text))
+            self._call("host_set_group_mems", u32("group", group), text, len(text))
 
     def group_nodes(self, group: int) -> list[int]:
         """The effective nodes of a group (cpuset.mems.effective), which its processes are allowed:
         those of its list that its parent has effectively; its parent's, where there are none."""
         nodes = NodeSet()
-        call("host_group_nodes", self._at, u32("group", group), byref(nodes))
+        self._call("host_group_nodes", u32("group", group), byref(nodes))
         return members(nodes)
 
     def groups(self) -> list[Group]:
         """The groups below the root, the newest first."""
-        count, told = c_size_t(), ToldGroup()
-        call("host_groups", self._at, byref(count))
-        found = []
-        for place in range(count.value):
-            call("host_group", self._at, place, byref(told))
-            mems = members(told.mems) if told.has_mems else None
-            found.append(Group(told.group, told.parent, mems))
+        count, told, found = c_size_t(), ToldGroup(), []
+        with self._alone():
+            self._call("host_groups", byref(count))
+            for place in range(count.value):
+                self._call("host_group", place, byref(told))
+                mems = members(told.mems) if told.has_mems else None
+                found.append(Group(told.group, told.parent, mems))
         return found
 
     # ---- processes
 
     def new_process(self, process: int, group: int = 0) -> None:
         """Makes a process in a group: nothing is mapped, no task has a policy."""
-        call("host_new_process", self._at, u32("process", process), u32("group", group))
+        self._call("host_new_process", u32("process", process), u32("group", group))
 
     def fork(self, parent: int, child: int, from_task: int, task: int) -> None:
         """Makes a copy of a process, in its group, whose task `task` has the policy that
         `from_task` has in the parent (fork(2)). It keeps the policies of all tasks."""
-        call("host_fork", self._at, u32("parent", parent), u32("child", child),
+        self._call("host_fork", u32("parent", parent), u32("child", child),
              u32("from_task", from_task), u32("task", task))
 
     def attach(self, process: int, group: int) -> None:
         """Moves a process to another group (cgroup.procs); its policies follow."""
-        call("host_attach", self._at, u32("process", process), u32("group", group))
+        self._call("host_attach", u32("process", process), u32("group", group))
 
     def exit(self, process: int) -> None:
         """Ends a process; its number is free."""
-        call("host_exit", self._at, u32("process", process))
+        self._call("host_exit", u32("process", process))
 
     def processes(self) -> list[Process]:
         """The processes, the first born first. `for each in host` takes one after the other."""
@@ -136,7 +138,7 @@ class Host(Owner):
     def __len__(self) -> int:
         """How many processes there are."""
         count = c_size_t()
-        call("host_processes", self._at, byref(count))
+        self._call("host_processes", byref(count))
         return count.value
 
     def __bool__(self) -> bool:
@@ -145,51 +147,52 @@ class Host(Owner):
     def __iter__(self) -> Iterator[Process]:
         """The processes, the first born first, as they are at its beginning."""
         found, told = [], ToldProcess()
-        for place in range(len(self)):
-            call("host_process", self._at, place, byref(told))
-            found.append(Process(told.process, told.group))
+        with self._alone():
+            for place in range(len(self)):
+                self._call("host_process", place, byref(told))
+                found.append(Process(told.process, told.group))
         return iter(found)
 
     # ---- commands of one process, and of all
 
     def set_weight(self, node: int, weight: int) -> None:
         """Gives a node its weight for weighted interleaving, for every process, from 1 to 255."""
-        call("host_set_weight", self._at, u32("node", node), u32("weight", weight))
+        self._call("host_set_weight", u32("node", node), u32("weight", weight))
 
     def map(self, process: int, start: int, length: int, offset: "int | None" = None) -> None:
         """Maps `length` bytes of unmapped pages of a process from address `start` on; as
         Core.map."""
         start = u64("start", start)
         offset = start // 4096 if offset is None else u64("offset", offset)
-        call("host_map", self._at, u32("process", process), start, u64("length", length), offset)
+        self._call("host_map", u32("process", process), start, u64("length", length), offset)
 
     def unmap(self, process: int, start: int, length: int) -> None:
         """Unmaps the pages of `length` bytes of a process from address `start` on, those that are
         mapped."""
-        call("host_unmap", self._at, u32("process", process), u64("start", start),
+        self._call("host_unmap", u32("process", process), u64("start", start),
              u64("length", length))
 
     def mbind(self, process: int, start: int, length: int, policy: str) -> None:
         """Gives the pages of `length` bytes of a process from address `start` on a policy of their
         own, as "bind:0-1" (mbind(2)); "default" takes it away."""
-        call("host_mbind", self._at, u32("process", process), u64("start", start),
+        self._call("host_mbind", u32("process", process), u64("start", start),
              u64("length", length), *encoded(policy))
 
     def set_task(self, process: int, task: int, policy: str) -> None:
         """Gives a task of a process its policy (set_mempolicy(2)); "default" takes it away."""
-        call("host_set_task", self._at, u32("process", process), u32("task", task),
+        self._call("host_set_task", u32("process", process), u32("task", task),
              *encoded(policy))
 
     def inherit(self, process: int, task: int, from_task: int) -> None:
         """Gives a task of a process the policy that another has, or none, as a new thread has its
         maker's."""
-        call("host_inherit", self._at, u32("process", process), u32("task", task),
+        self._call("host_inherit", u32("process", process), u32("task", task),
              u32("from_task", from_task))
 
     def set_home(self, process: int, start: int, length: int, node: int) -> None:
         """Gives the policies of the pages of `length` bytes of a process from address `start` on a
         home node (set_mempolicy_home_node(2))."""
-        call("host_set_home", self._at, u32("process", process), u64("start", start),
+        self._call("host_set_home", u32("process", process), u64("start", start),
              u64("length", length), u32("node", node))
 
     # ---- questions to one process
@@ -199,32 +202,33 @@ class Host(Owner):
         touches the page of this number (address / 4096) on a CPU of node `cpu`. Raises BadCpu,
         Unmapped."""
         found, count = (c_uint8 * 256)(), c_size_t()
-        call("host_choice", self._at, u32("process", process), u32("task", task),
+        self._call("host_choice", u32("process", process), u32("task", task),
              u64("page", page), u32("cpu", cpu), found, 256, byref(count))
         return list(found[:count.value])
 
     def compile(self, process: int) -> Plan:
         """The plan of all that a process has accepted, which answers as a core's does."""
         plan = Plan()
-        call("host_compile", self._at, u32("process", process), plan._at)
+        self._call("host_compile", u32("process", process), plan._at)
         return plan
 
     def ranges(self, process: int) -> list[Range]:
         """The ranges of pages of a process, in order of address."""
         number, count = u32("process", process), c_size_t()
-        call("host_ranges", self._at, number, byref(count))
-        return [self._range(number, place) for place in range(count.value)]
+        with self._alone():
+            self._call("host_ranges", number, byref(count))
+            return [self._range(number, place) for place in range(count.value)]
 
     def _range(self, process: int, place: int) -> Range:
         """The range of a process at a place, from 0, in order of address."""
         length, found, policy = c_size_t(), Span(), (c_uint8 * 1024)()
-        call("host_range", self._at, process, place, byref(found), policy, 1024, byref(length))
+        self._call("host_range", process, place, byref(found), policy, 1024, byref(length))
         word = bytes(policy[:length.value]).decode()
         return Range(found.start, found.length, found.offset, word or None)
 
     def task_policy(self, process: int, task: int) -> "Policy | None":
         """The policy of a task of a process; None where it has none."""
         policy = StandingPolicy()
-        call("host_task_policy", self._at, u32("process", process), u32("task", task),
+        self._call("host_task_policy", u32("process", process), u32("task", task),
              byref(policy))
         return policy_of(policy)

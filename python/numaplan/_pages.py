@@ -5,11 +5,12 @@ from __future__ import annotations
 from ctypes import byref, c_size_t, c_uint32, c_uint64
 from typing import NamedTuple, Sequence
 
-from ._calls import Owner, call, encoded
+from ._calls import call, encoded
 from ._causes import NoRoom, NotPlaced
 from ._cores import Core
 from ._judged import list_of, u32, u64
 from ._library import PagesInRow, ToldBound, ToldMoves
+from ._owners import Owner
 
 ENDLESS = 2**64 - 1  # (NP_ENDLESS)
 
@@ -51,7 +52,8 @@ class Pages(Owner):
     def __init__(self, core: Core):
         """A copy of a core: its pages lie nowhere yet, and no node ever fills."""
         super().__init__()
-        call("pages_open", self._at, core._at)
+        with core._alone():
+            self._call("pages_open", core._at)
 
     def _shown(self) -> str:
         return f" of version {self.version}, {sum(self.counts().values())} pages"
@@ -60,22 +62,22 @@ class Pages(Owner):
         """The same once more, to be asked "what if": what is done to one of the two doesn't change
         the other."""
         other = Pages.__new__(Pages)
-        Owner.__init__(other)
-        call("pages_copy", self._at, other._at)
+        self._call("pages_copy", other._at)
         return other
+
+    __copy__ = copy
 
     def core(self) -> Core:
         """A copy of the core, for plans, ranges, reports and all else that a core is asked."""
         core = Core.__new__(Core)
-        Owner.__init__(core)
-        call("pages_core", self._at, core._at)
+        self._call("pages_core", core._at)
         return core
 
     @property
     def version(self) -> int:
         """How many commands are accepted."""
         version = c_uint64()
-        call("pages_version", self._at, byref(version))
+        self._call("pages_version", byref(version))
         return version.value
 
     # ---- commands of the core: no page moves by them
@@ -84,69 +86,69 @@ class Pages(Owner):
         """Maps `length` bytes of unmapped pages from address `start` on; as Core.map."""
         start = u64("start", start)
         offset = start // 4096 if offset is None else u64("offset", offset)
-        call("pages_map", self._at, start, u64("length", length), offset)
+        self._call("pages_map", start, u64("length", length), offset)
 
     def unmap(self, start: int, length: int) -> None:
         """Unmaps the pages of `length` bytes from address `start` on, those that are mapped; then
         nothing is stated of them any more."""
-        call("pages_unmap", self._at, u64("start", start), u64("length", length))
+        self._call("pages_unmap", u64("start", start), u64("length", length))
 
     def mbind(self, start: int, length: int, policy: str, *, strict: bool = False) -> None:
         """Gives the pages of `length` bytes from address `start` on a policy of their own, as
         "bind:0-1" (mbind(2)); "default" takes it away. If `strict`, raises Astray where one of them
         lies on a node that isn't in the policy's list as it is written (MPOL_MF_STRICT)."""
         name = "pages_mbind_strictly" if strict else "pages_mbind"
-        call(name, self._at, u64("start", start), u64("length", length), *encoded(policy))
+        self._call(name, u64("start", start), u64("length", length), *encoded(policy))
 
     def set_task(self, task: int, policy: str) -> None:
         """Gives a task its policy (set_mempolicy(2)); "default" takes it away."""
-        call("pages_set_task", self._at, u32("task", task), *encoded(policy))
+        self._call("pages_set_task", u32("task", task), *encoded(policy))
 
     def inherit(self, task: int, from_task: int) -> None:
         """Gives a task the policy that another has, or none, as a new thread has its maker's."""
-        call("pages_inherit", self._at, u32("task", task), u32("from_task", from_task))
+        self._call("pages_inherit", u32("task", task), u32("from_task", from_task))
 
     def set_home(self, start: int, length: int, node: int) -> None:
         """Gives the policies of the pages of `length` bytes from address `start` on a home node
         (set_mempolicy_home_node(2))."""
-        call("pages_set_home", self._at, u64("start", start), u64("length", length),
+        self._call("pages_set_home", u64("start", start), u64("length", length),
              u32("node", node))
 
     def set_weight(self, node: int, weight: int) -> None:
         """Gives a node its weight for weighted interleaving, from 1 to 255."""
-        call("pages_set_weight", self._at, u32("node", node), u32("weight", weight))
+        self._call("pages_set_weight", u32("node", node), u32("weight", weight))
 
     def set_mems(self, nodes: "str | Sequence[int]") -> None:
         """Changes the nodes on which memory may be placed, as "0-1" or [0, 1] (cpuset.mems). The
         pages stay where they lie, as in a cpuset of cgroup v1 without memory_migrate."""
         text = list_of("nodes", nodes)
-        call("pages_set_mems", self._at, text, len(text))
+        self._call("pages_set_mems", text, len(text))
 
     # ---- where pages lie, and how many more a node takes
 
     def place(self, start: int, length: int, node: int) -> None:
         """States that the mapped pages of `length` bytes from address `start` on lie on a node; a
         later statement counts."""
-        call("pages_place", self._at, u64("start", start), u64("length", length),
+        self._call("pages_place", u64("start", start), u64("length", length),
              u32("node", node))
 
     def set_room(self, node: int, pages: "int | None") -> None:
         """Says how many more pages a node takes: each page that moves there takes one, and each that
         moves away gives one back; `place` takes none. None, as at first: it never fills."""
         room = ENDLESS if pages is None else u64("pages", pages)
-        call("pages_set_room", self._at, u32("node", node), room)
+        self._call("pages_set_room", u32("node", node), room)
 
     def room(self, node: int) -> "int | None":
         """How many more pages a node takes; None where it never fills."""
         room = c_uint64()
-        call("pages_room", self._at, u32("node", node), byref(room))
+        self._call("pages_room", u32("node", node), byref(room))
         return None if room.value == ENDLESS else room.value
 
     def node_of(self, address: int) -> "int | None":
         """The node on which the page of an address lies; None where it lies nowhere."""
         node = c_uint32()
         try:
-            call("pages_node", self._at, u64("address", address), byref(node))
+            self._call("pages_node", u64("address", address), byref(node))
         except NotPlaced:
             return None
         return node.value
@@ -154,7 +156,7 @@ class Pages(Owner):
     def counts(self) -> dict[int, int]:
         """How many pages lie on each node that has some."""
         counts = (c_uint64 * 256)()
-        call("pages_counts", self._at, byref(counts))
+        self._call("pages_counts", byref(counts))
         return {node: pages for node, pages in enumerate(counts) if pages}
 
     def runs(self) -> list[PageRun]:
@@ -163,7 +165,7 @@ class Pages(Owner):
         while True:
             found = (PagesInRow * room)()
             try:
-                call("pages_runs", self._at, found, room, byref(count))
+                self._call("pages_runs", found, room, byref(count))
             except NoRoom:
                 room = count.value
                 continue
@@ -175,19 +177,19 @@ class Pages(Owner):
         """Changes the nodes on which memory may be placed, as "0-1" or [0, 1], and moves the pages
         along, as in a cpuset of cgroup v2, or of v1 with memory_migrate."""
         text, told = list_of("nodes", nodes), ToldMoves()
-        call("pages_move_mems", self._at, text, len(text), byref(told))
+        self._call("pages_move_mems", text, len(text), byref(told))
         return _moved(told)
 
     def migrate(self, old: "str | Sequence[int]", new: "str | Sequence[int]") -> Moved:
         """Moves pages from the nodes of one list to the allowed nodes of another
         (migrate_pages(2))."""
         before, after, told = list_of("old", old), list_of("new", new), ToldMoves()
-        call("pages_migrate", self._at, before, len(before), after, len(after), byref(told))
+        self._call("pages_migrate", before, len(before), after, len(after), byref(told))
         return _moved(told)
 
     def move(self, address: int, node: int) -> None:
         """Moves the page of an address to a node (move_pages(2)); a page that lies there stays."""
-        call("pages_move", self._at, u64("address", address), u32("node", node))
+        self._call("pages_move", u64("address", address), u32("node", node))
 
     def mbind_moving(self, start: int, length: int, policy: str, task: int, cpu: int, *,
                      strict: bool = False) -> Bound:
@@ -197,7 +199,7 @@ class Pages(Owner):
         where the machine has no such node. If `strict`, that pages stayed is told as EIO
         (MPOL_MF_STRICT too; "default" drops it)."""
         told = ToldBound()
-        call("pages_mbind_moving", self._at, u64("start", start), u64("length", length),
+        self._call("pages_mbind_moving", u64("start", start), u64("length", length),
              *encoded(policy), strict, u32("task", task), u32("cpu", cpu), byref(told))
         return Bound(told.moved, told.left, told.error)
 

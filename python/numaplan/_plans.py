@@ -5,9 +5,10 @@ from __future__ import annotations
 from ctypes import byref, c_size_t, c_uint8, c_uint32, c_uint64, memmove
 from typing import TYPE_CHECKING, Iterable, Iterator, SupportsIndex
 
-from ._calls import Owner, call, untyped
+from ._calls import untyped
 from ._causes import refusal
 from ._judged import bytes_to_write, u32, u64
+from ._owners import Owner
 
 if TYPE_CHECKING:
     from _typeshed import WriteableBuffer
@@ -25,20 +26,22 @@ class Plan(Owner):
     def version(self) -> int:
         """How many accepted commands it was made of."""
         version = c_uint64()
-        call("plan_version", self._at, byref(version))
+        self._call("plan_version", byref(version))
         return version.value
 
     def share(self) -> Plan:
-        """The same plan, for another thread."""
+        """The same plan, for a thread that isn't to wait for calls of this one."""
         other = Plan()
-        call("plan_share", self._at, other._at)
+        self._call("plan_share", other._at)
         return other
+
+    __copy__ = share
 
     def choice(self, task: int, page: int, cpu: int) -> list[int]:
         """The nodes on which memory is looked for, the first first, when `task` touches the page of
         this number (address / 4096) on a CPU of node `cpu`. Raises BadCpu, Unmapped."""
         found, count = (c_uint8 * 256)(), c_size_t()
-        call("plan_choice", self._at, u32("task", task), u64("page", page), u32("cpu", cpu),
+        self._call("plan_choice", u32("task", task), u64("page", page), u32("cpu", cpu),
               found, 256, byref(count))
         return list(found[:count.value])
 
@@ -51,11 +54,12 @@ class Plan(Owner):
         numbers = [u64("a number of pages", page) for page in pages]
         found = (c_uint8 * max(len(numbers), 1))()
         fill, touch = untyped("plan_fill"), (c_uint32(u32("task", task)), c_uint32(u32("cpu", cpu)))
-        for begin, count in _runs(numbers):
-            first = c_uint64(numbers[begin] if count else 0)
-            code = fill(self._at, *touch, first, byref(found, begin), c_size_t(count))
-            if code:
-                raise refusal(code)
+        with self._alone():
+            for begin, count in _runs(numbers):
+                first = c_uint64(numbers[begin] if count else 0)
+                code = fill(self._at, *touch, first, byref(found, begin), c_size_t(count))
+                if code:
+                    raise refusal(code)
         into = bytearray(len(numbers)) if nodes is None else nodes
         place, room = bytes_to_write("nodes", into)
         if room != len(numbers):
@@ -70,14 +74,14 @@ class Plan(Owner):
         from number `first` on as it has bytes. Another buffer is a TypeError. Raises BadCpu,
         Unmapped."""
         place, count = bytes_to_write("nodes", nodes)
-        call("plan_fill", self._at, u32("task", task), u32("cpu", cpu), u64("first", first), place,
+        self._call("plan_fill", u32("task", task), u32("cpu", cpu), u64("first", first), place,
               count)
 
     def counts(self, task: int, cpu: int, first: int, pages: int) -> dict[int, int]:
         """How many of so many pages from number `first` on have each node first, for each node that
         is first of some. The time doesn't grow with the pages. Raises BadCpu, Unmapped."""
         counts = (c_uint64 * 256)()
-        call("plan_counts", self._at, u32("task", task), u32("cpu", cpu), u64("first", first),
+        self._call("plan_counts", u32("task", task), u32("cpu", cpu), u64("first", first),
               u64("pages", pages), byref(counts))
         return {node: count for node, count in enumerate(counts) if count}
 

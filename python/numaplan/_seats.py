@@ -3,12 +3,12 @@
 from __future__ import annotations
 
 from ctypes import byref, c_size_t
-from typing import NamedTuple, Sequence
+from typing import NamedTuple, NoReturn, Sequence
 
-from ._calls import Owner, call
 from ._judged import u8, u8s, u16
 from ._library import TakenFrame
 from ._machines import description
+from ._owners import Owner, in_order
 
 
 class Frame(NamedTuple):
@@ -30,26 +30,28 @@ class Seat(Owner):
         """The first seat at new pools of a machine's frames, described as for a core."""
         super().__init__()
         self._pools = object()
-        call("seat_open", self._at, *description(frames, distances, memory))
+        self._call("seat_open", *description(frames, distances, memory))
 
     def split(self) -> Seat:
         """A seat at the same pools, for another thread; it holds nothing."""
         other = Seat.__new__(Seat)
-        Owner.__init__(other)
         other._pools = self._pools
-        call("seat_split", self._at, other._at)
+        self._call("seat_split", other._at)
         return other
+
+    def __copy__(self) -> NoReturn:
+        raise TypeError("a Seat can't be copied, since one alone holds a frame: split it")
 
     def take(self, nodes: Sequence[int]) -> Frame:
         """Takes a free frame of the first of the listed nodes that has one; raises AllTaken where
         each frame of each was found taken."""
         frame, rank, listed = TakenFrame(), c_size_t(), u8s("nodes", nodes)
-        call("seat_take", self._at, listed, len(listed), byref(frame), byref(rank))
+        self._call("seat_take", listed, len(listed), byref(frame), byref(rank))
         return Frame(frame.node, frame.number, rank.value)
 
     def give(self, node: int, number: int) -> None:
         """Gives back a frame; raises NotOwned where the seat doesn't hold it."""
-        call("seat_give", self._at, u8("node", node), u16("number", number))
+        self._call("seat_give", u8("node", node), u16("number", number))
 
     def migrate(self, node: int, number: int, to: int) -> Frame:
         """Exchanges a frame that the seat holds for one of the node `to`, as for a page that moves
@@ -57,7 +59,7 @@ class Seat(Owner):
         seat doesn't hold the frame, AllTaken where each frame of the node was found taken; the seat
         then holds what it held."""
         frame = TakenFrame()
-        call("seat_migrate", self._at, u8("node", node), u16("number", number), u8("to", to),
+        self._call("seat_migrate", u8("node", node), u16("number", number), u8("to", to),
              byref(frame))
         return Frame(frame.node, frame.number, 0)
 
@@ -65,5 +67,7 @@ class Seat(Owner):
         """Gets the frames that another seat at the same pools holds, which is closed."""
         if other is self or other._pools is not self._pools:
             raise ValueError("not another seat at the same pools")
-        call("seat_join", self._at, other._at)
-        other._is_closed = True
+        first, second = in_order(self, other)
+        with first._alone(), second._alone():
+            self._call("seat_join", other._at)
+            other._is_closed = True
