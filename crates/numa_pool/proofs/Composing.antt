@@ -1,14 +1,12 @@
 -- A walk of one node after a walk of others is a walk of them all.
 use Rattle.std.proofs.Common.{◌≡◌, ◌≢◌, ℕ, zero, suc, ◌+◌, ◌<◌, ◌≤◌, List, [], ◌∷◌, ◌++◌, length}
-use Rattle.std.proofs.Common.{take, drop, get_or, Bool, true, false, refl, sym, ap, ◌∙◌, subst}
-use Rattle.std.proofs.Common.{⊎_elim, inl, inr, arith, ne_eqb, append_assoc, append-nil}
+use Rattle.std.proofs.Common.{take, Bool, true, false, refl, sym, ap, ◌∙◌, subst}
+use Rattle.std.proofs.Common.{inl, inr, arith, ne_eqb, append_assoc, append-nil}
 use Rattle.std.specs.Prelude.{Option, Some, None, IsSome}
 use Rattle.std.proofs.lemmas.List.{length-append}
 use Rattle.std.proofs.Math.Seq.{get_or-append_seam, take-append_seam}
 use Rattle.std.specs.Prelude.{slice_index, ◌==◌, ◌&&◌, ◌||◌}
 use native.Mathlib.Decide.{ℕ_discrete}
-use Rattle.std.proofs.Math.Seq.{drop-cons}
-use Rattle.std.proofs.lemmas.List.{take-append-drop, take_more}
 use Rattle.numa_machine.specs.declared.frame.Frame.{Frame}
 use Rattle.numa_pool.specs.declared.view.Entry.{Entry}
 use Rattle.numa_pool.specs.declared.view.Entry.TheVariants.{Load, Won, Lost, Gave}
@@ -16,7 +14,7 @@ use Rattle.numa_pool.specs.Frames.{is_frame, one_if}
 use Rattle.numa_pool.specs.Walk.{shows, met, IsFull, HasUnmet, IsCurrent, AllFull, IsNext, Searches}
 use Rattle.numa_pool.specs.Walk.{Exhausts, Wins, IsWalk, WalksInOrder, is_load, loads_of, LoadsOnce}
 use Rattle.numa_pool.specs.Walk.{IsDistinct}
-use Rattle.numa_pool.proofs.StepLemmas.{and_false_first}
+use Rattle.numa_pool.proofs.Totals.{and_false_first}
 use Rattle.numa_pool.proofs.Searching.{or_false, or_last}
 
 -- the node is none of these
@@ -186,15 +184,6 @@ module _ (frames : List ℕ) where
         (full_on es ns m [] new so_far fs h.1.0, tt),
   )
 
-pub wins_node : (frames : List ℕ) (m : ℕ) (f : Frame) (gs : List Entry) → Wins frames (m ∷ []) f gs
-    → m ≡ f.node
-wins_node frames m f [] h = absurd h
-wins_node frames m f (e ∷ fs) h = ⊎_elim (λ t. t.0) (λ t. absurd t.1) h.2.0
-
-pub row_split : (row : List ℕ) (r : ℕ) → r < length row → take r row ++ get_or row r 0
-    ∷ drop (suc r) row ≡ row
-row_split row r l = ap (λ xs. take r row ++ xs) (sym (drop-cons row r 0 l)) ∙ take-append-drop r row
-
 new_in : (m : ℕ) (ns : List ℕ) (r : ℕ) → r ≤ length ns → ((i : ℕ) → i < r → slice_index ns i ≢ m)
     → IsNew m (take r ns)
 new_in m ns zero l h = tt
@@ -202,7 +191,7 @@ new_in m [] (suc r) l h = absurd (omega arith)
 new_in m (n ∷ ns) (suc r) l h =
     (h 0 (omega arith), new_in m ns r (omega arith) (λ i k. h (suc i) (omega arith)))
 
-pub new_at : (ns : List ℕ) (r : ℕ) → r < length ns → IsDistinct ns
+new_at : (ns : List ℕ) (r : ℕ) → r < length ns → IsDistinct ns
     → IsNew (slice_index ns r) (take r ns)
 new_at ns r l d = new_in (slice_index ns r) ns r (omega arith) (λ i k. d i r 0 k l)
 
@@ -244,35 +233,3 @@ composes frames (n ∷ ns) done es so_far once distinct found later (inr t) =
     subst (λ (p : List ℕ × List Entry). IsWalk frames p.0 found p.1 × LoadsOnce p.1)
     (λ i. (append_assoc done (n ∷ []) ns i, whole i))
     (composes frames ns (done ++ n ∷ []) (first ++ es) searched once_each apart found t.1 t.5)
-
--- A loop over a list of nodes: before it, nothing was searched
-pub walk_begins : (frames nodes : List ℕ) → Exhausts frames (take 0 nodes) [] × LoadsOnce []
-walk_begins frames nodes = ((tt, tt), λ n w. omega arith)
-
--- one more of the nodes was searched, and nothing was won
-pub walk_goes_on : (frames nodes : List ℕ) (rank : ℕ) → rank < length nodes → IsDistinct nodes
-    → (es fs : List Entry) → Exhausts frames (take rank nodes) es → LoadsOnce es
-    → Exhausts frames (slice_index nodes rank ∷ []) fs → LoadsOnce fs
-    → Exhausts frames (take (rank + 1) nodes) (fs ++ es) × LoadsOnce (fs ++ es)
-walk_goes_on frames nodes rank l distinct es fs so_far once later once_later =
-    let new = new_at nodes rank l distinct in (
-      subst (λ (ns : List ℕ). Exhausts frames ns (fs ++ es)) (sym (take_more nodes rank 0 l))
-          (exhausts_on frames es (take rank nodes) (slice_index nodes rank) new so_far fs later),
-      once_after_loss frames es (take rank nodes) (slice_index nodes rank) [] new so_far fs once
-          once_later later.0,
-    )
-
--- a frame was won on the node of this rank
-pub walk_ends : (frames nodes : List ℕ) (rank : ℕ) → rank < length nodes → IsDistinct nodes
-    → (es fs : List Entry) (f : Frame) → Exhausts frames (take rank nodes) es → LoadsOnce es
-    → Wins frames (slice_index nodes rank ∷ []) f fs → LoadsOnce fs → Wins frames nodes f (fs ++ es)
-    × LoadsOnce (fs ++ es) × (slice_index nodes rank ≡ f.node)
-walk_ends frames nodes rank l distinct es fs f so_far once won once_later =
-    let new = new_at nodes rank l distinct in
-    let rest = drop (suc rank) nodes in (
-      subst (λ (ns : List ℕ). Wins frames ns f (fs ++ es)) (row_split nodes rank l)
-          (wins_on frames es (take rank nodes) (slice_index nodes rank) rest new so_far f fs won),
-      once_after_win frames es (take rank nodes) (slice_index nodes rank) rest new so_far f fs once
-          once_later won,
-      wins_node frames (slice_index nodes rank) f fs won,
-    )

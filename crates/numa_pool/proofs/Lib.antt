@@ -1,3 +1,7 @@
+pub mod Ordering
+pub mod Splitting
+pub mod Joining
+pub mod Totals
 pub mod StepLemmas
 pub mod Searching
 pub mod Marking
@@ -8,3 +12,4 @@ pub mod Ruling
 pub mod Winning
 pub mod Closing
 pub mod Walking
+pub mod Whole

@@ -12,12 +12,14 @@ use lib.ListN.{length-replicate}
 use mir.Syntax.{w64}
 use Rattle.numa_machine.specs.declared.frame.Frame.{Frame}
 use Rattle.numa_pool.specs.Frames.{frame_of, is_frame, one_if, times, bit_in, without}
-use Rattle.numa_pool.specs.Rule.{Counted}
+use Rattle.numa_pool.specs.Order.{Kept}
+use Rattle.numa_pool.proofs.Ordering.{opens_order}
 use Rattle.numa_pool.specs.Seats.{Marks}
 use Rattle.numa_pool.specs.Steps.{newcomer, frame_at}
-use Rattle.numa_pool.proofs.StepLemmas.{Changed, changes, frame_at-is, times_append}
-use Rattle.numa_pool.proofs.StepLemmas.{times_without-here, times_without-else, times_without-le}
-use Rattle.numa_pool.proofs.StepLemmas.{is_frame-same}
+use Rattle.numa_pool.proofs.Totals.{Changed, changes, times_append}
+use Rattle.numa_pool.proofs.StepLemmas.{frame_at-is}
+use Rattle.numa_pool.proofs.Totals.{times_without-here, times_without-else, times_without-le}
+use Rattle.numa_pool.proofs.Totals.{is_frame-same}
 
 frame_here : (n k : ℕ) → k < 4096 → frame_at (64 * n + k / 64) (k % 64) ≡ frame_of n k
 frame_here n k low = let whole : 64 * (k / 64) + k % 64 ≡ k = omega arith in
@@ -108,9 +110,12 @@ none_in words clear n k = ap (λ y. bit_at y (k % 64)) (clear (64 * n + k / 64))
     ∙ bit_at-zero (k % 64)
 
 pub opens : (frames words : List ℕ) → length words ≡ 64 * length frames
-    → ((i : ℕ) → slice_index words i ≡ 0) → Counted frames words (newcomer ∷ [])
-opens frames words wide clear =
-    record { wide = wide; exact = λ n k l. none_in words clear n k; past = λ n k l. refl }
+    → ((i : ℕ) → slice_index words i ≡ 0) → Kept frames words (newcomer ∷ [])
+opens frames words wide clear = record {
+  counts =
+      record { wide = wide; exact = λ n k l. none_in words clear n k; past = λ n k l. refl };
+  in_order = opens_order frames words wide clear;
+}
 
 -- words that were joined bit by bit
 pub joined : (old other now : List ℕ) → length old ≡ length other → length now ≡ length other

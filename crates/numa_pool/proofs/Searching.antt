@@ -13,7 +13,7 @@ use Rattle.numa_pool.specs.declared.view.Entry.TheVariants.{Load, Won, Lost}
 use Rattle.numa_pool.specs.Frames.{frame_of, is_frame, one_if}
 use Rattle.numa_pool.specs.Search.{Reached, Within, WonSince}
 use Rattle.numa_pool.specs.Walk.{shows, met, IsNext, Exhausts, loads_of, LoadsOnce}
-use Rattle.numa_pool.proofs.StepLemmas.{and_true, and_false, and_false_first}
+use Rattle.numa_pool.proofs.Totals.{and_true, and_false, and_false_first}
 
 pub or_false : (a b : Bool) → a ≡ false → (a || b) ≡ b
 or_false true b e = absurd (cc)

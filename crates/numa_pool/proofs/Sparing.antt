@@ -7,7 +7,7 @@ use Rattle.numa_pool.specs.declared.view.Entry.{Entry}
 use Rattle.numa_pool.specs.declared.view.Entry.TheVariants.{Load, Won, Lost, Gave}
 use Rattle.numa_pool.specs.Frames.{is_frame, one_if}
 use Rattle.numa_pool.specs.Walk.{shows, met, Searches, Wins, IsWalk, tries_of, TriesOnce}
-use Rattle.numa_pool.proofs.StepLemmas.{is_frame-same}
+use Rattle.numa_pool.proofs.Totals.{is_frame-same}
 
 abbrev Once : List Entry → ℕ → ℕ → Type 0
 Once es n k = (tries_of n k es ≤ 1) × (met es n k ≡ false → tries_of n k es ≡ 0)

@@ -1,273 +1,35 @@
 -- Each step keeps the rule.
-use Rattle.std.proofs.Common.{◌≡◌, ◌≢◌, ◌⊎◌, ℕ, zero, suc, ◌+◌, ◌*◌, ◌/◌, ◌%◌, ◌^◌, ◌<◌, ◌≤◌, List}
-use Rattle.std.proofs.Common.{[], ◌∷◌, ◌++◌, length, set, inl, inr, Bool, true, false, cond, refl}
-use Rattle.std.proofs.Common.{sym, ap, ◌∙◌, subst, arith, length-set, get_or-set_other}
-use Rattle.std.proofs.Common.{get_or-set_same, eq-eqb, ne_eqb, eqb-true}
-use Rattle.std.specs.Prelude.{slice_index, ◌==◌, ◌&&◌, bit_or, bit_and}
+use Rattle.std.proofs.Common.{◌≡◌, ◌⊎◌, ℕ, ◌+◌, ◌*◌, ◌/◌, ◌%◌, ◌^◌, ◌<◌, ◌≤◌, List}
+use Rattle.std.proofs.Common.{length, set, inl, inr, true, false, refl}
+use Rattle.std.proofs.Common.{sym, ap, ◌∙◌, subst, arith}
+use Rattle.std.specs.Prelude.{slice_index, slice_set, ◌==◌, bit_or, bit_and}
 use Rattle.std.specs.Int.{bit_at, bit_not}
 use Rattle.std.proofs.lemmas.List.{set-get_or}
 use Rattle.std.proofs.lemmas.Nat.{one_shl, pow_below}
 use Rattle.std.proofs.lemmas.Nat.Bits.{bit_at-lt, bit_at_set_same, bit_at_set_other}
 use Rattle.std.proofs.lemmas.Nat.Bits.{bit_at_clear_same, bit_at_clear_other, bit_at-pow_same}
 use Rattle.std.proofs.lemmas.Nat.Bits.{bit_at-pow_other}
-use mathlib.Core.Option.{some, none, some-ne-none, some-injective}
-use native.Mathlib.Decide.{ℕ_discrete}
+use mathlib.Core.Option.{some, none}
+use native.Mathlib.Decide.{ℕ_discrete, dec_le}
 use lib.ListN.{get_elem?}
 use mir.Syntax.{w64}
 use Rattle.atomic_table.specs.Table.{State, Me, step, keeps, Allows, Splits, Joins}
-use Rattle.numa_machine.specs.declared.frame.Frame.{Frame}
-use Rattle.numa_pool.specs.declared.view.Entry.TheVariants.{Load}
+use Rattle.numa_pool.specs.declared.view.Entry.TheVariants.{Load, Won, Lost, Gave}
 use Rattle.numa_pool.specs.declared.view.View.{View}
-use Rattle.numa_pool.specs.Frames.{frame_of, is_frame, one_if, times, bit_in, without}
-use Rattle.numa_pool.specs.Rule.{total, holdings, Counted}
-use Rattle.numa_pool.specs.Steps.{newcomer, with_entry, after_try, after_give, after_split}
-use Rattle.numa_pool.specs.Steps.{after_join, frame_at, IsLook, IsAttempt, IsReturn}
+use Rattle.numa_pool.specs.Frames.{frame_of, times, bit_in, IsOnce}
+use Rattle.numa_pool.specs.Order.{InOrder, Kept, word_of, mask_of}
+use Rattle.numa_pool.proofs.Joining.{joins_order}
+use Rattle.numa_pool.proofs.Ordering.{logs_step, checks_order}
+use Rattle.numa_pool.proofs.Splitting.{splits_order}
+use Rattle.numa_pool.specs.Rule.{holdings, Counted}
+use Rattle.numa_pool.specs.Steps.{newborn, newcomer, spent, with_entry, after_try, after_give}
+use Rattle.numa_pool.specs.Steps.{after_split}
+use Rattle.numa_pool.specs.Steps.{after_join, after_check, frame_at, IsLook, IsCheck, IsAttempt}
+use Rattle.numa_pool.specs.Steps.{IsReturn}
+use Rattle.numa_pool.proofs.Totals.{total_set, stays, wins, loses, gives_up, counts_split}
+use Rattle.numa_pool.proofs.Totals.{counts_join}
 
--- the total after a change of one view
-pub total_set : (h : View → ℕ) (views : List View) (id : ℕ) (v w : View)
-    → get_elem? views id ≡ some v → total h (set views id w) + h v ≡ total h views + h w
-total_set h [] id v w e = absurd (some-ne-none v (sym e))
-total_set h (x ∷ xs) zero v w e = let same : h x ≡ h v = ap h (some-injective x v e) in omega arith
-total_set h (x ∷ xs) (suc id) v w e = let rest = total_set h xs id v w e in omega arith
-
-pub total_snoc : (h : View → ℕ) (views : List View) (w : View) → total h (views ++ w ∷ [])
-    ≡ total h views + h w
-total_snoc h [] w = omega arith
-total_snoc h (x ∷ xs) w = let rest = total_snoc h xs w in omega arith
-
-pub times_append : (n k : ℕ) (fs gs : List Frame) → times n k (fs ++ gs) ≡ times n k fs + times n k
-    gs
-times_append n k [] gs = omega arith
-times_append n k (f ∷ fs) gs = let rest = times_append n k fs gs in omega arith
-
-module _ (frames words : List ℕ) (views : List View) (id : ℕ) (v : View)
-    (at : get_elem? views id ≡ some v) (r : Counted frames words views) where
-  -- a step that writes one word and changes one view
-  pub moves : (i x : ℕ) (w : View)
-      → ((n k : ℕ) → k < 4096 → bit_in (set words i x) n k + times n k v.held ≡ bit_in words n k
-      + times n k w.held)
-      → ((n k : ℕ) → slice_index frames n ≤ k → times n k w.held ≤ times n k v.held)
-      → Counted frames (set words i x) (set views id w)
-  moves i x w exact past = record {
-    wide = length-set words i x ∙ r.wide;
-    exact = λ n k low.
-        let t = total_set (λ u. times n k u.held) views id v w at in
-        let before = r.exact n k low in
-        let now = exact n k low in
-        omega arith;
-    past = λ n k high.
-        let t = total_set (λ u. times n k u.held) views id v w at in
-        let before = r.past n k high in
-        let now = past n k high in
-        omega arith;
-  }
-
-  -- a step that changes neither words nor frames
-  pub stays : (i : ℕ) (w : View) → w.held ≡ v.held
-      → Counted frames (set words i (slice_index words i)) (set views id w)
-  stays i w same = moves i (slice_index words i) w
-      (λ n k low.
-      let words_same = ap (λ ws. bit_in ws n k) (set-get_or words i 0) in
-      let t = ap (times n k) same in
-      omega arith)
-      (λ n k high. let t = ap (times n k) same in omega arith)
-
-pub and_true : (a b : Bool) → a ≡ true → b ≡ true → (a && b) ≡ true
-and_true true b p q = q
-and_true false b p q = p
-
-pub and_false : (a b : Bool) → b ≡ false → (a && b) ≡ false
-and_false true b q = q
-and_false false b q = refl
-
-pub and_false_first : (a b : Bool) → a ≡ false → (a && b) ≡ false
-and_false_first true b q = absurd (cc)
-and_false_first false b q = refl
-
--- the frame of bit b of the word i is the frame k of node n just where word and bit are the same
-place_no_word : (n k i b : ℕ) → k < 4096 → b < 64 → 64 * n + k / 64 ≢ i → Dec (i / 64 ≡ n)
-    → is_frame (frame_at i b) n k ≡ false
-place_no_word n k i b low small apart (yes e) = and_false (i / 64 == n) (64 * (i % 64) + b == k)
-    (ne_eqb (64 * (i % 64) + b) k (λ h. apart (omega arith)))
-place_no_word n k i b low small apart (no e) =
-    and_false_first (i / 64 == n) (64 * (i % 64) + b == k) (ne_eqb (i / 64) n e)
-
-abbrev Placed : ℕ → ℕ → ℕ → ℕ → Type 0
-Placed n k i b = ((64 * n + k / 64 ≡ i) × (k % 64 ≡ b) × (is_frame (frame_at i b) n k ≡ true))
-    ⊎ (((64 * n + k / 64 ≢ i) ⊎ (k % 64 ≢ b)) × (is_frame (frame_at i b) n k ≡ false))
-
-place : (n k i b : ℕ) → k < 4096 → b < 64 → Dec (64 * n + k / 64 ≡ i) → Dec (k % 64 ≡ b)
-    → Placed n k i b
-place n k i b low small (yes e) (yes d) =
-    inl (
-      e,
-      d,
-      and_true (i / 64 == n) (64 * (i % 64) + b == k) (eq-eqb (i / 64) n (omega arith))
-          (eq-eqb (64 * (i % 64) + b) k (omega arith)),
-    )
-place n k i b low small (no e) d =
-    inr (inl e, place_no_word n k i b low small e (ℕ_discrete (i / 64) n))
-place n k i b low small (yes e) (no d) =
-    inr (
-      inr d,
-      and_false (i / 64 == n) (64 * (i % 64) + b == k)
-          (ne_eqb (64 * (i % 64) + b) k (λ h. d (omega arith))),
-    )
-
-pub is_frame-same : (f : Frame) (n k : ℕ) → is_frame f n k ≡ true → (f.node ≡ n) × (f.number ≡ k)
-is_frame-same f n k t = pick (f.node == n) (f.number == k) refl refl t
-  where
-    pick : (a c : Bool) → (f.node == n) ≡ a → (f.number == k) ≡ c → (a && c) ≡ true → (f.node ≡ n)
-        × (f.number ≡ k)
-    pick true true p q t = (eqb-true f.node n p, eqb-true f.number k q)
-    pick true false p q t = absurd (cc)
-    pick false c p q t = absurd (cc)
-
-pub times_without-here : (n k : ℕ) (fs : List Frame) → times n k (without n k fs) ≡ 0
-times_without-here n k [] = refl
-times_without-here n k (f ∷ fs) = pick (is_frame f n k) refl (times_without-here n k fs)
-  where
-    pick : (a : Bool) → is_frame f n k ≡ a → times n k (without n k fs) ≡ 0
-        → times n k (cond a (without n k fs) (f ∷ without n k fs)) ≡ 0
-    pick true e rest = rest
-    pick false e rest = let zero_w : one_if (is_frame f n k) ≡ 0 = ap one_if e in omega arith
-
-pub times_without-else : (m j n k : ℕ) (fs : List Frame) → is_frame (frame_of m j) n k ≡ false
-    → times n k (without m j fs) ≡ times n k fs
-times_without-else m j n k [] apart = refl
-times_without-else m j n k (f ∷ fs) apart =
-    pick (is_frame f m j) refl (times_without-else m j n k fs apart)
-  where
-    pick : (a : Bool) → is_frame f m j ≡ a → times n k (without m j fs) ≡ times n k fs
-        → times n k (cond a (without m j fs) (f ∷ without m j fs)) ≡ one_if (is_frame f n k) + times
-        n k fs
-    pick true e rest =
-        let same = is_frame-same f m j e in
-        let zero_w : one_if (is_frame f n k) ≡ 0 =
-        ap one_if
-        (subst (λ (y : ℕ × ℕ). is_frame (frame_of y.0 y.1) n k ≡ false)
-        (λ c. (sym same.0 c, sym same.1 c)) apart) in
-        omega arith
-    pick false e rest = omega arith
-
-pub times_without-le : (m j n k : ℕ) (fs : List Frame) → times n k (without m j fs) ≤ times n k fs
-times_without-le m j n k [] = omega arith
-times_without-le m j n k (f ∷ fs) = pick (is_frame f m j) (times_without-le m j n k fs)
-  where
-    pick : (a : Bool) → times n k (without m j fs) ≤ times n k fs
-        → times n k (cond a (without m j fs) (f ∷ without m j fs)) ≤ one_if (is_frame f n k) + times
-        n k fs
-    pick true rest = omega arith
-    pick false rest = omega arith
-
--- what a change of the bit b of the word i does to the bit of a frame
-abbrev pub Changed : List ℕ → ℕ → ℕ → ℕ → ℕ → ℕ → Type 0
-Changed words i b x n k =
-    ((is_frame (frame_at i b) n k ≡ true) × (bit_in (set words i x) n k ≡ bit_at x b)
-    × (bit_in words n k ≡ bit_at (slice_index words i) b))
-    ⊎ ((is_frame (frame_at i b) n k ≡ false) × (bit_in (set words i x) n k ≡ bit_in words n k))
-
-pub changes : (words : List ℕ) (i b x : ℕ) → i < length words → b < 64
-    → ((j : ℕ) → j < 64 → j ≢ b → bit_at x j ≡ bit_at (slice_index words i) j) → (n k : ℕ)
-    → k < 4096 → Changed words i b x n k
-changes words i b x inside small others n k low =
-    from (place n k i b low small (ℕ_discrete (64 * n + k / 64) i) (ℕ_discrete (k % 64) b))
-  where
-    here : 64 * n + k / 64 ≡ i → slice_index (set words i x) (64 * n + k / 64) ≡ x
-    here e = ap (slice_index (set words i x)) e ∙ get_or-set_same words i x 0 inside
-
-    far : Dec (64 * n + k / 64 ≡ i) → ((64 * n + k / 64 ≢ i) ⊎ (k % 64 ≢ b))
-        → bit_in (set words i x) n k ≡ bit_in words n k
-    far (no e) d = ap (λ y. bit_at y (k % 64)) (get_or-set_other words i (64 * n + k / 64) x 0 e)
-    far (yes e) (inl d) = absurd (d e)
-    far (yes e) (inr d) = ap (λ y. bit_at y (k % 64)) (here e) ∙ others (k % 64) (omega arith) d
-        ∙ ap (λ j. bit_at (slice_index words j) (k % 64)) (sym e)
-
-    from : Placed n k i b → Changed words i b x n k
-    from (inl t) = inl (
-      t.2,
-      ap (λ y. bit_at y (k % 64)) (here t.0) ∙ ap (bit_at x) t.1,
-      ap (λ j. bit_at (slice_index words j) (k % 64)) t.0 ∙ ap (bit_at (slice_index words i)) t.1,
-    )
-    from (inr t) = inr (t.1, far (ℕ_discrete (64 * n + k / 64) i) t.0)
-
-module _ (frames words : List ℕ) (views : List View) (id : ℕ) (v : View)
-    (at : get_elem? views id ≡ some v) (r : Counted frames words views) (i b : ℕ)
-    (inside : i < 64 * length frames) (small : b < 64) where
-  within : i < length words
-  within = let w = r.wide in omega arith
-
-  -- how the frame counts at the frame k of node n
-  abbrev weight : ℕ → ℕ → ℕ
-  weight n k = one_if (is_frame (frame_at i b) n k)
-
-  -- a try that found the frame free
-  pub wins : (x : ℕ) → bit_at (slice_index words i) b ≡ 0 → bit_at x b ≡ 1
-      → ((j : ℕ) → j < 64 → j ≢ b → bit_at x j ≡ bit_at (slice_index words i) j)
-      → 64 * (i % 64) + b < slice_index frames (i / 64)
-      → Counted frames (set words i x) (set views id (after_try v (frame_at i b) true))
-  wins x clear now others there = moves frames words views id v at r i x
-      (after_try v (frame_at i b) true)
-      (λ n k low. exact n k (changes words i b x within small others n k low))
-      (λ n k high. let zero_w : weight n k ≡ 0 =
-      ap one_if (apart n k high (ℕ_discrete (i / 64) n) (ℕ_discrete (64 * (i % 64) + b) k)) in
-      omega arith)
-    where
-      exact : (n k : ℕ) → Changed words i b x n k → bit_in (set words i x) n k + times n k v.held
-          ≡ bit_in words n k + (weight n k + times n k v.held)
-      exact n k (inl t) = let one : weight n k ≡ 1 = ap one_if t.0 in rw (t.1, t.2) (omega arith)
-      exact n k (inr t) = let zero_w : weight n k ≡ 0 = ap one_if t.0 in rw (t.1) (omega arith)
-
-      apart : (n k : ℕ) → slice_index frames n ≤ k → Dec (i / 64 ≡ n) → Dec (64 * (i % 64) + b ≡ k)
-          → is_frame (frame_at i b) n k ≡ false
-      apart n k high (yes e) (yes d) = let h : slice_index frames (i / 64) ≤ k =
-          subst (λ m. slice_index frames m ≤ k) (sym e) high in absurd (omega arith)
-      apart n k high (yes e) (no d) = and_false (i / 64 == n) (64 * (i % 64) + b == k)
-          (ne_eqb (64 * (i % 64) + b) k d)
-      apart n k high (no e) d = and_false_first (i / 64 == n) (64 * (i % 64) + b == k)
-          (ne_eqb (i / 64) n e)
-
-  -- a try that found the frame taken
-  pub loses : (x : ℕ) → bit_at x b ≡ bit_at (slice_index words i) b
-      → ((j : ℕ) → j < 64 → j ≢ b → bit_at x j ≡ bit_at (slice_index words i) j)
-      → Counted frames (set words i x) (set views id (after_try v (frame_at i b) false))
-  loses x same others = moves frames words views id v at r i x (after_try v (frame_at i b) false)
-      (λ n k low. exact n k (changes words i b x within small others n k low))
-      (λ n k high. omega arith)
-    where
-      exact : (n k : ℕ) → Changed words i b x n k → bit_in (set words i x) n k + times n k v.held
-          ≡ bit_in words n k + times n k v.held
-      exact n k (inl t) = ap (λ y. y + times n k v.held) (t.1 ∙ same ∙ sym t.2)
-      exact n k (inr t) = ap (λ y. y + times n k v.held) t.1
-
-  -- the frame is given up
-  pub gives_up : (x : ℕ) → 0 < times (i / 64) (64 * (i % 64) + b) v.held → bit_at x b ≡ 0
-      → ((j : ℕ) → j < 64 → j ≢ b → bit_at x j ≡ bit_at (slice_index words i) j)
-      → Counted frames (set words i x) (set views id (after_give v (frame_at i b)))
-  gives_up x mine now others = moves frames words views id v at r i x (after_give v (frame_at i b))
-      (λ n k low. exact n k low (changes words i b x within small others n k low))
-      (λ n k high. times_without-le (i / 64) (64 * (i % 64) + b) n k v.held)
-    where
-      exact : (n k : ℕ) → k < 4096 → Changed words i b x n k
-          → bit_in (set words i x) n k + times n k v.held ≡ bit_in words n k + times n k
-          (without (i / 64) (64 * (i % 64) + b) v.held)
-      exact n k low (inl t) =
-          let same = is_frame-same (frame_at i b) n k t.0 in
-          let some_held : 0 < times n k v.held = subst (λ (y : ℕ × ℕ). 0 < times y.0 y.1 v.held)
-          (λ c. (same.0 c, same.1 c)) mine in
-          let gone : times n k (without (i / 64) (64 * (i % 64) + b) v.held) ≡ 0 =
-          subst (λ (y : ℕ × ℕ). times n k (without y.0 y.1 v.held) ≡ 0)
-          (λ c. (sym same.0 c, sym same.1 c)) (times_without-here n k v.held) in
-          let most = total_set (λ u. times n k u.held) views id v newcomer at in
-          let before : bit_in words n k ≡ holdings n k views = r.exact n k low in
-          let one : bit_in words n k < 2 = bit_at-lt (slice_index words (64 * n + k / 64))
-          (k % 64) in
-          let zero_w : bit_in (set words i x) n k ≡ 0 = t.1 ∙ now in
-          rw (zero_w, gone) (omega arith)
-      exact n k low (inr t) =
-          rw (t.1, times_without-else (i / 64) (64 * (i % 64) + b) n k v.held t.0) refl
-
-pow_same : (b k : ℕ) → 2 ^ b ≡ 2 ^ k → b ≡ k
+pub pow_same : (b k : ℕ) → 2 ^ b ≡ 2 ^ k → b ≡ k
 pow_same b k e = pick (ℕ_discrete k b)
   where
     pick : Dec (k ≡ b) → b ≡ k
@@ -286,14 +48,95 @@ is_bit n k = pick (ℕ_discrete (bit_at n k) 0)
     pick (yes e) = inl e
     pick (no e) = let l = bit_at-lt n k in inr (omega arith)
 
-module _ {S : Type 0} (frames : List ℕ) (slots id : ℕ) (me : Me S View) (i : ℕ) where
-  abbrev Rule : State S View → Type 0
-  Rule s = Counted frames s.words s.views
+-- a frame that one seat holds is held
+mine_held : (views : List View) (id : ℕ) (v : View) → get_elem? views id ≡ some v → (n k : ℕ)
+    → 0 < times n k v.held → 0 < holdings n k views
+mine_held views id v at n k mine =
+    let most = total_set (λ u. times n k u.held) views id v newcomer at in omega arith
 
-  pub looks : Allows Rule slots id me i (λ n. n) (IsLook (step slots i 0 0 none) me)
-  looks s r deep at fits = let w =
-      with_entry me.0 (Load (i / 64) (i % 64) (slice_index s.words i)) in
-      (w, keeps, tt, stays frames s.words s.views id me.0 at r i w refl, refl)
+-- the bit of a frame that a seat holds is set, and it is a frame of its node
+set_and_inside : (frames words : List ℕ) (views : List View) (id : ℕ) (v : View)
+    → get_elem? views id ≡ some v → Counted frames words views → (n k : ℕ) → k < 4096
+    → 0 < times n k v.held → (k < slice_index frames n) × (bit_in words n k ≡ 1)
+set_and_inside frames words views id v at r n k low mine = (
+  by (dec_le (slice_index frames n) k),
+  (let e = r.exact n k low in let l : bit_in words n k < 2 = bit_at-lt _ _ in let m =
+      mine_held views id v at n k mine in omega arith),
+)
+  where
+    by : Dec (slice_index frames n ≤ k) → k < slice_index frames n
+    by (no d) = omega arith
+    by (yes high) = let e = r.past n k high in let m = mine_held views id v at n k mine in
+        absurd (omega arith)
+
+-- no seat holds a frame twice
+held_once : (frames words : List ℕ) (views : List View) (id : ℕ) (v : View)
+    → get_elem? views id ≡ some v → Counted frames words views
+    → ((n : ℕ) → slice_index frames n ≤ 4096) → IsOnce v.held
+held_once frames words views id v at r few n k = by (dec_le 4096 k)
+  where
+    by : Dec (4096 ≤ k) → times n k v.held ≤ 1
+    by (yes d) = let l = few n in let p = r.past n k (omega arith) in let m =
+        total_set (λ u. times n k u.held) views id v newcomer at in omega arith
+    by (no d) = let e = r.exact n k (omega arith) in let l : bit_in words n k < 2 =
+        bit_at-lt _ _ in let m = total_set (λ u. times n k u.held) views id v newcomer at in
+        omega arith
+
+pub word_is : (i b : ℕ) → b < 64 → word_of (frame_at i b) ≡ i
+word_is i b small = omega arith
+
+pub mask_is : (i b : ℕ) → b < 64 → mask_of (frame_at i b) ≡ 1 * 2 ^ b % 2 ^ 64
+mask_is i b small = let e : (64 * (i % 64) + b) % 64 ≡ b = omega arith in
+    ap (λ y. 2 ^ y) e ∙ sym (one_shl b 64 small)
+
+bit_is : (words : List ℕ) (i b : ℕ) → b < 64
+    → bit_in words (i / 64) (64 * (i % 64) + b) ≡ bit_at (slice_index words i) b
+bit_is words i b small =
+    let w : 64 * (i / 64) + (64 * (i % 64) + b) / 64 ≡ i = omega arith in
+    let e : (64 * (i % 64) + b) % 64 ≡ b = omega arith in
+    λ j. bit_at (slice_index words (w j)) (e j)
+
+module _ {S : Type 0} (frames : List ℕ) (slots id : ℕ) (me : Me S View) (live : me.0.gone ≡ false)
+    (i : ℕ) where
+  abbrev Rule : State S View → Type 0
+  Rule s = Kept frames s.words s.views
+
+  unchanged : (words : List ℕ) → set words i (slice_index words i) ≡ words
+  unchanged words = set-get_or words i 0
+
+  pub looks : i < 64 * length frames
+      → Allows Rule slots id me i (λ n. n) (IsLook (step slots i 0 0 none) me)
+  looks inside s r deep at fits =
+      let e = Load (i / 64) (i % 64) (slice_index s.words i) in
+      let w = with_entry me.0 e in
+      let place : i ≡ 64 * (i / 64) + i % 64 = omega arith in (
+        w,
+        keeps,
+        tt,
+        record {
+          counts = stays frames s.words s.views id me.0 at r.counts i w refl;
+          in_order = subst (λ (ws : List ℕ). InOrder frames ws (set s.views id w))
+              (sym (unchanged s.words))
+              (logs_step frames s.words s.views id me.0 at live r.in_order e w
+              (omega arith, omega arith, ap (slice_index s.words) place) refl refl);
+        },
+        refl,
+      )
+
+  pub checks : ((n : ℕ) → slice_index frames n ≤ 4096)
+      → Allows Rule slots id me i (λ n. n) (IsCheck (step slots i 0 0 none) me)
+  checks few s r deep at fits = let w = after_check me.0 in (
+    w,
+    keeps,
+    tt,
+    record {
+      counts = stays frames s.words s.views id me.0 at r.counts i w refl;
+      in_order = subst (λ (ws : List ℕ). InOrder frames ws (set s.views id w))
+          (sym (unchanged s.words))
+          (checks_order frames s.words s.views id me.0 at live r.in_order);
+    },
+    (refl, held_once frames s.words s.views id me.0 at r.counts few),
+  )
 
   module _ (inside : i < 64 * length frames) (b : ℕ) (small : b < 64) where
     abbrev set_mask : ℕ
@@ -317,16 +160,50 @@ module _ {S : Type 0} (frames : List ℕ) (slots id : ℕ) (me : Me S View) (i :
         (set s.views id (after (slice_index s.words i)))
     rules there s r at (inl e) =
         rw e
-        (wins frames s.words s.views id me.0 at r i b inside small
+        (wins frames s.words s.views id me.0 at r.counts i b inside small
         (bit_or (slice_index s.words i) set_mask) e
         (bit_at_set_same w64 (slice_index s.words i) b small)
         (λ j l d. bit_at_set_other w64 (slice_index s.words i) b small j d) there)
     rules there s r at (inr e) =
         rw e
-        (loses frames s.words s.views id me.0 at r i b inside small
+        (loses frames s.words s.views id me.0 at r.counts i b inside small
         (bit_or (slice_index s.words i) set_mask)
         (bit_at_set_same w64 (slice_index s.words i) b small ∙ sym e)
         (λ j l d. bit_at_set_other w64 (slice_index s.words i) b small j d))
+
+    set_so : (words : List ℕ)
+        → slice_set words (word_of (frame_at i b))
+        (bit_or (slice_index words (word_of (frame_at i b))) (mask_of (frame_at i b)))
+        ≡ set words i (bit_or (slice_index words i) set_mask)
+    set_so words = λ c.
+        set words (word_is i b small c)
+        (bit_or (slice_index words (word_is i b small c)) (mask_is i b small c))
+
+    cleared_so : (words : List ℕ)
+        → slice_set words (word_of (frame_at i b))
+        (bit_and (slice_index words (word_of (frame_at i b)))
+        (bit_not w64 (mask_of (frame_at i b))))
+        ≡ set words i (bit_and (slice_index words i) clear_mask)
+    cleared_so words = λ c.
+        set words (word_is i b small c)
+        (bit_and (slice_index words (word_is i b small c)) (bit_not w64 (mask_is i b small c)))
+
+    orders : 64 * (i % 64) + b < slice_index frames (i / 64) → (s : State S View) → Rule s
+        → get_elem? s.views id ≡ some me.0 → Bit (bit_at (slice_index s.words i) b)
+        → InOrder frames (set s.words i (bit_or (slice_index s.words i) set_mask))
+        (set s.views id (after (slice_index s.words i)))
+    orders there s r at (inl e) =
+        rw e
+        (subst (λ (ws : List ℕ). InOrder frames ws
+        (set s.views id (after_try me.0 (frame_at i b) true))) (set_so s.words)
+        (logs_step frames s.words s.views id me.0 at live r.in_order (Won (frame_at i b))
+        (after_try me.0 (frame_at i b) true) (there, bit_is s.words i b small ∙ e) refl refl))
+    orders there s r at (inr e) =
+        rw e
+        (subst (λ (ws : List ℕ). InOrder frames ws
+        (set s.views id (after_try me.0 (frame_at i b) false))) (set_so s.words)
+        (logs_step frames s.words s.views id me.0 at live r.in_order (Lost (frame_at i b))
+        (after_try me.0 (frame_at i b) false) (there, bit_is s.words i b small ∙ e) refl refl))
 
     abbrev Free : ℕ → ℕ → Type 0
     Free x j = bit_at x j ≡ 0 → times (i / 64) (64 * (i % 64) + j) me.0.held ≡ 0
@@ -341,7 +218,7 @@ module _ {S : Type 0} (frames : List ℕ) (slots id : ℕ) (me : Me S View) (i :
         λ j. bit_at (slice_index s.words (word_is j)) (bit_is j) in
         let rest = total_set (λ u. times (i / 64) (64 * (i % 64) + b) u.held) s.views id me.0
         newcomer at in
-        let now = r.exact (i / 64) (64 * (i % 64) + b) (omega arith) in
+        let now = r.counts.exact (i / 64) (64 * (i % 64) + b) (omega arith) in
         omega arith
 
     told : (x : ℕ) → Free x b → IsAttempt (step slots i set_mask 0 none) me x (after x, me.1)
@@ -355,7 +232,10 @@ module _ {S : Type 0} (frames : List ℕ) (slots id : ℕ) (me : Me S View) (i :
       after (slice_index s.words i),
       keeps,
       tt,
-      rules there s r at (is_bit (slice_index s.words i) b),
+      record {
+        counts = rules there s r at (is_bit (slice_index s.words i) b);
+        in_order = orders there s r at (is_bit (slice_index s.words i) b);
+      },
       told (slice_index s.words i) (free s r at),
     )
 
@@ -375,47 +255,34 @@ module _ {S : Type 0} (frames : List ℕ) (slots id : ℕ) (me : Me S View) (i :
       after_give me.0 (frame_at i b),
       keeps,
       tt,
-      gives_up frames s.words s.views id me.0 at r i b inside small
-          (bit_and (slice_index s.words i) clear_mask) mine
-          (bit_at_clear_same w64 (slice_index s.words i) b small)
-          (λ j l d. bit_at_clear_other w64 (slice_index s.words i) b small j l d),
+      record {
+        counts = gives_up frames s.words s.views id me.0 at r.counts i b inside small
+            (bit_and (slice_index s.words i) clear_mask) mine
+            (bit_at_clear_same w64 (slice_index s.words i) b small)
+            (λ j l d. bit_at_clear_other w64 (slice_index s.words i) b small j l d);
+        in_order = subst (λ (ws : List ℕ). InOrder frames ws
+            (set s.views id (after_give me.0 (frame_at i b)))) (cleared_so s.words)
+            (logs_step frames s.words s.views id me.0 at live r.in_order (Gave (frame_at i b))
+            (after_give me.0 (frame_at i b))
+            (set_and_inside frames s.words s.views id me.0 at r.counts (i / 64)
+            (64 * (i % 64) + b) (omega arith) mine) refl refl);
+      },
       told_gave (slice_index s.words i),
     )
 
-pub splits : {S : Type 0} (frames : List ℕ) (id : ℕ) (v : View)
-    → Splits {S = S} (λ s. Counted frames s.words s.views) id v (after_split v) newcomer
-splits frames id v s r at = record {
-  wide = r.wide;
-  exact = λ n k low.
-      let t = total_snoc (λ u. times n k u.held) (set s.views id (after_split v)) newcomer in
-      let u = total_set (λ u. times n k u.held) s.views id v (after_split v) at in
-      let b = r.exact n k low in
-      omega arith;
-  past = λ n k high.
-      let t = total_snoc (λ u. times n k u.held) (set s.views id (after_split v)) newcomer in
-      let u = total_set (λ u. times n k u.held) s.views id v (after_split v) at in
-      let b = r.past n k high in
-      omega arith;
+pub splits : {S : Type 0} (frames : List ℕ) (id : ℕ) (v : View) → v.gone ≡ false
+    → Splits {S = S} (λ s. Kept frames s.words s.views) id v (after_split v) (newborn v)
+splits frames id v live s r at = record {
+  counts = counts_split frames s.words s.views id v at r.counts;
+  in_order = splits_order frames s.words s.views id v at live r.in_order;
 }
 
 pub joins : {S : Type 0} (frames : List ℕ) (id : ℕ) (v : View) (other : ℕ) (w : View)
-    → Joins {S = S} (λ s. Counted frames s.words s.views) id v other w (after_join v w) newcomer
-joins frames id v other w s r at apart there = record {
-  wide = r.wide;
-  exact = λ n k low.
-      let t = total_set (λ u. times n k u.held) s.views id v (after_join v w) at in
-      let u = total_set (λ u. times n k u.held) (set s.views id (after_join v w)) other w newcomer
-      there in
-      let both = times_append n k v.held w.held in
-      let b = r.exact n k low in
-      omega arith;
-  past = λ n k high.
-      let t = total_set (λ u. times n k u.held) s.views id v (after_join v w) at in
-      let u = total_set (λ u. times n k u.held) (set s.views id (after_join v w)) other w newcomer
-      there in
-      let both = times_append n k v.held w.held in
-      let b = r.past n k high in
-      omega arith;
+    → v.gone ≡ false → w.gone ≡ false
+    → Joins {S = S} (λ s. Kept frames s.words s.views) id v other w (after_join v w) spent
+joins frames id v other w live fit s r at apart there = record {
+  counts = counts_join frames s.words s.views id v at other w there r.counts;
+  in_order = joins_order frames s.words s.views id v at live r.in_order other w apart there fit;
 }
 
 pub node_of_word : (n w : ℕ) → w < 64 → (64 * n + w) / 64 ≡ n

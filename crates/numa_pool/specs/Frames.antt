@@ -1,6 +1,6 @@
 -- Frames, lists of them, and the bits that stand for them.
 -- Each node has 64 words. Frame k of node n is bit k % 64 of word 64 * n + k / 64.
-use Rattle.std.specs.Prelude.{ℕ, zero, suc, ◌+◌, ◌*◌, ◌/◌, ◌%◌, ◌<◌, ◌==◌, ◌&&◌, Bool}
+use Rattle.std.specs.Prelude.{ℕ, zero, suc, ◌+◌, ◌*◌, ◌/◌, ◌%◌, ◌<◌, ◌≤◌, ◌==◌, ◌&&◌, Bool}
 use Rattle.std.specs.Prelude.{cond, List, [], ◌∷◌, slice_index, Option, Some, None}
 use Rattle.std.specs.Int.{bit_at}
 use Rattle.numa_machine.specs.declared.frame.Frame.{Frame}
@@ -19,6 +19,10 @@ one_if b = cond b 1 0
 abbrev pub times : ℕ → ℕ → List Frame → ℕ
 times n k [] = 0
 times n k (f ∷ fs) = one_if (is_frame f n k) + times n k fs
+
+-- no frame is among these twice
+abbrev pub IsOnce : List Frame → Type 0
+IsOnce held = (n k : ℕ) → times n k held ≤ 1
 
 -- how many of these are frames of node n
 abbrev pub held_on : ℕ → List Frame → ℕ

@@ -1,6 +1,7 @@
 pub mod Frames
 pub mod Steps
 pub mod Rule
+pub mod Order
 pub mod Walk
 pub mod Search
 pub mod Seats

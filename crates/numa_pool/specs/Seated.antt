@@ -1,11 +1,12 @@
 -- What a seat that carries its pools shows, and what its calls do.
-use Rattle.std.specs.Prelude.{◌≡◌, ℕ, ◌+◌, ◌<◌, ◌++◌, Bool, true, false, List, [], ◌∷◌, IsTrue, ◌↔◌}
+use Rattle.std.specs.Prelude.{◌≡◌, ℕ, ◌<◌, ◌++◌, Bool, true, false, List, [], ◌∷◌, IsTrue, ◌↔◌}
 use Rattle.std.specs.Prelude.{Option, Some, None, IfSome, slice_get, slice_index, Result, Ok, Err}
 use Rattle.std.specs.Option.{option_map}
 use Rattle.atomic_table.specs.Seated.{TableId}
 use Rattle.numa_machine.specs.declared.frame.Frame.{Frame}
 use Rattle.numa_pool.specs.Frames.{with_found, times, without, Holds}
 use Rattle.numa_pool.specs.Seats.{SeatView}
+use Rattle.numa_pool.specs.Steps.{no_other, one_other, one_split, split_off, joined}
 use Rattle.numa_pool.specs.Walk.{WalksInOrder, IsWalk, LoadsOnce, TriesOnce}
 use Rattle.numa_pool.specs.declared.view.Entry.{Entry}
 use Rattle.numa_pool.specs.declared.view.Entry.TheVariants.{Gave}
@@ -21,23 +22,31 @@ pub record Seated : Type 0 where
 abbrev pub at_first : List ℕ → TableId → Seated
 at_first counts pools = record {
   frames = counts;
-  seat = record { table = pools; held = []; log = []; unlogged = 0 };
+  seat = record { table = pools; held = []; log = []; unlogged = no_other };
 }
 
 -- such a seat at the same pools
 abbrev pub newcomer : Seated → Seated
-newcomer s = at_first s.frames s.seat.table
+newcomer s = record {
+  frames = s.frames;
+  seat = record {
+    table = s.seat.table;
+    held = [];
+    log = [];
+    unlogged = split_off s.seat.unlogged;
+  };
+}
 
 -- after a split: one step more, which the log leaves out
 abbrev pub seat_after_split : Seated → Seated
-seat_after_split s = record s { seat = record s.seat { unlogged = s.seat.unlogged + 1 } }
+seat_after_split s = record s { seat = record s.seat { unlogged = one_split s.seat.unlogged } }
 
--- after a join: the frames of both, and one step more, which the log leaves out
+-- after a join: the frames of both, and two steps more, which the log leaves out
 abbrev pub seat_after_join : Seated → Seated → Seated
 seat_after_join s other = record s {
   seat = record s.seat {
     held = s.seat.held ++ other.seat.held;
-    unlogged = s.seat.unlogged + 1;
+    unlogged = one_other (joined s.seat.unlogged other.seat.log other.seat.unlogged);
   };
 }
 

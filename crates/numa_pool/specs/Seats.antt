@@ -6,6 +6,7 @@ use lib.ListN.{get_elem?}
 use Rattle.atomic_table.specs.Seated.{TableId}
 use Rattle.numa_machine.specs.declared.frame.Frame.{Frame}
 use Rattle.numa_pool.specs.declared.view.Entry.{Entry}
+use Rattle.numa_pool.specs.declared.view.Unlogged.{Unlogged}
 use Rattle.numa_pool.specs.declared.view.View.{View}
 use Rattle.numa_pool.specs.Frames.{times, bit_in, set_below}
 use Rattle.numa_pool.specs.Rule.{PoolRule}
@@ -16,12 +17,12 @@ pub record PoolsView : Type 0 where
   pub frames : List ℕ
 
 -- the pools that a seat belongs to, the frames that it holds, its own steps, the newest first,
--- and how many steps it made that the log leaves out: splits and joins
+-- and what the log leaves out: splits, joins and checks, and the logs of seats that were joined
 pub record SeatView : Type 0 where
   pub table : TableId
   pub held : List Frame
   pub log : List Entry
-  pub unlogged : ℕ
+  pub unlogged : Unlogged
 
 -- which words a token steps on, and what its seat shows
 pub record TokenView : Type 0 where

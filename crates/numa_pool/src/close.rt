@@ -1,10 +1,12 @@
 //! Counting the taken frames at the end.
 ghost use Rattle.std.specs.Prelude.{◌≡◌, ℕ, ◌+◌, ◌*◌, ◌<◌, ◌≤◌, List};
-ghost use Rattle.std.specs.Prelude.{length, slice_index, IsTrue, ◌↔◌};
+ghost use Rattle.std.specs.Prelude.{length, slice_index, IsTrue, ◌↔◌, ◌∷◌};
 ghost use Rattle.std.specs.Int.{bit_at};
 ghost use Rattle.std.specs.Mem.Slots.{slots_items, slots_len, IsFull};
 ghost use Rattle.numa_pool.specs.Frames.{bit_in, set_below};
+ghost use Rattle.numa_pool.specs.Order.{HaveOrder};
 ghost use Rattle.numa_pool.specs.Seats.{Closes, IsShaped, Marks};
+ghost use Rattle.numa_pool.specs.Steps.{past_of};
 
 use crate::closed::Closed;
 use crate::steps::{FrameWords, Rest, Token, close};
@@ -93,7 +95,9 @@ pub(crate) fn counted(words: FrameWords, token: Token, bits: &[u64], frames: &[u
     requires shape { (token.table ≡ words.table) × (words.frames ≡ frames.now)
         × IsShaped words.table frames.now }
     requires marks { Marks words.table.words bits.now token.view.held }
-    ensures { Closes frames.now token.view.held result.taken result.alone }
+    ensures end { Closes frames.now token.view.held result.taken result.alone }
+    ensures order { HaveOrder frames.now
+        (past_of token.view.log token.view.unlogged ∷ token.view.unlogged.past) result.taken }
 {
     let rest = close(words, token);
     let taken = count_all(&rest, frames);

@@ -1,12 +1,16 @@
 //! Laws of the definitions that contracts cite. The functions do nothing: what each one ensures is
 //! a law.
-ghost use Rattle.std.specs.Prelude.{◌≡◌, ℕ, ◌<◌, ◌≤◌, true, false, List, [], ◌∷◌, ◌++◌};
+ghost use Rattle.std.specs.Prelude.{◌≡◌, ℕ, ◌<◌, ◌≤◌, Bool, true, false, List, [], ◌∷◌};
+ghost use Rattle.std.specs.Prelude.{◌++◌};
 ghost use Rattle.std.specs.Prelude.{length, slice_index, slice_get, Option, Some, None};
-ghost use Rattle.numa_pool.specs.Frames.{with_found, gained_each};
+ghost use Rattle.numa_pool.specs.Frames.{with_found, gained_each, IsOnce};
+ghost use Rattle.numa_pool.specs.Order.{AreAllSeats, IsByThese, IsLedTo};
 ghost use Rattle.numa_pool.specs.Rule.{PoolRule, Counted};
+ghost use Rattle.numa_pool.specs.Seats.{Closes};
 ghost use Rattle.numa_pool.specs.Walk.{met, won_in, IsWalk, WalksInOrder, WalksEach};
 ghost use Rattle.numa_pool.specs.Walk.{IsDistinct, LoadsOnce, TriesOnce};
 ghost use Rattle.numa_pool.specs.declared.view.Entry.{Entry};
+ghost use Rattle.numa_pool.specs.declared.view.Past.{Past};
 ghost use Rattle.numa_pool.specs.declared.view.View.{View};
 ghost use Rattle.numa_machine.specs.declared.frame.Frame.{Frame};
 
@@ -79,4 +83,19 @@ pub fn walks_follow()
     ensures won { (frames : List ℕ) (rows : List (List ℕ)) (found : List (Option Frame))
         (es : List Entry) (held : List Frame)
         → WalksEach frames rows found es → won_in es ++ held ≡ gained_each found held }
+{}
+
+/// At the end of the pools no frame is held twice. So no frame belonged to two of the seats that
+/// were joined into the one that the pools ended with.
+pub fn the_end_tells_frames_apart()
+    ensures { (frames : List ℕ) (held : List Frame) (taken : List ℕ) (alone : Bool)
+        → Closes frames held taken alone → IsOnce held }
+{}
+
+/// If all seats that there ever were were joined into the one that the pools ended with, the order
+/// that the end tells has the steps of no other seat.
+pub fn all_seats_made_all_steps()
+    ensures { (frames : List ℕ) (pasts : List Past) (words : List ℕ)
+        → (order : IsLedTo frames pasts words) → AreAllSeats pasts
+        → IsByThese order.seats order.deeds.made }
 {}

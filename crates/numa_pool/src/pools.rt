@@ -2,8 +2,10 @@
 ghost use Rattle.std.specs.Prelude.{◌≡◌, ℕ, ◌+◌, ◌*◌, ◌<◌, ◌≤◌, ◌∷◌, ◌++◌, []};
 ghost use Rattle.std.specs.Prelude.{List, length, slice_index, IfOk, MatchResult};
 ghost use Rattle.std.specs.Prelude.{IfSome, IsTrue, MatchOption, ◌↔◌};
-ghost use Rattle.numa_pool.specs.Frames.{times, without, with_found, Holds};
+ghost use Rattle.numa_pool.specs.Frames.{times, without, with_found, Holds, IsOnce};
+ghost use Rattle.numa_pool.specs.Order.{HaveOrder};
 ghost use Rattle.numa_pool.specs.Seats.{Closes};
+ghost use Rattle.numa_pool.specs.Steps.{joined, no_other, one_other, one_split, past_of, split_off};
 ghost use Rattle.numa_pool.specs.Walk.{IsWalk, LoadsOnce, TriesOnce};
 ghost use Rattle.numa_pool.specs.declared.view.Entry.{Entry};
 ghost use Rattle.numa_pool.specs.declared.view.Entry.TheVariants.{Gave};
@@ -13,7 +15,7 @@ use crate::closed::Closed;
 use crate::marks::{add_marks, blank, mark, unmark};
 use crate::search::take_frame;
 use crate::seat::PoolSeat;
-use crate::steps::{FrameWords, another, clear, opening, pour};
+use crate::steps::{FrameWords, another, check, clear, opening, pour};
 use numa_machine::{Frame, Machine, NoMemory};
 use std::alloc::{AllocError, Global};
 use std::marker::Model;
@@ -70,7 +72,7 @@ impl Pools {
     pub fn open(alloc: Global, machine: &Machine) -> Result<(Pools, PoolSeat), NoMemory>
         ensures frames { IfOk result (λ opened. opened.0.frames ≡ machine.now.frames) }
         ensures seat { IfOk result (λ opened. (opened.1.table ≡ opened.0.table)
-            × (opened.1.held ≡ []) × (opened.1.log ≡ []) × (opened.1.unlogged ≡ 0)) }
+            × (opened.1.held ≡ []) × (opened.1.log ≡ []) × (opened.1.unlogged ≡ no_other)) }
     {
         let frames = frame_counts(alloc, machine)?;
         let bits = blank(alloc, 64 * frames.len())?;
@@ -97,25 +99,29 @@ impl Pools {
         requires { seat.old.table ≡ self.now.table }
         ensures same { (seat.new.table ≡ seat.old.table) × (seat.new.held ≡ seat.old.held)
             × (seat.new.log ≡ seat.old.log) }
-        ensures step { MatchResult result (λ _. seat.new.unlogged ≡ seat.old.unlogged + 1)
+        ensures step { MatchResult result (λ _. seat.new.unlogged ≡ one_split seat.old.unlogged)
             (λ _. seat.new.unlogged ≡ seat.old.unlogged) }
         ensures fresh { IfOk result (λ other. (other.table ≡ self.now.table) × (other.held ≡ [])
-            × (other.log ≡ []) × (other.unlogged ≡ 0)) }
+            × (other.log ≡ []) × (other.unlogged ≡ split_off seat.old.unlogged)) }
     {
         let bits = blank(alloc, 64 * self.frames.len())?;
         let token = another(&self.words, &mut seat.token);
         Ok(PoolSeat { token, bits })
     }
 
-    /// The first seat takes over the frames of the second, which is consumed. It doesn't allocate.
+    /// The first seat takes over the frames of the second, which is consumed. No frame belonged to
+    /// both. The first seat keeps the second one's log beside its own. It doesn't allocate.
     pub fn join(&self, seat: &mut PoolSeat, other: PoolSeat)
         requires { (seat.old.table ≡ self.now.table) × (other.table ≡ self.now.table) }
         ensures frames { (seat.new.table ≡ seat.old.table)
             × (seat.new.held ≡ seat.old.held ++ other.held) × (seat.new.log ≡ seat.old.log) }
-        ensures step { seat.new.unlogged ≡ seat.old.unlogged + 1 }
+        ensures step { seat.new.unlogged
+            ≡ one_other (joined seat.old.unlogged other.log other.unlogged) }
+        ensures apart { IsOnce seat.new.held }
     {
         let PoolSeat { token, bits } = other;
         pour(&self.words, &mut seat.token, token);
+        check(&self.words, &mut seat.token);
         add_marks(&mut seat.bits, bits.as_slice());
     }
 
@@ -173,11 +179,14 @@ impl Pools {
     }
 
     /// Ends the pools, and returns the number of taken frames of each node and whether the seat
-    /// holds them all. It consumes the pools, so no other thread can use them any more. It doesn't
-    /// allocate.
+    /// holds them all. It consumes the pools, so no other thread can use them any more. All steps
+    /// of all seats have one order: the log of this seat, and that of each seat that was joined
+    /// into it, are parts of it. It doesn't allocate.
     pub fn close(self, seat: PoolSeat) -> Closed
         requires { seat.table ≡ self.table }
-        ensures { Closes self.frames seat.held result.taken result.alone }
+        ensures end { Closes self.frames seat.held result.taken result.alone }
+        ensures order { HaveOrder self.frames (past_of seat.log seat.unlogged ∷ seat.unlogged.past)
+            result.taken }
     {
         let Pools { words, frames } = self;
         let PoolSeat { token, bits } = seat;

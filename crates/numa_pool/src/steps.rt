@@ -1,20 +1,22 @@
 //! The frame words of the pools, and every step on them.
 //!
-//! There are seven kinds of step and no other: the opening, a split and a join of seats (each a
-//! load), a load of a frame word, a fetch_or of one bit that finds it clear or finds it set, and a
-//! fetch_and of all bits but one.
+//! There are eight kinds of step and no other: the opening, a split of seats, a join and a check
+//! (each a load), a load of a frame word, a fetch_or of one bit that finds it clear or finds it
+//! set, and a fetch_and of all bits but one.
 //!
 //! The words and the right to step on them are two types whose fields are private to this file. So
 //! the functions below are all that the rest of the crate, or a crate above it, can do to them.
 //! Each makes one atomic step and records it for contracts: a load, a try and a return in the log
-//! of the seat, a split and a join in its count of the others.
-ghost use Rattle.std.specs.Prelude.{◌≡◌, ℕ, ◌+◌, ◌*◌, ◌<◌, ◌≤◌, [], true};
+//! of the seat, a split, a join and a check in its count of the others. The rule says that the
+//! steps of all logs have one order, which leads to the words.
+ghost use Rattle.std.specs.Prelude.{◌≡◌, ℕ, ◌+◌, ◌*◌, ◌<◌, ◌≤◌, [], ◌∷◌, true};
 ghost use Rattle.std.specs.Prelude.{length, slice_index, IfOk};
 ghost use Rattle.std.specs.Mem.Slots.{slots_items, slots_len, IsFull};
-ghost use Rattle.numa_pool.specs.Frames.{frame_of, times, bit_in};
+ghost use Rattle.numa_pool.specs.Frames.{frame_of, times, bit_in, IsOnce};
+ghost use Rattle.numa_pool.specs.Order.{IsLedTo};
 ghost use Rattle.numa_pool.specs.Seats.{IsShaped, IsLast};
 ghost use Rattle.numa_pool.specs.Steps.{newcomer, with_entry, after_try, after_give};
-ghost use Rattle.numa_pool.specs.Steps.{after_split, after_join};
+ghost use Rattle.numa_pool.specs.Steps.{after_split, after_join, after_check, newborn, past_of};
 ghost use Rattle.numa_pool.specs.declared.view.Entry.TheVariants.{Load};
 
 use crate::view::View;
@@ -22,14 +24,15 @@ use atomic_table::{Join, Play, Seat, Split, Table, TableRule};
 use std::alloc::{AllocError, Global};
 use std::marker::Model;
 
-/// A bit is set exactly if one seat holds its frame: the rule, kept as counts.
+/// A bit is set exactly if one seat holds its frame: the rule, kept as counts. And the steps of
+/// all seats have an order, which leads to the words.
 struct CountedRule;
 
 impl TableRule<Option<()>, View, Vec<u32>> for CountedRule {
-    ghost use Rattle.numa_pool.specs.Rule.{Counted};
+    ghost use Rattle.numa_pool.specs.Order.{Kept};
     ghost use Rattle.numa_pool.specs.Steps.{newcomer};
 
-    ghost holds = { λ frames s. Counted frames.items s.words s.views };
+    ghost holds = { λ frames s. Kept frames.items s.words s.views };
 
     ghost first = { λ _. newcomer };
 }
@@ -41,6 +44,15 @@ impl Play<Option<()>, View> for LoadWord {
     ghost use Rattle.numa_pool.specs.Steps.{IsLook};
 
     ghost then = { IsLook };
+}
+
+/// A load that tells that the seat holds no frame twice.
+struct CheckOnce;
+
+impl Play<Option<()>, View> for CheckOnce {
+    ghost use Rattle.numa_pool.specs.Steps.{IsCheck};
+
+    ghost then = { IsCheck };
 }
 
 /// A fetch_or of one bit.
@@ -65,22 +77,22 @@ impl Play<Option<()>, View> for ClearBit {
 struct NewSeat;
 
 impl Split<View> for NewSeat {
-    ghost use Rattle.numa_pool.specs.Steps.{after_split, newcomer};
+    ghost use Rattle.numa_pool.specs.Steps.{after_split, newborn};
 
     ghost left = { after_split };
 
-    ghost right = { λ _. newcomer };
+    ghost right = { newborn };
 }
 
 /// The first seat takes over the frames of the second.
 struct JoinSeats;
 
 impl Join<View> for JoinSeats {
-    ghost use Rattle.numa_pool.specs.Steps.{newcomer, after_join};
+    ghost use Rattle.numa_pool.specs.Steps.{spent, after_join};
 
     ghost both = { after_join };
 
-    ghost spent = { newcomer };
+    ghost spent = { spent };
 }
 
 /// The frame words, with their memory.
@@ -109,14 +121,14 @@ pub(crate) struct Token {
 }
 
 impl Model for Token {
-    ghost use Rattle.std.specs.Prelude.{◌≡◌, []};
+    ghost use Rattle.std.specs.Prelude.{◌≡◌, [], false};
     ghost use Rattle.numa_pool.specs.Seats.{TokenView};
 
     ghost Value = { TokenView };
 
     ghost view = { λ t. record { table = t.seat.table_id; view = t.seat.me.0 } };
 
-    ghost invariant = { λ t. t.seat.me.1 ≡ [] };
+    ghost invariant = { λ t. (t.seat.me.1 ≡ []) × (t.seat.me.0.gone ≡ false) };
 }
 
 /// The words after the last thread that could step on them.
@@ -189,7 +201,7 @@ pub(crate) fn another(words: &FrameWords, token: &mut Token) -> Token
     requires { token.old.table ≡ words.now.table }
     ensures same { (token.new.table ≡ token.old.table)
         × (token.new.view ≡ after_split token.old.view) }
-    ensures fresh { (result.table ≡ token.old.table) × (result.view ≡ newcomer) }
+    ensures fresh { (result.table ≡ token.old.table) × (result.view ≡ newborn token.old.view) }
 {
     let board = &words.table.shared;
     let seat = board.split_seat::<NewSeat>(&mut token.seat);
@@ -207,6 +219,17 @@ pub(crate) fn pour(words: &FrameWords, token: &mut Token, other: Token)
     board.join_seat::<JoinSeats>(&mut token.seat, seat);
 }
 
+/// A load that tells that the seat holds no frame twice.
+pub(crate) fn check(words: &FrameWords, token: &mut Token)
+    requires { token.old.table ≡ words.now.table }
+    ensures same { (token.new.table ≡ token.old.table)
+        × (token.new.view ≡ after_check token.old.view) }
+    ensures once { IsOnce token.old.view.held }
+{
+    let board = &words.table.shared;
+    board.load::<CheckOnce>(&mut token.seat, 0);
+}
+
 /// The final words, with what the rule says of them.
 pub(crate) fn close(words: FrameWords, token: Token) -> Rest
     requires { token.table ≡ words.table }
@@ -215,6 +238,9 @@ pub(crate) fn close(words: FrameWords, token: Token) -> Rest
     ensures last { IsLast words.frames token.view.held (slots_items result.words) }
     ensures held { (n k : ℕ) → 0 < times n k token.view.held
         → (k < slice_index words.frames n) × (bit_in (slots_items result.words) n k ≡ 1) }
+    ensures order { IsLedTo words.frames
+        (past_of token.view.log token.view.unlogged ∷ token.view.unlogged.past)
+        (slots_items result.words) }
 {
     let FrameWords { table } = words;
     let Token { seat } = token;

@@ -14,10 +14,30 @@ pub enum Entry {
     Gave(Frame),
 }
 
-/// The frames that a seat holds, its steps, the newest first, and the number of steps that its log
-/// leaves out: splits and joins. It exists only in contracts: no value of it is ever made.
+/// What a seat has done that was joined into another: its name, how many seats were split off it,
+/// and its log.
+pub struct Past {
+    pub name: LinkedList<u64>,
+    pub splits: u64,
+    pub log: LinkedList<Entry>,
+}
+
+/// What a seat's log leaves out: its name, how many seats were split off it, how many other steps
+/// it made (splits, joins and checks), and what the seats have done that were joined into it. The
+/// first seat's name is empty. A seat's name is its number among those that were split off the same
+/// seat, from 0, in front of that seat's name.
+pub struct Unlogged {
+    pub name: LinkedList<u64>,
+    pub splits: u64,
+    pub steps: u64,
+    pub past: LinkedList<Past>,
+}
+
+/// The frames that a seat holds, its steps, the newest first, what its log leaves out, and whether
+/// it was joined into another and is gone. It exists only in contracts: no value of it is made.
 pub struct View {
     pub held: LinkedList<Frame>,
     pub log: LinkedList<Entry>,
-    pub unlogged: u64,
+    pub unlogged: Unlogged,
+    pub gone: bool,
 }

@@ -8,4 +8,4 @@ split_seat-seat-requires c =
     ∙ sym (ap (λ w. w.table) c.words.view_is) in
     let wide = c.words.invariant.words in
     let some_node = c.words.invariant.some in
-    (one_table, omega arith, splits c.words.inside.table.shared.key.items _ _)
+    (one_table, omega arith, splits c.words.inside.table.shared.key.items _ _ c.token.invariant.1)

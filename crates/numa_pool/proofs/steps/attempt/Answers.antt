@@ -24,8 +24,8 @@ fetch_or-found-requires c =
     )) p.3 in (
       one_table,
       omega arith,
-      tries c.words.inside.table.shared.key.items _ _ _ _ (omega arith) _ p.2
-          there,
+      tries c.words.inside.table.shared.key.items _ _ _ c.token.invariant.1 _ (omega arith) _
+          p.2 there,
     )
 
 pub returns-clause-step : goal.returns-clause-step

@@ -22,8 +22,8 @@ fetch_and-requires c =
     )) c.requires.held in (
       one_table,
       omega arith,
-      gives c.words.inside.table.shared.key.items _ _ _ _ (omega arith) _ p.2
-          there,
+      gives c.words.inside.table.shared.key.items _ _ _ c.token.invariant.1 _ (omega arith) _
+          p.2 there,
     )
 
 pub returns : goal.returns

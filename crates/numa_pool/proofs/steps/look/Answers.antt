@@ -10,8 +10,11 @@ load-requires c =
     ∙ sym (ap (λ w. w.table) c.words.view_is) in
     let wide = c.words.invariant.words in
     let nodes = ap (λ w. length w.frames) c.words.view_is in
-    let p = c.requires.word in
-    (one_table, omega arith, looks c.words.inside.table.shared.key.items _ _ _ _)
+    let p = c.requires.word in (
+      one_table,
+      omega arith,
+      looks c.words.inside.table.shared.key.items _ _ _ c.token.invariant.1 _ (omega arith),
+    )
 
 pub returns : goal.returns
 returns c =

@@ -10,7 +10,7 @@ join_seat-requires c =
       ap (λ t. t.table) c.token.view_is ∙ c.requires.0 ∙ words,
       ap (λ t. t.table) c.other.view_is
           ∙ c.requires.1 ∙ words,
-      c.other.invariant,
+      c.other.invariant.0,
       omega arith,
-      joins c.words.inside.table.shared.key.items _ _ _ _,
+      joins c.words.inside.table.shared.key.items _ _ _ _ c.token.invariant.1 c.other.invariant.1,
     )
