@@ -8,7 +8,7 @@ use prog.Atomic.{either}
 use Rattle.logbook.specs.Pages.{Cell, cell, keeps, no_nib, step, Moves, Goes}
 use Rattle.numa_requests.specs.declared.command.Command.{Command}
 use Rattle.numa_publish.specs.declared.batch.Batch.{Batch}
-use Rattle.numa_publish.specs.Batches.{history_of, IsLog, MayFollow}
+use Rattle.numa_publish.specs.Batches.{history_of, IsLog}
 use Rattle.numa_publish.specs.LogRule.{CountsCommands, AddsBatch}
 use Rattle.numa_publish.proofs.Lists.{history-snoc}
 use Rattle.numa_publish.proofs.Logs.{log_grows, log_whole}
@@ -20,7 +20,7 @@ abbrev pub moved : List Batch → List Batch → ℕ → Type 0
 moved xs ys n = Unit {0}
 
 pub adds_goes : (log v : List Batch) (e : Batch) (old new : ℕ) → length (history_of v) ≡ old
-    → new ≡ length e.commands + old → MayFollow v e → IsPrefix v log → IsLog log
+    → new ≡ length e.commands + old → 0 < length e.commands → IsPrefix v log → IsLog log
     → (b : Bool) → (length (history_of log) == old) ≡ b
     → Goes CountsCommands shown moved 0 (v, (no_nib, None)) (λ n. either (n == old) new n)
     (AddsBatch (step 0 old new e) (v, (no_nib, None))) ((length (history_of log), true) ∷ (0, true)
@@ -44,7 +44,7 @@ adds_goes log v e old new len more may pre is_log true is =
       tt,
       record {
         cells_are = ap (λ (k : ℕ). (k, true) ∷ (0, true) ∷ []) n;
-        is_log = log_grows log e is_log (subst (λ (l : List Batch). MayFollow l e) same may);
+        is_log = log_grows log e is_log may;
       },
       inl (refl, refl),
       rw is (ap (λ (l : List Batch). l ++ e ∷ []) (sym same)),
@@ -67,7 +67,7 @@ adds_goes log v e old new len more may pre is_log false is =
     )
 
 pub adds_moves : (v : List Batch) (e : Batch) (old new : ℕ) → length (history_of v) ≡ old
-    → new ≡ length e.commands + old → MayFollow v e
+    → new ≡ length e.commands + old → 0 < length e.commands
     → Moves CountsCommands shown moved 0 (v, (no_nib, None)) (λ n. either (n == old) new n)
     (AddsBatch (step 0 old new e) (v, (no_nib, None)))
 adds_moves v e old new len more may cs log kept pre away =

@@ -5,36 +5,26 @@ use mathlib.Core.Option.{some}
 use lib.ListN.{get_elem?}
 use Rattle.left_right.specs.Register.{Admits, TurnsAt, Forks, Merges}
 use Rattle.atomic_table.proofs.Lists.{at_set, at_snoc}
-use Rattle.std.specs.Arc.{arc_value}
-use Rattle.numa_publish.specs.declared.issue.Issue.{Issue}
+use Rattle.numa_publish.specs.declared.issue.Notice.{Notice}
 use Rattle.numa_publish.specs.declared.issue.Shown.{Shown}
 use Rattle.numa_publish.specs.declared.rule.Knows.{Knows}
-use Rattle.numa_publish.specs.Knowing.{IsEarlier, KnowsThePast, Sees, MayShow, ShowsOrKeeps, told}
-use Rattle.numa_publish.specs.Knowing.{told_by, newcomer, knowledge_of_desk}
-use Rattle.numa_publish.proofs.Lists.{prefix_self, prefix_trans, extends_self, extends_trans}
-use Rattle.numa_publish.proofs.Logs.{extends_oldest}
+use Rattle.numa_publish.specs.Knowing.{IsEarlier, KnowsThePast, Sees, MayShow, Shows, ShowsOrKeeps}
+use Rattle.numa_publish.specs.Knowing.{notice_of, told, told_by, newcomer, knowledge_of_desk}
+use Rattle.numa_publish.proofs.Lists.{prefix_self, prefix_trans}
 
 pub earlier_self : (v : Knows) → IsEarlier v v
-earlier_self v = record { log = prefix_self _; versions = extends_self _; desk = λ _. refl }
+earlier_self v = record { log = prefix_self _; desk = λ _. refl }
 
 -- where v names its desk
 pub earlier_trans : (u v w : Knows) → v.named ≡ true → IsEarlier u v → IsEarlier v w → IsEarlier u w
 earlier_trans u v w named p q =
     record {
       log = prefix_trans _ _ _ p.log q.log;
-      versions =
-          extends_trans _ _ _ p.versions q.versions;
       desk = λ h. p.desk h ∙ q.desk named;
     }
 
 pub earlier_new : (x : Shown) → IsEarlier newcomer (told x)
-earlier_new x =
-    let issue : Issue = arc_value x.issue in
-    record {
-      log = (issue.front.log, refl);
-      versions = extends_oldest issue.front.log issue.oldest;
-      desk = λ h. absurd cc;
-    }
+earlier_new x = record { log = (x.front.log, refl); desk = λ h. absurd cc }
 
 pub admits : Admits KnowsThePast newcomer
 admits x views h seat v at =
@@ -82,29 +72,29 @@ merges seat v other w x views h at apart there =
     (at_set views seat other (knowledge_of_desk v w) w there) in
     let fresh = earlier_new x in
     let n : IsEarlier (knowledge_of_desk v w) (told x) =
-    record { log = fresh.log; versions = fresh.versions; desk = b.desk } in
+    record { log = fresh.log; desk = b.desk } in
     set_keeps x (set views seat (knowledge_of_desk v w)) other newcomer
     (set_keeps x views seat (knowledge_of_desk v w) h n) fresh
 
 -- what a publishing leaves, put together
 pub shown_result : {A E : Type 0} (X Y : Type 0) (r : Result A E) (s s' : Shown) (k k' : Knows)
-    (i : Issue)
-    → MatchResult r (λ _. (arc_value s'.issue ≡ i) × X) (λ _. (s' ≡ s) × Y)
+    (i : Notice)
+    → MatchResult r (λ _. (notice_of s' ≡ i) × X) (λ _. (s' ≡ s) × Y)
     → MatchResult r (λ _. Sees k s s' k') (λ _. k' ≡ k)
     → ShowsOrKeeps r i s s' k k'
 shown_result X Y (Ok x) s s' k k' i v h = (v.0, h.1 ∙ ap told_by v.0)
 shown_result X Y (Err x) s s' k k' i v h = (v.0, h)
 
 -- what publishes an issue that comes after the shown one
-pub may_show : (seat : ℕ) (v : Knows) (x : Shown) (i : Issue) → IsEarlier (told x) (told_by i)
+pub may_show : (seat : ℕ) (v : Knows) (x : Shown) (i : Notice) → IsEarlier (told x) (told_by i)
     → MayShow seat v x i
 may_show seat v x i up = record {
   turns =
-      λ y is. sees seat v x y (subst (λ (z : Issue). IsEarlier (told x) (told_by z)) (sym is) up);
+      λ y is. sees seat v x y (subst (λ (z : Notice). IsEarlier (told x) (told_by z)) (sym is) up);
 }
 
 -- a step that was not refused shows its issue
-pub shown_ok : {A E : Type 0} (r : Result A E) (s s' : Shown) (k k' : Knows) (i : Issue)
-    → is_err r ≡ false → ShowsOrKeeps r i s s' k k' → (arc_value s'.issue ≡ i) × (k' ≡ told_by i)
+pub shown_ok : {A E : Type 0} (r : Result A E) (s s' : Shown) (k k' : Knows) (i : Notice)
+    → is_err r ≡ false → ShowsOrKeeps r i s s' k k' → Shows i s' k'
 shown_ok (Ok x) s s' k k' i e h = h
 shown_ok (Err x) s s' k k' i e h = absurd (cc)

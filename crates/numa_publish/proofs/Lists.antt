@@ -20,9 +20,6 @@ prefix_trans xs ys zs p q =
 pub extends_self : {A : Type 0} (xs : List A) → Extends xs xs
 extends_self xs = ([], refl)
 
-pub extends_none : {A : Type 0} (xs : List A) → Extends [] xs
-extends_none xs = (xs, sym (append-nil xs))
-
 pub extends_trans : {A : Type 0} (xs ys zs : List A) → Extends xs ys → Extends ys zs → Extends xs zs
 extends_trans xs ys zs p q =
     (q.0 ++ p.0, q.1 ∙ (ap (λ w. q.0 ++ w) p.1 ∙ sym (append_assoc q.0 p.0 xs)))
@@ -56,14 +53,6 @@ count-snoc xs b = ap (λ (w : List Command). length w) (history-snoc xs b)
 
 pub prefix_extends : (xs ys : List Batch) → IsPrefix xs ys → Extends (history_of xs) (history_of ys)
 prefix_extends xs ys p = (history_of p.0, sym (ap history_of p.1) ∙ history-append xs p.0)
-
--- of two beginnings of one log the one with more commands extends the other
-pub history_shorter : (xs ys both : List Batch) → IsPrefix xs both → IsPrefix ys both
-    → length (history_of xs) ≤ length (history_of ys) → Extends (history_of xs) (history_of ys)
-history_shorter xs ys both p q le =
-    let a = prefix_extends xs both p in
-    let b = prefix_extends ys both q in
-    extends_shorter a.0 b.0 (history_of xs) (history_of ys) (sym a.1 ∙ b.1) le
 
 -- what holds of a result's value holds of it under another refusal
 pub ok_or_kept : {A E F : Type 0} (r : Result A E) (o : Option A) (s : Result A F) (f : F)

@@ -4,8 +4,8 @@ use Rattle.logbook.specs.Pages.{Cell, Step, View, Book, Named}
 use Rattle.numa_publish.specs.declared.batch.Batch.{Batch}
 use Rattle.numa_publish.specs.Batches.{IsLog, history_of}
 
--- the first word is the number of commands in the log, the second stays 0; and each batch may
--- follow those before it
+-- the first word is the number of commands in the log, the second stays 0; and each batch has a
+-- command
 pub record CountsCommands (cells : List Cell) (log : List Batch) : Type 0 where
   pub cells_are : cells ≡ (length (history_of log), true) ∷ (0, true) ∷ []
   pub is_log : IsLog log

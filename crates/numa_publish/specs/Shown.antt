@@ -28,8 +28,8 @@ pub record ReceiptState : Type 0 where
   pub history : List Command
   pub versions : List ℕ
 
--- a reader: of which desk, the history that it has seen or learnt, the versions published up to the
--- one that it saw last, how many enters it made, and how many of them were refused
+-- a reader: of which desk, the history that it has seen or learnt, the versions published up to it,
+-- how many enters it made, and how many of them were refused
 pub record ReaderState : Type 0 where
   pub desk : DeskIdentity
   pub history : List Command

@@ -1,7 +1,6 @@
 //! Desks, which accept commands and publish plans.
 ghost use Rattle.std.specs.Prelude.{◌≡◌, ◌+◌, ◌≤◌, ◌∷◌, ◌++◌, [], length, reverse, slice_index};
 ghost use Rattle.std.specs.Prelude.{None, IfOk, IfErr, OnOk, OnErr};
-ghost use Rattle.std.specs.Arc.{arc_value};
 ghost use Rattle.left_right.specs.Sides.{view as place_view};
 ghost use Rattle.numa_space.specs.Refusals.{refusal_of};
 ghost use Rattle.numa_space.specs.Standing.{StandsFor};
@@ -10,8 +9,8 @@ ghost use Rattle.numa_publish.specs.Submits.{LeavesAfter};
 
 use crate::ghosts::About;
 use crate::issue::Issue;
-use crate::log::{Log, Pending};
-use crate::publishing::{next_issue, opened, show_at};
+use crate::log::Log;
+use crate::publishing::{next_shown, opened, show_in_the_end};
 use crate::reader::PlanReader;
 use crate::receipt::Receipt;
 use crate::rule::{Introduces, ShownWriter};
@@ -39,17 +38,17 @@ pub struct Desk {
     alloc: Global,
     writer: ShownWriter,
     log: Log,
-    pending: Pending,
+    // Accepted and not published, the oldest first.
+    pending: Vec<Command>,
     space: PlannedSpace,
 }
 
 impl Model for Desk {
     ghost use Rattle.std.specs.Prelude.{◌≡◌, reverse};
-    ghost use Rattle.std.specs.Arc.{arc_value};
     ghost use Rattle.left_right.specs.Sides.{view as place_view};
     ghost use Rattle.numa_publish.specs.Batches.{history_of, versions_of};
     ghost use Rattle.numa_publish.specs.Kept.{IsDeskKept};
-    ghost use Rattle.numa_publish.specs.Knowing.{told_by};
+    ghost use Rattle.numa_publish.specs.Knowing.{notice_of, told};
     ghost use Rattle.numa_publish.specs.Shown.{DeskState};
 
     ghost Value = { DeskState };
@@ -57,15 +56,15 @@ impl Model for Desk {
     ghost view = { λ d. record {
       desk = record { book = d.log.seen.book; machine = d.space.machine };
       bounds = d.space.bounds;
-      published = history_of (arc_value d.writer.desk.shown.value.issue).front.log;
-      versions = versions_of (arc_value d.writer.desk.shown.value.issue).front.log;
-      pending = reverse d.pending.commands.items;
+      published = history_of d.log.seen.log;
+      versions = versions_of d.log.seen.log;
+      pending = reverse d.pending.items;
     } };
 
     ghost invariant = { λ d.
-        IsDeskKept d.space (arc_value d.writer.desk.shown.value.issue)
-        d.log.seen.log d.log.seen.book d.pending.commands.items d.pending.logged
-        × (place_view d.writer.desk.place ≡ told_by (arc_value d.writer.desk.shown.value.issue)) };
+        IsDeskKept d.space (notice_of d.writer.desk.shown.value)
+        d.log.seen.log d.log.seen.book d.pending.items
+        × (place_view d.writer.desk.place ≡ told d.writer.desk.shown.value) };
 }
 
 /// All readers' places are in use.
@@ -101,10 +100,7 @@ impl Desk {
             alloc,
             writer,
             log,
-            pending: Pending {
-                commands: Vec::new(alloc),
-                logged: 0,
-            },
+            pending: Vec::new(alloc),
             space,
         })
     }
@@ -113,7 +109,7 @@ impl Desk {
     pub fn pending(&self) -> usize
         ensures { result ≡ length self.now.pending }
     {
-        self.pending.commands.len()
+        self.pending.len()
     }
 
     /// The published version.
@@ -155,13 +151,13 @@ impl Desk {
         ensures published { (self.new.published ≡ self.old.published)
             × (self.new.versions ≡ self.old.versions) }
     {
-        let Ok(()) = self.pending.commands.reserve(1) else {
+        let Ok(()) = self.pending.reserve(1) else {
             return Err(Refusal::NoMemory);
         };
         if let Err(refusal) = self.space.apply(self.alloc, command) {
             return Err(refusal);
         }
-        self.pending.commands.push_reserved(*command);
+        self.pending.push_reserved(*command);
         Ok(self.space.space().version())
     }
 
@@ -172,7 +168,7 @@ impl Desk {
     {
         let issue: &Issue = &self.writer.published().issue;
         Receipt::new(
-            &issue.front,
+            &self.log.seen,
             About::of(self.space.space().machine()),
             issue.plan.version(),
         )
@@ -195,23 +191,14 @@ impl Desk {
         ensures desk { (self.new.desk ≡ self.old.desk) × (self.new.bounds ≡ self.old.bounds) }
         ensures unchanged { OnErr result (self.new ≡ self.old) }
     {
-        if self.pending.commands.is_empty() {
+        if self.pending.is_empty() {
             return Ok(self.receipt());
         }
-        let Ok(issue) = next_issue(
-            self.alloc,
-            &mut self.space,
-            &mut self.log,
-            &mut self.pending,
-            &self.writer.published().issue,
-        ) else {
+        let Ok(next) = next_shown(self.alloc, &mut self.space, &mut self.log, &self.pending) else {
             return Err(NoMemory);
         };
-        let Ok(()) = show_at(&mut self.writer, rt, issue) else {
-            return Err(NoMemory);
-        };
-        self.pending.commands.clear();
-        self.pending.logged = 0;
+        show_in_the_end(&mut self.writer, rt, &next);
+        self.pending.clear();
         Ok(self.receipt())
     }
 

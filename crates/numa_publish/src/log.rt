@@ -1,8 +1,7 @@
 //! The log of accepted commands, in batches. It has no bytes but the number of its commands.
 ghost use Rattle.std.specs.Prelude.{◌≡◌, ◌+◌, ◌<◌, ◌∷◌, ◌++◌, [], length};
 ghost use Rattle.std.specs.Bool.{OnTrue, OnFalse};
-ghost use mathlib.Core.List.{IsPrefix};
-ghost use Rattle.numa_publish.specs.Batches.{batch_of, history_of, not_logged};
+ghost use Rattle.numa_publish.specs.Batches.{batch_of, history_of};
 ghost use Rattle.numa_publish.specs.LogRule.{count_word};
 
 use crate::batch::Batch;
@@ -43,29 +42,13 @@ impl Play<Batch, u64> for Add {
     ghost then = { AddsBatch };
 }
 
-/// The parts of a batch: the waiting commands, and the published prefix of the log.
-#[derive(Drop)]
-struct Waiting<'a> {
-    pending: &'a Pending,
-    shown: &'a Front,
-}
-
-impl<'a> Plain<Waiting<'a>, Batch, u64> for Add {
+impl Plain<Vec<Command>, Batch, u64> for Add {
     ghost use Rattle.std.specs.Prelude.{None};
     ghost use Rattle.numa_publish.specs.Batches.{batch_of};
 
-    ghost ask = { λ w. batch_of w.pending.now.commands.items w.pending.now.logged
-        w.shown.now.log };
+    ghost ask = { λ pending. batch_of pending.items };
 
-    ghost state = { λ w. None };
-}
-
-/// Commands that are accepted and not published, the oldest first. The log has the first `logged`
-/// of them: those whose publication failed after they were logged.
-#[derive(Drop)]
-pub struct Pending {
-    pub commands: Vec<Command>,
-    pub logged: usize,
+    ghost state = { λ pending. None };
 }
 
 /// The log's word, its empty prefix, and everything that was logged.
@@ -97,25 +80,22 @@ impl Log {
         }
     }
 
-    /// Adds the commands that the log lacks, after those that are published at this prefix of it;
-    /// `count` is the number of its commands afterwards. Nobody else adds, so it always returns
-    /// `true`, which no proof can see.
-    pub fn add(&mut self, pending: &Pending, shown: &Front, count: u64) -> bool
-        requires some { 0 < length (not_logged pending.now.commands.items pending.now.logged) }
-        requires shown { IsPrefix shown.now.log self.old.seen.log }
-        requires count { count ≡ length (not_logged pending.now.commands.items pending.now.logged)
-            + length (history_of self.old.seen.log) }
-        ensures added { OnTrue result (self.new.seen.log ≡ self.old.seen.log
-            ++ batch_of pending.now.commands.items pending.now.logged shown.now.log ∷ []) }
-        ensures prefix { IsPrefix self.old.seen.log self.new.seen.log }
+    /// Adds these commands, the oldest first; `count` is the number of the log's commands
+    /// afterwards. Nobody else adds, so it always returns `true`, which no proof can see.
+    pub fn add(&mut self, pending: &Vec<Command>, count: u64) -> bool
+        requires some { 0 < length pending.now.items }
+        requires count { count ≡ length pending.now.items + length (history_of self.old.seen.log) }
+        ensures added { OnTrue result
+            (self.new.seen.log ≡ self.old.seen.log ++ batch_of pending.now.items ∷ []) }
         ensures book { self.new.seen.book ≡ self.old.seen.book }
         ensures unchanged { OnFalse result (self.new.seen ≡ self.old.seen) }
     {
         let mut seen = self.seen.again();
-        let waiting = Waiting { pending, shown };
-        let mut offer: Offer<Batch, u64, LogRule, Nothing> = seen.plain::<Nothing, Waiting, Add>(
-            &waiting,
-        );
+        let mut offer: Offer<Batch, u64, LogRule, Nothing> = seen.plain::<
+            Nothing,
+            Vec<Command>,
+            Add,
+        >(pending);
         let mut pen = seen.no_pen();
         let found = self
             .word

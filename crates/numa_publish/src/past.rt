@@ -5,12 +5,10 @@ use crate::log::Front;
 use numa_ghost::Count;
 
 /// What a reader keeps, whether it looks or not: the prefix of the log that it has seen or learnt,
-/// the one that it saw last, the version of the first, and the number of its enters and of refused
-/// ones.
+/// its version, and the number of the reader's enters and of refused ones.
 #[derive(Drop)]
 pub struct Past {
     pub front: Front,
-    pub seen: Front,
     pub version: u64,
     pub enters: Count,
     pub refused: Count,
@@ -21,14 +19,12 @@ impl Past {
     pub fn none(front: Front) -> Past
         ensures { result ≡ record {
           front = front;
-          seen = front;
           version = 0;
           enters = 0;
           refused = 0;
         } }
     {
         Past {
-            seen: front.again(),
             front,
             version: 0,
             enters: Count::zero(),

@@ -1,35 +1,38 @@
 //! Issues of a desk, and the steps of its writer.
-ghost use Rattle.std.specs.Prelude.{◌≡◌, ◌≤◌, ◌<◌, ◌∷◌, ◌++◌, drop, length, reverse, IfOk};
-ghost use Rattle.std.specs.Bool.{OnTrue};
+ghost use Rattle.std.specs.Prelude.{◌≡◌, ◌≤◌, ◌<◌, ◌∷◌, ◌++◌, [], drop, length, reverse};
+ghost use Rattle.std.specs.Prelude.{IfOk, OnErr};
 ghost use Rattle.std.specs.Arc.{arc_value};
 ghost use Rattle.left_right.specs.Sides.{view as place_view};
 ghost use Rattle.numa_space.specs.Standing.{StandsFor};
-ghost use Rattle.numa_publish.specs.Batches.{history_of, versions_of};
-ghost use Rattle.numa_publish.specs.Kept.{IsDeskKept, IsIssueOf, IsNextIssue};
-ghost use Rattle.numa_publish.specs.Knowing.{IsEarlier, MayShow, ShowsOrKeeps};
-ghost use Rattle.numa_publish.specs.Knowing.{last_of, told, told_by};
+ghost use Rattle.numa_publish.specs.Batches.{batch_of, history_of};
+ghost use Rattle.numa_publish.specs.Kept.{IsIssueOf, IsNoticeOf};
+ghost use Rattle.numa_publish.specs.Knowing.{IsEarlier, MayShow, Shows, ShowsOrKeeps};
+ghost use Rattle.numa_publish.specs.Knowing.{last_of, notice_of, told, told_by};
 
-use crate::ghosts::About;
+use crate::ghosts::{About, History};
 use crate::issue::{Issue, Shown};
-use crate::log::{Front, Log, Pending};
+use crate::log::{Front, Log};
 use crate::rule::{ReaderLook, ShownWriter};
 use core::mem::replace_with;
 use left_right::writer::Writer;
 use numa_compile::PlannedSpace;
 use numa_machine::NoMemory;
+use numa_requests::Command;
 use std::alloc::{AllocError, Global};
 use std::sync::{Arc, Wait};
 
-/// The issue of this space: its plan stands for this prefix of the log.
-fn issued(alloc: Global, space: &mut PlannedSpace, front: &Front) -> Result<Arc<Issue>, NoMemory>
-    requires { StandsFor space.old (history_of front.now.log) }
+/// The issue of this space: its plan stands for this prefix of the log and the commands that wait.
+fn issued(
+    alloc: Global,
+    space: &mut PlannedSpace,
+    pending: &Vec<Command>,
+    front: &Front,
+) -> Result<Arc<Issue>, NoMemory>
+    requires { StandsFor space.old (reverse pending.now.items ++ history_of front.now.log) }
     ensures same { space.new ≡ space.old }
-    ensures issue { IfOk result (λ a.
-        IsIssueOf space.old front.now.log front.now.book (arc_value a)) }
+    ensures issue { IfOk result (λ a. IsIssueOf space.old
+        (reverse pending.now.items ++ history_of front.now.log) (arc_value a)) }
 {
-    // Tells the proof that the log keeps its rule.
-    let mut log = front.again();
-    log.learn(front);
     let Ok(plan) = space.plan_copy(alloc) else {
         return Err(NoMemory);
     };
@@ -39,61 +42,40 @@ fn issued(alloc: Global, space: &mut PlannedSpace, front: &Front) -> Result<Arc<
     let issue = Issue {
         plan,
         machine: About::of(accepted.machine()),
-        front: front.again(),
+        history: History::of(pending, front),
     };
     Arc::new(alloc, issue).ok().ok_or(NoMemory)
 }
 
-/// Logs all pending commands, after those that are shown. What was logged before, when a publish
-/// ran out of memory, stays as it is.
-fn logged(space: &PlannedSpace, log: &mut Log, pending: &mut Pending, shown: &Issue) -> bool
-    requires kept { IsDeskKept space.now shown.now log.old.seen.log log.old.seen.book
-        pending.old.commands.items pending.old.logged }
-    requires some { 0 < length pending.old.commands.items }
-    ensures kept { IsDeskKept space.now shown.now log.new.seen.log log.new.seen.book
-        pending.new.commands.items pending.new.logged }
-    ensures same { (pending.new.commands ≡ pending.old.commands)
-        × (log.new.seen.book ≡ log.old.seen.book) }
-    ensures whole { OnTrue result (history_of log.new.seen.log
-        ≡ reverse pending.old.commands.items ++ history_of shown.now.front.log) }
-    ensures versions { OnTrue result (versions_of log.new.seen.log
-        ≡ length (history_of log.new.seen.log) ∷ versions_of shown.now.front.log) }
-{
-    if pending.logged == pending.commands.len() {
-        return true;
-    }
-    // Nobody else adds to the log, so it always succeeds, which no proof can see.
-    if !log.add(pending, &shown.front, space.space().version()) {
-        return false;
-    }
-    pending.logged = pending.commands.len();
-    true
-}
-
-/// The issue of all accepted commands, to follow the one that is shown. Pending commands are in the
-/// log from then on.
-pub(crate) fn next_issue(
+/// What follows the log: the issue of all accepted commands, of which the log then has the pending
+/// ones too. Nothing that wants memory comes after the step of the log.
+pub(crate) fn next_shown(
     alloc: Global,
     space: &mut PlannedSpace,
     log: &mut Log,
-    pending: &mut Pending,
-    shown: &Issue,
-) -> Result<Arc<Issue>, NoMemory>
-    requires kept { IsDeskKept space.old shown.now log.old.seen.log log.old.seen.book
-        pending.old.commands.items pending.old.logged }
-    requires some { 0 < length pending.old.commands.items }
-    ensures kept { IsDeskKept space.old shown.now log.new.seen.log log.new.seen.book
-        pending.new.commands.items pending.new.logged }
-    ensures same { (pending.new.commands ≡ pending.old.commands)
-        × (log.new.seen.book ≡ log.old.seen.book) }
+    pending: &Vec<Command>,
+) -> Result<Shown, NoMemory>
+    requires stands { StandsFor space.old
+        (reverse pending.now.items ++ history_of log.old.seen.log) }
+    requires some { 0 < length pending.now.items }
     ensures space { space.new ≡ space.old }
-    ensures next { IfOk result (λ a. IsNextIssue space.old shown.now (arc_value a)
-        log.new.seen.log log.new.seen.book pending.old.commands.items) }
+    ensures next { IfOk result (λ s. IsNoticeOf space.old
+        (log.old.seen.log ++ batch_of pending.now.items ∷ []) log.old.seen.book (notice_of s)
+        × (log.new.seen.log ≡ log.old.seen.log ++ batch_of pending.now.items ∷ [])
+        × (log.new.seen.book ≡ log.old.seen.book)) }
+    ensures unchanged { OnErr result (log.new.seen ≡ log.old.seen) }
 {
-    if !logged(space, log, pending, shown) {
+    let Ok(issue) = issued(alloc, space, pending, &log.seen) else {
+        return Err(NoMemory);
+    };
+    // Nobody else adds to the log, so it always succeeds, which no proof can see.
+    if !log.add(pending, space.space().version()) {
         return Err(NoMemory);
     }
-    issued(alloc, space, &log.seen)
+    Ok(Shown {
+        issue,
+        front: log.seen.again(),
+    })
 }
 
 /// A writer for `readers` readers that shows version 0, the issue of a space in which nothing is
@@ -108,26 +90,30 @@ pub(crate) fn opened<R: Wait>(
     requires some { (1 ≤ readers) × (readers ≤ 64) }
     requires stands { StandsFor space.old (history_of start.now.log) }
     ensures space { space.new ≡ space.old }
-    ensures issue { IfOk result (λ w. IsIssueOf space.old start.now.log start.now.book
-        (arc_value w.desk.shown.value.issue)) }
+    ensures issue { IfOk result (λ w. IsNoticeOf space.old start.now.log start.now.book
+        (notice_of w.desk.shown.value)) }
     ensures knows { IfOk result (λ w.
-        place_view w.desk.place ≡ told_by (arc_value w.desk.shown.value.issue)) }
+        place_view w.desk.place ≡ told_by (notice_of w.desk.shown.value)) }
 {
-    let Ok(first) = issued(alloc, space, start) else {
+    let none = Vec::new(alloc);
+    let Ok(issue) = issued(alloc, space, &none, start) else {
         return Err(NoMemory);
     };
-    let Ok(second) = Arc::try_clone(&first) else {
+    let first = Shown {
+        issue,
+        front: start.again(),
+    };
+    let Ok(second) = again(&first) else {
         return Err(NoMemory);
     };
-    let Ok(writer) = Writer::new(
-        alloc,
-        Shown { issue: first },
-        Shown { issue: second },
-        readers,
-    ) else {
+    let Ok(third) = again(&first) else {
         return Err(NoMemory);
     };
-    let (writer, done) = turned(writer, rt);
+    let Ok(writer) = Writer::new(alloc, first, second, readers) else {
+        return Err(NoMemory);
+    };
+    // It shows the same again: so the writer learns its desk, and has room for what it will show.
+    let (writer, done) = show(writer, rt, third);
     if done.is_err() {
         writer.take(rt);
         return Err(NoMemory);
@@ -135,12 +121,22 @@ pub(crate) fn opened<R: Wait>(
     Ok(writer)
 }
 
-/// Shows readers the last appended issue from now on, and the writer knows it; if none was appended
-/// the writer learns its desk.
+/// The same once more.
+fn again(shown: &Shown) -> Result<Shown, AllocError>
+    ensures { IfOk result (λ s. notice_of s ≡ notice_of shown.now) }
+{
+    let issue = Arc::try_clone(&shown.issue)?;
+    Ok(Shown {
+        issue,
+        front: shown.front.again(),
+    })
+}
+
+/// Shows readers the last appended value from now on, and the writer knows it.
 fn turned<R: Wait>(writer: ShownWriter, rt: &R) -> (ShownWriter, Result<(), AllocError>)
     requires { MayShow writer.desk.place.id (place_view writer.desk.place) writer.desk.shown.value
-        (last_of (arc_value writer.desk.shown.value.issue) (drop writer.behind writer.log.items)) }
-    ensures { ShowsOrKeeps result.1 (last_of (arc_value writer.desk.shown.value.issue)
+        (last_of (notice_of writer.desk.shown.value) (drop writer.behind writer.log.items)) }
+    ensures { ShowsOrKeeps result.1 (last_of (notice_of writer.desk.shown.value)
         (drop writer.behind writer.log.items))
         writer.desk.shown.value result.0.desk.shown.value
         (place_view writer.desk.place) (place_view result.0.desk.place) }
@@ -148,37 +144,51 @@ fn turned<R: Wait>(writer: ShownWriter, rt: &R) -> (ShownWriter, Result<(), Allo
     writer.publish_as::<ReaderLook, R>(rt)
 }
 
-/// Shows readers this issue from now on.
+/// Shows readers this from now on.
 fn show<R: Wait>(
     mut writer: ShownWriter,
     rt: &R,
-    issue: Arc<Issue>,
+    next: Shown,
 ) -> (ShownWriter, Result<(), AllocError>)
-    requires { IsEarlier (told writer.desk.shown.value) (told_by (arc_value issue)) }
-    ensures { ShowsOrKeeps result.1 (arc_value issue)
+    requires { IsEarlier (told writer.desk.shown.value) (told_by (notice_of next)) }
+    ensures { ShowsOrKeeps result.1 (notice_of next)
         writer.desk.shown.value result.0.desk.shown.value
         (place_view writer.desk.place) (place_view result.0.desk.place) }
 {
-    let Ok(()) = writer.append(Shown { issue }) else {
+    let Ok(()) = writer.append(next) else {
         return (writer, Err(AllocError));
     };
     turned(writer, rt)
 }
 
-/// `show`, of a writer in its place.
-pub(crate) fn show_at<R: Wait>(
-    writer: &mut ShownWriter,
-    rt: &R,
-    issue: Arc<Issue>,
-) -> Result<(), AllocError>
-    requires { IsEarlier (told writer.old.desk.shown.value) (told_by (arc_value issue)) }
-    ensures { ShowsOrKeeps result (arc_value issue)
+/// `show`, of a writer in its place, and of the same once more.
+fn show_at<R: Wait>(writer: &mut ShownWriter, rt: &R, next: &Shown) -> Result<(), AllocError>
+    requires { IsEarlier (told writer.old.desk.shown.value) (told_by (notice_of next.now)) }
+    ensures { ShowsOrKeeps result (notice_of next.now)
         writer.old.desk.shown.value writer.new.desk.shown.value
         (place_view writer.old.desk.place) (place_view writer.new.desk.place) }
 {
+    let Ok(once) = again(next) else {
+        return Err(AllocError);
+    };
     replace_with(
         writer,
-        (rt, issue),
-        |writer, (rt, issue)| show(writer, rt, issue),
+        (rt, once),
+        |writer, (rt, once)| show(writer, rt, once),
     )
+}
+
+/// Shows readers this from now on. The writer has room for it, and its issue for one more owner, so
+/// the first try succeeds, which no proof can see.
+pub(crate) fn show_in_the_end<R: Wait>(writer: &mut ShownWriter, rt: &R, next: &Shown)
+    requires { IsEarlier (told writer.old.desk.shown.value) (told_by (notice_of next.now)) }
+    ensures { Shows (notice_of next.now) writer.new.desk.shown.value
+        (place_view writer.new.desk.place) }
+{
+    for _ in rt.forever() {
+        if let Ok(()) = show_at(writer, rt, next) {
+            return;
+        }
+    }
+    unreachable!()
 }

@@ -1,12 +1,12 @@
 //! Readers that aren't looking.
-ghost use Rattle.std.specs.Prelude.{◌≡◌, ◌+◌, [], ℕ, true, List, length, slice_get, slice_index};
-ghost use Rattle.std.specs.Prelude.{Some, IfOk, MatchResult};
+ghost use Rattle.std.specs.Prelude.{◌≡◌, ◌+◌, ◌≤◌, [], true, length, slice_get};
+ghost use Rattle.std.specs.Prelude.{Some, IfOk, MatchResult, IsTrue, ◌↔◌};
 ghost use Rattle.left_right.specs.Sides.{view as place_view};
 ghost use Rattle.numa_publish.specs.Batches.{Extends};
 ghost use Rattle.numa_publish.specs.Kept.{IsReaderKept, reader_shown};
 ghost use Rattle.numa_publish.specs.Shown.{IsOneOf, new_reader};
 
-use crate::issue::Issue;
+use crate::issue::{Issue, Shown};
 use crate::log::Front;
 use crate::past::Past;
 use crate::receipt::Receipt;
@@ -18,9 +18,9 @@ use std::marker::Model;
 /// sent to another thread. It has seen a published version, initially 0, and never looks at an
 /// earlier one.
 ///
-/// Contracts see its desk, the history that it has seen or learnt, the versions published up to the
-/// one that it saw last, and the number of its enters and of refused ones. Apart from the version
-/// none of these takes a byte.
+/// Contracts see its desk, the history that it has seen or learnt, the versions published up to it,
+/// and the number of its enters and of refused ones. Apart from the version none of these takes a
+/// byte.
 #[derive(Drop)]
 pub struct PlanReader {
     reader: ShownReader,
@@ -64,34 +64,48 @@ impl PlanReader {
 
     /// Returns the reader, which has now seen the longer of the receipt's history and its own. It
     /// doesn't block or allocate.
-    ///
-    /// If the receipt's version is among the reader's, the versions up to it are the receipt's: so
-    /// an earlier view of that version and the receipt show the same.
     pub fn learn(self, receipt: &Receipt) -> PlanReader
         requires { receipt.now.desk ≡ self.desk }
         ensures desk { result.desk ≡ self.desk }
         ensures one { IsOneOf self.history receipt.now.history result.history }
         ensures own { Extends self.history result.history }
         ensures told { Extends receipt.now.history result.history }
-        ensures versions { result.versions ≡ self.versions }
-        ensures same { (earlier : List ℕ) → Extends earlier self.versions
-            → slice_get earlier 0 ≡ Some (length receipt.now.history)
-            → earlier ≡ receipt.now.versions }
+        ensures versions { Extends self.versions result.versions
+            × Extends receipt.now.versions result.versions }
         ensures counts { (result.enters ≡ self.enters) × (result.refused ≡ self.refused) }
     {
         let PlanReader { reader, mut past } = self;
         let told = receipt.version();
         let mut both = past.front.again();
         both.learn(&receipt.front);
-        // Tells the proof that what was seen last is of this log too.
-        let mut all = both.again();
-        all.learn(&past.seen);
         if past.version < told {
             past.front = receipt.front.again();
             past.version = told;
             return PlanReader::back(reader, past);
         }
         PlanReader::back(reader, past)
+    }
+
+    /// What the reader has seen or learnt and what the receipt shows are of one log: of the two,
+    /// the one with the higher version has the other's commands and versions behind its newer ones.
+    /// It does nothing at run time.
+    pub fn compare(&self, receipt: &Receipt)
+        requires { receipt.now.desk ≡ self.now.desk }
+        ensures begins { length self.now.history ≤ length receipt.now.history
+            → Extends self.now.history receipt.now.history
+            × Extends self.now.versions receipt.now.versions }
+        ensures newest { slice_get self.now.versions 0 ≡ Some (length self.now.history) }
+    {
+        let mut both = self.past.front.again();
+        both.learn(&receipt.front);
+    }
+
+    /// Whether the receipt shows all that the reader has seen or learnt: whether its version isn't
+    /// below the reader's.
+    pub fn is_within(&self, receipt: &Receipt) -> bool
+        ensures { IsTrue result ↔ length self.now.history ≤ length receipt.now.history }
+    {
+        self.past.version <= receipt.version()
     }
 
     /// Returns a view of the version that is published now, which isn't older than what the reader
@@ -120,7 +134,7 @@ impl PlanReader {
             (λ v. Extends self.history v.history) (λ r. r.history ≡ self.history) }
         ensures versions { MatchResult result
             (λ v. Extends self.versions v.versions) (λ r. r.versions ≡ self.versions) }
-        ensures published { IfOk result (λ v. slice_index v.versions 0 ≡ length v.history) }
+        ensures published { IfOk result (λ v. slice_get v.versions 0 ≡ Some (length v.history)) }
         ensures enters { MatchResult result
             (λ v. v.enters ≡ self.enters + 1) (λ r. r.enters ≡ self.enters + 1) }
         ensures refused { MatchResult result
@@ -135,9 +149,10 @@ impl PlanReader {
                 return Err(PlanReader::back(reader, past));
             }
         };
-        let issue: &Issue = &reading.get().issue;
+        let value: &Shown = reading.get();
+        let issue: &Issue = &value.issue;
         let shown = issue.plan.version();
-        let next = issue.front.again();
+        let next = value.front.again();
         let mut both = past.front.again();
         both.learn(&next);
         // A receipt is made after its version was published, so what is shown is never older, which
@@ -148,7 +163,6 @@ impl PlanReader {
             return Err(PlanReader::back(reader, past));
         }
         past.front = next;
-        past.seen = issue.front.again();
         past.version = shown;
         Ok(PlanView::new(reading, past))
     }

@@ -1,11 +1,9 @@
-use Rattle.std.proofs.Common.{◌≡◌, ◌≤◌, Some, ap, sym, subst, ◌∙◌, arith, length, List}
-use Rattle.std.specs.Prelude.{slice_get}
+use Rattle.std.proofs.Common.{◌≡◌, ◌≤◌, ap, subst, arith, length, List}
 use mathlib.Core.List.{IsPrefix}
 use Rattle.numa_publish.specs.declared.batch.Batch.{Batch}
-use Rattle.numa_publish.specs.Batches.{Extends, history_of, versions_of}
+use Rattle.numa_publish.specs.Batches.{history_of, versions_of}
 use Rattle.numa_publish.specs.Shown.{ReceiptState}
-use Rattle.numa_publish.proofs.Lists.{history_shorter, prefix_extends}
-use Rattle.numa_publish.proofs.Logs.{fronts_same, versions_agree}
+use Rattle.numa_publish.proofs.Logs.{fronts_same, shown_before}
 use Rattle.numa_publish.proofs.laws.equal_versions_agree.Goals as goal
 
 pub returns-clause-begins : goal.returns-clause-begins
@@ -22,8 +20,8 @@ returns-clause-begins c le =
       ap (λ (r : ReceiptState). length r.history) c.other.view_is,
     ) in
     rw (← c.one.view_is, ← c.other.view_is)
-    (history_shorter c.other.inside.front.log c.one.inside.front.log both c.learn.ensures.3 one
-    shorter)
+    (shown_before c.other.inside.front.log c.one.inside.front.log both c.learn.ensures.3 one
+    c.learn.ensures.4.1.is_log shorter)
 
 pub returns-clause-same : goal.returns-clause-same
 returns-clause-same c e =
@@ -41,17 +39,3 @@ returns-clause-same c e =
     let same : c.other.inside.front.log ≡ c.one.inside.front.log =
     fronts_same _ _ both c.learn.ensures.3 one c.learn.ensures.4.1.is_log number in
     rw (← c.one.view_is, ← c.other.view_is) (ap history_of same, ap versions_of same)
-
-pub returns-clause-earlier : goal.returns-clause-earlier
-returns-clause-earlier c versions more at =
-    let both = c.learn.new.self.log in
-    let one : IsPrefix c.one.inside.front.log both = subst (λ (l : List Batch). IsPrefix l both)
-    (ap (λ s. s.log) c.again-both.ensures) c.learn.ensures.2 in
-    let among : Extends versions (versions_of c.one.inside.front.log) =
-    subst (λ (r : ReceiptState). Extends versions r.versions) (sym c.one.view_is) more in
-    let newest : slice_get versions 0 ≡ Some (length (history_of c.other.inside.front.log)) = at
-    ∙ ap (λ (r : ReceiptState). Some (length r.history)) (sym c.other.view_is) in
-    let agree = versions_agree c.one.inside.front.log c.other.inside.front.log both one
-    c.learn.ensures.3 c.learn.ensures.4.1.is_log versions among newest in
-    rw (← c.one.view_is, ← c.other.view_is)
-    (agree.0, prefix_extends c.other.inside.front.log c.one.inside.front.log agree.1)

@@ -1,7 +1,6 @@
 use Rattle.left_right.specs.Sides.{view as place_view}
 use Rattle.std.proofs.Common.{drop}
-use Rattle.std.specs.Arc.{arc_value}
-use Rattle.numa_publish.specs.Knowing.{last_of}
+use Rattle.numa_publish.specs.Knowing.{last_of, notice_of}
 use Rattle.numa_publish.proofs.Keeping.{shown_result}
 use Rattle.numa_publish.proofs.publishing.turned.Goals as goal
 
@@ -11,5 +10,5 @@ returns g c =
     let to = c.publish_as.result.0 in
     shown_result _ _ c.publish_as.result.1 from.desk.shown.value to.desk.shown.value
     (place_view from.desk.place) (place_view to.desk.place)
-    (last_of (arc_value from.desk.shown.value.issue) (drop from.behind from.log.items))
+    (last_of (notice_of from.desk.shown.value) (drop from.behind from.log.items))
     c.publish_as.ensures.values c.publish_as.ensures.rule

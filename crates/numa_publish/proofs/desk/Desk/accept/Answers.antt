@@ -35,7 +35,8 @@ returns-in-Err c = record {
   allowed = tt;
   version = tt;
   added = tt;
-  err = rw (← c.self.view_is) (answered _ _ (c.in-Err.ensures.applied.err _ c.self.invariant.0.stands));
+  err = rw (← c.self.view_is) (answered _ _
+      (c.in-Err.ensures.applied.err _ c.self.invariant.0.stands));
   unchanged = rw (c.in-Err.ensures.applied.unchanged, c.reserve.ensures.items) c.self.view_is;
   desk = rw c.in-Err.ensures.applied.unchanged (
     ap (λ (d : DeskState). d.desk) c.self.view_is,
@@ -49,7 +50,7 @@ returns-in-Err c = record {
 
 pub invariant_of-self-2 : goal.invariant_of-self-2
 invariant_of-self-2 c = (
-  accepted_kept _ _ _ _ _ c.self.inside.pending.commands.items _ c.args.command.now _
+  accepted_kept _ _ _ _ _ c.self.inside.pending.items c.args.command.now _
       c.self.invariant.0 (c.push_reserved.ensures.items ∙ ap (λ w. w ++ c.args.command.now ∷ [])
       c.reserve.ensures.items) (c.in_default-apply.ensures.applied.ok _ c.self.invariant.0.stands).1
       c.in_default-apply.ensures.applied.machine,
@@ -79,7 +80,7 @@ returns c =
           c.in_default-apply.ensures.applied.bounds refl refl
           (ap (λ (w : List Command). reverse w) (c.push_reserved.ensures.items
           ∙ ap (λ w. w ++ c.args.command.now ∷ []) c.reserve.ensures.items)
-          ∙ reverse-append c.self.inside.pending.commands.items (c.args.command.now ∷ []));
+          ∙ reverse-append c.self.inside.pending.items (c.args.command.now ∷ []));
       err = tt;
       unchanged = tt;
       desk = (

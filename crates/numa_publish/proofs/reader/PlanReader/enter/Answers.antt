@@ -1,13 +1,13 @@
-use Rattle.std.proofs.Common.{◌≡◌, ◌≤◌, ap, refl, subst, sym, ◌∙◌, arith, length, List, []}
+use Rattle.std.proofs.Common.{◌≡◌, ◌≤◌, ap, refl, subst, sym, ◌∙◌, arith, length, List}
 use mathlib.Core.List.{IsPrefix}
+use Rattle.numa_requests.specs.declared.command.Command.{Command}
 use Rattle.std.specs.Arc.{arc_value}
 use Rattle.numa_publish.specs.declared.batch.Batch.{Batch}
 use Rattle.numa_publish.specs.declared.issue.Issue.{Issue}
 use Rattle.numa_publish.specs.declared.issue.Shown.{Shown}
-use Rattle.numa_publish.specs.declared.rule.Knows.{Knows}
-use Rattle.numa_publish.specs.Batches.{Extends, history_of, versions_of}
+use Rattle.numa_publish.specs.Batches.{history_of}
 use Rattle.numa_publish.specs.Shown.{DeskIdentity}
-use Rattle.numa_publish.proofs.Lists.{history_shorter, extends_trans}
+use Rattle.numa_publish.proofs.Logs.{shown_before}
 use Rattle.numa_publish.proofs.Keeping.{sees, earlier_self}
 use Rattle.numa_publish.proofs.reader.PlanReader.enter.Goals as goal
 
@@ -18,13 +18,7 @@ pub back-requires : goal.back-requires
 back-requires c =
     let kept = c.self.invariant in
     rw c.in-Err.ensures.1
-    (record {
-      version_is = kept.version_is;
-      named = kept.named;
-      book_is = kept.book_is;
-      seen_book = kept.seen_book;
-      behind = kept.behind;
-    })
+    (record { version_is = kept.version_is; named = kept.named; book_is = kept.book_is })
 
 pub returns-in-Err : goal.returns-in-Err
 returns-in-Err c = record {
@@ -38,11 +32,9 @@ returns-in-Err c = record {
 
 pub learn-requires : goal.learn-requires
 learn-requires c =
-    let is : c.deref-issue.result.now ≡ arc_value c.in-Ok.reading.part.value.issue =
-    c.deref-issue.ensures ∙ ap (λ (s : Shown). arc_value s.issue) c.get.ensures in
     let known = (c.in-Ok.ensures.1.0).desk c.self.invariant.named in
     ap (λ s. s.book) c.again-next.ensures
-    ∙ (ap (λ (i : Issue). i.front.book) is
+    ∙ (ap (λ (s : Shown). s.front.book) c.get-value.ensures
     ∙ (sym (ap (λ (d : DeskIdentity). d.book) known)
     ∙ (c.self.invariant.book_is ∙ sym (ap (λ s. s.book) c.again-both.ensures))))
 
@@ -55,38 +47,29 @@ back-requires-then-shown-past c =
       named = ap (λ k. k.named) now;
       book_is = ap (λ k. k.front.book) now
           ∙ (sym (ap (λ (d : DeskIdentity). d.book) known) ∙ c.self.invariant.book_is);
-      seen_book = c.self.invariant.seen_book;
-      behind =
-          subst (λ (known : Knows). Extends (versions_of c.self.inside.past.seen.log)
-          (versions_of known.front.log)) (sym now)
-          (extends_trans _ _ _ c.self.invariant.behind (c.in-Ok.ensures.1.0).versions);
     }
 
 pub new-requires : goal.new-requires
 new-requires c =
+    let value : Shown = c.get-value.result.now in
     let is : c.deref-issue.result.now ≡ arc_value c.in-Ok.reading.part.value.issue =
-    c.deref-issue.ensures ∙ ap (λ (s : Shown). arc_value s.issue) c.get.ensures in
-    let log = ap (λ s. s.log) c.again-next.ensures ∙ ap (λ (i : Issue). i.front.log) is in
-    let seen : c.again.result.log ≡ (arc_value c.in-Ok.reading.part.value.issue).front.log =
-    ap (λ s. s.log) c.again.ensures ∙ ap (λ (i : Issue). i.front.log) is in
+    c.deref-issue.ensures ∙ ap (λ (s : Shown). arc_value s.issue) c.get-value.ensures in
+    let log : c.again-next.result.log ≡ value.front.log = ap (λ s. s.log) c.again-next.ensures in
+    let of : history_of c.again-next.result.log ≡ (arc_value value.issue).history =
+    ap history_of log ∙ value.whole in
     record {
       reader = record {
         version_is = c.version-shown.ensures
             ∙ (c.deref-issue.result.now.stands.version
-            ∙ sym (ap (λ s. length (history_of s.log)) c.again-next.ensures));
+            ∙ sym (ap length of ∙ ap (λ (i : Issue). length i.history)
+                (sym c.deref-issue.ensures)));
         named = ap (λ k. k.named) c.in-Ok.ensures.1.1;
         book_is = ap (λ k. k.front.book) c.in-Ok.ensures.1.1
-            ∙ sym (ap (λ s. s.book) c.again-next.ensures ∙ ap (λ (i : Issue). i.front.book) is);
-        seen_book = ap (λ s. s.book) c.again.ensures ∙ sym (ap (λ s. s.book) c.again-next.ensures);
-        behind = (
-          [],
-          ap (λ (k : Knows). versions_of k.front.log) c.in-Ok.ensures.1.1
-              ∙ sym (ap versions_of seen),
-        );
+            ∙ sym (ap (λ s. s.book) c.again-next.ensures
+            ∙ ap (λ (s : Shown). s.front.book) c.get-value.ensures);
       };
-      log_is = log;
+      history_is = of ∙ ap (λ (s : Shown). (arc_value s.issue).history) c.get-value.ensures;
       machine_is = ap (λ k. k.machine) c.in-Ok.ensures.1.1;
-      seen_is = seen ∙ sym log;
     }
 
 pub returns-clause-seen : goal.returns-clause-seen
@@ -95,6 +78,10 @@ returns-clause-seen c =
     let mine : IsPrefix c.self.inside.past.front.log both =
     subst (λ (l : List Batch). IsPrefix l both) (ap (λ s. s.log) c.again-both.ensures)
     c.learn.ensures.2 in
+    let value : Shown = c.get-value.result.now in
+    let log : c.again-next.result.log ≡ value.front.log = ap (λ s. s.log) c.again-next.ensures in
+    let of : history_of c.again-next.result.log ≡ c.deref-issue.result.now.history =
+    ap history_of log ∙ (value.whole ∙ ap (λ (i : Issue). i.history) (sym c.deref-issue.ensures)) in
     let less : length (history_of c.self.inside.past.front.log)
     ≤ length (history_of c.again-next.result.log) =
     omega (
@@ -103,18 +90,32 @@ returns-clause-seen c =
       c.if-shown-past.false,
       c.version-shown.ensures,
       c.deref-issue.result.now.stands.version,
-      ap (λ s. length (history_of s.log))
-          c.again-next.ensures,
+      ap (λ (h : List Command). length h) of,
     ) in
     rw (← c.self.view_is, ap (λ v. v.history) c.new.ensures)
-    (history_shorter c.self.inside.past.front.log c.again-next.result.log both mine
-    c.learn.ensures.3 less)
+    (shown_before c.self.inside.past.front.log c.again-next.result.log both mine
+    c.learn.ensures.3 c.learn.ensures.4.1.is_log less).0
 
 pub returns-clause-versions : goal.returns-clause-versions
 returns-clause-versions c =
-    let is : c.deref-issue.result.now ≡ arc_value c.in-Ok.reading.part.value.issue =
-    c.deref-issue.ensures ∙ ap (λ (s : Shown). arc_value s.issue) c.get.ensures in
-    let seen : c.again.result.log ≡ (arc_value c.in-Ok.reading.part.value.issue).front.log =
-    ap (λ s. s.log) c.again.ensures ∙ ap (λ (i : Issue). i.front.log) is in
-    let later = extends_trans _ _ _ c.self.invariant.behind (c.in-Ok.ensures.1.0).versions in
-    rw (← c.self.view_is, ap (λ v. v.versions) c.new.ensures, seen) later
+    let both = c.learn.new.self.log in
+    let mine : IsPrefix c.self.inside.past.front.log both =
+    subst (λ (l : List Batch). IsPrefix l both) (ap (λ s. s.log) c.again-both.ensures)
+    c.learn.ensures.2 in
+    let value : Shown = c.get-value.result.now in
+    let log : c.again-next.result.log ≡ value.front.log = ap (λ s. s.log) c.again-next.ensures in
+    let of : history_of c.again-next.result.log ≡ c.deref-issue.result.now.history =
+    ap history_of log ∙ (value.whole ∙ ap (λ (i : Issue). i.history) (sym c.deref-issue.ensures)) in
+    let less : length (history_of c.self.inside.past.front.log)
+    ≤ length (history_of c.again-next.result.log) =
+    omega (
+      arith,
+      c.self.invariant.version_is,
+      c.if-shown-past.false,
+      c.version-shown.ensures,
+      c.deref-issue.result.now.stands.version,
+      ap (λ (h : List Command). length h) of,
+    ) in
+    rw (← c.self.view_is, ap (λ v. v.versions) c.new.ensures)
+    (shown_before c.self.inside.past.front.log c.again-next.result.log both mine
+    c.learn.ensures.3 c.learn.ensures.4.1.is_log less).1

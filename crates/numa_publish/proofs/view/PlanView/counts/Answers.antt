@@ -14,7 +14,7 @@ returns-clause-stands c =
     ∙ ap (λ (s : Shown). arc_value s.issue) c.get.ensures in
     let stands : PlanStandsFor (place_view c.self.inside.reading.place).machine issue.plan
     (history_of c.self.inside.past.front.log) =
-    rw (c.self.invariant.log_is, c.self.invariant.machine_is, ← is) issue.stands in
+    rw (c.self.invariant.history_is, c.self.invariant.machine_is, ← is) issue.stands in
     let ok = c.in_ok-counts.ensures.ok in
     rw (← c.self.view_is) (span-judged _ issue.plan _ stands c.run_count.ensures.apart c.args.cpu
     c.args.first c.args.pages ok.0 ok.1)

@@ -18,7 +18,7 @@ returns-clause-ok c =
     ∙ ap (λ (s : Shown). arc_value s.issue) c.get.ensures in
     let stands : PlanStandsFor (place_view c.self.inside.reading.place).machine issue.plan
     (history_of c.self.inside.past.front.log) =
-    rw (c.self.invariant.log_is, c.self.invariant.machine_is, ← is) issue.stands in
+    rw (c.self.invariant.history_is, c.self.invariant.machine_is, ← is) issue.stands in
     let ok = c.in_ok-fill.ensures.ok in
     rw (← c.self.view_is)
     (λ k l.
@@ -32,7 +32,7 @@ returns-clause-stands c =
     ∙ ap (λ (s : Shown). arc_value s.issue) c.get.ensures in
     let stands : PlanStandsFor (place_view c.self.inside.reading.place).machine issue.plan
     (history_of c.self.inside.past.front.log) =
-    rw (c.self.invariant.log_is, c.self.invariant.machine_is, ← is) issue.stands in
+    rw (c.self.invariant.history_is, c.self.invariant.machine_is, ← is) issue.stands in
     let ok = c.in_ok-fill.ensures.ok in
     rw (← c.self.view_is) (span-stands _ issue.plan _ stands c.run_count.ensures.apart c.args.cpu
     c.args.first (length c.fill.new.out) ok.0
@@ -47,13 +47,13 @@ returns-clause-lists c =
     ∙ ap (λ (s : Shown). arc_value s.issue) c.get.ensures in
     let stands : PlanStandsFor (place_view c.self.inside.reading.place).machine issue.plan
     (history_of c.self.inside.past.front.log) =
-    rw (c.self.invariant.log_is, c.self.invariant.machine_is, ← is) issue.stands in
+    rw (c.self.invariant.history_is, c.self.invariant.machine_is, ← is) issue.stands in
     let ok = c.in_ok-fill.ensures.ok in
     let sound : (task page cpu : ℕ) → cpu < issue.plan.nodes
     → ForSome (planned_list issue.plan task page cpu)
     (IsNodeList (allowed_nodes (place_view c.self.inside.reading.place).machine
     (history_of c.self.inside.past.front.log))) =
-    rw (c.self.invariant.log_is, c.self.invariant.machine_is, ← is) issue.sound in
+    rw (c.self.invariant.history_is, c.self.invariant.machine_is, ← is) issue.sound in
     rw (← c.self.view_is)
     (span-lists _ issue.plan _ c.args.task c.args.cpu c.args.first c.fill.new.out stands sound
     ok.0 ok.1)
