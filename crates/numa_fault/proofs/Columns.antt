@@ -119,9 +119,6 @@ Ahead count turn n = (w : ℕ) → w < count → turn ≤ w → wait count w n +
 abbrev pub Behind : ℕ → ℕ → ℕ → Type 0
 Behind count turn n = (w : ℕ) → w < turn → wait count w n + turn ≡ w + count
 
-pub turns-begin : (count : ℕ) → Ahead count 0 0
-turns-begin count w l h = omega arith
-
 module _ (count turn n : ℕ) (inside : turn < count) (ahead : Ahead count turn n)
     (behind : Behind count turn n) where
   pub here : wait count turn n ≡ 0

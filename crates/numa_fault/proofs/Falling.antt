@@ -28,7 +28,7 @@ module _ (frames : List ℕ) where
       )
 
   -- what the first answer tells is the length of what is seen then
-  first-told : (request : Request) (before after : Parts) (a : Answer) (v : ℕ)
+  pub first-told : (request : Request) (before after : Parts) (a : Answer) (v : ℕ)
       → Faults frames request before after (result_of a) → version_told (result_of a) ≡ Some v
       → v ≡ length after.reader.history
   first-told request before after a v answers told = tells-version frames request before after

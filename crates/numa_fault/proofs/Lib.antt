@@ -7,3 +7,4 @@ pub mod Lawful
 pub mod Apart
 pub mod Falling
 pub mod Migrating
+pub mod Seeing

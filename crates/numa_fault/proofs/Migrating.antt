@@ -3,7 +3,7 @@ use Rattle.std.proofs.Common.{◌≡◌, ℕ, Bool, true, false, refl, ap, subst
 use Rattle.std.proofs.Common.{arith, List, ◌∷◌, eq-eqb}
 use Rattle.numa_machine.specs.declared.frame.Frame.{Frame}
 use Rattle.numa_pool.specs.Frames.{Holds, is_frame, one_if, times, without}
-use Rattle.numa_pool.proofs.StepLemmas.{is_frame-same, times_without-here}
+use Rattle.numa_pool.proofs.Totals.{is_frame-same, times_without-here}
 
 module _ (held : List Frame) (old new : Frame) (fresh : times new.node new.number held ≡ 0)
     (holds : Holds held old) where

@@ -24,13 +24,15 @@ use Rattle.numa_fault.specs.declared.refusal.FaultRefusal.TheVariants.{Exhausted
 
 -- ---- the reader
 
--- one entry that was let in: what is seen now extends what was seen before
+-- one entry that was let in: what is seen now extends what was seen before, and the newest of the
+-- versions that are seen is the number of its commands
 pub record LetsIn (before after : ReaderState) : Type 0 where
   pub desk : after.desk ≡ before.desk
   pub enters : after.enters ≡ before.enters + 1
   pub refused : after.refused ≡ before.refused
   pub history : Extends before.history after.history
   pub versions : Extends before.versions after.versions
+  pub newest : slice_get after.versions 0 ≡ Some (length after.history)
 
 -- one entry that was refused: nothing but the two numbers changes
 abbrev pub refused_once : ReaderState → ReaderState

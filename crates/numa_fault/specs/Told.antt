@@ -1,8 +1,11 @@
 -- What answers tell, and what a walk shows: the words of the laws.
 use Rattle.std.specs.Prelude.{◌≡◌, ℕ, ◌<◌, ◌++◌, true, List, Option, Some, None, Result, Ok, Err}
-use Rattle.std.specs.Prelude.{slice_get, slice_index}
+use Rattle.std.specs.Prelude.{length, slice_get, slice_index}
 use Rattle.std.specs.Option.{option_and_then}
+use Rattle.numa_requests.specs.declared.command.Command.{Command}
 use Rattle.numa_requests.specs.declared.placement.Placement.{Placement}
+use Rattle.numa_publish.specs.Batches.{Extends}
+use Rattle.numa_publish.specs.Shown.{ReaderState}
 use Rattle.numa_pool.specs.Seats.{SeatView}
 use Rattle.numa_pool.specs.Walk.{met}
 use Rattle.numa_pool.specs.declared.view.Entry.{Entry}
@@ -50,6 +53,15 @@ span_refusal_told (Err no_span_memory) = None
 abbrev pub version_at : List Answer → ℕ → Option ℕ
 version_at answers i =
     option_and_then (λ answer. version_told (result_of answer)) (slice_get answers i)
+
+-- this history, with these versions up to it, is what a reader saw at the version between the two
+-- states: it extends all that it had seen or learnt before, and what it has seen since extends it
+pub record IsSeenBetween (before after : ReaderState) (version : ℕ) (history : List Command)
+    (versions : List ℕ) : Type 0 where
+  pub number : length history ≡ version
+  pub newest : slice_get versions 0 ≡ Some (length history)
+  pub since : Extends before.history history × Extends before.versions versions
+  pub until : Extends history after.history × Extends versions after.versions
 
 -- in the steps that the seat gained, each frame of the first nodes of the list, as many as the
 -- count says, was found taken

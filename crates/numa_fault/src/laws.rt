@@ -17,7 +17,7 @@ ghost use Rattle.numa_fault.specs.Fault.{Faults, FindsNone, Places, list_of, ref
 ghost use Rattle.numa_fault.specs.Migration.{Migrates};
 ghost use Rattle.numa_fault.specs.Span.{FaultsOnSpan, IsRefused};
 ghost use Rattle.numa_fault.specs.Told.{FoundTaken, refusal_told, span_refusal_told, version_told};
-ghost use Rattle.numa_fault.specs.Told.{version_at};
+ghost use Rattle.numa_fault.specs.Told.{IsSeenBetween, version_at};
 ghost use Rattle.numa_fault.specs.Worker.{Parts, WorkerState};
 ghost use Rattle.numa_fault.specs.declared.answer.Answer.{Answer};
 ghost use Rattle.numa_fault.specs.declared.refusal.FaultRefusal.{FaultRefusal};
@@ -97,7 +97,8 @@ pub fn a_migration_means()
 {}
 
 /// What a worker sees only grows, and the versions in its answers never decrease. The history of
-/// such a version extends what was seen before, and what is seen later extends it.
+/// such a version extends what was seen before, and what is seen later extends it; so do the
+/// versions published up to it.
 pub fn versions_never_fall()
     ensures grows { (frames : List ℕ) (requests : List Request) (before after : Parts)
         (answers : List Answer) → Serves frames requests before after answers
@@ -115,6 +116,10 @@ pub fn versions_never_fall()
         → (i v : ℕ) → version_at answers i ≡ Some v
         → (history : List Command) × (length history ≡ v)
         × Extends before.reader.history history × Extends history after.reader.history }
+    ensures published { (frames : List ℕ) (requests : List Request) (before after : Parts)
+        (answers : List Answer) → Serves frames requests before after answers
+        → (i v : ℕ) → version_at answers i ≡ Some v → (history : List Command)
+        × ((versions : List ℕ) × IsSeenBetween before.reader after.reader v history versions) }
 {}
 
 /// Entry j of column w, of K columns of a list, is entry w + j K of the list.

@@ -6,6 +6,7 @@ ghost use Rattle.numa_fault.specs.Migration.{Migrates};
 ghost use Rattle.numa_fault.specs.Span.{FaultsOnSpan};
 ghost use Rattle.numa_fault.specs.Worker.{parts_of, KeepsNothing};
 ghost use Rattle.numa_pool.specs.Frames.{Holds, without};
+ghost use Rattle.numa_publish.specs.Batches.{Extends};
 ghost use Rattle.numa_pool.specs.declared.view.Entry.TheVariants.{Gave};
 
 use crate::answer::Answer;
@@ -14,7 +15,7 @@ use crate::placing::fault_by;
 use crate::refusal::{FaultRefusal, MigrateRefusal, SpanRefusal};
 use crate::span::{Span, fault_span_by};
 use numa_pool::{PoolSeat, Pools};
-use numa_publish::PlanReader;
+use numa_publish::{PlanReader, Receipt};
 use numa_requests::{Placement, Request};
 use std::alloc::Global;
 use std::marker::Model;
@@ -149,6 +150,34 @@ impl FaultWorker {
         let (reader, answer) = fault_span_by(reader, alloc, pools, &mut self.seat, span, out);
         self.reader = Some(reader);
         answer
+    }
+
+    /// What the worker has seen and what a receipt of its desk shows are of one log: if the worker
+    /// has seen no later version, what it saw was published before what the receipt shows. It does
+    /// nothing at run time.
+    pub fn compare(&self, receipt: &Receipt)
+        requires { receipt.now.desk ≡ self.now.reader.desk }
+        ensures { length self.now.reader.history ≤ length receipt.now.history
+            → Extends self.now.reader.history receipt.now.history
+            × Extends self.now.reader.versions receipt.now.versions }
+    {
+        let Some(reader) = &self.reader else {
+            unreachable!()
+        };
+        reader.compare(receipt);
+    }
+
+    /// Whether the receipt, of the worker's desk, shows all that the worker has seen.
+    pub fn is_within(&self, receipt: &Receipt) -> bool
+        requires { receipt.now.desk ≡ self.now.reader.desk }
+        ensures { IsTrue result → Extends self.now.reader.history receipt.now.history
+            × Extends self.now.reader.versions receipt.now.versions }
+    {
+        let Some(reader) = &self.reader else {
+            unreachable!()
+        };
+        reader.compare(receipt);
+        reader.is_within(receipt)
     }
 
     /// Whether the worker's seat holds the frame of the placement.

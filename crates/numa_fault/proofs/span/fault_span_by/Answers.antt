@@ -1,4 +1,5 @@
-use Rattle.std.proofs.Common.{◌∙◌, sym, subst, List, ℕ}
+use Rattle.std.proofs.Common.{◌∙◌, ap, sym, subst, List, length, Some, ℕ}
+use Rattle.std.specs.Prelude.{slice_get}
 use Rattle.numa_publish.specs.Batches.{Extends}
 use Rattle.numa_publish.specs.Shown.{DeskIdentity}
 use Rattle.numa_requests.specs.declared.command.Command.{Command}
@@ -22,6 +23,8 @@ returns-clause-fault c =
           entered.seen;
       versions = subst (λ (ns : List ℕ). Extends reader.versions ns) (sym left.versions)
           entered.versions;
+      newest = ap (λ (ns : List ℕ). slice_get ns 0) left.versions
+          ∙ (entered.published ∙ ap (λ (h : List Command). Some (length h)) (sym left.history));
     } in
     let served =
     subst (λ (p : DeskIdentity × List Command). SpanIsServed c.args.pools.now.frames p.0.machine
