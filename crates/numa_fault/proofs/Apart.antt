@@ -8,7 +8,7 @@ use Rattle.numa_machine.specs.declared.frame.Frame.{Frame}
 use Rattle.numa_requests.specs.declared.placement.Placement.{Placement}
 use Rattle.numa_requests.specs.declared.request.Request.{Request}
 use Rattle.numa_pool.specs.Frames.{is_frame, one_if, times}
-use Rattle.numa_fault.specs.Crew.{HaveSeats, Serves, ServesEach, column, result_of}
+use Rattle.numa_fault.specs.Crew.{AreApart, Serves, ServesEach, column, held_by, result_of}
 use Rattle.numa_fault.specs.Fault.{Faults}
 use Rattle.numa_fault.specs.Worker.{Parts, WorkerState, parts_of}
 use Rattle.numa_fault.specs.declared.answer.Answer.{Answer}
@@ -117,16 +117,36 @@ module _ (frames : List ℕ) where
       serves-apart requests done.0 after answers done.2 i j p q (omega arith) at later same
 
 -- the answer at a place stands in the column of the place's worker
-in-column : (count i : ℕ) (answers : List Answer) (p : Placement) → 0 < count
+pub in-column : (count i : ℕ) (answers : List Answer) (p : Placement) → 0 < count
     → slice_get answers i ≡ Some (Placed p) → slice_get (column count (i % count) answers)
     (i / count) ≡ Some (Placed p)
 in-column count i answers p some_turn at =
     let here : i % count + i / count * count ≡ i = omega arith in
     column-at count (i % count) (i / count) answers some_turn ∙ ap (slice_get answers) here ∙ at
 
+held-here : (n k : ℕ) (ws : List WorkerState) (d : WorkerState) (w : ℕ) → w < length ws
+    → times n k (slice_index_or ws w d).seat.held ≤ held_by n k ws
+held-here n k [] d w inside = absurd (omega arith)
+held-here n k (x ∷ xs) d zero inside = omega arith
+held-here n k (x ∷ xs) d (suc w) inside =
+    let rest = held-here n k xs d w (omega arith) in omega arith
+
+-- of workers that are apart only one holds a frame
+two-apart : (n k : ℕ) (ws : List WorkerState) (d : WorkerState) → AreApart ws → (w u : ℕ)
+    → w < length ws → u < length ws → 0 < times n k (slice_index_or ws w d).seat.held
+    → 0 < times n k (slice_index_or ws u d).seat.held → w ≡ u
+two-apart n k [] d far w u in_w in_u p q = absurd (omega arith)
+two-apart n k (x ∷ xs) d far zero zero in_w in_u p q = refl
+two-apart n k (x ∷ xs) d far zero (suc u) in_w in_u p q =
+    let rest = held-here n k xs d u (omega arith) in let none = far.0 n k p in absurd (omega arith)
+two-apart n k (x ∷ xs) d far (suc w) zero in_w in_u p q =
+    let rest = held-here n k xs d w (omega arith) in let none = far.0 n k q in absurd (omega arith)
+two-apart n k (x ∷ xs) d far (suc w) (suc u) in_w in_u p q =
+    ap suc (two-apart n k xs d far.1 w u (omega arith) (omega arith) p q)
+
 pub crew-apart : (frames : List ℕ) (requests : List Request) (old new : List WorkerState)
     (answers : List Answer) → 0 < length old → length new ≡ length old
-    → ServesEach frames requests old new answers → HaveSeats frames new
+    → ServesEach frames requests old new answers → AreApart new
     → (i j : ℕ) (p q : Placement) → i < j
     → slice_get answers i ≡ Some (Placed p) → slice_get answers j ≡ Some (Placed q)
     → p.frame ≡ q.frame → ⊥
@@ -174,14 +194,9 @@ crew-apart frames requests old (d ∷ rest) answers some_worker long served seat
         (parts_of (slice_index_or old (j % count) d))
         (parts_of (slice_index_or new (j % count) d)) (column count (j % count) answers)
         (of (j % count) second) (j / count) q (in-column count j answers q some_worker later) in
-        let v = seats.shown (i % count) d (omega arith) in
-        let u = seats.shown (j % count) d (omega arith) in
-        let mine : 0 < times p.frame.node p.frame.number v.0.held =
-        subst (λ fs. 0 < times p.frame.node p.frame.number fs) (sym v.2) one in
-        let its : 0 < times q.frame.node q.frame.number u.0.held =
-        subst (λ fs. 0 < times q.frame.node q.frame.number fs) (sym u.2) two in
-        let both : 0 < times p.frame.node p.frame.number u.0.held =
-        subst (λ (f : Frame). 0 < times f.node f.number u.0.held) (sym same) its in
-        apart (seats.own (i % count) (j % count) (omega arith) (omega arith)
-        (seats.rule.one_holder p.frame.node p.frame.number (seats.seat (i % count))
-        (seats.seat (j % count)) v.0 u.0 v.1 u.1 mine both))
+        let both : 0 < times p.frame.node p.frame.number
+        (slice_index_or new (j % count) d).seat.held =
+        subst (λ (f : Frame). 0 < times f.node f.number
+        (slice_index_or new (j % count) d).seat.held) (sym same) two in
+        apart (two-apart p.frame.node p.frame.number new d seats (i % count) (j % count)
+        (omega arith) (omega arith) one both)

@@ -7,4 +7,9 @@ pub mod Lawful
 pub mod Apart
 pub mod Falling
 pub mod Migrating
+pub mod Joining
+pub mod Popped
+pub mod FirstCrew
+pub mod Enlisting
 pub mod Seeing
+pub mod OneDesk

@@ -1,6 +1,7 @@
 //! Laws of the definitions that contracts cite. The functions do nothing: what each one ensures is
 //! a law.
-ghost use Rattle.std.specs.Prelude.{◌≡◌, ◌≢◌, ℕ, ◌+◌, ◌*◌, ◌<◌, ◌≤◌, List, [], ◌∷◌, length};
+ghost use Rattle.std.specs.Prelude.{◌≡◌, ◌≢◌, ℕ, ◌+◌, ◌*◌, ◌<◌, ◌≤◌, List, [], ◌∷◌};
+ghost use Rattle.std.specs.Prelude.{◌++◌, length};
 ghost use Rattle.std.specs.Prelude.{Option, Some};
 ghost use Rattle.std.specs.Prelude.{Result, Ok, Err, slice_get, slice_index_or, ◌↔◌};
 ghost use Rattle.std.specs.Option.{ForSome};
@@ -8,11 +9,14 @@ ghost use Rattle.numa_requests.specs.declared.placement.Placement.{Placement};
 ghost use Rattle.numa_requests.specs.declared.request.Request.{Request};
 ghost use Rattle.numa_machine.specs.Machine.{Hardware};
 ghost use Rattle.numa_pool.specs.Frames.{Holds};
+ghost use Rattle.numa_pool.specs.Order.{AreAllSeats};
 ghost use Rattle.numa_pool.specs.Seats.{SeatView};
+ghost use Rattle.numa_pool.specs.declared.view.Past.{Past};
 ghost use Rattle.numa_publish.specs.Batches.{Extends};
 ghost use Rattle.numa_requests.specs.declared.command.Command.{Command};
 ghost use Rattle.numa_machine.specs.declared.refusal.PlaceRefusal.{PlaceRefusal};
-ghost use Rattle.numa_fault.specs.Crew.{column, HaveSeats, IsCrew, Serves, ServesEach};
+ghost use Rattle.numa_fault.specs.Crew.{column, AreApart, HaveNoPast, IsCrew, IsFirstCrew, Serves};
+ghost use Rattle.numa_fault.specs.Crew.{ServesEach, pasts_by};
 ghost use Rattle.numa_fault.specs.Fault.{Faults, FindsNone, Places, list_of, refusal_of};
 ghost use Rattle.numa_fault.specs.Migration.{Migrates};
 ghost use Rattle.numa_fault.specs.Span.{FaultsOnSpan, IsRefused};
@@ -130,13 +134,26 @@ pub fn columns_take_turns()
         → slice_get (column count w answers) j ≡ slice_get answers (w + j * count) }
 {}
 
-/// No frame is placed twice among the answers of a crew, if its workers' seats are different seats
-/// of the same pools, whose rule says that no two seats hold one frame.
+/// No frame is placed twice among the answers of a crew, since no frame belongs to two of its
+/// workers, as [`Crew::join`](crate::Crew::join) tells.
 pub fn crews_place_apart()
     ensures { (frames : List ℕ) (requests : List Request) (old new : List WorkerState)
         (answers : List Answer) → IsCrew (length old) → length new ≡ length old
         → ServesEach frames requests old new answers
-        → HaveSeats frames new → (i j : ℕ) (p q : Placement) → i < j
+        → AreApart new → (i j : ℕ) (p q : Placement) → i < j
         → slice_get answers i ≡ Some (Answer.Placed p)
         → slice_get answers j ≡ Some (Answer.Placed q) → p.frame ≢ q.frame }
+{}
+
+/// A crew that has the first seat of some pools and all that were split off it has all seats that
+/// there ever were, so that the order that the end of the pools tells has no other seat's steps.
+pub fn a_first_crew_has_all_seats()
+    ensures no_past { (frames : List ℕ) (requests : List Request) (old new : List WorkerState)
+        (answers : List Answer) → IsFirstCrew old → length new ≡ length old
+        → ServesEach frames requests old new answers → HaveNoPast new }
+    ensures all { (frames : List ℕ) (requests : List Request) (old new : List WorkerState)
+        (answers : List Answer) → IsFirstCrew old → length new ≡ length old
+        → ServesEach frames requests old new answers
+        → (its : Past) (others : List Past) → others ++ its ∷ [] ≡ pasts_by new
+        → AreAllSeats (its ∷ others) }
 {}
