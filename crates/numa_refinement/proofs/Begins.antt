@@ -38,7 +38,7 @@ not-mapped true mapped e = absurd (cc)
 not-mapped false true e = absurd (cc)
 not-mapped false false e = (refl, refl)
 
-all-well : (bad mapped : Bool)
+pub all-well : (bad mapped : Bool)
     → ◌≡◌ {A = Option PlaceRefusal}
     (if bad then Some cpu_is_bad else if mapped then None else Some is_unmapped) None
     → (bad ≡ false) × (mapped ≡ true)
@@ -46,11 +46,11 @@ all-well true mapped e = absurd (cc)
 all-well false true e = (refl, refl)
 all-well false false e = absurd (cc)
 
-above : (nodes cpu : ℕ) → nat_le nodes cpu ≡ false → cpu < nodes
+pub above : (nodes cpu : ℕ) → nat_le nodes cpu ≡ false → cpu < nodes
 above nodes cpu e = grind (arith, nat_tests)
 
 -- the list of a published version is that of its history
-list_at-known : (machine : Hardware) (all history : List Command) (request : Request)
+pub list_at-known : (machine : Hardware) (all history : List Command) (request : Request)
     → first_commands (length history) all ≡ history
     → list_at machine all (length history) request
     ≡ (if is_mapped history request.page then Some (list_of machine history request) else None)

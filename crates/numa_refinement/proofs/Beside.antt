@@ -24,7 +24,7 @@ desk s world version (Try v frame) (Ok reply) w none = absurd (cc)
 desk s world version (Give v frame) (Ok reply) w none = absurd (cc)
 
 -- another worker's change
-other : (world : World) (v w last : ℕ) (o : Option FrameSearch) → v ≢ w
+pub other : (world : World) (v w last : ℕ) (o : Option FrameSearch) → v ≢ w
     → (with_worker world v last o).worker w ≡ world.worker w
 other world v w last o apart =
     ap (λ (b : Bool). if b then (record { last = last; frame_search = o }) else world.worker w)

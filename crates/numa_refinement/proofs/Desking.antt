@@ -5,7 +5,6 @@ use Rattle.std.proofs.Common.{refl, sym, ap, subst, ◌∙◌, arith}
 use Rattle.std.specs.Prelude.{slice_get}
 use Rattle.std.specs.List.{list_any}
 use Rattle.std.proofs.lemmas.Bool.{eq-eqb}
-use Rattle.std.proofs.lemmas.Bool.Decides.{nat_tests}
 use Rattle.std.proofs.lemmas.List.{append_assoc, drop_at, length-append, length-drop}
 use Rattle.numa_space.specs.Refusals.{refusal_of as command_refusal}
 use Rattle.numa_requests.specs.declared.command.Command.{Command}
@@ -189,7 +188,7 @@ first-any (n ∷ versions) v e =
     let same : n ≡ v = cc in
     ap (λ b. b || list_any (λ m. m == v) versions) (eq-eqb n v same)
 
-behind : (pending published : List Command)
+pub behind : (pending published : List Command)
     → first_commands (length published) (pending ++ published) ≡ published
 behind pending published =
     drop_at pending published (length (pending ++ published) - length published)
@@ -317,52 +316,23 @@ earlier world history longer versions more has p q newest =
           extends_trans versions more world.published q has.numbers;
     }) newest
 
-abbrev Counted : List ℕ → ℕ → Type 0
-Counted versions v = (some : List ℕ) × Extends some versions × (slice_get some 0 ≡ Some v)
+-- so is all that is published up to an earlier version
+pub has-earlier : (world : World) (history longer : List Command) (versions more : List ℕ)
+    → HasPublished world longer more → Extends history longer → Extends versions more
+    → HasPublished world history versions
+has-earlier world history longer versions more has p q = record {
+  commands = extends_trans history longer world.history p has.commands;
+  numbers = extends_trans versions more world.published q has.numbers;
+}
 
-in-front : (n : ℕ) (versions : List ℕ) (v : ℕ) (b : Bool) → (n == v) ≡ b
-    → ((n == v) || list_any (λ m. m == v) versions) ≡ true
-    → (list_any (λ m. m == v) versions ≡ true → Counted versions v) → Counted (n ∷ versions) v
-in-front n versions v true is e again =
-    let same : n ≡ v = grind (arith, nat_tests) in
-    (n ∷ versions, ([], refl), ap (λ (k : ℕ). Some k) same)
-in-front n versions v false is e again =
-    let there : list_any (λ m. m == v) versions ≡ true = rw is at e in
-    let rest : Counted versions v = again there in
-    (rest.0, (n ∷ rest.1.0, ap (λ (ns : List ℕ). n ∷ ns) rest.1.1), rest.2)
-
--- a number that is among them is the newest of some of them
-counted : (versions : List ℕ) (v : ℕ) → list_any (λ n. n == v) versions ≡ true → Counted versions v
-counted [] v e = absurd (cc (e))
-counted (n ∷ versions) v e = in-front n versions v (n == v) refl e (λ rest. counted versions v rest)
-
--- a receipt beside its desk
+-- and what is shown in a desk's log up to what it has published
 pub compared : (s : Setup) (world : World) (desk : DeskState) (history : List Command)
     (versions : List ℕ) → IsDeskOf s world desk
-    → ((some : List ℕ) → Extends some desk.versions → slice_get some 0 ≡ Some (length history)
-    → (some ≡ versions) × Extends history desk.published)
-    → is_published world (length history) ≡ true → HasPublished world history versions
-compared s world desk history versions is agree among =
-    let found = counted desk.versions (length history)
-    (ap (λ (ns : List ℕ). list_any (λ n. n == length history) ns) (sym is.versions) ∙ among) in
-    let same = agree found.0 found.1 found.2 in
-    record {
-      commands = extends_trans history desk.published world.history same.1
-          (desk.pending, is.history);
-      numbers = subst (λ (ns : List ℕ). Extends ns world.published) same.0
-          (extends_trans found.0 desk.versions world.published found.1 ([], is.versions));
-    }
-
--- what an earlier view of a reader showed that learns a receipt of the version which it saw last
-pub seen-earlier : (world : World) (view told both reader : List Command)
-    (seen shown receipt : List ℕ) → Extends view reader → Extends reader both → Extends told both
-    → Extends seen shown → slice_get seen 0 ≡ Some (length view) → length view ≤ length told
-    → shown ≡ receipt → HasPublished world told receipt → IsPublishedIn world view
-seen-earlier world view told both reader seen shown receipt a b c more newest le same has =
-    let whole = extends_trans view reader both a b in
-    earlier world view told seen receipt has
-    (extends_shorter whole.0 c.0 view told (sym whole.1 ∙ c.1) le)
-    (subst (λ (ns : List ℕ). Extends seen ns) same more) newest
+    → Extends history desk.published × Extends versions desk.versions
+    → HasPublished world history versions
+compared s world desk history versions is begins =
+    has-earlier world history desk.published versions desk.versions (all-shown s world desk is)
+    begins.0 begins.1
 
 pub lasts : (s : Setup) (world : World) (version : ℕ) (event : Event)
     (answer : Result CoreReply CoreRefusal) (history : List Command) (versions : List ℕ)

@@ -46,7 +46,8 @@ one-place ns i j n distinct e d = by (dec_le (suc i) j) (dec_le (suc j) i)
     by (no l) (no m) = omega arith
 
 -- two placements of one frame at its place in one list, for one request at one version
-one-placement : (version : ℕ) (request : Request) (nodes : List ℕ) (frame : Frame) (p q : Placement)
+pub one-placement : (version : ℕ) (request : Request) (nodes : List ℕ) (frame : Frame)
+    (p q : Placement)
     → IsDistinct nodes
     → IsPlaced version request nodes frame p → IsPlaced version request nodes frame q → p ≡ q
 one-placement version request nodes frame p q distinct a b = λ i. record {
@@ -60,7 +61,7 @@ one-placement version request nodes frame p q distinct a b = λ i. record {
 
 -- ---- what a worker was told last
 
-own-last : (world : World) (w last : ℕ) (o : Option FrameSearch)
+pub own-last : (world : World) (w last : ℕ) (o : Option FrameSearch)
     → last_of (with_worker world w last o) w ≡ last
 own-last world w last o =
     ap (λ (b : Bool).
@@ -68,7 +69,7 @@ own-last world w last o =
     (eq-eqb w w refl)
 
 -- no step of a seat tells its worker a version
-step-last : (s : Setup) (w : ℕ) (world : World) (e : Entry)
+pub step-last : (s : Setup) (w : ℕ) (world : World) (e : Entry)
     → last_of (effect_of s world 0 (event_of w e)) w ≡ last_of world w
 step-last s w world (Load n word x) = own-last world w (last_of world w) _
 step-last s w world (Gave f) = refl

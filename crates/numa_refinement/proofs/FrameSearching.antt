@@ -16,7 +16,7 @@ use Rattle.numa_pool.specs.declared.view.Entry.{Entry}
 use Rattle.numa_pool.specs.declared.view.Entry.TheVariants.{Load, Won, Lost, Gave}
 use Rattle.numa_pool.specs.Walk.{met, Searches, IsWalk, IsNext}
 use Rattle.numa_refinement.specs.FrameSearches.{Turn, steps_of, world_left, TakesTurns}
-use Rattle.numa_refinement.specs.FrameSearches.{IsFrameSearch, IsPlaced, Tells}
+use Rattle.numa_refinement.specs.FrameSearches.{IsFrameSearch, IsPlaced, IsSearch, Tells}
 use Rattle.numa_refinement.specs.WalkSteps.{IsCoreStep, MayBegin, MayCome, event_of}
 use Rattle.numa_refinement.specs.Moves.{PoolState, Makes}
 use Rattle.numa_refinement.specs.Tie.{HasMet, IsTied}
@@ -27,7 +27,7 @@ use Rattle.numa_refinement.proofs.Keeping.{won-core_step, lost-core_step, look-m
 use Rattle.numa_refinement.proofs.Meeting.{misses_alike}
 
 -- a worker's own frame search, after it changed
-own-frame_search : (world : World) (id last : ℕ) (o : Option FrameSearch)
+pub own-frame_search : (world : World) (id last : ℕ) (o : Option FrameSearch)
     → frame_search_of (with_worker world id last o) id ≡ o
 own-frame_search world id last o =
     ap (λ b.
@@ -36,16 +36,16 @@ own-frame_search world id last o =
 
 module _ (s : Setup) (id version : ℕ) (request : Request) (nodes : List ℕ) where
   -- the frame search for the request that has met these frames
-  abbrev searching : (ℕ → ℕ → Bool) → FrameSearch
+  abbrev pub searching : (ℕ → ℕ → Bool) → FrameSearch
   searching seen = record { request = request; version = version; nodes = nodes; met = seen }
 
   -- what holds of the frame search once these steps were made, which led to this world
-  abbrev Follows : World → List Entry → (ℕ → ℕ → Bool) → Type 0
+  abbrev pub Follows : World → List Entry → (ℕ → ℕ → Bool) → Type 0
   Follows world es seen = HasMet (searching seen) es
       × (frame_search_of world id ≡ going_on s (searching seen))
 
   module _ (first : World) (may : MayBegin s first id version request nodes) where
-    begun-as : frame_search_of (effect_of s first version (Begin id request)) id
+    pub begun-as : frame_search_of (effect_of s first version (Begin id request)) id
         ≡ going_on s (fresh request version nodes)
     begun-as =
         own-frame_search first id version
@@ -53,7 +53,8 @@ module _ (s : Setup) (id version : ℕ) (request : Request) (nodes : List ℕ) w
         (fresh request version (unwrap_or (list_at s.machine first.history version request) [])))
         ∙ ap (λ o. going_on s (fresh request version (unwrap_or o []))) may.listed
 
-    begins : IsCoreStep s first version (Begin id request) (goes_on s (fresh request version nodes))
+    pub begins : IsCoreStep s first version (Begin id request) (goes_on s
+        (fresh request version nodes))
     begins =
         let there : nat_le s.workers id ≡ false = no_less s.workers id may.there in
         let cpu : nat_le s.machine.nodes request.cpu ≡ false =
@@ -63,11 +64,11 @@ module _ (s : Setup) (id version : ℕ) (request : Request) (nodes : List ℕ) w
         ((may.published, may.not_older), rw (there, idle, cpu, listed) refl)
 
   -- one more step of the search
-  abbrev Next : World → Entry → List Entry → Type 0
+  abbrev pub Next : World → Entry → List Entry → Type 0
   Next world e es = (seen : ℕ → ℕ → Bool) × Follows (effect_of s world 0 (event_of id e)) (e ∷ es)
       seen × IsCoreStep s world 0 (event_of id e) (goes_on s (searching seen))
 
-  goes : (world : World) (before after : PoolState) (e : Entry) (es : List Entry)
+  pub goes : (world : World) (before after : PoolState) (e : Entry) (es : List Entry)
       (seen : ℕ → ℕ → Bool) → IsTied s world before → Makes e id before after
       → HasMet (searching seen) es → frame_search_of world id ≡ Some (searching seen)
       → Searches s.machine.frames nodes (e ∷ es) → Next world e es
@@ -117,17 +118,16 @@ module _ (s : Setup) (id version : ℕ) (request : Request) (nodes : List ℕ) w
   earlier (Won f) es h = absurd h
   earlier (Gave f) es h = absurd h
 
-  module _ (first : World) (may : MayBegin s first id version request nodes) where
-    abbrev start : World
-    start = effect_of s first version (Begin id request)
-
+  module _ (Begins : CoreReply → Type 0) (start : World)
+      (begun : frame_search_of start id ≡ going_on s (fresh request version nodes))
+      (begins-so : Begins (goes_on s (fresh request version nodes))) where
     abbrev Searched : List Turn → Type 0
     Searched turns = (seen : ℕ → ℕ → Bool) × Follows (world_left s id start turns) (steps_of turns)
-        seen × IsFrameSearch s id first version request (goes_on s (searching seen)) turns
+        seen × IsSearch s id Begins (goes_on s (searching seen)) turns
 
     searched : (turns : List Turn) → TakesTurns s id start turns
         → Searches s.machine.frames nodes (steps_of turns) → Searched turns
-    searched [] took h = ((λ n k. false), ((λ n k. refl), begun-as first may), begins first may)
+    searched [] took h = ((λ n k. false), ((λ n k. refl), begun), begins-so)
     searched (t ∷ turns) took h =
         let so_far = searched turns took.0 (earlier t.step (steps_of turns) h) in
         let on = may-go t.step (steps_of turns) so_far.0 so_far.1.0 h in
@@ -136,13 +136,13 @@ module _ (s : Setup) (id version : ℕ) (request : Request) (nodes : List ℕ) w
         so_far.1.0 busy h in (
           now.0,
           now.1,
-          (now.2, subst (λ r. IsFrameSearch s id first version request r turns) on.0 so_far.2),
+          (now.2, subst (λ r. IsSearch s id Begins r turns) on.0 so_far.2),
         )
 
     abbrev Ends : Option Frame → List Turn → Type 0
     Ends found turns =
         ((reply : CoreReply) × Tells version request nodes found reply
-        × IsFrameSearch s id first version request reply turns)
+        × IsSearch s id Begins reply turns)
         × (frame_search_of (world_left s id start turns) id ≡ None)
 
     -- the last step wins a frame
@@ -152,8 +152,8 @@ module _ (s : Setup) (id version : ℕ) (request : Request) (nodes : List ℕ) w
         → TakesTurns s id start turns → Searches s.machine.frames nodes (steps_of turns)
         → IsNext s.machine.frames (steps_of turns) nodes f
         → ((reply : CoreReply) × Tells version request nodes (Some f) reply
-        × IsCoreStep s world 0 (event_of id e) reply × IsFrameSearch s id first version request
-        Still turns) × (frame_search_of (effect_of s world 0 (event_of id e)) id ≡ None)
+        × IsCoreStep s world 0 (event_of id e) reply × IsSearch s id Begins Still turns)
+        × (frame_search_of (effect_of s world 0 (event_of id e)) id ≡ None)
     wins f world before after (Won g) turns is tied m same took h next =
         let frames_same : g ≡ f = cc in
         let next_g = subst (λ x. IsNext s.machine.frames (steps_of turns) nodes x) (sym frames_same)
@@ -184,7 +184,7 @@ module _ (s : Setup) (id version : ℕ) (request : Request) (nodes : List ℕ) w
             ),
             won-core_step s world id 0 frame_search (steps_of turns) before after tied busy
                 so_far.1.0 g m next_g,
-            subst (λ r. IsFrameSearch s id first version request r turns) on.0 so_far.2,
+            subst (λ r. IsSearch s id Begins r turns) on.0 so_far.2,
           ),
           ap (λ v. frame_search_of v id) (won-effect s world 0 id there g free)
               ∙ own-frame_search (with_owner world g (Some id)) id (last_of world id) None,
@@ -193,14 +193,25 @@ module _ (s : Setup) (id version : ℕ) (request : Request) (nodes : List ℕ) w
     wins f world before after (Lost g) turns is tied m same took h next = absurd (cc)
     wins f world before after (Gave g) turns is tied m same took h next = absurd (cc)
 
-    pub ends : (found : Option Frame) (turns : List Turn) → TakesTurns s id start turns
+    pub ends-from : (found : Option Frame) (turns : List Turn) → TakesTurns s id start turns
         → IsWalk s.machine.frames nodes found (steps_of turns) → Ends found turns
-    ends None turns took h =
+    ends-from None turns took h =
         let all = searched turns took h.0 in
         let end = over s (searching all.0) (steps_of turns) all.1.0 h.1 in
         ((goes_on s (searching all.0), end.0, all.2), all.1.1 ∙ end.1)
-    ends (Some f) [] took h = absurd h
-    ends (Some f) (t ∷ turns) took h =
+    ends-from (Some f) [] took h = absurd h
+    ends-from (Some f) (t ∷ turns) took h =
         let last = wins f t.world t.before t.after t.step turns h.0 took.1 took.2 took.3 took.0 h.1
         h.2 in
         ((last.0.0, last.0.1, (last.0.2, last.0.3)), last.1)
+
+  pub ends : (first : World) → MayBegin s first id version request nodes
+      → (found : Option Frame) (turns : List Turn)
+      → TakesTurns s id (effect_of s first version (Begin id request)) turns
+      → IsWalk s.machine.frames nodes found (steps_of turns)
+      → ((reply : CoreReply) × Tells version request nodes found reply
+      × IsFrameSearch s id first version request reply turns)
+      × (frame_search_of (world_left s id (effect_of s first version (Begin id request)) turns) id
+      ≡ None)
+  ends first may = ends-from (λ reply. IsCoreStep s first version (Begin id request) reply)
+      (effect_of s first version (Begin id request)) (begun-as first may) (begins first may)

@@ -10,7 +10,6 @@ use Rattle.std.proofs.lemmas.Nat.Bits.{bit_at-zero}
 use native.Mathlib.Decide.{ℕ_discrete, dec_le}
 use lib.ListN.{get_elem?}
 use Rattle.atomic_table.proofs.Lists.{set_here, set_else, at_longer, at_snoc}
-use Rattle.atomic_table.specs.Table.{State}
 use Rattle.std.specs.Option.{option_map_or}
 use Rattle.numa_core.specs.World.{Setup, World, opening, frame_search_of, last_of, owner_of}
 use Rattle.numa_core.specs.World.{frame_search_past, is_frame}
@@ -21,8 +20,9 @@ use Rattle.numa_requests.specs.declared.event.Event.TheVariants.{Give}
 use Rattle.numa_pool.specs.declared.view.View.{View}
 use Rattle.numa_pool.specs.Frames.{times}
 use Rattle.numa_pool.specs.Rule.{Counted, holdings}
-use Rattle.numa_pool.specs.Steps.{newcomer, after_split, after_join}
-use Rattle.numa_pool.proofs.StepLemmas.{splits, joins, times_append, is_frame-same}
+use Rattle.numa_pool.specs.Steps.{newborn, newcomer, spent, after_split, after_join}
+use Rattle.numa_pool.proofs.Totals.{counts_split, counts_join, times_append}
+use Rattle.numa_pool.proofs.Totals.{is_frame-same}
 use Rattle.numa_refinement.specs.WalkSteps.{world_after_handover, passed_on}
 use Rattle.numa_refinement.specs.Moves.{PoolState, IsOpening, Splits, Joins}
 use Rattle.numa_refinement.specs.Tie.{OwnsWhatIsHeld, IsTied}
@@ -33,30 +33,27 @@ abbrev Holder : ℕ → ℕ → ℕ → List View → Type 0
 Holder n k j views = (u : View) × (get_elem? views j ≡ some u) × (0 < times n k u.held)
 
 -- a seat more, which holds nothing
-owners-snoc : (world : World) (views : List View) → OwnsWhatIsHeld world views
-    → OwnsWhatIsHeld world (views ++ newcomer ∷ [])
-owners-snoc world views owns n k j = (
-  (λ o. let h = (owns n k j).0 o in (h.0, at_longer views (newcomer ∷ []) j h.0 h.1, h.2)),
-  (λ h. back h (at_snoc views newcomer h.0 j h.1)),
+owners-snoc : (world : World) (views : List View) (v : View) → OwnsWhatIsHeld world views
+    → OwnsWhatIsHeld world (views ++ newborn v ∷ [])
+owners-snoc world views v owns n k j = (
+  (λ o. let h = (owns n k j).0 o in (h.0, at_longer views (newborn v ∷ []) j h.0 h.1, h.2)),
+  (λ h. back h (at_snoc views (newborn v) h.0 j h.1)),
 )
   where
-    back : (h : Holder n k j (views ++ newcomer ∷ [])) → (get_elem? views j ≡ some h.0)
-        ⊎ (newcomer ≡ h.0) → world.owner n k ≡ Some j
+    back : (h : Holder n k j (views ++ newborn v ∷ [])) → (get_elem? views j ≡ some h.0)
+        ⊎ (newborn v ≡ h.0) → world.owner n k ≡ Some j
     back h (inl e) = (owns n k j).1 (h.0, e, h.2)
-    back h (inr e) = let pos : 0 < times n k newcomer.held =
+    back h (inr e) = let pos : 0 < times n k (newborn v).held =
         subst (λ (u : View). 0 < times n k u.held) (sym e) h.2 in absurd (omega arith)
-
-abbrev table-of : PoolState → State (Unit {0}) View
-table-of state = record { words = state.words; homes = []; views = state.views }
 
 pub split-ties : (s : Setup) (world : World) (old new : PoolState) (id : ℕ) → IsTied s world old
     → length old.views < s.workers → Splits id old new → IsTied s world new
 split-ties s world old new id tied room m =
-    let counts = splits s.machine.frames id m.view (table-of old) tied.rule m.shown in
-    let owns = owners-snoc world (set old.views id (after_split m.view))
+    let counts = counts_split s.machine.frames old.words old.views id m.view m.shown tied.rule in
+    let owns = owners-snoc world (set old.views id (after_split m.view)) m.view
     (owners-stay world old.views id m.view (after_split m.view) m.shown refl tied.owners) in
     let count = ap length m.views ∙ length-append (set old.views id (after_split m.view))
-    (newcomer ∷ []) in
+    (newborn m.view ∷ []) in
     let same = length-set old.views id (after_split m.view) in
     record {
       few = tied.few;
@@ -75,23 +72,23 @@ module _ (s : Setup) (world : World) (old new : PoolState) (id other : ℕ)
   both = after_join m.first m.second
 
   abbrev views : List View
-  views = set (set old.views id both) other newcomer
+  views = set (set old.views id both) other spent
 
   there : get_elem? (set old.views id both) other ≡ some m.second
   there = set_else old.views id other both m.apart ∙ m.second_shown
 
   -- the first seat, after
   first_now : get_elem? views id ≡ some both
-  first_now = set_else (set old.views id both) other id newcomer (λ e. m.apart (sym e))
+  first_now = set_else (set old.views id both) other id spent (λ e. m.apart (sym e))
       ∙ set_here old.views id both (at_bound old.views id m.first m.first_shown)
 
-  second_now : get_elem? views other ≡ some newcomer
-  second_now = set_here (set old.views id both) other newcomer
+  second_now : get_elem? views other ≡ some spent
+  second_now = set_here (set old.views id both) other spent
       (let bound = at_bound old.views other m.second m.second_shown in let same =
       length-set old.views id both in omega arith)
 
   others : (j : ℕ) → j ≢ id → j ≢ other → get_elem? views j ≡ get_elem? old.views j
-  others j d e = set_else (set old.views id both) other j newcomer e
+  others j d e = set_else (set old.views id both) other j spent e
       ∙ set_else old.views id j both d
 
   sum : (n k : ℕ) → times n k both.held ≡ times n k m.first.held + times n k m.second.held
@@ -145,9 +142,9 @@ module _ (s : Setup) (world : World) (old new : PoolState) (id other : ℕ)
   back : (n k j : ℕ) → Holds_now n k j → Dec (j ≡ other) → Dec (j ≡ id)
       → passed_on other id (world.owner n k) ≡ Some j
   back n k j h (yes d) f =
-      let is : h.0 ≡ newcomer =
-      some-injective h.0 newcomer (sym h.1 ∙ ap (get_elem? views) d ∙ second_now) in
-      let pos : 0 < times n k newcomer.held = subst (λ (u : View). 0 < times n k u.held) is h.2 in
+      let is : h.0 ≡ spent =
+      some-injective h.0 spent (sym h.1 ∙ ap (get_elem? views) d ∙ second_now) in
+      let pos : 0 < times n k spent.held = subst (λ (u : View). 0 < times n k u.held) is h.2 in
       absurd (omega arith)
   back n k j h (no d) (no f) =
       let own = owned-by n k j (h.0, sym (others j f d) ∙ h.1, h.2) in
@@ -174,9 +171,9 @@ module _ (s : Setup) (world : World) (old new : PoolState) (id other : ℕ)
 
   pub join-ties : IsTied s (world_after_handover world other id) new
   join-ties =
-      let counts = joins s.machine.frames id m.first other m.second (table-of old) tied.rule
-      m.first_shown m.apart there in
-      let count = ap length m.views ∙ length-set (set old.views id both) other newcomer
+      let counts = counts_join s.machine.frames old.words old.views id m.first m.first_shown other
+      m.second there tied.rule in
+      let count = ap length m.views ∙ length-set (set old.views id both) other spent
       ∙ length-set old.views id both in
       let room = tied.workers in
       record {
@@ -196,10 +193,10 @@ module _ (s : Setup) (world : World) (old new : PoolState) (id other : ℕ)
   join-ends n k h after =
       let own = owned-by n k other h in
       let now = (after.owners n k other).0 own in
-      let is : now.0 ≡ newcomer =
-      some-injective now.0 newcomer (sym now.1 ∙ ap (λ vs. get_elem? vs other) m.views
+      let is : now.0 ≡ spent =
+      some-injective now.0 spent (sym now.1 ∙ ap (λ vs. get_elem? vs other) m.views
       ∙ second_now) in
-      let pos : 0 < times n k newcomer.held = subst (λ (u : View). 0 < times n k u.held) is now.2 in
+      let pos : 0 < times n k spent.held = subst (λ (u : View). 0 < times n k u.held) is now.2 in
       absurd (omega arith)
 
 -- the opening: no frame is held, and no frame is owned

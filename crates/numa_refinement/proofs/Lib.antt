@@ -15,3 +15,5 @@ pub mod Beside
 pub mod Among
 pub mod Calling
 pub mod Migrating
+pub mod Answering
+pub mod Preceding

@@ -28,7 +28,7 @@ use Rattle.numa_refinement.proofs.FrameSearching.{ends}
 use Rattle.numa_refinement.proofs.Keeping.{give-core_step}
 
 -- nobody owns a frame that was given
-given-none : (s : Setup) (w : ℕ) (world : World) (f : Frame)
+pub given-none : (s : Setup) (w : ℕ) (world : World) (f : Frame)
     → owner_of (effect_of s world 0 (Give w f)) f ≡ None
 given-none s w world f = rw (eq-eqb f.node f.node refl, eq-eqb f.number f.number refl) refl
 

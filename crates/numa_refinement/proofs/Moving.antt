@@ -14,8 +14,9 @@ use Rattle.numa_pool.specs.declared.view.View.{View}
 use Rattle.numa_pool.specs.Frames.{frame_of, bit_in, times}
 use Rattle.numa_pool.specs.Rule.{Counted}
 use Rattle.numa_pool.specs.Steps.{frame_at, with_entry, after_try, after_give}
-use Rattle.numa_pool.proofs.StepLemmas.{frame_at-is, node_of_word, word_of_word, stays, wins, loses}
-use Rattle.numa_pool.proofs.StepLemmas.{gives_up}
+use Rattle.numa_pool.proofs.Totals.{stays, wins, loses}
+use Rattle.numa_pool.proofs.StepLemmas.{frame_at-is, node_of_word, word_of_word}
+use Rattle.numa_pool.proofs.Totals.{gives_up}
 use Rattle.numa_refinement.specs.Moves.{PoolState, Loads, Tries, Clears, word_of, mask_of}
 
 within-of : (frames : List ℕ) (n : ℕ) → 0 < slice_index frames n → n < length frames

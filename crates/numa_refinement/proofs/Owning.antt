@@ -13,7 +13,7 @@ use Rattle.numa_pool.specs.declared.view.View.{View}
 use Rattle.numa_pool.specs.Frames.{is_frame, times, one_if, without}
 use Rattle.numa_pool.specs.Rule.{PoolRule}
 use Rattle.numa_pool.specs.Steps.{after_try, after_give}
-use Rattle.numa_pool.proofs.StepLemmas.{is_frame-same, times_without-here, times_without-else}
+use Rattle.numa_pool.proofs.Totals.{is_frame-same, times_without-here, times_without-else}
 use Rattle.numa_refinement.proofs.Meeting.{eq_turned}
 use Rattle.numa_refinement.specs.Tie.{OwnsWhatIsHeld}
 

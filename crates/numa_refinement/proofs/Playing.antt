@@ -54,7 +54,7 @@ module _ (s : Setup) where
       }
 
   -- what an event apart leaves
-  apart-ties : (world : World) (state : PoolState) (version : ℕ) (event : Event) → IsApart event
+  pub apart-ties : (world : World) (state : PoolState) (version : ℕ) (event : Event) → IsApart event
       → IsTied s world state → IsTied s (effect_of s world version event) state
   apart-ties world state version (Accept command) h t =
       record { few = t.few; rule = t.rule; owners = t.owners; workers = t.workers }
@@ -66,7 +66,7 @@ module _ (s : Setup) where
   apart-ties world state version (Try w frame) h t = absurd h
   apart-ties world state version (Give w frame) h t = absurd h
 
-  apart-meets : (world : World) (since : ℕ → List Entry) (version : ℕ) (event : Event)
+  pub apart-meets : (world : World) (since : ℕ → List Entry) (version : ℕ) (event : Event)
       → IsApart event → HaveMet world since
       → HaveMet (effect_of s world version event) (since_event event since)
   apart-meets world since version (Accept command) h met = met

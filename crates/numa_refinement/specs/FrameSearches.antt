@@ -40,13 +40,17 @@ module _ (s : Setup) (id : ℕ) where
       TakesTurns first turns × IsTied s t.world t.before × Makes t.step id t.before t.after
       × (frame_search_of t.world id ≡ frame_search_of (world_left first turns) id)
 
-  -- A frame search: in this world the worker begins, and looks and tries at each turn. None of it
-  -- is refused, the newest step is answered so, and each before it Still
+  -- A search that begins so: the worker looks and tries at each turn. None of it is refused, the
+  -- newest step is answered so, and each before it Still
+  abbrev pub IsSearch : (CoreReply → Type 0) → CoreReply → List Turn → Type 0
+  IsSearch Begins reply [] = Begins reply
+  IsSearch Begins reply (t ∷ turns) =
+      IsCoreStep s t.world 0 (event_of id t.step) reply × IsSearch Begins Still turns
+
+  -- a frame search: in this world the worker begins with the request
   abbrev pub IsFrameSearch : World → ℕ → Request → CoreReply → List Turn → Type 0
-  IsFrameSearch first version request reply [] = IsCoreStep s first version (Begin id request) reply
-  IsFrameSearch first version request reply (t ∷ turns) =
-      IsCoreStep s t.world 0 (event_of id t.step) reply × IsFrameSearch first version request Still
-      turns
+  IsFrameSearch first version request reply turns =
+      IsSearch (λ answer. IsCoreStep s first version (Begin id request) answer) reply turns
 
 module _ (version : ℕ) (request : Request) (nodes : List ℕ) where
   -- the placement is of this frame, for this request, at the version; its node stands at its rank

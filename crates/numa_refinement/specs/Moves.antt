@@ -11,7 +11,8 @@ use Rattle.numa_pool.specs.declared.view.Entry.{Entry}
 use Rattle.numa_pool.specs.declared.view.Entry.TheVariants.{Load, Won, Lost, Gave}
 use Rattle.numa_pool.specs.declared.view.View.{View}
 use Rattle.numa_pool.specs.Frames.{Holds, bit_in}
-use Rattle.numa_pool.specs.Steps.{newcomer, after_split, after_join, IsLook, IsAttempt, IsReturn}
+use Rattle.numa_pool.specs.Steps.{newborn, newcomer, spent, after_split, after_join}
+use Rattle.numa_pool.specs.Steps.{IsLook, IsAttempt, IsReturn}
 
 -- a state of the pools: the frame words, and what each seat shows
 pub record PoolState : Type 0 where
@@ -74,12 +75,16 @@ pub record IsOpening (frames : List ℕ) (state : PoolState) : Type 0 where
   pub clear : (i : ℕ) → slice_index state.words i ≡ 0
   pub first : state.views ≡ newcomer ∷ []
 
+-- the pools with these words and the first seat
+abbrev pub opened : List ℕ → PoolState
+opened words = record { words = words; views = newcomer ∷ [] }
+
 -- seat id splits: there is one seat more, which holds nothing
 pub record Splits (id : ℕ) (old new : PoolState) : Type 0 where
   pub view : View
   pub shown : get_elem? old.views id ≡ some view
   pub words : new.words ≡ old.words
-  pub views : new.views ≡ slice_set old.views id (after_split view) ++ newcomer ∷ []
+  pub views : new.views ≡ slice_set old.views id (after_split view) ++ newborn view ∷ []
 
 -- seat `other` is joined into seat id, and is spent
 pub record Joins (id other : ℕ) (old new : PoolState) : Type 0 where
@@ -90,4 +95,4 @@ pub record Joins (id other : ℕ) (old new : PoolState) : Type 0 where
   pub second_shown : get_elem? old.views other ≡ some second
   pub words : new.words ≡ old.words
   pub views : new.views
-      ≡ slice_set (slice_set old.views id (after_join first second)) other newcomer
+      ≡ slice_set (slice_set old.views id (after_join first second)) other spent

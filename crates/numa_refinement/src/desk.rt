@@ -1,16 +1,17 @@
 //! The calls of a desk as steps of the core's world. Each function makes the call; its clauses say
 //! which step of the world it is.
-ghost use Rattle.std.specs.Prelude.{◌≡◌, ◌≢◌, ◌≤◌, true, [], length, slice_get};
+ghost use Rattle.std.specs.Prelude.{◌≡◌, ◌≢◌, ◌≤◌, [], length, slice_get};
 ghost use Rattle.std.specs.Prelude.{Some, Ok, Err, IfOk, IfErr, OnOk, OnErr};
 ghost use Rattle.numa_publish.specs.Batches.{Extends};
 ghost use Rattle.numa_publish.specs.Shown.{ViewState, accepted_commands};
-ghost use Rattle.numa_core.specs.World.{Setup, World, is_published, opening};
+ghost use Rattle.numa_core.specs.World.{Setup, World, opening};
 ghost use Rattle.numa_requests.specs.declared.event.CoreRefusal.{CoreRefusal};
 ghost use Rattle.numa_requests.specs.declared.event.Event.{Event};
 ghost use Rattle.numa_requests.specs.declared.event.CoreReply.{CoreReply};
 ghost use Rattle.numa_refinement.specs.Desks.{IsDeskOf, LeadsTo};
 ghost use Rattle.numa_refinement.specs.LegalSteps.{HasPublished, IsPublishedIn, core_step_of};
 
+use numa_fault::FaultWorker;
 use numa_machine::{Machine, NoMemory};
 use numa_publish::laws::equal_versions_agree;
 use numa_publish::{Desk, PlanReader, Receipt};
@@ -76,32 +77,64 @@ pub fn publish<R: Wait>(desk: &mut Desk, rt: &R) -> Result<Receipt, NoMemory>
     desk.publish(rt)
 }
 
-/// Compares a receipt, of a publish or a view, with its desk: if its number is that of a version
-/// that the desk's world has published, the world has published all that it shows.
+/// Compares a receipt, of a publish or a view, with its desk: if its version isn't above the one
+/// that the desk has published, the desk's world has published it, and all that it shows. So it is
+/// with any view: take its receipt.
 pub fn compare(desk: &Desk, receipt: &Receipt)
     requires { receipt.now.desk ≡ desk.now.desk }
-    ensures { (s : Setup) (world : World) → IsDeskOf s world desk.now
-        → is_published world (length receipt.now.history) ≡ true
+    ensures all { (s : Setup) (world : World) → IsDeskOf s world desk.now
+        → length receipt.now.history ≤ length desk.now.published
         → HasPublished world receipt.now.history receipt.now.versions }
+    ensures own { (s : Setup) (world : World) → IsDeskOf s world desk.now
+        → length receipt.now.history ≤ length desk.now.published
+        → IsPublishedIn world receipt.now.history }
 {
     let published = desk.receipt();
     equal_versions_agree(&published, receipt);
+    // Tells the proof that the receipt's version is the newest of its versions.
+    let _ = receipt.version();
 }
 
-/// `PlanReader::learn`: if the receipt is of the version that the reader has seen, what it has seen
-/// is published in each world in which the receipt's history is; and if it is of the version that
-/// the reader saw last, so is what each earlier view of the reader showed.
-pub fn learn(reader: PlanReader, receipt: &Receipt) -> PlanReader
-    requires { receipt.now.desk ≡ reader.desk }
-    ensures seen { (world : World) → length reader.history ≡ length receipt.now.history
-        → IsPublishedIn world receipt.now.history → IsPublishedIn world reader.history }
-    ensures earlier { (world : World) (view : ViewState) → Extends view.history reader.history
-        → Extends view.versions reader.versions
+/// Compares a reader with its desk: if it has seen and learnt no version above the one that the
+/// desk has published, the desk's world has published all that it has seen or learnt, and so what
+/// each of its earlier views showed.
+pub fn compare_reader(desk: &Desk, reader: &PlanReader)
+    requires { desk.now.desk ≡ reader.now.desk }
+    ensures all { (s : Setup) (world : World) → IsDeskOf s world desk.now
+        → length reader.now.history ≤ length desk.now.published
+        → HasPublished world reader.now.history reader.now.versions }
+    ensures views { (s : Setup) (world : World) → IsDeskOf s world desk.now
+        → length reader.now.history ≤ length desk.now.published
+        → (view : ViewState) → Extends view.history reader.now.history
+        → Extends view.versions reader.now.versions
         → slice_get view.versions 0 ≡ Some (length view.history)
-        → length view.history ≤ length receipt.now.history
-        → slice_get reader.versions 0 ≡ Some (length receipt.now.history)
-        → HasPublished world receipt.now.history receipt.now.versions
         → IsPublishedIn world view.history }
 {
+    let published = desk.receipt();
+    reader.compare(&published);
+}
+
+/// Compares a fault worker with its desk: if it has seen no version above the one that the desk has
+/// published, the desk's world has published each version that any of its answers told.
+/// `laws::answers_are_of_published_versions` says so of a list of answers.
+pub fn compare_worker(desk: &Desk, worker: &FaultWorker)
+    requires { desk.now.desk ≡ worker.now.reader.desk }
+    ensures { (s : Setup) (world : World) → IsDeskOf s world desk.now
+        → length worker.now.reader.history ≤ length desk.now.published
+        → HasPublished world worker.now.reader.history worker.now.reader.versions }
+{
+    let published = desk.receipt();
+    worker.compare(&published);
+}
+
+/// `PlanReader::learn`: if the receipt is of no earlier version than the one that the reader has
+/// seen, all that it has seen is published in each world in which all that the receipt shows is.
+pub fn learn(reader: PlanReader, receipt: &Receipt) -> PlanReader
+    requires { receipt.now.desk ≡ reader.desk }
+    ensures { (world : World) → length reader.history ≤ length receipt.now.history
+        → HasPublished world receipt.now.history receipt.now.versions
+        → HasPublished world reader.history reader.versions }
+{
+    reader.compare(receipt);
     reader.learn(receipt)
 }

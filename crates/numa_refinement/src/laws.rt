@@ -1,17 +1,24 @@
 //! Laws that relate desks and fault workers to the core's world. The functions do nothing: what
 //! each one ensures is a law.
-ghost use Rattle.std.specs.Prelude.{◌≡◌, ◌≢◌, ℕ, ◌<◌, ◌≤◌, None, Some, Ok, Err, List};
-ghost use Rattle.std.specs.Prelude.{[], ◌∷◌, ◌++◌, length, slice_get, slice_index};
+ghost use Rattle.std.specs.Prelude.{◌≡◌, ◌≢◌, ℕ, ◌<◌, ◌≤◌, true, None, Some, Ok, Err, List};
+ghost use Rattle.std.specs.Prelude.{[], ◌∷◌, ◌++◌, length, slice_get, slice_index, Result};
 ghost use Rattle.numa_core.specs.Executions.{CoreStep, IsExecution, worker_of, world_of};
 ghost use Rattle.numa_core.specs.Steps.{answer_of};
-ghost use Rattle.numa_core.specs.World.{Setup, World, opening, owner_of};
+ghost use Rattle.numa_core.specs.World.{Setup, World, is_published, opening, owner_of};
 ghost use Rattle.numa_requests.specs.declared.event.CoreRefusal.{CoreRefusal};
 ghost use Rattle.numa_requests.specs.declared.event.Event.{Event};
 ghost use Rattle.numa_requests.specs.declared.event.CoreReply.{CoreReply};
-ghost use Rattle.numa_fault.specs.Fault.{IsServed, list_of, refusal_of};
+ghost use Rattle.numa_fault.specs.Crew.{Serves};
+ghost use Rattle.numa_fault.specs.Fault.{Faults, IsServed, list_of, refusal_of};
 ghost use Rattle.numa_fault.specs.Migration.{Migrates};
+ghost use Rattle.numa_fault.specs.Span.{FaultsOnSpan};
+ghost use Rattle.numa_fault.specs.Told.{version_at};
+ghost use Rattle.numa_fault.specs.Worker.{Parts};
+ghost use Rattle.numa_fault.specs.declared.answer.Answer.{Answer};
 ghost use Rattle.numa_fault.specs.declared.refusal.FaultRefusal.{FaultRefusal};
 ghost use Rattle.numa_fault.specs.declared.refusal.MigrateRefusal.{MigrateRefusal};
+ghost use Rattle.numa_fault.specs.declared.refusal.SpanRefusal.{SpanRefusal};
+ghost use Rattle.numa_fault.specs.declared.span.Span.{Span};
 ghost use Rattle.numa_pool.specs.Seats.{SeatView};
 ghost use Rattle.numa_publish.specs.Batches.{Extends};
 ghost use Rattle.numa_publish.specs.Shown.{DeskState, ReaderState, ReceiptState, Refuses};
@@ -25,7 +32,6 @@ ghost use Rattle.numa_refinement.specs.FrameSearches.{IsFrameSearch, Turn};
 ghost use Rattle.numa_refinement.specs.WalkSteps.{MayBegin};
 ghost use Rattle.numa_refinement.specs.Moves.{PoolState};
 ghost use Rattle.numa_refinement.specs.Plays.{Done, IsPlay, execution_of, since_of};
-ghost use Rattle.numa_refinement.specs.Tie.{IsTied};
 ghost use Rattle.numa_refinement.specs.Desks.{Accepts, IsDeskOf, IsNew, LeadsTo, Publishes};
 ghost use Rattle.numa_refinement.specs.Faults.{Falls, IsReady, LeavesLast, begun_world, last_world};
 ghost use Rattle.numa_refinement.specs.Interleaved.{Calls, HaveNoBegin, begins, turns_in};
@@ -100,6 +106,33 @@ pub fn what_is_published_stays()
     ensures stays { (s : Setup) (world : World) (m : CoreStep) (history : List Command)
         → IsPublishedIn world history
         → IsPublishedIn (after_core_step s world m) history }
+{}
+
+/// Each answer of a fault worker that tells a version tells one that is published, by commands
+/// which extend all that its reader had seen or learnt before, in each world that has published all
+/// that the worker has seen since: `desk::compare_worker` gives that of the desk's world. So a
+/// placement needs no receipt of its version.
+pub fn answers_are_of_published_versions()
+    ensures one { (world : World) (frames : List ℕ) (request : Request) (before after : Parts)
+        (answer : Result Placement FaultRefusal) → Faults frames request before after answer
+        → answer ≢ Err FaultRefusal.NoView
+        → HasPublished world after.reader.history after.reader.versions
+        → Extends before.reader.history after.reader.history
+        × IsPublishedIn world after.reader.history }
+    ensures each { (world : World) (frames : List ℕ) (requests : List Request)
+        (before after : Parts) (answers : List Answer)
+        → Serves frames requests before after answers
+        → HasPublished world after.reader.history after.reader.versions
+        → (i v : ℕ) → version_at answers i ≡ Some v → (history : List Command)
+        × (length history ≡ v) × Extends before.reader.history history
+        × Extends history world.history × IsPublishedIn world history }
+    ensures span { (world : World) (frames : List ℕ) (span : Span) (before after : Parts)
+        (old new : List Placement) (answer : Result ℕ SpanRefusal)
+        → FaultsOnSpan frames span before after old new answer
+        → answer ≢ Err SpanRefusal.NoView
+        → HasPublished world after.reader.history after.reader.versions
+        → Extends before.reader.history after.reader.history
+        × IsPublishedIn world after.reader.history }
 {}
 
 /// What others do between the steps of a worker: no step of the desk, and none of another
@@ -204,7 +237,9 @@ pub fn a_migration_is_a_frame_search_and_a_give()
 
 /// This holds in every interleaving: if worker w was ready and began with the history that a fault
 /// saw, and didn't begin again, the steps of its seat since then, each in the world and the pools
-/// that it found, are a fault as it falls. No other step changed the worker's version.
+/// that it found, are a fault as it falls. No other step changed the worker's version. And it was
+/// ready, if the history is published in a later world of the interleaving, as `desk::compare` and
+/// `desk::compare_worker` tell afterwards.
 pub fn faults_of_an_interleaving_fall()
     ensures falls { (s : Setup) (w : ℕ) → ((n : ℕ) → slice_index s.machine.frames n ≤ 4096)
         → (first pools : PoolState) (done later : List Done) (history : List Command)
@@ -223,11 +258,19 @@ pub fn faults_of_an_interleaving_fall()
         → HaveNoBegin w later → IsReady s w history (world_of s (execution_of s done))
         → LeavesLast s w (begun_world s w history request (world_of s (execution_of s done)))
         (turns_in s w first later (begins w (length history) request pools ∷ done)) }
+    ensures ready { (s : Setup) → ((n : ℕ) → slice_index s.machine.frames n ≤ 4096)
+        → 0 < s.workers → (first : PoolState) (w : ℕ) (pools : PoolState) (done later : List Done)
+        (history : List Command) (request : Request)
+        → IsPlay s first (later ++ begins w (length history) request pools ∷ done)
+        → IsPublishedIn (world_of s
+        (execution_of s (later ++ begins w (length history) request pools ∷ done))) history
+        → IsReady s w history (world_of s (execution_of s done)) }
 {}
 
 /// And there is a desk in every interleaving: a new one, after calls that are its commands and
 /// publications, is the world's. What was published at some time of an interleaving is published
-/// at each later one: so a worker may begin by what it saw of the desk.
+/// at each later one: so a worker may begin by what it saw of the desk. And what is published at a
+/// later time was so wherever its number had been published.
 pub fn desks_of_an_interleaving()
     ensures desk { (s : Setup) → ((n : ℕ) → slice_index s.machine.frames n ≤ 4096)
         → 0 < s.workers → (first : PoolState) (done : List Done) (desk : DeskState)
@@ -236,4 +279,10 @@ pub fn desks_of_an_interleaving()
     ensures stays { (s : Setup) (done later : List Done) (history : List Command)
         → IsPublishedIn (world_of s (execution_of s done)) history
         → IsPublishedIn (world_of s (execution_of s (later ++ done))) history }
+    ensures was { (s : Setup) → ((n : ℕ) → slice_index s.machine.frames n ≤ 4096)
+        → 0 < s.workers → (first : PoolState) (done later : List Done) (history : List Command)
+        → IsPlay s first (later ++ done)
+        → IsPublishedIn (world_of s (execution_of s (later ++ done))) history
+        → is_published (world_of s (execution_of s done)) (length history) ≡ true
+        → IsPublishedIn (world_of s (execution_of s done)) history }
 {}

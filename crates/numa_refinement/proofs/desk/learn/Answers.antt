@@ -1,8 +1,8 @@
-use Rattle.numa_publish.proofs.Lists.{extends_self}
-use Rattle.numa_refinement.proofs.Desking.{seen-earlier}
+use Rattle.numa_refinement.proofs.Desking.{has-earlier}
 use Rattle.numa_refinement.proofs.desk.learn.Goals as goal
 
-pub returns-clause-earlier : goal.returns-clause-earlier
-returns-clause-earlier c world view a more newest le last has =
-    seen-earlier world view.history _ _ _ view.versions _ _ a c.learn.ensures.own
-    c.learn.ensures.told more newest le (c.learn.ensures.same _ (extends_self _) last) has
+pub returns : goal.returns
+returns c world le has =
+    let begins = c.compare.ensures.begins le in
+    has-earlier world c.args.reader.history c.args.receipt.now.history c.args.reader.versions
+    c.args.receipt.now.versions has begins.0 begins.1
