@@ -15,5 +15,13 @@ pub mod Beside
 pub mod Among
 pub mod Calling
 pub mod Migrating
+pub mod Making
+pub mod Todo
+pub mod Stepping
+pub mod Executing
+pub mod Working
+pub mod Crewing
 pub mod Answering
 pub mod Preceding
+pub mod Published
+pub mod Opening

@@ -2,9 +2,11 @@ pub mod Tie
 pub mod Moves
 pub mod WalkSteps
 pub mod FrameSearches
+pub mod Agendas
 pub mod Plays
 pub mod LegalSteps
 pub mod Desks
 pub mod Faults
 pub mod Migrations
 pub mod Interleaved
+pub mod Crews

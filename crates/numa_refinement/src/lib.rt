@@ -5,6 +5,7 @@
 //! desk, with clauses that say what they are to the core.
 #![tactic(auto)]
 
+pub mod crews;
 pub mod desk;
 pub mod laws;
 pub mod walks;
