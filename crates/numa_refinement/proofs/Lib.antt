@@ -23,5 +23,9 @@ pub mod Working
 pub mod Crewing
 pub mod Answering
 pub mod Preceding
+pub mod WholePlaying
+pub mod MigratingAnywhere
+pub mod WholeAmong
+pub mod WholeDesks
 pub mod Published
 pub mod Opening

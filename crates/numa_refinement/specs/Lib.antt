@@ -10,3 +10,4 @@ pub mod Faults
 pub mod Migrations
 pub mod Interleaved
 pub mod Crews
+pub mod Moving

@@ -28,10 +28,16 @@ ghost use Rattle.numa_requests.specs.declared.command.Command.{Command};
 ghost use Rattle.numa_requests.specs.declared.placement.Placement.{Placement};
 ghost use Rattle.numa_requests.specs.declared.refusal.Refusal.{Refusal};
 ghost use Rattle.numa_requests.specs.declared.request.Request.{Request};
-ghost use Rattle.numa_refinement.specs.FrameSearches.{IsFrameSearch, Turn};
+ghost use Rattle.numa_refinement.specs.FrameSearches.{IsFrameSearch, IsSearch, Turn};
 ghost use Rattle.numa_refinement.specs.WalkSteps.{MayBegin};
 ghost use Rattle.numa_refinement.specs.Moves.{PoolState};
 ghost use Rattle.numa_refinement.specs.Plays.{Done, IsPlay, execution_of, since_of};
+ghost use Rattle.numa_refinement.specs.Tie.{HaveMet, IsTied};
+ghost use Rattle.numa_refinement.specs.Moving.{Acted, CallsOf, IsWholePlay, acts_of, pools_after};
+ghost use Rattle.numa_refinement.specs.Moving.{since_acts};
+ghost use Rattle.numa_refinement.specs.Moving.{FallsAnywhere, SearchesAnywhere, Starts};
+ghost use Rattle.numa_refinement.specs.Moving.{HaveNoSearch, begins_in, seeks_in, turns_within};
+ghost use Rattle.numa_refinement.specs.Moving.{world_after_acts};
 ghost use Rattle.numa_refinement.specs.Desks.{Accepts, IsDeskOf, IsNew, LeadsTo, Publishes};
 ghost use Rattle.numa_refinement.specs.Faults.{Falls, IsReady, LeavesLast, begun_world, last_world};
 ghost use Rattle.numa_refinement.specs.Interleaved.{Calls, HaveNoBegin, begins, turns_in};
@@ -233,6 +239,83 @@ pub fn a_migration_is_a_frame_search_and_a_give()
         (placement moved : Placement) → FallsOn s w history request node first before after turns
         → Migrates s.machine.frames node placement before after (Ok moved)
         → SearchesAndGives s w history request node first placement.frame moved.frame turns }
+{}
+
+/// So is a migration to any node, whatever lists requests have, if its search begins by a step
+/// beside those of the core: each of its loads and tries is a Look or a Try of the core's world
+/// that isn't refused, and its return a Give.
+pub fn a_migration_to_any_node_is_a_search_and_a_give()
+    ensures exhausted { (s : Setup) (w node version : ℕ) (request : Request) (first : World)
+        (before after : SeatView) (turns : List Turn) (placement back : Placement)
+        → FallsAnywhere s w node version request first before after turns
+        → Migrates s.machine.frames node placement before after
+        (Err (MigrateRefusal.Exhausted back))
+        → IsSearch s w (Starts s w node version request first) (CoreReply.Exhausted version)
+        turns }
+    ensures moved { (s : Setup) (w node version : ℕ) (request : Request) (first : World)
+        (before after : SeatView) (turns : List Turn) (placement moved : Placement)
+        → FallsAnywhere s w node version request first before after turns
+        → Migrates s.machine.frames node placement before after (Ok moved)
+        → SearchesAnywhere s w node version request first placement.frame moved.frame turns }
+{}
+
+/// Migrations to any node don't end the tie: if the search of a migration, whose list is its node
+/// alone, begins by a step beside those of the core, then after every act of every interleaving
+/// each frame's owner is the seat that holds it, and each search has met what its seat's steps found
+/// taken. An interleaving without such migrations is one, and leads to the same world.
+pub fn migrations_keep_the_tie()
+    ensures tied { (s : Setup) → ((n : ℕ) → slice_index s.machine.frames n ≤ 4096) → 0 < s.workers
+        → (first : PoolState) (acts : List Acted) → IsWholePlay s first acts
+        → IsTied s (world_after_acts s acts) (pools_after s first acts)
+        × HaveMet (world_after_acts s acts) (since_acts acts) }
+    ensures alone { (s : Setup) → ((n : ℕ) → slice_index s.machine.frames n ≤ 4096)
+        → 0 < s.workers → (first : PoolState) (done : List Done) → IsPlay s first done
+        → IsWholePlay s first (acts_of done)
+        × (world_after_acts s (acts_of done) ≡ world_of s (execution_of s done)) }
+{}
+
+/// So faults fall in every interleaving with migrations to any node as in one without, and each
+/// migration falls as `a_migration_to_any_node_is_a_search_and_a_give` asks, if its worker begins
+/// no other search before it is over. A worker was ready, if the history with which it began is
+/// published in a later world; and there is a desk in each such interleaving.
+pub fn acts_of_an_interleaving_fall()
+    ensures faults { (s : Setup) → ((n : ℕ) → slice_index s.machine.frames n ≤ 4096)
+        → 0 < s.workers → (first : PoolState) (w : ℕ) (pools : PoolState)
+        (done later : List Acted) → HaveNoSearch w later
+        → (history : List Command) (request : Request)
+        → IsWholePlay s first (later ++ begins_in w (length history) request pools ∷ done)
+        → IsReady s w history (world_after_acts s done) → (before after : SeatView)
+        → after.log ≡ since_acts (later ++ begins_in w (length history) request pools ∷ done) w
+        ++ before.log
+        → Falls s w history request (world_after_acts s done) before after
+        (turns_within s w first later (begins_in w (length history) request pools ∷ done)) }
+    ensures last { (s : Setup) → ((n : ℕ) → slice_index s.machine.frames n ≤ 4096)
+        → 0 < s.workers → (first : PoolState) (w : ℕ) (pools : PoolState)
+        (done later : List Acted) → HaveNoSearch w later
+        → (history : List Command) (request : Request)
+        → IsWholePlay s first (later ++ begins_in w (length history) request pools ∷ done)
+        → IsReady s w history (world_after_acts s done)
+        → LeavesLast s w (begun_world s w history request (world_after_acts s done))
+        (turns_within s w first later (begins_in w (length history) request pools ∷ done)) }
+    ensures migrations { (s : Setup) → ((n : ℕ) → slice_index s.machine.frames n ≤ 4096)
+        → 0 < s.workers → (first : PoolState) (w : ℕ) (pools : PoolState)
+        (done later : List Acted) → HaveNoSearch w later
+        → (node version : ℕ) (request : Request)
+        → IsWholePlay s first (later ++ seeks_in w node version request pools ∷ done)
+        → (before after : SeatView)
+        → after.log ≡ since_acts (later ++ seeks_in w node version request pools ∷ done) w
+        ++ before.log
+        → FallsAnywhere s w node version request (world_after_acts s done) before after
+        (turns_within s w first later (seeks_in w node version request pools ∷ done)) }
+    ensures ready { (s : Setup) → ((n : ℕ) → slice_index s.machine.frames n ≤ 4096)
+        → 0 < s.workers → (first : PoolState) (w : ℕ) (pools : PoolState)
+        (done later : List Acted) (history : List Command) (request : Request)
+        → IsWholePlay s first (later ++ begins_in w (length history) request pools ∷ done)
+        → IsPublishedIn (world_after_acts s
+        (later ++ begins_in w (length history) request pools ∷ done)) history
+        → IsReady s w history (world_after_acts s done) }
+    ensures desk { (s : Setup) (acts : List Acted) (desk : DeskState) → CallsOf s acts desk
+        → IsDeskOf s (world_after_acts s acts) desk }
 {}
 
 /// This holds in every interleaving: if worker w was ready and began with the history that a fault
