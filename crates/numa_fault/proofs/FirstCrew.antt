@@ -84,7 +84,7 @@ module _ (frames : List ℕ) (requests : List Request) (before after : List Work
     long : length others + 1 ≡ length before
     long = sym (length-append others (its ∷ []))
         ∙ ap length pasts ∙ length-map after (λ
-            (w : WorkerState). past_of w.seat.log w.seat.unlogged) ∙ many
+        (w : WorkerState). past_of w.seat.log w.seat.unlogged) ∙ many
 
     -- what the worker did at this place
     at_place : (w : ℕ) (d : WorkerState) (e : Past) → w < length before

@@ -62,7 +62,7 @@ new-requires c =
         version_is = c.version-shown.ensures
             ∙ (c.deref-issue.result.now.stands.version
             ∙ sym (ap length of ∙ ap (λ (i : Issue). length i.history)
-                (sym c.deref-issue.ensures)));
+            (sym c.deref-issue.ensures)));
         named = ap (λ k. k.named) c.in-Ok.ensures.1.1;
         book_is = ap (λ k. k.front.book) c.in-Ok.ensures.1.1
             ∙ sym (ap (λ s. s.book) c.again-next.ensures
