@@ -2,7 +2,8 @@
 use Rattle.std.proofs.Common.{◌≡◌, ◌≢◌, ℕ, ◌+◌, ◌*◌, ◌/◌, ◌%◌, ◌<◌, ◌≤◌, List, [], ◌∷◌, ◌++◌, zero}
 use Rattle.std.proofs.Common.{suc}
 use Rattle.std.proofs.Common.{length, Bool, true, false, cond, refl, sym, ap, subst, ◌∙◌, arith}
-use Rattle.std.proofs.Common.{Some, append-nil, eq-eqb, ne_eqb, get_or, set, ◌-◌}
+use Rattle.std.proofs.Common.{Option, Some, append-nil, eq-eqb, ne_eqb, get_or, set, ◌-◌}
+use Rattle.std.proofs.Common.{◌⊎◌, ⊎_elim, inl, inr}
 use Rattle.std.proofs.Common.{length-append, length-set}
 use Rattle.std.specs.Prelude.{slice_get, slice_index, slice_index_or, ◌==◌}
 use Rattle.std.specs.Option.{option_and_then}
@@ -29,8 +30,8 @@ use Rattle.numa_fault.specs.declared.answer.Answer.{Answer}
 use Rattle.numa_fault.specs.declared.answer.Answer.TheVariants.{Placed}
 use Rattle.numa_fault.proofs.Apart.{in-column}
 use Rattle.numa_fault.proofs.Columns.{column-at}
-use Rattle.numa_refinement.specs.Agendas.{Errand, IsAmong, AreDue}
-use Rattle.numa_refinement.specs.Crews.{IsRun, IsSeenIn, AreEarly, IsEarly, AreWon}
+use Rattle.numa_refinement.specs.Agendas.{Errand, IsAmong, IsAnswered, IsBare, AreDue, Ends}
+use Rattle.numa_refinement.specs.Crews.{IsRun, IsSeenIn, AreAnswered, AreEarly, IsEarly}
 use Rattle.numa_refinement.specs.Moves.{PoolState, opened}
 use Rattle.numa_refinement.specs.Plays.{Deed, makes_step, splits, has_event, Done, Fits, IsPlay}
 use Rattle.numa_refinement.specs.Plays.{execution_of, pools_of, since_of, with_deed, NoneRefused}
@@ -38,7 +39,7 @@ use Rattle.numa_refinement.proofs.Beside.{desk}
 use Rattle.numa_refinement.proofs.Executing.{AreInside, all_answered}
 use Rattle.numa_refinement.proofs.Todo.{Base, at_place}
 use Rattle.numa_refinement.proofs.Playing.{plays}
-use Rattle.numa_refinement.proofs.Working.{Worked, worked, AreKnown}
+use Rattle.numa_refinement.proofs.Working.{Worked, worked, AreKnown, BareAt, IsExhaustedAt, OfNone}
 
 -- ---- before the crew
 
@@ -187,7 +188,7 @@ module _ (s : Setup) (few : (n : ℕ) → slice_index s.machine.frames n ≤ 409
 
   its_work : (w : ℕ) → w < length before
       → Worked s world.published world.history 0 (slice_index_or before w d).seat
-      (slice_index_or after w d).seat (column count w answers)
+      (slice_index_or after w d).seat (column count w requests) (column count w answers)
   its_work w inside = worked s world.published world.history (column count w requests)
       (parts_of (slice_index_or before w d)) (parts_of (slice_index_or after w d))
       (column count w answers) (run.served w d inside) (run.machine w d inside)
@@ -214,6 +215,13 @@ module _ (s : Setup) (few : (n : ℕ) → slice_index s.machine.frames n ≤ 409
       → (x : Errand) × IsAmong x (todo_by w c) × (x.placement ≡ Some p)
   told_by w (yes inside) l i p at = (its_work w inside).told i p at
   told_by w (no out) l i p at = absurd (omega arith)
+
+  none_by : (w : ℕ) (c : Dec (suc w ≤ length before)) → w < length before → (i version : ℕ)
+      → IsExhaustedAt s world.published world.history (column count w answers) i version
+      → OfNone s world.published world.history (todo_by w c) version
+      ⊎ BareAt s world.published world.history (column count w requests) i version
+  none_by w (yes inside) l i version at = (its_work w inside).none_told i version at
+  none_by w (no out) l i version at = absurd (omega arith)
 
   same_many : length order.seats ≡ length before
   same_many = sym (length-map order.seats (past_by order.deeds))
@@ -251,7 +259,17 @@ module _ (s : Setup) (few : (n : ℕ) → slice_index s.machine.frames n ≤ 409
   abbrev Executed : Type 0
   Executed = (done : List Done) × IsPlay s first done × IsExecution s (execution_of s done)
       × NoneRefused (execution_of s done)
-      × AreWon (execution_of s done) order.seats answers (length before)
+      × AreAnswered s (execution_of s done) order.seats requests answers (length before)
+
+  -- what the seat of a worker was answered
+  answer_of_seat : (done : List Done) → ((j : ℕ) (x : Errand) → IsAmong x (agenda j)
+      → IsAnswered (execution_of s done) j x) → (w : ℕ) → w < length before → (x : Errand)
+      → IsAmong x (todo_by w (dec_le (suc w) (length before)))
+      → IsAnswered (execution_of s done) (slice_index order.seats w) x
+  answer_of_seat done answered w inside x among =
+      let here = at_seat order.seats todo w order.different (let n = same_many in omega arith) in
+      answered (slice_index order.seats w) x
+      (subst (λ (xs : List Errand). IsAmong x xs) (sym here) among)
 
   pub crew_executes : Executed
   crew_executes =
@@ -262,24 +280,43 @@ module _ (s : Setup) (few : (n : ℕ) → slice_index s.machine.frames n ≤ 409
       order.deeds.made order.order
       (all_inside s few some_worker first (length (pools_of s first start).views) world.published
       world.history agenda order.count room order.deeds.made (λ j high.
-          (order.names.none_else j high).0))
+      (order.names.none_else j high).0))
       due_all in
       let stands = plays s few some_worker first all.0 all.1 in (
         all.0,
         all.1,
         stands.legal,
         stands.granted,
-        (λ i p at.
-            let some_turn = run.crew.0 in
-            let w : ℕ = i % length before in
-            let inside : i % length before < length before = omega arith in
-            let told = told_by (i % length before)
-            (dec_le (suc (i % length before)) (length before)) inside (i / length before) p
-            (in-column (length before) i answers p some_turn at) in
-            let here = at_seat order.seats todo (i % length before) order.different
-            (let n = same_many in omega arith) in
-            all.2 (slice_index order.seats (i % length before)) told.0
-            (subst (λ (xs : List Errand). IsAmong told.0 xs) (sym here) told.1) p told.2),
+        record {
+          won = λ i p at.
+              let some_turn = run.crew.0 in
+              let inside : i % length before < length before = omega arith in
+              let told = told_by (i % length before)
+              (dec_le (suc (i % length before)) (length before)) inside (i / length before) p
+              (in-column (length before) i answers p some_turn at) in
+              subst (λ (o : Option Placement). Ends (execution_of s all.0)
+              (slice_index order.seats (i % length before)) told.0.version o) told.2
+              (answer_of_seat all.0 all.3 (i % length before) inside told.0 told.1);
+          exhausted = λ i version at.
+              let some_turn = run.crew.0 in
+              let inside : i % length before < length before = omega arith in
+              let here : i % length before + i / length before * length before ≡ i = omega arith in
+              ⊎_elim
+              (λ h. inl (subst (λ (q : ℕ × Option Placement). Ends (execution_of s all.0)
+              (slice_index order.seats (i % length before)) q.0 q.1) (λ c. (h.3 c, h.2 c))
+              (answer_of_seat all.0 all.3 (i % length before) inside h.0 h.1)))
+              (λ h. inr (
+                h.0,
+                (sym (column-at (length before) (i % length before) (i / length before) requests
+                    some_turn ∙ ap (slice_get requests) here) ∙ h.1),
+                subst (λ (cs : List Command). IsBare s cs version h.0)
+                    (sym (ap (λ (q : List Command × List ℕ). q.0) all.2)) h.2,
+              ))
+              (none_by (i % length before) (dec_le (suc (i % length before)) (length before)) inside
+              (i / length before) version
+              (column-at (length before) (i % length before) (i / length before) answers some_turn
+              ∙ ap (slice_get answers) here ∙ at));
+        },
       )
 
 -- ---- the seat that the others were joined into stands last
@@ -315,7 +352,7 @@ module _ (s : Setup) (few : (n : ℕ) → slice_index s.machine.frames n ≤ 409
     abbrev Ran : Type 0
     Ran = (seats : List ℕ) × AreDifferent seats × ((done : List Done) × IsPlay s first done
         × IsExecution s (execution_of s done) × NoneRefused (execution_of s done)
-        × AreWon (execution_of s done) seats answers (length old))
+        × AreAnswered s (execution_of s done) seats requests answers (length old))
 
     with_worker : (workers : List WorkerState) → old ≡ workers
         → (turned : IsLedTo s.machine.frames (others ++ its ∷ []) words)
@@ -363,7 +400,7 @@ module _ (s : Setup) (few : (n : ℕ) → slice_index s.machine.frames n ≤ 409
       → IsSeenIn (world_of s (execution_of s start)) new answers
       → (seats : List ℕ) × AreDifferent seats × ((done : List Done) × IsPlay s first done
       × IsExecution s (execution_of s done) × NoneRefused (execution_of s done)
-      × AreWon (execution_of s done) seats answers (length old))
+      × AreAnswered s (execution_of s done) seats requests answers (length old))
   runs order only first start play early words_same room seen =
       by_seats order only first start play early words_same room seen order.seats refl
 
@@ -433,7 +470,7 @@ module _ (s : Setup) (few : (n : ℕ) → slice_index s.machine.frames n ≤ 409
   pub runs_after : (seats : List ℕ) × AreDifferent seats
       × ((done : List Done) × IsPlay s (opened order.first) done
       × IsExecution s (execution_of s done) × NoneRefused (execution_of s done)
-      × AreWon (execution_of s done) seats answers (length old))
+      × AreAnswered s (execution_of s done) seats requests answers (length old))
   runs_after =
       let first = opened order.first in
       let views = (pools_of s first calls).views in

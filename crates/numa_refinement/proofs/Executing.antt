@@ -27,7 +27,7 @@ use Rattle.numa_refinement.specs.Plays.{IsPlay, execution_of, since_of, pools_of
 use Rattle.numa_refinement.proofs.Beside.{workers}
 use Rattle.numa_refinement.proofs.Current.{still}
 use Rattle.numa_refinement.proofs.Falling.{own-last}
-use Rattle.numa_refinement.proofs.FrameSearching.{begins, begun-as, goes}
+use Rattle.numa_refinement.proofs.FrameSearching.{begins, begun-as}
 use Rattle.numa_refinement.proofs.Making.{walk_at, current_of}
 use Rattle.numa_refinement.proofs.Playing.{plays, Stands}
 use Rattle.numa_refinement.proofs.Todo.{Base as BaseOf, Going as GoingOf, BusyWith as BusyWithOf}
@@ -130,11 +130,11 @@ module _ (s : Setup) (few : (n : ℕ) → slice_index s.machine.frames n ≤ 409
         others = others;
         answered = λ y among. ⊎_elim (λ h. inl h)
             (λ h. inr (later_answer s few some_worker first count published history agenda past
-                core_step id y h)) (answered y among);
+            core_step id y h)) (answered y among);
       },
       (λ j apart es st.
           moved s few some_worker first count published history agenda past core_step
-              (world.worker j)
+          (world.worker j)
           ((world_of s (execution_of s then_done)).worker j) (since_of s done j)
           (since_of s then_done j) j es
           (workers s world x.version (Begin id x.request)
@@ -281,7 +281,7 @@ module _ (s : Setup) (few : (n : ℕ) → slice_index s.machine.frames n ≤ 409
         by : (j : ℕ) → Dec (j ≡ m.seat) → At done_now j (later j)
         by j (yes same) = subst (λ (k : ℕ). At done_now k (later k)) (sym same)
             (mine_now s few some_worker first count published history agenda going.0
-                (words_after words made) m.seat (later m.seat) m.entry going.1 inside
+            (words_after words made) m.seat (later m.seat) m.entry going.1 inside
             found)
         by j (no apart) = others_now s few some_worker first count published history agenda going.0
             (words_after words made) m.seat (later m.seat) m.entry
@@ -333,11 +333,13 @@ module _ (s : Setup) (few : (n : ℕ) → slice_index s.machine.frames n ≤ 409
     pub all_answered : (made : List Made) → IsOrder s.machine.frames words made → AreInside made
         → ((j : ℕ) → AreDue s published history 0 (agenda j) (own j made))
         → (done : List Done) × IsPlay s first done
+        × (Publics (world_of s (execution_of s done)) ≡ (history, published))
         × ((j : ℕ) (x : Errand) → IsAmong x (agenda j) → IsAnswered (execution_of s done) j x)
     all_answered made order inside due =
         let played = plays_all made (λ j. []) order inside due in (
           played.0,
           played.1.play,
+          played.1.publics,
           (λ j x among.
               let st = played.2 j in
               let none = none_left ((world_of s (execution_of s played.0)).worker j)

@@ -65,7 +65,7 @@ module _ (s : Setup) (few : (n : ℕ) → slice_index s.machine.frames n ≤ 409
         let play = calls_play events calls.0 desks.0 calls.1 in
         let step = publishes s world calls.0 desk
         (called s few some_worker first
-            (calls_at first events) calls.0 play calls.1) calls.3 calls.2
+        (calls_at first events) calls.0 play calls.1) calls.3 calls.2
         in (
           play,
           (

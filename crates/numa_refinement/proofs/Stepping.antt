@@ -1,5 +1,5 @@
 -- A step of a search that a worker has to do.
-use Rattle.std.proofs.Common.{◌≡◌, ◌≢◌, ◌⊎◌, ℕ, ◌+◌, ◌<◌, ◌≤◌, List, [], ◌∷◌, ◌++◌}
+use Rattle.std.proofs.Common.{◌≡◌, ◌≢◌, ◌⊎◌, ℕ, ◌<◌, ◌≤◌, List, [], ◌∷◌, ◌++◌}
 use Rattle.std.proofs.Common.{inl, inr, refl, sym, ap, subst}
 use Rattle.std.proofs.Common.{◌∙◌, arith, Option, Some, None, Ok, append-nil, append_assoc}
 use Rattle.std.proofs.Common.{length-set, ⊎_elim}
@@ -21,7 +21,7 @@ use Rattle.numa_pool.specs.declared.view.Entry.TheVariants.{Load, Won, Lost, Gav
 use Rattle.numa_pool.specs.declared.view.View.{View}
 use Rattle.numa_pool.specs.Order.{written, Finds}
 use Rattle.numa_pool.specs.Walk.{IsWalk}
-use Rattle.numa_refinement.specs.Agendas.{Errand, found_by, IsAmong, AreDue, HasWon}
+use Rattle.numa_refinement.specs.Agendas.{Errand, found_by, IsAmong, AreDue, Ends}
 use Rattle.numa_refinement.specs.Agendas.{IsAnswered}
 use Rattle.numa_refinement.specs.FrameSearches.{IsPlaced}
 use Rattle.numa_refinement.specs.WalkSteps.{IsCoreStep, MayCome, event_of}
@@ -197,9 +197,9 @@ module _ (s : Setup) (few : (n : ℕ) → slice_index s.machine.frames n ≤ 409
             left = g.todo;
             stage = inl (idle_then (next.1.1 ∙ end.1));
             answered = λ y among. ⊎_elim
-                (λ same. inr (λ p placed.
-                let no : ◌≡◌ {A = Option Placement} None (Some p) =
-                sym is ∙ ap (λ (z : Errand). z.placement) (sym same) ∙ placed in absurd (cc)))
+                (λ same. inr (subst (λ (z : Errand). IsAnswered (core_step ∷ past) id z) (sym same)
+                (subst (λ (o : Option Placement). Ends (core_step ∷ past) id g.x.version o)
+                (sym is) (inl (its-worker id e, next.2.1 ∙ ap Ok end.0)))))
                 (λ h. inl h) among;
           }
 
@@ -241,15 +241,13 @@ module _ (s : Setup) (few : (n : ℕ) → slice_index s.machine.frames n ≤ 409
                 frame_search_of (effect_of s world 0 (event_of id d)) id ≡ None) (sym same)
                 over_h));
             answered = λ y among. ⊎_elim
-                (λ same_y. inr (λ q q_placed.
-                let same_p : ◌≡◌ {A = Option Placement} (Some q) (Some p) =
-                sym q_placed ∙ ap (λ (z : Errand). z.placement) same_y ∙ is in
-                let is_p : p ≡ q = cc in
-                subst (λ (z : Placement). HasWon (core_step ∷ past) id z) is_p (inl (
+                (λ same_y. inr (subst (λ (z : Errand). IsAnswered (core_step ∷ past) id z)
+                (sym same_y) (subst (λ (o : Option Placement).
+                Ends (core_step ∷ past) id g.x.version o) (sym is) (inl (
                   ap (event_of id) same ∙ ap (Try id) frames_same,
                   ap (λ (d : Entry). answer_of s world 0 (event_of id d)) same ∙ step_h.1
                       ∙ ap (λ (z : Placement). Ok (replied_won z)) one,
-                ))))
+                )))))
                 (λ h. inl h) among;
           }
       wins_by p is (Load n w x) same f won its = absurd (cc)
@@ -264,7 +262,7 @@ module _ (s : Setup) (few : (n : ℕ) → slice_index s.machine.frames n ≤ 409
     after = ⊎_elim (λ none. ends_with none g.x.placement refl) (λ more. amid more.0 more.1 more.2)
         (from_end g.rest)
 
-    abbrev now : List Done
+    abbrev pub now : List Done
     now = by_seat id e new ∷ done
 
     world_now : world_of s (execution_of s now) ≡ effect
@@ -288,13 +286,13 @@ module _ (s : Setup) (few : (n : ℕ) → slice_index s.machine.frames n ≤ 409
           stage = after.stage;
           answered = λ y among. ⊎_elim (λ h. after.answered y h)
               (λ h. inr (later_answer s few some_worker first count published history agenda past
-                  core_step id y h)) (g.answered y among);
+              core_step id y h)) (g.answered y among);
         }
 
     pub others_now : (j : ℕ) → j ≢ id → (steps : List Entry) → At done j steps → At now j steps
     others_now j apart steps st =
         moved s few some_worker first count published history agenda past core_step
-            (world.worker j) ((world_of s (execution_of s now)).worker j)
+        (world.worker j) ((world_of s (execution_of s now)).worker j)
         (since_of s done j) (since_of s now j) j steps
         (workers s world 0 (event_of id e) (answer_of s world 0 (event_of id e)) id j
         (its-worker id e) (λ same. apart (sym same)))

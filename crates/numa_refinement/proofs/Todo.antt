@@ -1,5 +1,5 @@
 -- What is left to do for workers whose seats each go through an agenda.
-use Rattle.std.proofs.Common.{◌≡◌, ◌≢◌, ◌⊎◌, ℕ, ◌+◌, ◌<◌, ◌≤◌, List, [], ◌∷◌, ◌++◌, zero, suc}
+use Rattle.std.proofs.Common.{◌≡◌, ◌≢◌, ◌⊎◌, ℕ, ◌<◌, ◌≤◌, List, [], ◌∷◌, ◌++◌, zero, suc}
 use Rattle.std.proofs.Common.{length, Bool, inl, inr, refl, sym, ap, subst}
 use Rattle.std.proofs.Common.{arith, Option, Some, None}
 use Rattle.std.proofs.Common.{eq-eqb, ne_eqb, if◌then◌else◌, ⊎_elim}
@@ -7,6 +7,7 @@ use Rattle.std.specs.Prelude.{slice_index}
 use mathlib.Core.Option.{some}
 use lib.ListN.{get_elem?}
 use Rattle.numa_requests.specs.declared.command.Command.{Command}
+use Rattle.numa_requests.specs.declared.placement.Placement.{Placement}
 use Rattle.numa_requests.specs.declared.event.Event.{Event}
 use Rattle.numa_requests.specs.declared.event.Event.TheVariants.{Try}
 use Rattle.numa_requests.specs.declared.event.CoreReply.{CoreReply}
@@ -18,13 +19,12 @@ use Rattle.numa_core.specs.Steps.{put}
 use Rattle.numa_core.specs.Executions.{CoreStep, world_of}
 use Rattle.numa_pool.specs.declared.view.Entry.{Entry}
 use Rattle.numa_pool.specs.declared.view.Entry.TheVariants.{Load, Won, Lost, Gave}
-use Rattle.numa_refinement.specs.Agendas.{Errand, IsAmong, IsDue, AreDue}
+use Rattle.numa_refinement.specs.Agendas.{Errand, IsAmong, IsDue, AreDue, Ends}
 use Rattle.numa_refinement.specs.Agendas.{IsAnswered}
 use Rattle.numa_refinement.specs.WalkSteps.{IsCoreStep, event_of}
 use Rattle.numa_refinement.specs.Moves.{PoolState}
 use Rattle.numa_refinement.specs.Plays.{Done}
 use Rattle.numa_refinement.specs.Plays.{IsPlay, execution_of, since_of, pools_of}
-use Rattle.numa_refinement.proofs.Beside.{workers}
 
 pub at_place : {A : Type 0} (l : List A) (i : ℕ) → i < length l → (a : A) × (get_elem? l i ≡ some a)
 at_place [] i inside = absurd (omega arith)
@@ -76,6 +76,11 @@ abbrev pub searching_for : Errand → (ℕ → ℕ → Bool) → FrameSearch
 searching_for x seen =
     record { request = x.request; version = x.version; nodes = x.nodes; met = seen }
 
+later_end : (past : List CoreStep) (m : CoreStep) (j version : ℕ) (o : Option Placement)
+    → Ends past j version o → Ends (m ∷ past) j version o
+later_end past m j version None h = inr h
+later_end past m j version (Some p) h = inr h
+
 module _ (s : Setup) (few : (n : ℕ) → slice_index s.machine.frames n ≤ 4096)
     (some_worker : 0 < s.workers) (first : PoolState) (count : ℕ) (published : List ℕ)
     (history : List Command) (agenda : ℕ → List Errand) where
@@ -125,7 +130,7 @@ module _ (s : Setup) (few : (n : ℕ) → slice_index s.machine.frames n ≤ 409
   pub later_answer : (past : List CoreStep) (m : CoreStep) (j : ℕ) (x : Errand)
       → IsAnswered past j x
       → IsAnswered (m ∷ past) j x
-  later_answer past m j x h p e = inr (h p e)
+  later_answer past m j x h = later_end past m j x.version x.placement h
 
   pub moved : (past : List CoreStep) (m : CoreStep) (worker now : Worker) (since later : List Entry)
       (j : ℕ) (steps : List Entry) → now ≡ worker → later ≡ since

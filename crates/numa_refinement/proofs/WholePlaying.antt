@@ -67,7 +67,7 @@ module _ (s : Setup) where
         record {
           tied = subst (λ (state : PoolState).
               IsTied s (with_worker world id (last_of world id) (going_on s begun)) state)
-                  (sym fit.2)
+              (sym fit.2)
               (record {
                 few = h.tied.few;
                 rule = h.tied.rule;

@@ -1,6 +1,6 @@
 -- What a worker has to do: the frame searches that its answers tell, one after the other.
 use Rattle.std.specs.Prelude.{◌≡◌, ℕ, ◌<◌, ◌≤◌, ◌==◌, ◌++◌, ◌⊎◌, true, List, [], ◌∷◌, length}
-use Rattle.std.specs.Prelude.{Option, Some, Ok}
+use Rattle.std.specs.Prelude.{Option, Some, None, Ok, slice_index}
 use Rattle.std.specs.List.{list_any}
 use Rattle.std.specs.Option.{option_map}
 use Rattle.numa_machine.specs.declared.frame.Frame.{Frame}
@@ -8,9 +8,9 @@ use Rattle.numa_requests.specs.declared.command.Command.{Command}
 use Rattle.numa_requests.specs.declared.placement.Placement.{Placement}
 use Rattle.numa_requests.specs.declared.request.Request.{Request}
 use Rattle.numa_requests.specs.declared.event.Event.TheVariants.{Try}
-use Rattle.numa_requests.specs.declared.event.CoreReply.TheVariants.{Won}
+use Rattle.numa_requests.specs.declared.event.CoreReply.TheVariants.{Exhausted, Won}
 use Rattle.numa_core.specs.World.{Setup, list_at}
-use Rattle.numa_core.specs.Executions.{CoreStep}
+use Rattle.numa_core.specs.Executions.{CoreStep, worker_of}
 use Rattle.numa_pool.specs.Walk.{IsWalk, IsDistinct}
 use Rattle.numa_pool.specs.declared.view.Entry.{Entry}
 use Rattle.numa_refinement.specs.FrameSearches.{IsPlaced}
@@ -60,6 +60,25 @@ HasWon [] w placement = ⊥
 HasWon (m ∷ past) w placement =
     ((m.event ≡ Try w placement.frame) × (m.answer ≡ Ok (Won placement))) ⊎ HasWon past w placement
 
--- and so that of the search, if it has one
+-- in this execution the worker was answered that its list is exhausted, at this version
+abbrev pub HasExhausted : List CoreStep → ℕ → ℕ → Type 0
+HasExhausted [] w version = ⊥
+HasExhausted (m ∷ past) w version =
+    ((worker_of m.event ≡ Some w) × (m.answer ≡ Ok (Exhausted version)))
+    ⊎ HasExhausted past w version
+
+-- what the search ends with was answered
+abbrev pub Ends : List CoreStep → ℕ → ℕ → Option Placement → Type 0
+Ends past w version None = HasExhausted past w version
+Ends past w version (Some p) = HasWon past w p
+
 abbrev pub IsAnswered : List CoreStep → ℕ → Errand → Type 0
-IsAnswered past w x = (p : Placement) → x.placement ≡ Some p → HasWon past w p
+IsAnswered past w x = Ends past w x.version x.placement
+
+-- no listed node has a frame, by the commands up to the version
+pub record IsBare (s : Setup) (history : List Command) (version : ℕ) (request : Request) :
+    Type 0 where
+  pub nodes : List ℕ
+  pub listed : list_at s.machine history version request ≡ Some nodes
+  pub none_there : (i : ℕ) → i < length nodes
+      → slice_index s.machine.frames (slice_index nodes i) ≡ 0

@@ -1,5 +1,5 @@
 -- A crew whose pools came to their end, and the core's execution that it was.
-use Rattle.std.specs.Prelude.{◌≡◌, ℕ, ◌<◌, ◌%◌, true, List, [], ◌∷◌, length, Some}
+use Rattle.std.specs.Prelude.{◌≡◌, ◌⊎◌, ℕ, ◌<◌, ◌%◌, true, List, [], ◌∷◌, length, Some}
 use Rattle.std.specs.Prelude.{slice_get, slice_index, slice_index_or}
 use Rattle.numa_requests.specs.declared.event.Event.{Event}
 use Rattle.numa_requests.specs.declared.event.Event.TheVariants.{Accept, Publish, Begin}
@@ -7,7 +7,7 @@ use Rattle.numa_requests.specs.declared.event.Event.TheVariants.{Look, Try, Give
 use Rattle.numa_requests.specs.declared.placement.Placement.{Placement}
 use Rattle.numa_requests.specs.declared.request.Request.{Request}
 use Rattle.numa_core.specs.World.{Setup, World, is_published}
-use Rattle.numa_core.specs.Executions.{CoreStep}
+use Rattle.numa_core.specs.Executions.{CoreStep, world_of}
 use Rattle.numa_pool.specs.declared.view.Past.{Past}
 use Rattle.numa_publish.specs.Batches.{Extends}
 use Rattle.numa_machine.specs.Machine.{Hardware}
@@ -15,8 +15,9 @@ use Rattle.numa_fault.specs.Crew.{IsCrew, IsEnded, ServesEach, pasts_by}
 use Rattle.numa_fault.specs.Told.{version_at}
 use Rattle.numa_fault.specs.Worker.{WorkerState}
 use Rattle.numa_fault.specs.declared.answer.Answer.{Answer}
-use Rattle.numa_fault.specs.declared.answer.Answer.TheVariants.{Placed}
-use Rattle.numa_refinement.specs.Agendas.{HasWon}
+use Rattle.numa_fault.specs.declared.answer.Answer.TheVariants.{Placed, Refused}
+use Rattle.numa_fault.specs.declared.refusal.FaultRefusal.TheVariants.{Exhausted}
+use Rattle.numa_refinement.specs.Agendas.{HasExhausted, HasWon, IsBare}
 use Rattle.numa_refinement.specs.Moves.{PoolState}
 use Rattle.numa_refinement.specs.Plays.{Deed, makes_step, splits, has_event, Done}
 
@@ -89,9 +90,15 @@ calls_at pools [] = []
 calls_at pools (e ∷ events) =
     record { deed = has_event 0 e; pools = pools } ∷ calls_at pools events
 
--- in this execution each placement of the answers is won by its worker, which has the number of its
--- seat
-abbrev pub AreWon : List CoreStep → List ℕ → List Answer → ℕ → Type 0
-AreWon past seats answers count =
-    (i : ℕ) (p : Placement) → slice_get answers i ≡ Some (Placed p)
-    → HasWon past (slice_index seats (i % count)) p
+-- In this execution of so many workers each answer is its worker's, which has the number of its
+-- seat: each placement is won, and each list that an answer tells exhausted is exhausted. No step
+-- is known of a list none of whose nodes has a frame
+pub record AreAnswered
+    (s : Setup) (past : List CoreStep) (seats : List ℕ) (requests : List Request)
+    (answers : List Answer) (count : ℕ) : Type 0 where
+  pub won : (i : ℕ) (p : Placement) → slice_get answers i ≡ Some (Placed p)
+      → HasWon past (slice_index seats (i % count)) p
+  pub exhausted : (i version : ℕ) → slice_get answers i ≡ Some (Refused (Exhausted version))
+      → HasExhausted past (slice_index seats (i % count)) version
+      ⊎ ((request : Request) × (slice_get requests i ≡ Some request)
+      × IsBare s (world_of s past).history version request)

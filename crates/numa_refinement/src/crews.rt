@@ -10,7 +10,7 @@ ghost use Rattle.numa_pool.specs.declared.view.Past.{Past};
 ghost use Rattle.numa_publish.specs.Shown.{DeskState};
 ghost use Rattle.numa_requests.specs.declared.event.Event.{Event};
 ghost use Rattle.numa_requests.specs.declared.request.Request.{Request};
-ghost use Rattle.numa_refinement.specs.Crews.{AreDesks, AreOf, AreWon, IsRun, calls_at};
+ghost use Rattle.numa_refinement.specs.Crews.{AreAnswered, AreDesks, AreOf, IsRun, calls_at};
 ghost use Rattle.numa_refinement.specs.Crews.{first_words, seats_in};
 ghost use Rattle.numa_refinement.specs.Interleaved.{Calls};
 ghost use Rattle.numa_refinement.specs.Moves.{opened};
@@ -18,9 +18,10 @@ ghost use Rattle.numa_refinement.specs.Plays.{Done, IsPlay, NoneRefused, executi
 
 /// A crew that was run to its end (`Crew::run_to_end`, or `Crew::run` and `Crew::end`), with the
 /// first seat of the pools and all that were split off it, was an execution of the core, in which
-/// nothing is refused and each placement of its answers is won by its worker. The commands and
-/// publications of its desk stand first: those calls, of a new desk, up to a receipt that shows all
-/// that the workers saw. The core has as many workers as there were seats, or more.
+/// nothing is refused, each placement of its answers is won by its worker, and each list that one
+/// tells exhausted is exhausted there. The commands and publications of its desk stand first: those
+/// calls, of a new desk, up to a receipt that shows all that the workers saw. The core has as many
+/// workers as there were seats, or more.
 pub fn a_crew_run_to_its_end_is_an_execution()
     ensures { (s : Setup) → ((n : ℕ) → slice_index s.machine.frames n ≤ 4096) → 0 < s.workers
         → (requests : List Request) (old : List WorkerState) (answers : List Answer)
@@ -32,13 +33,13 @@ pub fn a_crew_run_to_its_end_is_an_execution()
         → (seats : List ℕ) × AreDifferent seats × ((done : List Done)
         × IsPlay s (opened (first_words ended)) done × IsExecution s (execution_of s done)
         × NoneRefused (execution_of s done)
-        × AreWon (execution_of s done) seats answers (length old)) }
+        × AreAnswered s (execution_of s done) seats requests answers (length old)) }
 {}
 
 /// A crew, whose workers' seats were joined, and with whose joined seat the pools ended, was an
-/// execution of the core, in which nothing is refused and each placement of its answers is won by
-/// its worker: where the end of the pools tells the order of all steps, and the crew's seats are
-/// all that there ever were. The commands and publications of its desk stand first, as above
+/// execution of the core, in which nothing is refused and each answer is its worker's, as above:
+/// where the end of the pools tells the order of all steps, and the crew's seats are all that there
+/// ever were. The commands and publications of its desk stand first, as above
 /// (`Crew::are_within`).
 pub fn a_crew_is_an_execution()
     ensures { (s : Setup) → ((n : ℕ) → slice_index s.machine.frames n ≤ 4096) → 0 < s.workers
@@ -53,5 +54,5 @@ pub fn a_crew_is_an_execution()
         → (seats : List ℕ) × AreDifferent seats × ((done : List Done)
         × IsPlay s (opened order.first) done × IsExecution s (execution_of s done)
         × NoneRefused (execution_of s done)
-        × AreWon (execution_of s done) seats answers (length old)) }
+        × AreAnswered s (execution_of s done) seats requests answers (length old)) }
 {}
