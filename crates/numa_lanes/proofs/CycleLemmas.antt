@@ -1,7 +1,9 @@
 -- Turns of a cycle, by the table that it is kept in.
-use Rattle.std.proofs.Common.{◌≡◌, ℕ, ◌+◌, ◌-◌, ◌<◌, ◌≤◌, ◌%◌, List, length, get_or, take, drop, ap}
-use Rattle.std.proofs.Common.{sym, ◌∙◌, arith, inl, inr}
+use Rattle.std.proofs.Common.{◌≡◌, ℕ, ◌+◌, ◌-◌, ◌<◌, ◌≤◌, ◌%◌, List, [], ◌∷◌, ◌++◌, length, get_or}
+use Rattle.std.proofs.Common.{take, drop, ap, sym, ◌∙◌, arith, inl, inr}
 use Rattle.std.specs.Simd.Lanes.{chunk, put_chunk}
+use Rattle.std.proofs.Math.ListN.{get_or-append}
+use Rattle.std.proofs.Math.Seq.{get_or-append_seam}
 use Rattle.std.proofs.Math.Nat.{add-mod, mod-add-mod, mod-eq_of_lt}
 use Rattle.std.proofs.lemmas.Bool.{cases_lt}
 use Rattle.std.proofs.lemmas.Nat.{mod_below}
@@ -38,6 +40,23 @@ cycle_step table out s at len turn k pos long turns is room before lt =
           ∙ get_or-chunk turn 64 table j 0 small ∙ turns (turn + j) near
           ∙ ap (λ n. get_or table n 0) (ap (λ q. (q + j) % len) is ∙ mod-add-mod (s + at) len j
           ∙ ap (λ n. n % len) sum)
+    ]
+
+-- one more entry of a list, in its turn
+pub turn_added : (entries table new : List ℕ) (turn : ℕ) → length table ≡ turn
+    → new ≡ table ++ get_or entries (turn % length entries) 0 ∷ []
+    → ((j : ℕ) → j < turn → get_or table j 0 ≡ get_or entries (j % length entries) 0)
+    → (j : ℕ) → j < turn + 1 → get_or new j 0 ≡ get_or entries (j % length entries) 0
+turn_added entries table new turn size is before j lt =
+    let next : ℕ = get_or entries (turn % length entries) 0 in
+    ap (λ l. get_or l j 0) is
+    ∙ elim (cases_lt j turn) [
+      | inl h ↦ get_or-append table (next ∷ []) 0 j (omega (arith, size)) ∙ before j h
+      | inr h ↦
+          let at : j ≡ turn = omega arith in
+          ap (λ n. get_or (table ++ next ∷ []) n 0) {x = j} {y = length table} (omega (arith, size))
+          ∙ (get_or-append_seam table next [] 0
+          ∙ ap (λ n. get_or entries (n % length entries) 0) (sym at))
     ]
 
 -- a list whose entries are those of another, in turn, begins with that other list

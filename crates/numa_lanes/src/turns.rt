@@ -47,7 +47,7 @@ impl Cycle {
         let size = len + WIDE;
         let mut table = Vec::with_capacity(alloc, size)?;
         for turn in 0..size {
-            table.push(entries[turn % len])?;
+            table.push_reserved(entries[turn % len]);
         }
         Ok(Cycle { len, table })
     }
