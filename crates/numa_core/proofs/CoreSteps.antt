@@ -194,7 +194,7 @@ module _ (space : SpaceState) (plan : PlanData) (places : List ℕ) (seats : Lis
   core = core_of space plan seats owners
 
   -- the owners that the table says
-  told_owner : (n k : ℕ) → world.owner n k ≡ owner_at owners (place_in places n k)
+  pub told_owner : (n k : ℕ) → world.owner n k ≡ owner_at owners (place_in places n k)
   told_owner n k = sym (stands.owners n k)
       ∙ ap (λ fs. owner_at owners (place_in fs n k)) (sym same)
 
@@ -207,7 +207,7 @@ module _ (space : SpaceState) (plan : PlanData) (places : List ℕ) (seats : Lis
     shown_there : slice_get (map busy_of seats) w ≡ Some (busy_of old)
     shown_there = slice_get-map busy_of seats w ∙ ap (option_map busy_of) there
 
-    its_frame_search : frame_search_of world w ≡ seat_frame_search places old
+    pub its_frame_search : frame_search_of world w ≡ seat_frame_search places old
     its_frame_search = sym (stands.frame_searches w) ∙ ap (search_at space.machine) shown_there
         ∙ frame_search-same space.machine places (busy_of old) same
 

@@ -14,7 +14,9 @@ pub mod Copied
 pub mod Elements
 pub mod EventAnswers
 pub mod CoreExecutions
+pub mod Performed
 pub mod CoreSteps
+pub mod GiveRefused
 pub mod TouchRows
 pub mod TouchLowest
 pub mod TouchSteps

@@ -1,10 +1,11 @@
-use Rattle.std.proofs.Common.{◌∷◌, List, sym, subst}
-use Rattle.numa_core.specs.Executions.{CoreStep}
-use Rattle.numa_core.specs.Standing.{CoreState, LeadsTo, setup_of, core_step_after}
-use Rattle.numa_requests.specs.declared.event.Event.TheVariants.{Publish, Begin, Look, Try}
-use Rattle.numa_requests.specs.declared.event.Event.TheVariants.{Give}
-use Rattle.numa_core.specs.Kept.{core_state, Follows}
-use Rattle.numa_core.proofs.CoreExecutions.{leads_on, past_more}
+use Rattle.std.proofs.Common.{Ok, Err}
+use Rattle.numa_requests.specs.declared.event.Event.TheVariants.{Accept, Publish, Begin, Look}
+use Rattle.numa_requests.specs.declared.event.Event.TheVariants.{Try, Give}
+use Rattle.numa_requests.specs.declared.event.CoreReply.TheVariants.{Accepted}
+use Rattle.numa_requests.specs.declared.event.CoreRefusal.TheVariants.{Command}
+use Rattle.numa_core.specs.Kept.{core_state}
+use Rattle.numa_core.proofs.CoreExecutions.{past_more}
+use Rattle.numa_core.proofs.Performed.{Told, told-by, told-same}
 use Rattle.numa_core.proofs.Core.step.Goals as goal
 
 pub invariant_of-self : goal.invariant_of-self
@@ -48,13 +49,91 @@ invariant_of-self-in-Give c = (
       c.give.ensures.follows c.self-in-Give.invariant.1,
 )
 
-pub returns-in-Begin-clause-executions : goal.returns-in-Begin-clause-executions
-returns-in-Begin-clause-executions c =
-    let P : CoreState → Type 0 = λ old. (past : List CoreStep) → LeadsTo past old
-    → LeadsTo (core_step_after (setup_of old) past c.args.event c.begin.result ∷ past)
-    (core_state c.begin.new.self) in
-    subst P c.self-in-Begin.view_is (leads_on (core_state c.self-in-Begin.inside.state)
-    (core_state c.begin.new.self)
-    c.args.event c.begin.result c.begin.ensures.setup
-    (subst (λ e. Follows (core_state c.self-in-Begin.inside.state) e c.begin.result
-    (core_state c.begin.new.self)) (sym c.in-Begin.is) c.begin.ensures.follows))
+pub returns-in-Publish : goal.returns-in-Publish
+returns-in-Publish c =
+    let told = told-by c.args.self.now c.self.inside.state c.publish.new.self c.args.event
+    Publish c.publish.result c.self.view_is c.in-Publish.is c.publish.ensures in
+    record {
+      answer = told.answers;
+      executions = told.executions;
+      unchanged = told.unchanged;
+      setup = told.setup;
+    }
+
+pub returns-in-Begin : goal.returns-in-Begin
+returns-in-Begin c =
+    let told = told-by c.args.self.now c.self-in-Begin.inside.state c.begin.new.self c.args.event
+    (Begin c.in-Begin.worker c.in-Begin.request) c.begin.result c.self-in-Begin.view_is c.in-Begin.is c.begin.ensures in
+    record {
+      answer = told.answers;
+      executions = told.executions;
+      unchanged = told.unchanged;
+      setup = told.setup;
+    }
+
+pub returns-in-Look : goal.returns-in-Look
+returns-in-Look c =
+    let told = told-by c.args.self.now c.self-in-Look.inside.state c.look.new.self c.args.event
+    (Look c.in-Look.worker c.in-Look.word) c.look.result c.self-in-Look.view_is c.in-Look.is c.look.ensures in
+    record {
+      answer = told.answers;
+      executions = told.executions;
+      unchanged = told.unchanged;
+      setup = told.setup;
+    }
+
+pub returns-in-Try : goal.returns-in-Try
+returns-in-Try c =
+    let told = told-by c.args.self.now c.self-in-Try.inside.state c.attempt.new.self c.args.event
+    (Try c.in-Try.worker c.in-Try.frame) c.attempt.result c.self-in-Try.view_is c.in-Try.is c.attempt.ensures in
+    record {
+      answer = told.answers;
+      executions = told.executions;
+      unchanged = told.unchanged;
+      setup = told.setup;
+    }
+
+pub returns-in-Give : goal.returns-in-Give
+returns-in-Give c =
+    let told = told-by c.args.self.now c.self-in-Give.inside.state c.give.new.self c.args.event
+    (Give c.in-Give.worker c.in-Give.frame) c.give.result c.self-in-Give.view_is c.in-Give.is c.give.ensures in
+    record {
+      answer = told.answers;
+      executions = told.executions;
+      unchanged = told.unchanged;
+      setup = told.setup;
+    }
+
+pub returns-in-Ok : goal.returns-in-Ok
+returns-in-Ok c =
+    let done : Told c.args.self.now (Accept c.in-Accept.command) (Ok (Accepted c.in-Ok.version)) c.accept.new.self = record {
+      answers = c.in-Ok.ensures.answer;
+      executions = c.in-Ok.ensures.executions;
+      unchanged = tt;
+      setup = c.in-Ok.ensures.setup;
+    } in
+    let told = told-same c.args.self.now c.accept.new.self c.args.event
+    (Accept c.in-Accept.command) (Ok (Accepted c.in-Ok.version)) c.in-Accept.is done in
+    record {
+      answer = told.answers;
+      executions = told.executions;
+      unchanged = told.unchanged;
+      setup = told.setup;
+    }
+
+pub returns-in-Err : goal.returns-in-Err
+returns-in-Err c =
+    let done : Told c.args.self.now (Accept c.in-Accept.command) (Err (Command c.in-Err.refusal)) c.accept.new.self = record {
+      answers = c.in-Err.ensures.answer;
+      executions = c.in-Err.ensures.executions;
+      unchanged = c.in-Err.ensures.unchanged;
+      setup = c.in-Err.ensures.setup;
+    } in
+    let told = told-same c.args.self.now c.accept.new.self c.args.event
+    (Accept c.in-Accept.command) (Err (Command c.in-Err.refusal)) c.in-Accept.is done in
+    record {
+      answer = told.answers;
+      executions = told.executions;
+      unchanged = told.unchanged;
+      setup = told.setup;
+    }
