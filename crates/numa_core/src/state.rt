@@ -24,6 +24,7 @@ use numa_machine::{Frame, Machine, NoMemory};
 use numa_plan::Plan;
 use numa_requests::{CoreRefusal, CoreReply, Limits, Placement, Request};
 use std::alloc::Global;
+use std::mem::replace;
 
 /// The space of all accepted commands with its working plan, the plan of those that are published,
 /// the commands that aren't, the workers' seats, the owner of each frame, and what is known of the
@@ -197,10 +198,10 @@ impl State {
             self.unpublished = Unpublished::Nothing;
             return Ok(CoreReply::Published(self.plan.version()));
         }
-        match self.space.plan_copy(self.alloc) {
-            Ok(plan) => self.plan = plan,
-            Err(_) => return Err(CoreRefusal::NoMemory),
-        }
+        let Ok(plan) = self.space.plan_copy(self.alloc) else {
+            return Err(CoreRefusal::NoMemory);
+        };
+        drop(replace(&mut self.plan, plan));
         self.unpublished = Unpublished::Nothing;
         Ok(CoreReply::Published(self.plan.version()))
     }

@@ -1,5 +1,6 @@
-use Rattle.std.proofs.Common.{◌≡◌, ◌+◌, ◌*◌, ◌<◌, ◌≤◌, subst, arith, slice_index}
-use Rattle.numa_core.proofs.InARow.{MeetsOwned, met-word}
+use Rattle.std.proofs.Common.{◌≡◌, ◌+◌, ◌*◌, ◌<◌, ◌≤◌, refl, subst, arith, slice_index}
+use Rattle.std.proofs.lemmas.Result.{err_from_is_err_and}
+use Rattle.numa_core.proofs.InARow.{MeetsOwned, index_within, met-word}
 use Rattle.numa_core.proofs.Seating.{cursor-of, looks-past, looks-at}
 use Rattle.numa_core.proofs.seat.WorkerSeat.look.Goals as goal
 use Rattle.numa_core.proofs.seat.WorkerSeat.look.Goals.{then-word-ge64-via-then-word-ge64}
@@ -51,3 +52,35 @@ current-requires c =
           (cursor-of c.args.places.now c.args.self.now.job job c.args.self.now.nodes.items
           c.args.self.now.met.items is c.requires.fits.cursor).listed;
     }
+
+pub returns-in_err-job-clause-looks : goal.returns-in_err-job-clause-looks
+returns-in_err-job-clause-looks c s world same owner =
+    let exit = err_from_is_err_and c.from_residual.result c.from_residual.ensures.1 in
+    let idle = c.in_err-job.ensures.idle in
+    rw (exit.1, exit.2, idle.0, idle.1) refl
+
+pub first-first-requires : goal.first-first-requires
+first-first-requires c = index_within c.args.places.now c.in_ok-job.node (64 * c.args.word)
+    (omega (arith, c.frames-frames.ensures.frames, c.if-word-frames.false))
+
+pub meet_owned-requires : goal.meet_owned-requires
+meet_owned-requires c = record {
+  order = omega (arith, c.min-end.ensures, c.if-word-frames.false);
+  room = omega (
+    arith,
+    c.min-end.ensures,
+    c.first-first.ensures.within,
+    c.frames-frames.ensures.frames,
+    c.requires.fits.room,
+  );
+  owners = omega (
+    arith,
+    c.min-end.ensures,
+    c.first-first.ensures.within,
+    c.frames-frames.ensures.frames,
+    c.requires.owners,
+  );
+}
+
+pub returns-clause-fits : goal.returns-clause-fits
+returns-clause-fits c = c.settle.ensures.fits

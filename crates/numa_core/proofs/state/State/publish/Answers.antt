@@ -1,4 +1,5 @@
-use Rattle.std.proofs.Common.{rules}
+use Rattle.std.proofs.Common.{◌∙◌, ap, rules}
+use Rattle.numa_plan.specs.Meaning.{PlanData}
 use Rattle.numa_core.proofs.CoreSteps.{publish-follows, published-all}
 use Rattle.numa_core.proofs.state.State.publish.Goals as goal
 
@@ -37,7 +38,7 @@ returns-then-catch_up c = record {
 
 pub returns : goal.returns
 returns c = record {
-  kept = rw c.plan_copy.ensures.same (record {
+  kept = rw (c.plan_copy.ensures.same, c.replace.ensures.after) (record {
     places = c.requires.kept.places;
     seats = c.requires.kept.seats;
     owners = c.requires.kept.owners;
@@ -45,10 +46,11 @@ returns c = record {
     taken = c.requires.kept.taken;
     behind = c.in-Ok.ensures.follows;
   });
-  follows = λ world stands. rw c.plan_copy.ensures.same
+  follows = λ world stands. rw (c.plan_copy.ensures.same, c.replace.ensures.after)
       (publish-follows c.args.self.now.space c.args.self.now.plan c.in-Ok.plan
       c.args.self.now.seats.items c.args.self.now.owners.items world c.version-2.result stands
-      (c.in-Ok.ensures.stands world.history stands.space) c.version-2.ensures);
+      (c.in-Ok.ensures.stands world.history stands.space)
+      (c.version-2.ensures ∙ ap (λ (plan : PlanData). plan.version) c.replace.ensures.after));
   unchanged = search rules;
   setup = search rules;
 }
