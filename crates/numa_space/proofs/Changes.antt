@@ -16,6 +16,7 @@ use Rattle.numa_requests.specs.declared.command.Command.TheVariants.{Mbind, SetT
 use Rattle.numa_requests.specs.declared.command.Command.TheVariants.{Unmap, SetHome}
 use Rattle.numa_requests.specs.declared.refusal.Refusal.{Refusal}
 use Rattle.numa_requests.specs.declared.refusal.Refusal.TheVariants.{Hole, NodesNotAllowed}
+use Rattle.numa_requests.specs.declared.refusal.Refusal.TheVariants.{NoMemory}
 use Rattle.numa_space.specs.Edits.{PageRanges, IsEdit, hole_cause, too_many}
 use Rattle.numa_space.specs.History.{page_of, page_count}
 use Rattle.numa_machine.specs.Rules.{is_linux}
@@ -314,6 +315,18 @@ module _ (old : SpaceState) (task : ℕ) (spec : Specification)
     set-cause policy some place =
         rw (lt-leb old.bounds.max_commands old.version room, node, default-some policy some, place)
         refl
+
+    -- out of memory
+    pub set-unable : (policy : PolicyRecord) (tasks : List (ℕ × PolicyRecord))
+        → Some policy ≡ record_now old.allowed spec
+        → (not (is_some (record_of old.tasks task))
+        && nat_le old.bounds.max_tasks (length old.tasks))
+        ≡ false → tasks ≡ old.tasks
+        → IsAnswer {A = Change} old (SetTask task spec) (Err NoMemory) (record old { tasks = tasks })
+    set-unable policy tasks some place same = rw (set-cause policy some place) (
+      refl,
+      ap (λ (l : List (ℕ × PolicyRecord)). record old { tasks = l }) same,
+    )
 
     pub set-answer : (policy : PolicyRecord) (tasks : List (ℕ × PolicyRecord))
         → Some policy ≡ record_now old.allowed spec

@@ -12,6 +12,10 @@ use Rattle.numa_space.specs.Refusals.{lacks_policy, takes_no_home}
 use Rattle.numa_space.specs.Standing.{SpaceState}
 use Rattle.numa_space.specs.Steps.{policy_with_home}
 use Rattle.numa_space.proofs.Changes.{home-answer}
+use Rattle.numa_space.specs.declared.change.Change.{Change}
+use Rattle.numa_space.specs.declared.change.Change.TheVariants.{Homed}
+use Rattle.std.proofs.Common.{subst}
+use Rattle.numa_space.proofs.Answers.{answer-done}
 use Rattle.numa_space.proofs.Kept.{kept-answer}
 use Rattle.numa_space.proofs.Telling.{told-home}
 use Rattle.numa_space.proofs.space.Space.set_home.Goals as goal
@@ -66,3 +70,44 @@ invariant_of-self c =
     (Ok (tt {0})) (shown_of new) = search rules in
     kept-answer c.self.inside new (SetHome c.args.start c.args.length c.args.node) (Ok (tt {0}))
     c.self.invariant refl refl answer
+
+pub returns-clause-answer : goal.returns-clause-answer
+returns-clause-answer c =
+    let room : c.self.inside.version < c.self.inside.limits.max_commands =
+    omega (
+      arith,
+      c.requires,
+      ap (λ (s : SpaceState). s.version) c.self.view_is,
+      ap (λ (s : SpaceState). s.bounds.max_commands) c.self.view_is,
+    ) in
+    let some : (c.args.length == 0) ≡ false = ne_eqb c.args.length 0 c.if-length-eq0.false in
+    let new : Inside =
+    record c.self.inside {
+      pages = c.home_span.new.self;
+      version =
+          c.self.inside.version + 1;
+    } in
+    let there : c.args.node < c.self.inside.machine.nodes = search rules in
+    let homes : any_page (λ page. takes_no_home (page_at c.self.inside.pages.runs page))
+    c.in_ok-first.first c.in_ok-first.pages ≡ false = sym c.has_page.ensures
+    ∙ c.if-has_page.false in
+    let policies : lacks_policy c.self.inside.machine.rules (page_at c.self.inside.pages.runs)
+    c.in_ok-first.first c.in_ok-first.pages ≡ false =
+    ap (λ (s : SpaceState). lacks_policy s.machine.rules (page_at s.ranges) c.in_ok-first.first
+    c.in_ok-first.pages) c.self.view_is ∙ sym c.lacks_policy.ensures ∙ c.if-lacks_policy.false in
+    let edit : IsEdit (too_many c.self.inside.pages.limit (changed_span c.in_ok-first.first
+    c.in_ok-first.pages (policy_with_home c.args.node) (page_at c.self.inside.pages.runs)))
+    (changed_span c.in_ok-first.first c.in_ok-first.pages (policy_with_home c.args.node)
+    (page_at c.self.inside.pages.runs)) c.self.inside.pages (Ok (tt {0})) c.home_span.new.self =
+    search (rules, c.in_ok-home_span.ensures.edit) in
+    let answer : IsAnswer (shown_of c.self.inside) (SetHome c.args.start c.args.length c.args.node)
+    (Ok (tt {0})) (shown_of new) = home-answer (shown_of c.self.inside) c.args.start c.args.length
+    c.in_ok-first.first c.in_ok-first.pages c.self.inside.pages.limit c.home_span.new.self room
+    c.in_ok-first.ensures.span.0 some c.in_ok-first.ensures.span.1 c.in_ok-first.ensures.span.2
+    c.self.invariant.limit c.args.node there homes policies edit in
+    let told : Change = Homed c.changed.result c.args.node in
+    let Q : SpaceState → Type 0 = λ s. IsAnswer s (SetHome c.args.start c.args.length c.args.node) (Ok told)
+    (shown_of new) in
+    subst Q c.self.view_is
+    (answer-done (shown_of c.self.inside) (shown_of new) (SetHome c.args.start c.args.length c.args.node)
+    (tt {0}) told answer)

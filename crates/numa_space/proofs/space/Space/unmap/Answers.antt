@@ -7,6 +7,10 @@ use Rattle.std.proofs.Common.{◌≡◌, ◌<◌, ◌==◌, false, ap, arith}
 use Rattle.std.proofs.lemmas.Bool.{ne_eqb}
 use Rattle.numa_space.specs.Standing.{SpaceState}
 use Rattle.numa_space.proofs.Changes.{unmap-answer}
+use Rattle.numa_space.specs.declared.change.Change.{Change}
+use Rattle.numa_space.specs.declared.change.Change.TheVariants.{Unmapped}
+use Rattle.std.proofs.Common.{subst}
+use Rattle.numa_space.proofs.Answers.{answer-done}
 use Rattle.numa_space.proofs.Kept.{kept-answer}
 use Rattle.numa_space.proofs.Telling.{told-unmap}
 use Rattle.numa_space.proofs.space.Space.unmap.Goals as goal
@@ -48,3 +52,31 @@ invariant_of-self c =
     (shown_of new) = search rules in
     kept-answer c.self.inside new (Unmap c.args.start c.args.length) (Ok (tt {0})) c.self.invariant refl
     refl answer
+
+pub returns-clause-answer : goal.returns-clause-answer
+returns-clause-answer c =
+    let room : c.self.inside.version < c.self.inside.limits.max_commands =
+    omega (
+      arith,
+      c.requires,
+      ap (λ (s : SpaceState). s.version) c.self.view_is,
+      ap (λ (s : SpaceState). s.bounds.max_commands) c.self.view_is,
+    ) in
+    let some : (c.args.length == 0) ≡ false = ne_eqb c.args.length 0 c.if-length-eq0.false in
+    let new : Inside =
+    record c.self.inside {
+      pages = c.unmap_span.new.self;
+      version =
+          c.self.inside.version + 1;
+    } in
+    let answer : IsAnswer (shown_of c.self.inside) (Unmap c.args.start c.args.length) (Ok (tt {0}))
+    (shown_of new) = unmap-answer (shown_of c.self.inside) c.args.start c.args.length
+    c.in_ok-first.first c.in_ok-first.pages c.self.inside.pages.limit c.unmap_span.new.self room
+    c.in_ok-first.ensures.span.0 some c.in_ok-first.ensures.span.1 c.in_ok-first.ensures.span.2
+    c.self.invariant.limit c.in_ok-unmap_span.ensures.edit in
+    let told : Change = Unmapped c.changed.result in
+    let Q : SpaceState → Type 0 = λ s. IsAnswer s (Unmap c.args.start c.args.length) (Ok told)
+    (shown_of new) in
+    subst Q c.self.view_is
+    (answer-done (shown_of c.self.inside) (shown_of new) (Unmap c.args.start c.args.length)
+    (tt {0}) told answer)
