@@ -33,10 +33,10 @@ module _ (state : State) (w : ℕ) (frame : Frame) (kept : IsKept state) where
   refused refusal why = record {
     kept = kept;
     follows = λ world stands. (
-        answered (setup_of (core_state state)) world (newest_published world) (Give w frame)
-            (Some refusal) (Err refusal) (why world stands) refl,
-        stands,
-      );
+      answered (setup_of (core_state state)) world (newest_published world) (Give w frame)
+          (Some refusal) (Err refusal) (why world stands) refl,
+      stands,
+    );
     unchanged = refl;
     setup = refl;
   }
