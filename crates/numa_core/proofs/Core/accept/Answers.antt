@@ -90,3 +90,8 @@ returns-in-Ok-clause-executions c =
     (accept-follows old.space c.apply-answer.new.self old.plan old.seats.items old.owners.items
     c.args.command.now c.version.result (done c.in-Ok.is c.apply-answer.ensures.applied) c.apply-answer.ensures.applied.machine
     (c.version.ensures.version ∙ ap (λ (s : SpaceState). s.version) c.space.ensures)))
+
+pub returns-in-Ok-clause-setup : goal.returns-in-Ok-clause-setup
+returns-in-Ok-clause-setup c =
+    same_setup c.self.inside.state c.apply-answer.new.self c.apply-answer.ensures.applied.machine
+    c.apply-answer.ensures.applied.bounds ∙ ap setup_of c.self.view_is

@@ -1,4 +1,6 @@
-use Rattle.std.proofs.Common.{[], arith, sym, ap, subst, ◌∙◌}
+use Rattle.std.proofs.Common.{◌≡◌, [], length, map, arith, sym, ap, subst, ◌∙◌}
+use Rattle.std.proofs.lemmas.List.{length-map}
+use Rattle.numa_core.specs.Seats.{busy_of}
 use Rattle.numa_machine.specs.Machine.{Hardware}
 use Rattle.numa_space.specs.Standing.{SpaceState, StandsFor}
 use Rattle.numa_compile.specs.Follows.{Follows}
@@ -27,3 +29,19 @@ returns-clause-opens c =
     opened c.new-space.result c.in-Ok.plan c.in-Ok-idle_parts.parts.1.items
     c.in-Ok-idle_parts.parts.2.items c.new-space.ensures.stands plan
     (λ w seat at. (c.in-Ok-idle_parts.ensures.idle w seat at).0) c.in-Ok-idle_parts.ensures.owners
+
+pub returns-clause-setup : goal.returns-clause-setup
+returns-clause-setup c =
+    let seats = c.in-Ok-idle_parts.parts.1.items in
+    let count : length (map busy_of seats) ≡ c.args.workers =
+    omega (
+      arith,
+      length-map seats busy_of,
+      c.in-Ok-idle_parts.parts.1.ok.0,
+      c.in-Ok-idle_parts.ensures.count,
+    ) in
+    λ i. record {
+      machine = c.new-space.ensures.machine i;
+      bounds = c.new-space.ensures.bounds i;
+      workers = count i;
+    }
