@@ -21,6 +21,7 @@ use Rattle.numa_requests.specs.declared.event.CoreRefusal.TheVariants.{Command a
 use Rattle.numa_requests.specs.declared.event.CoreRefusal.TheVariants.{NoSuchWorker, Busy, Idle}
 use Rattle.numa_requests.specs.declared.event.CoreRefusal.TheVariants.{BadTry, NotOwned, BadCpu}
 use Rattle.numa_requests.specs.declared.event.CoreRefusal.TheVariants.{Unmapped, NoMemory}
+use Rattle.numa_core.specs.declared.acceptance.Acceptance.{Acceptance}
 use Rattle.numa_core.specs.World.{Setup, FrameSearch, World, is_published, last_of, frame_search_of}
 use Rattle.numa_core.specs.World.{owner_of, is_frame, list_at, current_rank, may_look}
 use Rattle.numa_core.specs.World.{may_try, new_frame_search, frame_search_after_look}
@@ -187,6 +188,11 @@ module _ (s : Setup) where
       then effect_of world version event else world
 
 -- ---- answers
+
+-- the answer to a command without what it changed
+abbrev pub version_of : Result Acceptance Refusal → Result ℕ Refusal
+version_of (Ok acceptance) = Ok acceptance.version
+version_of (Err refusal) = Err refusal
 
 -- the answer to a command, a version or a refusal, as that of its Accept
 abbrev pub accept_answer : Result ℕ Refusal → Result CoreReply CoreRefusal

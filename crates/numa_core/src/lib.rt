@@ -4,15 +4,17 @@
 
 ghost use Rattle.std.specs.Prelude.{◌≡◌, ℕ, ◌≤◌, List, [], ◌∷◌, ◌++◌, IfOk, IfSome};
 ghost use Rattle.std.specs.Prelude.{OnErr};
+ghost use Rattle.numa_space.specs.Changed.{IsChange};
 ghost use Rattle.numa_space.specs.Standing.{StandsFor};
 ghost use Rattle.numa_compile.specs.Standing.{IsPlanOf, PlanStandsFor};
 ghost use Rattle.numa_core.specs.World.{World, first_commands, newest_published};
-ghost use Rattle.numa_core.specs.Steps.{IsAnswer, accept_answer, world_after};
+ghost use Rattle.numa_core.specs.Steps.{IsAnswer, accept_answer, version_of, world_after};
 ghost use Rattle.numa_core.specs.Executions.{CoreStep};
 ghost use Rattle.numa_core.specs.Standing.{CoreState, CoreStandsFor, HasPast};
 ghost use Rattle.numa_core.specs.Standing.{LeadsTo, core_step_after, setup_of};
 ghost use Rattle.numa_core.specs.Touching.{result_of_touch, IsTouch};
 
+pub mod acceptance;
 mod free_frames;
 mod judging;
 pub mod laws;
@@ -22,6 +24,7 @@ mod state;
 mod tables;
 mod unpublished;
 
+pub use crate::acceptance::Acceptance;
 pub use crate::judging::cause_at;
 use crate::state::State;
 use numa_machine::{Machine, NoMemory};
@@ -122,7 +125,7 @@ impl Core {
     {
         match event {
             Event::Accept(command) => match self.accept(&command) {
-                Ok(version) => Ok(CoreReply::Accepted(version)),
+                Ok(acceptance) => Ok(CoreReply::Accepted(acceptance.version)),
                 Err(refusal) => Err(CoreRefusal::Command(refusal)),
             },
             Event::Publish => self.state.publish(),
@@ -133,21 +136,23 @@ impl Core {
         }
     }
 
-    /// Carries out a command, as the event Accept, and returns the version after it: the number of
-    /// accepted commands. A refused command changes nothing.
+    /// Carries out a command, as the event Accept, and returns the version after it and what it
+    /// changed. A refused command changes nothing.
     ///
     /// # Errors
     /// As [`Space::apply`].
     #[inline(never)]
-    pub fn accept(&mut self, command: &Command) -> Result<u64, Refusal>
+    pub fn accept(&mut self, command: &Command) -> Result<Acceptance, Refusal>
         ensures answer { (world : World) → CoreStandsFor self.old world →
             IsAnswer (setup_of self.old) world (newest_published world)
-            (Event.Accept command.now) (accept_answer result)
+            (Event.Accept command.now) (accept_answer (version_of result))
             × CoreStandsFor self.new (world_after (setup_of self.old) world (newest_published world)
-            (Event.Accept command.now) (accept_answer result)) }
+            (Event.Accept command.now) (accept_answer (version_of result))) }
+        ensures change { IfOk result (λ acceptance. IsChange self.old.space command.now
+            acceptance.change) }
         ensures executions { (past : List CoreStep) → LeadsTo past self.old →
             LeadsTo (core_step_after (setup_of self.old) past (Event.Accept command.now)
-            (accept_answer result) ∷ past) self.new }
+            (accept_answer (version_of result)) ∷ past) self.new }
         ensures unchanged { OnErr result (self.new ≡ self.old) }
         ensures setup { setup_of self.new ≡ setup_of self.old }
     {
@@ -155,7 +160,11 @@ impl Core {
         match &answer {
             Ok(change) => {
                 self.state.unpublished.note(change);
-                Ok(self.state.space.space().version())
+                let version = self.state.space.space().version();
+                Ok(Acceptance {
+                    version,
+                    change: *change,
+                })
             }
             Err(refusal) => Err(*refusal),
         }

@@ -202,7 +202,7 @@ impl Pages {
         ensures { Accepts command.now self.old result self.new }
     {
         match self.core.accept(command) {
-            Ok(version) => Ok(version),
+            Ok(acceptance) => Ok(acceptance.version),
             Err(refusal) => Err(ChangeRefusal::OfSpace(refusal)),
         }
     }
@@ -222,9 +222,9 @@ impl Pages {
             return Err(self.refused(&command, cause));
         }
         match self.core.accept(&command) {
-            Ok(version) => {
+            Ok(acceptance) => {
                 self.placed = placed;
-                Ok(version)
+                Ok(acceptance.version)
             }
             Err(refusal) => Err(ChangeRefusal::OfSpace(refusal)),
         }
@@ -282,7 +282,7 @@ impl Pages {
             return Err(refused_strictly(&self.core, &command, cause));
         }
         match self.core.accept(&command) {
-            Ok(version) => Ok(version),
+            Ok(acceptance) => Ok(acceptance.version),
             Err(refusal) => Err(ChangeRefusal::OfSpace(refusal)),
         }
     }

@@ -2,7 +2,7 @@
 ghost use Rattle.std.specs.Prelude.{◌≡◌, Bool, List, [], None, Some, true, false, MatchResult};
 ghost use Rattle.numa_lines.specs.Written.{Said};
 ghost use Rattle.numa_core.specs.Standing.{setup_of};
-ghost use Rattle.numa_core.specs.Steps.{accept_answer};
+ghost use Rattle.numa_core.specs.Steps.{accept_answer, version_of};
 ghost use Rattle.numa_space.specs.Standing.{StandsFor};
 ghost use Rattle.numa_requests.specs.declared.command.Command.{Command};
 ghost use Rattle.numa_run.specs.Answers.{State};
@@ -16,7 +16,7 @@ ghost use Rattle.numa_script.specs.Replies.{reply_to};
 
 use crate::judging::refusal_by_plan;
 use crate::questions::{fault_at, say_pages, say_place, say_place_in, say_span};
-use numa_core::Core;
+use numa_core::{Acceptance, Core};
 use numa_lines::Watched;
 use numa_machine::{Frame, PlaceRefusal};
 use numa_maps::{RecordRefusal, Resident, say_maps};
@@ -81,11 +81,11 @@ fn answered_by_space<W: Write>(core: &mut Core, question: Question, output: &mut
 }
 
 /// The reply to a command, from the core's answer.
-fn command_reply(answer: Result<u64, Refusal>) -> Reply
-    ensures { result ≡ reply_to (accept_answer answer) }
+fn command_reply(answer: Result<Acceptance, Refusal>) -> Reply
+    ensures { result ≡ reply_to (accept_answer (version_of answer)) }
 {
     match answer {
-        Ok(version) => Reply::Accepted(version),
+        Ok(acceptance) => Reply::Accepted(acceptance.version),
         Err(refusal) => Reply::Refused(CoreRefusal::Command(refusal)),
     }
 }

@@ -58,11 +58,11 @@ invariant_of-self c =
             c.apply-answer.ensures.change);
       },
       past_more (core_state old) (core_state (record old { space = c.apply-answer.new.self }))
-          (Accept c.args.command.now) (Ok (Accepted c.version.result))
+          (Accept c.args.command.now) (Ok (Accepted c.version-version.result))
           (same_setup old c.apply-answer.new.self c.apply-answer.ensures.applied.machine c.apply-answer.ensures.applied.bounds)
           (accept-follows old.space c.apply-answer.new.self old.plan old.seats.items old.owners.items
-          c.args.command.now c.version.result (done c.in-Ok.is c.apply-answer.ensures.applied) c.apply-answer.ensures.applied.machine
-          (c.version.ensures.version ∙ ap (λ (s : SpaceState). s.version) c.space.ensures))
+          c.args.command.now c.version-version.result (done c.in-Ok.is c.apply-answer.ensures.applied) c.apply-answer.ensures.applied.machine
+          (c.version-version.ensures.version ∙ ap (λ (s : SpaceState). s.version) c.space.ensures))
           c.self.invariant.1,
     )
 
@@ -71,11 +71,11 @@ returns-in-Ok-clause-answer c =
     let old : State = c.self.inside.state in
     let new : CoreState = core_state (record old { space = c.apply-answer.new.self }) in
     let P : CoreState → Type 0 =
-    λ core. Follows core (Accept c.args.command.now) (Ok (Accepted c.version.result)) new in
+    λ core. Follows core (Accept c.args.command.now) (Ok (Accepted c.version-version.result)) new in
     subst P c.self.view_is (accept-follows old.space c.apply-answer.new.self old.plan old.seats.items
-    old.owners.items c.args.command.now c.version.result (done c.in-Ok.is c.apply-answer.ensures.applied)
+    old.owners.items c.args.command.now c.version-version.result (done c.in-Ok.is c.apply-answer.ensures.applied)
     c.apply-answer.ensures.applied.machine
-    (c.version.ensures.version ∙ ap (λ (s : SpaceState). s.version) c.space.ensures))
+    (c.version-version.ensures.version ∙ ap (λ (s : SpaceState). s.version) c.space.ensures))
 
 pub returns-in-Ok-clause-executions : goal.returns-in-Ok-clause-executions
 returns-in-Ok-clause-executions c =
@@ -83,13 +83,13 @@ returns-in-Ok-clause-executions c =
     let new : CoreState = core_state (record old { space = c.apply-answer.new.self }) in
     let P : CoreState → Type 0 = λ core. (past : List CoreStep) → LeadsTo past core
     → LeadsTo (core_step_after (setup_of core) past (Accept c.args.command.now)
-    (Ok (Accepted c.version.result)) ∷ past) new in
+    (Ok (Accepted c.version-version.result)) ∷ past) new in
     subst P c.self.view_is (leads_on (core_state old) new (Accept c.args.command.now)
-    (Ok (Accepted c.version.result))
+    (Ok (Accepted c.version-version.result))
     (same_setup old c.apply-answer.new.self c.apply-answer.ensures.applied.machine c.apply-answer.ensures.applied.bounds)
     (accept-follows old.space c.apply-answer.new.self old.plan old.seats.items old.owners.items
-    c.args.command.now c.version.result (done c.in-Ok.is c.apply-answer.ensures.applied) c.apply-answer.ensures.applied.machine
-    (c.version.ensures.version ∙ ap (λ (s : SpaceState). s.version) c.space.ensures)))
+    c.args.command.now c.version-version.result (done c.in-Ok.is c.apply-answer.ensures.applied) c.apply-answer.ensures.applied.machine
+    (c.version-version.ensures.version ∙ ap (λ (s : SpaceState). s.version) c.space.ensures)))
 
 pub returns-in-Ok-clause-setup : goal.returns-in-Ok-clause-setup
 returns-in-Ok-clause-setup c =

@@ -1,7 +1,7 @@
 use Rattle.std.specs.Prelude.{◌≡◌, true, false}
 use Rattle.std.proofs.Common.{◌∙◌, ap, sym, subst, refl}
 use Rattle.numa_core.specs.Standing.{setup_of}
-use Rattle.numa_core.specs.Steps.{accept_answer}
+use Rattle.numa_core.specs.Steps.{accept_answer, version_of}
 use Rattle.numa_machine.specs.Machine.{Hardware}
 use Rattle.numa_machine.specs.Rules.{is_linux}
 use Rattle.numa_space.specs.Standing.{SpaceState}
@@ -27,13 +27,13 @@ returns-then-is_linux c =
     ∙ ap is_linux (sym c.rules.ensures) ∙ sym c.is_linux.ensures ∙ c.if-is_linux.true in
     rw c.command_reply.ensures
     (bound_nothing c.args.self.now stepped c.args.start c.args.fault
-    (reply_to (accept_answer c.accept.result)) kernels
+    (reply_to (accept_answer (version_of c.accept.result))) kernels
     (subst (λ (command : Command). Does c.args.self.now
-    (reply_to (accept_answer c.accept.result)) stepped
+    (reply_to (accept_answer (version_of c.accept.result))) stepped
     (λ refused state. event_outcome refused (setup_of c.args.self.now.core) state.world
     state.resident (Accept command))) c.empty_bind.ensures
     (does-event c.args.self.now stepped (Accept c.empty_bind.result)
-    (accept_answer c.accept.result) c.accept.ensures.answer c.accept.ensures.setup refl)))
+    (accept_answer (version_of c.accept.result)) c.accept.ensures.answer c.accept.ensures.setup refl)))
 
 pub returns : goal.returns
 returns c =

@@ -1,7 +1,7 @@
 use Rattle.std.proofs.Common.{refl}
 use Rattle.std.specs.Prelude.{Ok, Err}
 use Rattle.numa_requests.specs.declared.event.Event.TheVariants.{Accept}
-use Rattle.numa_core.specs.Steps.{accept_answer}
+use Rattle.numa_core.specs.Steps.{accept_answer, version_of}
 use Rattle.numa_run.specs.Work.{event_outcome, work_outcome}
 use Rattle.numa_script.specs.Replies.{reply_to}
 use Rattle.numa_script.specs.declared.reply.Reply.TheVariants as reply
@@ -42,9 +42,9 @@ returns-in-Ok c =
     record { core = c.accept.new.self; resident = c.args.self.now.resident } in
     rw (c.in-Command.is, c.in-Ok.is, c.command_reply.ensures)
     (later_done c.args.self.now stepped (line.Command (Ok c.in-Ok.command))
-    (reply_to (accept_answer c.accept.result))
+    (reply_to (accept_answer (version_of c.accept.result)))
     (λ refused s state. event_outcome refused s state.world state.resident (Accept c.in-Ok.command))
-    (does-event c.args.self.now stepped (Accept c.in-Ok.command) (accept_answer c.accept.result)
+    (does-event c.args.self.now stepped (Accept c.in-Ok.command) (accept_answer (version_of c.accept.result))
     c.accept.ensures.answer c.accept.ensures.setup refl)
     (λ refused machine state. refl))
 
