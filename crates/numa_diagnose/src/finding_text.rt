@@ -355,14 +355,21 @@ pub fn say_hint_line(
     Ok(())
 }
 
-/// Appends a message about a text that is binary, at the line that shows it.
+/// Appends a message about a text that is binary, at the line and the column, in bytes from 1, of
+/// the byte 0 that shows it.
 ///
 /// # Errors
 /// `AllocError`: out of memory. A part may have been appended.
-pub fn say_binary(text: &mut Vec<u8>, name: &str, place: u64) -> Result<(), AllocError> {
+pub fn say_binary(
+    text: &mut Vec<u8>,
+    name: &str,
+    place: u64,
+    column: u64,
+) -> Result<(), AllocError> {
     let mut written = Text::of(text);
     written.put(name);
     written.put_number(":", place);
+    written.put_number(":", column);
     written.put(": bad words: ");
     written.put(BINARY);
     written.put("\n");

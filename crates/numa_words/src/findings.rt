@@ -12,6 +12,7 @@ use numa_host::HostRefusal;
 use numa_host_script::{HostScript, LineFault};
 use numa_lines::{RunFault, TakeLine, Watched};
 use numa_machine::Rules;
+use numa_mask::parts::first_place;
 use numa_reports::Format;
 use numa_requests::{CoreRefusal, Refusal};
 use numa_rules::{Text, other_rules};
@@ -75,8 +76,9 @@ pub struct Findings<W> {
     look: Look,
     // What lines name.
     named: Named,
-    // Whether the text whose lines are taken is binary.
+    // Whether the text whose lines are taken is binary, and whether one of its lines was fine.
     is_binary: bool,
+    has_fine: bool,
     output: Watched<W>,
     // What is told of a line.
     text: Vec<u8>,
@@ -109,6 +111,7 @@ impl<W: Write> Findings<W> {
             look,
             named: Named::new(None, None),
             is_binary: false,
+            has_fine: false,
             output,
             text: Vec::new(alloc),
             told: 0,
@@ -263,21 +266,24 @@ impl<W: Write> Findings<W> {
         }
     }
 
-    /// Writes that a text is binary, at its first line with a byte 0, and returns whether it is:
-    /// then its further lines are passed over.
+    /// Writes that a text is binary, at its first line with a byte 0 if none before was fine, and
+    /// returns whether it is: then its further lines are passed over.
     fn is_binary(&mut self, name: &str, place: u64, line: &[u8]) -> Result<bool, RunFault> {
         if place == 1 {
             self.is_binary = false;
+            self.has_fine = false;
         }
-        if self.is_binary || !line.contains(&0) {
+        let zero = first_place(line, 0);
+        let (false, false, Some(zero)) = (self.is_binary, self.has_fine, zero) else {
             return Ok(self.is_binary);
-        }
+        };
+        let column = (zero as u64).saturating_add(1);
         self.is_binary = true;
         self.text.clear();
         let text = &mut self.text;
         let said = match self.look.format {
-            Format::Json => put_binary(self.alloc, text, name, place),
-            _ => say_binary(text, name, place),
+            Format::Json => put_binary(self.alloc, text, name, place, column),
+            _ => say_binary(text, name, place, column),
         };
         if said.is_err() {
             return Err(RunFault::Memory);
@@ -414,7 +420,10 @@ impl<W: Write> TakeLine<()> for Findings<W> {
             Err(why) => return Err(why),
         };
         match judge(self.alloc, &mut self.script, line) {
-            None => self.tell_hint(name, place, hint),
+            None => {
+                self.has_fine = self.has_fine || !line.is_empty();
+                self.tell_hint(name, place, hint)
+            }
             Some(finding) if finding.fault.lacks_memory() => Err(RunFault::Memory),
             Some(
                 Finding {

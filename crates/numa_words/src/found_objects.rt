@@ -74,8 +74,10 @@ pub(crate) fn put_binary(
     text: &mut Vec<u8>,
     name: &str,
     place: u64,
+    column: u64,
 ) -> Result<(), AllocError> {
     let mut object = object_of(alloc, "fault", name, place);
+    object.put_number("column", column);
     object.put_text("answer", "bad words");
     object.put_text("cause", BINARY);
     object.say_line(text)

@@ -34,6 +34,7 @@ pub use findings::{Ended, Findings, Look, Twin};
 pub use halt::Halt;
 pub use named::TasksNamed;
 pub use playing::{Scripts, check, play};
+pub use question::differ;
 pub use replaying::replay;
 pub use spaces::{diff_spaces, explain_space, predict_space, replay_space};
 pub use touching::{page_meant, touches};

@@ -74,3 +74,16 @@ pub(crate) fn write<W: Write>(
         Err(_) => Err(Halt::Stopped(RunFault::Write)),
     }
 }
+
+/// Whether an answer by the other rules is another one; no, if memory lacked for it.
+pub fn differ(own: Result<Vec<u8>, Halt>, other: Result<Vec<u8>, Halt>) -> bool {
+    let differ = match (&own, &other) {
+        (Ok(own), Ok(other)) => own.as_slice() != other.as_slice(),
+        (Ok(_), Err(Halt::Stopped(_))) => false,
+        (Ok(_), Err(_)) => true,
+        (Err(_), _) => false,
+    };
+    drop(own);
+    drop(other);
+    differ
+}

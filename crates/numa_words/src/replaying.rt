@@ -4,7 +4,7 @@ use crate::explaining::other_space;
 use crate::findings::{Ended, Findings, Look, PLAIN, Twin};
 use crate::halt::{Halt, halt_of};
 use crate::playing::{Scripts, play};
-use crate::question::{Subject, subject_of, write};
+use crate::question::{Subject, differ, subject_of, write};
 use numa_answers::{PageData, page_of, view_text};
 use numa_compile::compile;
 use numa_host::{Host, Process};
@@ -126,17 +126,8 @@ pub(crate) struct Replayed {
     is_other: bool,
 }
 
-/// A report, beside that by the other rules, if that is wanted.
-fn beside(
-    text: Result<Vec<u8>, Halt>,
-    other: Option<Result<Vec<u8>, Halt>>,
-) -> Result<Replayed, Halt> {
-    let is_other = match (&text, &other) {
-        (Ok(text), Some(Ok(other))) => text.as_slice() != other.as_slice(),
-        (Ok(_), Some(Err(_))) => true,
-        _ => false,
-    };
-    drop(other);
+/// A report, if there is one, that is another by the other rules or isn't.
+fn replayed_as(text: Result<Vec<u8>, Halt>, is_other: bool) -> Result<Replayed, Halt> {
     match text {
         Ok(text) => Ok(Replayed { text, is_other }),
         Err(halt) => Err(halt),
@@ -205,14 +196,22 @@ fn replayed_by<S: Read + Drop>(
     match replay_lines(alloc, trace, both) {
         Ok(both) => {
             let text = met(alloc, planned.space, planned.plan, &both.first, format);
-            let by_other = match (other, &both.other) {
+            let is_other = match (other, &both.other) {
                 (Some(other), Some(replaying)) => {
-                    Some(met(alloc, other.space, other.plan, replaying, format))
+                    let own = met(
+                        alloc,
+                        planned.space,
+                        planned.plan,
+                        &both.first,
+                        Format::Text,
+                    );
+                    let by_other = met(alloc, other.space, other.plan, replaying, Format::Text);
+                    differ(own, by_other)
                 }
-                _ => None,
+                _ => false,
             };
             drop(both);
-            beside(text, by_other)
+            replayed_as(text, is_other)
         }
         Err(why) => Err(Halt::Stopped(why)),
     }
@@ -396,14 +395,15 @@ fn replayed_in_each<S: Read + Drop>(
     match replay_lines(alloc, trace, both) {
         Ok(both) => {
             let text = met_in_each(alloc, host, &both.first, format);
-            let by_other = match (other, &both.other) {
+            let is_other = match (other, &both.other) {
                 (Some(other), Some(replaying)) => {
-                    Some(met_in_each(alloc, other, replaying, format))
+                    let own = met_in_each(alloc, host, &both.first, Format::Text);
+                    differ(own, met_in_each(alloc, other, replaying, Format::Text))
                 }
-                _ => None,
+                _ => false,
             };
             drop(both);
-            beside(text, by_other)
+            replayed_as(text, is_other)
         }
         Err(why) => Err(Halt::Stopped(why)),
     }

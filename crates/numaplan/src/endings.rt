@@ -1,5 +1,5 @@
 //! Exit statuses and messages.
-use crate::words::texts::{Asking, Question};
+use crate::words::asking::{Asking, Question};
 use numa_command_line::{JobFault, Outlet};
 use numa_lines::RunFault;
 use numa_reports::AddressAsked;

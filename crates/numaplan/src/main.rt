@@ -31,7 +31,7 @@ use std::rt::{Clock, Files};
 use std::sync::Wait;
 use std::thread::Threads;
 use std::{env, io};
-use words::texts::{Asking, Question};
+use words::asking::{Asking, Question};
 use words::{asked, check, expect, replay, run, storm};
 
 /// The message for an argument that isn't UTF-8.

@@ -2,7 +2,8 @@
 //! elsewhere, why, and what becomes of those that are there.
 use crate::endings::answered;
 use crate::progress::PacedPages;
-use crate::words::texts::{Asking, text_of};
+use crate::words::asking::Asking;
+use crate::words::texts::text_of;
 use crate::words::there::{opened, read_all, write_told};
 use numa_command_line::{JobFault, Outlet};
 use numa_reports::Watch;

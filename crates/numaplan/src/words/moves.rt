@@ -40,11 +40,11 @@ pub struct Playing<'a> {
     pub format: Format,
 }
 
-/// An answer, and, if the lines were played by the other rules too, the one by those.
+/// An answer, and whether it is another by the other rules, if the lines were played by those too.
 #[derive(Drop)]
-pub struct BothTexts {
+pub struct Answer {
     pub text: Vec<u8>,
-    pub other: Option<Result<Vec<u8>, Halt>>,
+    pub is_other: bool,
 }
 
 /// Where pages lie by one set of rules, and what the lines so far did to them.
@@ -223,22 +223,31 @@ fn play_lines<R: Eprint + AllocGlobal, T: Write>(
     Ok(())
 }
 
-/// What became of the pages, as texts by both sets of rules.
-fn texts_of(
+/// Whether what became of the pages by the other rules is another text.
+fn is_other(alloc: Global, text: &[u8], other: &Option<Course>, told: Asked<'_>) -> bool {
+    let Some(other) = other else {
+        return false;
+    };
+    match moves_text(alloc, other.steps.as_slice(), told) {
+        Ok(other) => {
+            let is_other = other.as_slice() != text;
+            drop(other);
+            is_other
+        }
+        Err(_) => false,
+    }
+}
+
+/// What became of the pages, as a text.
+fn answer_of(
     alloc: Global,
     course: &Course,
     other: &Option<Course>,
     told: Asked<'_>,
-) -> Result<BothTexts, Halt> {
+) -> Result<Answer, Halt> {
     let text = moves_text(alloc, course.steps.as_slice(), told)?;
-    let other = match other {
-        Some(other) => match moves_text(alloc, other.steps.as_slice(), told) {
-            Ok(text) => Some(Ok(text)),
-            Err(_) => None,
-        },
-        None => None,
-    };
-    Ok(BothTexts { text, other })
+    let is_other = is_other(alloc, text.as_slice(), other, told);
+    Ok(Answer { text, is_other })
 }
 
 /// Plays lines, and returns what becomes of the pages that are there, as a text.
@@ -252,7 +261,7 @@ pub fn moves_of<R: Eprint + AllocGlobal, T: Write>(
     origin: Origin<'_>,
     playing: Playing<'_>,
     faults: &mut u64,
-) -> Result<BothTexts, Halt> {
+) -> Result<Answer, Halt> {
     let scene = scene_of(findings.script(), playing.process, playing.format)?;
     let told = Asked {
         lines: playing.lines,
@@ -267,11 +276,11 @@ pub fn moves_of<R: Eprint + AllocGlobal, T: Write>(
         None => None,
     };
     let played = play_lines(rt, findings, &mut course, &mut other, playing, faults);
-    let texts = match played {
-        Ok(()) => texts_of(rt.alloc(), &course, &other, told),
+    let answer = match played {
+        Ok(()) => answer_of(rt.alloc(), &course, &other, told),
         Err(halt) => Err(halt),
     };
     drop(course);
     drop(other);
-    texts
+    answer
 }

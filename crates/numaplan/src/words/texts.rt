@@ -1,118 +1,19 @@
 //! The answers to questions about the state that scripts lead to, as texts.
+use crate::words::asking::{Asking, Question};
 use crate::words::by_node::{joined, of_nodes};
-use crate::words::moves::{BothTexts, Playing, moves_of};
+use crate::words::moves::{Answer, Playing, moves_of};
 use crate::words::there::{stated_in, tell_at};
-use numa_command_line::PageQuestion;
 use numa_host_script::HostScript;
 use numa_lines::RunFault;
 use numa_moves::{AtLines, Origin, PassOver, RefusedAt};
 use numa_placed::Placed;
-use numa_reports::{AddressAsked, CpuAsked, Format, FreePages, Touch, TouchAsked, Watch};
+use numa_reports::{AddressAsked, Format, FreePages, Touch, Watch};
 use numa_words::{
-    AskedPages, DiffAsked, Findings, Halt, StatesBefore, Twin, difference_since, explanation,
+    AskedPages, DiffAsked, Findings, Halt, StatesBefore, differ, difference_since, explanation,
     page_meant, play_added, prediction_there, states_of, touches,
 };
 use std::alloc::Global;
 use std::io::Write;
-
-/// A question about pages.
-#[derive(Clone, Copy)]
-pub enum Question<'a> {
-    /// Where pages would go, if nodes have so many free ones.
-    Predict(&'a [FreePages]),
-    /// Which pages would go elsewhere after these further lines.
-    Diff(&'a [String]),
-    /// Why the page of an address goes where it goes, or as many pages from it on.
-    Explain(AddressAsked, Option<u32>),
-    /// What becomes of pages that are there when these lines move them, and nodes take so many
-    /// more.
-    Moves(&'a [String], &'a [FreePages]),
-}
-
-/// What is asked after scripts.
-#[derive(Clone, Copy)]
-pub struct Asking<'a> {
-    /// A file with further lines that state where pages lie, if there is one.
-    pub at: &'a [String],
-    /// How pages are touched; `None` if they lie where lines state it.
-    pub touch: Option<TouchAsked>,
-    pub question: Question<'a>,
-    pub format: Format,
-    /// Whether malformed and refused lines are no error.
-    pub lenient: bool,
-}
-
-impl<'a> Asking<'a> {
-    /// What a subcommand asks of a task.
-    pub fn of_pages(touch: TouchAsked, question: &'a PageQuestion, lenient: bool) -> Asking<'a> {
-        let (at, question, format): (&'a [String], Question<'a>, Format) = match question {
-            PageQuestion::Predict { at, format, free } => {
-                (at.as_slice(), Question::Predict(free.as_slice()), *format)
-            }
-            PageQuestion::Diff { at, lines, format } => {
-                (at.as_slice(), Question::Diff(lines.as_slice()), *format)
-            }
-            PageQuestion::Explain {
-                address,
-                pages,
-                format,
-            } => (&[], Question::Explain(*address, *pages), *format),
-        };
-        Asking {
-            at,
-            touch: Some(touch),
-            question,
-            format,
-            lenient,
-        }
-    }
-
-    /// The task that is given, if one is.
-    pub fn task(&self) -> Option<u32> {
-        self.touch?.task
-    }
-
-    /// Whether scripts are played by the other rules too: an explanation tells them, and other
-    /// answers remark on them.
-    pub fn twin(&self) -> Twin {
-        match self.question {
-            Question::Explain(..) => Twin::Always,
-            _ => Twin::UnlessChosen,
-        }
-    }
-
-    /// The node that is asked for; 0 if all are.
-    pub fn node(&self) -> u32 {
-        match self.touch {
-            Some(
-                TouchAsked {
-                    cpu: CpuAsked::Node(node),
-                    ..
-                },
-            ) => node,
-            _ => 0,
-        }
-    }
-
-    /// The added lines.
-    fn lines(&self) -> &'a [String] {
-        match self.question {
-            Question::Diff(lines) | Question::Moves(lines, _) => lines,
-            _ => &[],
-        }
-    }
-
-    /// Whether it is asked of each node.
-    fn is_each(&self) -> bool {
-        matches!(
-            self.touch,
-            Some(TouchAsked {
-                cpu: CpuAsked::Each,
-                ..
-            })
-        )
-    }
-}
 
 /// What is asked, the touches that are meant, and the process of a host, if not all are asked for.
 #[derive(Clone, Copy)]
@@ -122,7 +23,18 @@ struct Meant<'a> {
     process: Option<u32>,
 }
 
-impl Meant<'_> {
+impl<'a> Meant<'a> {
+    /// The same, as text.
+    fn as_text(&self) -> Meant<'a> {
+        Meant {
+            asking: Asking {
+                format: Format::Text,
+                ..self.asking
+            },
+            ..*self
+        }
+    }
+
     /// The answers on the nodes that are asked for, as one.
     fn whole(&self, alloc: Global, texts: Vec<Vec<u8>>) -> Result<Vec<u8>, Halt> {
         let Asking {
@@ -184,7 +96,25 @@ fn prediction_in<P: Watch>(
     text
 }
 
-/// Where pages would go, by both sets of rules.
+/// Whether by the other rules pages would go elsewhere. (As JSON an answer would have the number of
+/// accepted commands too.)
+fn goes_elsewhere(
+    alloc: Global,
+    script: &HostScript,
+    other: &HostScript,
+    at: &AtLines<PassOver>,
+    meant: Meant<'_>,
+    free: &[FreePages],
+) -> bool {
+    let meant = meant.as_text();
+    let mut refused = Vec::new(alloc);
+    let own = prediction_in(alloc, script, at, meant, free, &mut refused, &mut ());
+    let by_other = prediction_in(alloc, other, at, meant, free, &mut refused, &mut ());
+    drop(refused);
+    differ(own, by_other)
+}
+
+/// Where pages would go.
 fn prediction<R: Eprint + AllocGlobal, T: Write, P: Watch>(
     rt: &R,
     findings: &Findings<T>,
@@ -193,32 +123,19 @@ fn prediction<R: Eprint + AllocGlobal, T: Write, P: Watch>(
     free: &[FreePages],
     faults: &mut u64,
     watch: &mut P,
-) -> Result<BothTexts, Halt> {
+) -> Result<Answer, Halt> {
     let alloc = rt.alloc();
     let mut refused = Vec::new(alloc);
     let script = findings.script();
     let text = prediction_in(alloc, script, at, meant, free, &mut refused, watch);
     tell_at(rt, faults, at, refused.as_slice());
-    let other = match findings.other() {
-        Some(other) => { Some(prediction_in(alloc, other, at, meant, free, &mut refused, &mut ())) }
-        None => None,
-    };
     drop(refused);
-    both(text, other)
-}
-
-/// An answer, if there is one, and what it is by the other rules.
-fn both(
-    text: Result<Vec<u8>, Halt>,
-    other: Option<Result<Vec<u8>, Halt>>,
-) -> Result<BothTexts, Halt> {
-    match text {
-        Ok(text) => Ok(BothTexts { text, other }),
-        Err(halt) => {
-            drop(other);
-            Err(halt)
-        }
-    }
+    let text = text?;
+    let is_other = match findings.other() {
+        Some(other) => goes_elsewhere(alloc, script, other, at, meant, free),
+        None => false,
+    };
+    Ok(Answer { text, is_other })
 }
 
 /// A difference that is asked for.
@@ -238,14 +155,12 @@ fn states_in(alloc: Global, script: &HostScript, meant: Meant<'_>) -> Result<Sta
     }
 }
 
-/// Which pages go elsewhere by the lines that a script was played since these states, with what
-/// became of those that are there behind it.
+/// Which pages go elsewhere by the lines that a script was played since these states.
 fn difference_in<P: Watch>(
     alloc: Global,
     before: &StatesBefore,
     script: &HostScript,
     meant: Meant<'_>,
-    moves: Option<&[u8]>,
     watch: &mut P,
 ) -> Result<Vec<u8>, Halt> {
     let mut texts = Vec::new(alloc);
@@ -254,13 +169,7 @@ fn difference_in<P: Watch>(
         let text = difference_since(alloc, before, script, asked, watch)?;
         add(&mut texts, text)?;
     }
-    let text = meant.whole(alloc, texts)?;
-    let Some(moves) = moves else {
-        return Ok(text);
-    };
-    let whole = joined(alloc, text.as_slice(), moves, meant.asking.format);
-    drop(text);
-    Ok(whole?)
+    meant.whole(alloc, texts)
 }
 
 /// Plays the added lines; with a file that states where pages lie, returns what becomes of these.
@@ -271,7 +180,7 @@ fn play<R: Eprint + AllocGlobal, T: Write>(
     meant: Meant<'_>,
     lines: &[String],
     faults: &mut u64,
-) -> Result<Option<BothTexts>, Halt> {
+) -> Result<Option<Answer>, Halt> {
     if meant.asking.at.is_empty() {
         tell_at(rt, faults, at, &[]);
         return match play_added(findings, lines) {
@@ -293,19 +202,45 @@ fn play<R: Eprint + AllocGlobal, T: Write>(
     }
 }
 
-/// What became of pages that are there, by both sets of rules.
-fn parts_of(moves: &Option<BothTexts>) -> (Option<&[u8]>, Option<&[u8]>) {
-    let Some(moves) = moves else {
-        return (None, None);
-    };
-    let other = match &moves.other {
-        Some(Ok(other)) => Some(other.as_slice()),
-        _ => None,
-    };
-    (Some(moves.text.as_slice()), other)
+/// Whether by the other rules other pages would go elsewhere since the states before.
+fn differs_elsewhere(
+    alloc: Global,
+    own: (&StatesBefore, &HostScript),
+    other: (&StatesBefore, &HostScript),
+    meant: Meant<'_>,
+) -> bool {
+    let meant = meant.as_text();
+    let text = difference_in(alloc, own.0, own.1, meant, &mut ());
+    let by_other = difference_in(alloc, other.0, other.1, meant, &mut ());
+    differ(text, by_other)
 }
 
-/// Which pages go elsewhere since these states, by both sets of rules.
+/// A difference, with what became of the pages that are there behind it, if that is told.
+fn with_moves(
+    alloc: Global,
+    difference: Answer,
+    moves: Option<Answer>,
+    format: Format,
+) -> Result<Answer, Halt> {
+    let Some(moves) = moves else {
+        return Ok(difference);
+    };
+    let is_other = difference.is_other || moves.is_other;
+    let text = joined(
+        alloc,
+        difference.text.as_slice(),
+        moves.text.as_slice(),
+        format,
+    );
+    drop(difference);
+    drop(moves);
+    match text {
+        Ok(text) => Ok(Answer { text, is_other }),
+        Err(_) => Err(Halt::Stopped(RunFault::Memory)),
+    }
+}
+
+/// Plays the added lines, and returns which pages go elsewhere since these states.
 fn difference_by<R: Eprint + AllocGlobal, T: Write, P: Watch>(
     rt: &R,
     findings: &mut Findings<T>,
@@ -315,22 +250,21 @@ fn difference_by<R: Eprint + AllocGlobal, T: Write, P: Watch>(
     states: (&StatesBefore, Option<&StatesBefore>),
     faults: &mut u64,
     watch: &mut P,
-) -> Result<BothTexts, Halt> {
+) -> Result<Answer, Halt> {
     let alloc = rt.alloc();
     let moves = play(rt, findings, at, meant, lines, faults)?;
-    let (there, by_other) = parts_of(&moves);
-    let text = difference_in(alloc, states.0, findings.script(), meant, there, watch);
-    let other = match (states.1, findings.other()) {
+    let script = findings.script();
+    let text = difference_in(alloc, states.0, script, meant, watch)?;
+    let is_other = match (states.1, findings.other()) {
         (Some(before), Some(other)) => {
-            Some(difference_in(alloc, before, other, meant, by_other, &mut ()))
+            differs_elsewhere(alloc, (states.0, script), (before, other), meant)
         }
-        _ => None,
+        _ => false,
     };
-    drop(moves);
-    both(text, other)
+    with_moves(alloc, Answer { text, is_other }, moves, meant.asking.format)
 }
 
-/// Which pages go elsewhere after the added lines, by both sets of rules.
+/// Which pages go elsewhere after the added lines.
 fn difference<R: Eprint + AllocGlobal, T: Write, P: Watch>(
     rt: &R,
     findings: &mut Findings<T>,
@@ -339,17 +273,17 @@ fn difference<R: Eprint + AllocGlobal, T: Write, P: Watch>(
     lines: &[String],
     faults: &mut u64,
     watch: &mut P,
-) -> Result<BothTexts, Halt> {
+) -> Result<Answer, Halt> {
     let before = states_in(rt.alloc(), findings.script(), meant)?;
     let other = match findings.other() {
         Some(other) => states_in(rt.alloc(), other, meant).ok(),
         None => None,
     };
     let states = (&before, other.as_ref());
-    let texts = difference_by(rt, findings, at, meant, lines, states, faults, watch);
+    let answer = difference_by(rt, findings, at, meant, lines, states, faults, watch);
     drop(before);
     drop(other);
-    texts
+    answer
 }
 
 /// Why pages go where they go, and by which rules, if that matters.
@@ -359,7 +293,7 @@ fn reasons<T: Write>(
     meant: Meant<'_>,
     address: AddressAsked,
     pages: Option<u32>,
-) -> Result<BothTexts, Halt> {
+) -> Result<Answer, Halt> {
     let (script, process) = (findings.script(), meant.process);
     let page = page_meant(script, process, address)?;
     let asked = AskedPages { page, pages };
@@ -369,10 +303,14 @@ fn reasons<T: Write>(
         let text = explanation(alloc, script, other, process, *touch, asked, format)?;
         add(&mut texts, text)?;
     }
-    both(meant.whole(alloc, texts), None)
+    let text = meant.whole(alloc, texts)?;
+    Ok(Answer {
+        text,
+        is_other: false,
+    })
 }
 
-/// What becomes of pages that are there, by both sets of rules.
+/// What becomes of pages that are there.
 fn moves<R: Eprint + AllocGlobal, T: Write>(
     rt: &R,
     findings: &mut Findings<T>,
@@ -381,7 +319,7 @@ fn moves<R: Eprint + AllocGlobal, T: Write>(
     lines: &[String],
     free: &[FreePages],
     faults: &mut u64,
-) -> Result<BothTexts, Halt> {
+) -> Result<Answer, Halt> {
     let origin = match meant.touches.first() {
         Some(touch) => Origin::Touched(*touch),
         None => Origin::Stated(at.lines.as_slice()),
@@ -396,15 +334,15 @@ fn moves<R: Eprint + AllocGlobal, T: Write>(
     moves_of(rt, findings, at, origin, playing, faults)
 }
 
-/// The answer, by both sets of rules.
-fn texts_of<R: Eprint + AllocGlobal, T: Write, P: Watch>(
+/// The answer.
+fn answer_of<R: Eprint + AllocGlobal, T: Write, P: Watch>(
     rt: &R,
     findings: &mut Findings<T>,
     at: &AtLines<PassOver>,
     meant: Meant<'_>,
     faults: &mut u64,
     watch: &mut P,
-) -> Result<BothTexts, Halt> {
+) -> Result<Answer, Halt> {
     match meant.asking.question {
         Question::Predict(free) => prediction(rt, findings, at, meant, free, faults, watch),
         Question::Diff(lines) => difference(rt, findings, at, meant, lines, faults, watch),
@@ -416,26 +354,15 @@ fn texts_of<R: Eprint + AllocGlobal, T: Write, P: Watch>(
     }
 }
 
-/// Whether the answer by the other rules is another one.
-fn is_another(texts: &BothTexts) -> bool {
-    match &texts.other {
-        Some(Ok(other)) => texts.text.as_slice() != other.as_slice(),
-        Some(Err(Halt::Stopped(_))) | None => false,
-        Some(Err(_)) => true,
-    }
-}
-
 /// An answer, with remarks on it: that no line names the task, and that by the other rules it would
 /// be another.
-fn remarked<T: Write>(findings: &mut Findings<T>, texts: BothTexts) -> Result<Vec<u8>, Halt> {
-    let is_another = is_another(&texts);
-    let BothTexts { text, other } = texts;
-    drop(other);
+fn remarked<T: Write>(findings: &mut Findings<T>, answer: Answer) -> Result<Vec<u8>, Halt> {
+    let Answer { text, is_other } = answer;
     if findings.tell_unnamed().is_err() {
         drop(text);
         return Err(Halt::Stopped(RunFault::Memory));
     }
-    if is_another {
+    if is_other {
         findings.tell_other();
     }
     Ok(text)
@@ -475,10 +402,10 @@ pub fn text_of<R: Eprint + AllocGlobal, T: Write, P: Watch>(
         touches: touches.as_slice(),
         process,
     };
-    let texts = texts_of(rt, findings, at, meant, faults, watch);
+    let answer = answer_of(rt, findings, at, meant, faults, watch);
     drop(touches);
-    match texts {
-        Ok(texts) => remarked(findings, texts),
+    match answer {
+        Ok(answer) => remarked(findings, answer),
         Err(halt) => Err(halt),
     }
 }

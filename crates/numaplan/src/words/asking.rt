@@ -1,0 +1,103 @@
+//! What is asked after scripts.
+use numa_command_line::PageQuestion;
+use numa_reports::{AddressAsked, CpuAsked, Format, FreePages, TouchAsked};
+use numa_words::Twin;
+
+/// A question about pages.
+#[derive(Clone, Copy)]
+pub enum Question<'a> {
+    /// Where pages would go, if nodes have so many free ones.
+    Predict(&'a [FreePages]),
+    /// Which pages would go elsewhere after these further lines.
+    Diff(&'a [String]),
+    /// Why the page of an address goes where it goes, or as many pages from it on.
+    Explain(AddressAsked, Option<u32>),
+    /// What becomes of pages that are there when these lines move them, and nodes take so many
+    /// more.
+    Moves(&'a [String], &'a [FreePages]),
+}
+
+/// What is asked after scripts.
+#[derive(Clone, Copy)]
+pub struct Asking<'a> {
+    /// A file with further lines that state where pages lie, if there is one.
+    pub at: &'a [String],
+    /// How pages are touched; `None` if they lie where lines state it.
+    pub touch: Option<TouchAsked>,
+    pub question: Question<'a>,
+    pub format: Format,
+    /// Whether malformed and refused lines are no error.
+    pub lenient: bool,
+}
+
+impl<'a> Asking<'a> {
+    /// What a subcommand asks of a task.
+    pub fn of_pages(touch: TouchAsked, question: &'a PageQuestion, lenient: bool) -> Asking<'a> {
+        let (at, question, format): (&'a [String], Question<'a>, Format) = match question {
+            PageQuestion::Predict { at, format, free } => {
+                (at.as_slice(), Question::Predict(free.as_slice()), *format)
+            }
+            PageQuestion::Diff { at, lines, format } => {
+                (at.as_slice(), Question::Diff(lines.as_slice()), *format)
+            }
+            PageQuestion::Explain {
+                address,
+                pages,
+                format,
+            } => (&[], Question::Explain(*address, *pages), *format),
+        };
+        Asking {
+            at,
+            touch: Some(touch),
+            question,
+            format,
+            lenient,
+        }
+    }
+
+    /// The task that is given, if one is.
+    pub fn task(&self) -> Option<u32> {
+        self.touch?.task
+    }
+
+    /// Whether scripts are played by the other rules too: an explanation tells them, and other
+    /// answers remark on them.
+    pub fn twin(&self) -> Twin {
+        match self.question {
+            Question::Explain(..) => Twin::Always,
+            _ => Twin::UnlessChosen,
+        }
+    }
+
+    /// The node that is asked for; 0 if all are.
+    pub fn node(&self) -> u32 {
+        match self.touch {
+            Some(
+                TouchAsked {
+                    cpu: CpuAsked::Node(node),
+                    ..
+                },
+            ) => node,
+            _ => 0,
+        }
+    }
+
+    /// The added lines.
+    pub fn lines(&self) -> &'a [String] {
+        match self.question {
+            Question::Diff(lines) | Question::Moves(lines, _) => lines,
+            _ => &[],
+        }
+    }
+
+    /// Whether it is asked of each node.
+    pub fn is_each(&self) -> bool {
+        matches!(
+            self.touch,
+            Some(TouchAsked {
+                cpu: CpuAsked::Each,
+                ..
+            })
+        )
+    }
+}
