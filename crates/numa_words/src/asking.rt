@@ -1,15 +1,14 @@
 //! Predictions after scripts.
 use crate::each::{EachAsked, lacking_node, predict_each};
-use crate::findings::{Ended, Findings, PLAIN};
-use crate::halt::{Halt, halt_of};
-use crate::playing::{Scripts, play};
-use crate::question::{Subject, subject_after, subject_of, write};
 use numa_answers::{PageData, page_of, view_text};
 use numa_compile::compile;
 use numa_host_script::HostScript;
 use numa_lines::RunFault;
 use numa_placed::Placed;
 use numa_plan::Plan;
+use numa_play::{
+    Ended, Findings, Halt, PLAIN, Scripts, Subject, halt_of, play, subject_after, subject_of, write,
+};
 use numa_reports::{Format, FreePages, ReportError, Touch, Watch, filling_text, lying_text};
 use numa_space::Space;
 use std::alloc::Global;
@@ -41,7 +40,7 @@ fn prediction_by<P: Watch>(
 }
 
 /// Where all mapped pages of a space would go, if they were touched now, as a text.
-pub(crate) fn prediction_in<P: Watch>(
+fn prediction_in<P: Watch>(
     alloc: Global,
     space: &Space,
     placed: Option<&Placed>,
@@ -84,6 +83,25 @@ fn prediction_of<P: Watch>(
         there,
     } = asked;
     prediction_in(alloc, space, there.first(), touch, format, free, watch)
+}
+
+/// Where all mapped pages of a space would go, if they were touched now, as a text. Nodes in `free`
+/// have that many free pages, and the text says how many are left.
+///
+/// # Errors
+/// `NoFreeNode`, `NoNode`, or `Stopped`: out of memory.
+pub fn predict_space(
+    alloc: Global,
+    space: &Space,
+    asked: Touch,
+    format: Format,
+    free: &[FreePages],
+) -> Result<Vec<u8>, Halt> {
+    let nodes = space.machine().nodes();
+    if let Some(node) = lacking_node(free, nodes) {
+        return Err(Halt::NoFreeNode(node, nodes));
+    }
+    prediction_in(alloc, space, None, asked, format, free, &mut ())
 }
 
 /// Where all mapped pages would go now, if they were touched, as lines: of a process, or of all of

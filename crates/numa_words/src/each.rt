@@ -6,13 +6,13 @@ ghost use Rattle.numa_requests.specs.declared.command.Command.{Command};
 ghost use Rattle.numa_reports.specs.Filled.{free_behind, nodes_of};
 ghost use Rattle.numa_reports.specs.Lying.{absent_nodes, spots_in};
 
-use crate::halt::{Halt, halt_of};
-use numa_answers::{PageData, page_of, shared_view_text};
+use numa_answers::{PageData, shared_view_text};
 use numa_compile::compile;
 use numa_host::{Host, Process};
 use numa_lines::RunFault;
 use numa_placed::Placed;
 use numa_plan::Plan;
+use numa_play::{Halt, halt_of, shown_as};
 use numa_reports::{Account, ByProcess, Format, FreePages, ReportError, Touch, Watch, shared_text};
 use numa_space::Space;
 use std::alloc::Global;
@@ -25,21 +25,6 @@ pub(crate) struct EachAsked<'a> {
     pub(crate) free: &'a [FreePages],
     /// Where pages lie that are there, by process; nothing if none is there.
     pub(crate) there: &'a [Placed],
-}
-
-/// An answer about all processes, which a page has as its data.
-pub(crate) fn shown_as(
-    alloc: Global,
-    format: Format,
-    kind: &str,
-    text: Vec<u8>,
-) -> Result<Vec<u8>, Halt> {
-    let Format::Html(_) = format else {
-        return Ok(text);
-    };
-    let page = page_of(alloc, kind, text.as_slice());
-    drop(text);
-    Ok(page?)
 }
 
 /// Where the pages of a process would go, by what the ones before it have left, as the data of a

@@ -1,12 +1,12 @@
 //! Why pages go where they go, after scripts.
-use crate::findings::{Ended, Findings, Look, Twin};
-use crate::halt::{Halt, halt_by};
-use crate::playing::{Scripts, play};
-use crate::question::{Subject, subject_of, write};
 use numa_answers::{PageInterval, shown, stretches_of, text_of};
 use numa_host::{Host, Process};
 use numa_host_script::HostScript;
 use numa_lines::RunFault;
+use numa_play::{
+    Ended, Findings, Halt, Look, Scripts, Subject, Twin, halt_by, other_space, play, subject_of,
+    write,
+};
 use numa_reports::{ByProcess, Format, Touch};
 use numa_rules::{Explanation, by_other_rules, say_by_other};
 use numa_space::Space;
@@ -44,7 +44,7 @@ fn with_other(
 }
 
 /// Why a page would go where it goes, and by which rules, if that matters.
-pub(crate) fn reasons_in(
+fn reasons_in(
     alloc: Global,
     space: &Space,
     other: Option<&Space>,
@@ -65,7 +65,7 @@ pub(crate) fn reasons_in(
 /// # Errors
 /// `NoNode`: the machine lacks the faulting node. `Unmapped`: the page isn't mapped. `Stopped`: out
 /// of memory.
-pub(crate) fn explanation_of(
+fn explanation_of(
     alloc: Global,
     space: &Space,
     asked: Touch,
@@ -171,14 +171,6 @@ fn reasons_of_each(
     text
 }
 
-/// The one space of the other script, if there is one.
-pub(crate) fn other_space(other: Option<&HostScript>, process: Option<u32>) -> Option<&Space> {
-    match subject_of(other?, process) {
-        Ok(Subject::One(space)) => Some(space),
-        _ => None,
-    }
-}
-
 /// Why pages go where they go after scripts, of which one was played by the other rules.
 fn reasons_after(
     alloc: Global,
@@ -192,6 +184,23 @@ fn reasons_after(
         Ok(Subject::Each(host)) => reasons_of_each(alloc, host, other, asked),
         Err(halt) => Err(halt),
     }
+}
+
+/// Why a page of a space would go where it goes, if it were touched now, as a text.
+///
+/// # Errors
+/// `NoNode`, `Unmapped`, or `Stopped`: out of memory.
+pub fn explain_space(
+    alloc: Global,
+    space: &Space,
+    asked: Touch,
+    page: u64,
+    format: Format,
+) -> Result<Vec<u8>, Halt> {
+    let said = explanation_of(alloc, space, asked, page)?;
+    let text = reasons_in(alloc, space, None, asked, &said, format);
+    drop(said);
+    text
 }
 
 /// Why a page goes where it goes now, as lines: of a process, or of each of a host's that has

@@ -9,21 +9,15 @@
 ghost use Rattle.std.specs.Prelude.{IfOk};
 ghost use Rattle.numa_command_line.specs.Jobs.{CanBeDone};
 
-mod answering;
-mod endings;
-mod lacking;
-mod noticing;
-mod progress;
-mod rewriting;
 mod shell;
 mod terminal;
 mod words;
 
-use endings::tell_fault;
 use numa_answers::Comparison;
 use numa_command_line::{Job, JobFault, ScriptJob, job, open_all, open_with_typed, open_worked};
+use numa_console::{Asking, Question, tell_fault};
+use numa_play::Scripts;
 use numa_reports::Format;
-use numa_words::Scripts;
 use std::env::Env;
 use std::io::{IsTerminal, Read};
 use std::process::ExitCode;
@@ -31,7 +25,6 @@ use std::rt::{Clock, Files};
 use std::sync::Wait;
 use std::thread::Threads;
 use std::{env, io};
-use words::asking::{Asking, Question};
 use words::{asked, check, expect, replay, run, storm};
 
 /// The message for an argument that isn't UTF-8.

@@ -2,10 +2,11 @@
 use numa_command_line::address;
 use numa_host_script::HostScript;
 use numa_mask::parts::first_place;
+use numa_play::{Halt, page_meant};
 use numa_reports::{AddressAsked, Touch};
 use numa_script::number::{number, small};
 use numa_script::parts::words;
-use numa_words::{Halt, explained, page_meant, predicted};
+use numa_words::{explained, predicted};
 use std::alloc::{AllocError, Global};
 
 /// The help on the lines of a shell.

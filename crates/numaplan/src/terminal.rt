@@ -1,12 +1,11 @@
 //! Scripts that are typed at a terminal.
-use crate::answering::Answering;
-use crate::endings::{StandardError, fail};
 use crate::shell::{SHELL_LINES, answer_to, asked_of};
+use numa_console::{Answering, StandardError, fail};
 use numa_diagnose::{judge, say_line};
 use numa_host_script::HostScript;
 use numa_lines::{Lines, Respond, RunFault, TakeLine, read_all};
 use numa_placed_script::{is_plain, parse_placed};
-use numa_words::Scripts;
+use numa_play::Scripts;
 use std::alloc::Global;
 use std::io;
 use std::io::{Read, Write};

@@ -1,6 +1,5 @@
 //! Doing the jobs of subcommands, a file for each.
 pub mod asked;
-pub mod asking;
 pub mod by_node;
 pub mod check;
 pub mod expect;

@@ -3,10 +3,10 @@ use Rattle.std.specs.Prelude.{◌≡◌, ◌==◌, ◌||◌, ◌+◌, ℕ, Bool,
 use Rattle.std.specs.Prelude.{Option, Some, None, Result, Ok, Err, if◌then◌else◌}
 use Rattle.numa_reports.specs.declared.sheet.Format.{Format}
 use Rattle.numa_reports.specs.declared.sheet.Format.TheVariants as format
-use Rattle.numa_words.specs.declared.findings.Ended.{Ended}
-use Rattle.numa_words.specs.declared.findings.Ended.TheVariants as ended
-use Rattle.numa_words.specs.declared.halt.Halt.{Halt}
-use Rattle.numa_words.specs.declared.halt.Halt.TheVariants as halt
+use Rattle.numa_play.specs.declared.findings.Ended.{Ended}
+use Rattle.numa_play.specs.declared.findings.Ended.TheVariants as ended
+use Rattle.numa_play.specs.declared.halt.Halt.{Halt}
+use Rattle.numa_play.specs.declared.halt.Halt.TheVariants as halt
 use Rattle.numaplan_handles.specs.Dialogs.{Copies}
 use Rattle.numaplan_reports.specs.declared.report.Report.{Report}
 use Rattle.numaplan_c.specs.declared.reports.NpReport.{NpReport}

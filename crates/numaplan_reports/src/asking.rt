@@ -3,20 +3,21 @@
 use crate::lines::lines_of;
 use crate::report::{Report, report_of};
 use crate::sources::{ScriptText, first_of, named, scripts_of};
+use numa_play::{Ended, Halt, Twin};
 use numa_reports::{Format, FreePages, Touch, Written};
 use numa_traces::ReplayError;
-use numa_words::{AskedPages, Ended, Halt, Twin};
+use numa_words::AskedPages;
 use std::alloc::{AllocError, Global};
 
 /// What is wrong with the lines of a script, and what a running kernel would do differently with
-/// one, as [`numa_words::check`] writes it: the answer, without messages.
+/// one, as [`numa_play::check`] writes it: the answer, without messages.
 ///
 /// # Errors
 /// `AllocError`: out of memory.
 pub fn check(alloc: Global, script: ScriptText<'_>, format: Format) -> Result<Report, AllocError> {
     let scripts = scripts_of(alloc, script)?;
     let mut answer = Vec::new(alloc);
-    let ended = numa_words::check(alloc, scripts, format, &mut answer);
+    let ended = numa_play::check(alloc, scripts, format, &mut answer);
     report_of(answer, Vec::new(alloc), ended)
 }
 
@@ -58,7 +59,7 @@ fn diff_by(
     let scripts = first_of(alloc, script)?;
     let mut answer = Vec::new(alloc);
     let mut told = Vec::new(alloc);
-    let ended = numa_words::diff(
+    let ended = numa_what_if::diff(
         alloc,
         scripts,
         lines,
@@ -72,7 +73,7 @@ fn diff_by(
 }
 
 /// Which pages would go to another node after the lines behind a script than before them, as
-/// [`numa_words::diff`] writes it.
+/// [`numa_what_if::diff`] writes it.
 ///
 /// # Errors
 /// `AllocError`: out of memory.
@@ -154,7 +155,7 @@ pub(crate) fn replay_of(
     }
 }
 
-/// What a trace meets after a script, as [`numa_words::replay`] writes it. Messages call the trace
+/// What a trace meets after a script, as [`numa_what_if::replay`] writes it. Messages call the trace
 /// `trace`; the last is about the line that can't be replayed, if there is one.
 ///
 /// # Errors
@@ -172,7 +173,7 @@ pub fn replay(
     };
     let mut answer = Vec::new(alloc);
     let mut told = Vec::new(alloc);
-    let ended = numa_words::replay(
+    let ended = numa_what_if::replay(
         alloc,
         scripts,
         traces,

@@ -1,7 +1,7 @@
 //! Scripts and traces in memory, as texts with names.
 
 use numa_machine::Rules;
-use numa_words::Scripts;
+use numa_play::Scripts;
 use std::alloc::{AllocError, Global};
 
 /// A script in memory: its text, lines that stand behind it, and the rules that apply unless a line

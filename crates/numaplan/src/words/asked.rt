@@ -1,13 +1,11 @@
 //! Questions about the state that scripts lead to: where pages would go or lie, which would go
 //! elsewhere, why, and what becomes of those that are there.
-use crate::endings::answered;
-use crate::progress::PacedPages;
-use crate::words::asking::Asking;
 use crate::words::texts::text_of;
 use crate::words::there::{opened, read_all, write_told};
 use numa_command_line::{JobFault, Outlet};
+use numa_console::{Asking, PacedPages, answered};
+use numa_play::{Ended, Halt, Scripts};
 use numa_reports::Watch;
-use numa_words::{Ended, Halt, Scripts};
 use std::io;
 use std::io::{IsTerminal, Read};
 use std::process::ExitCode;

@@ -1,8 +1,8 @@
 //! Reports what is wrong with scripts.
-use crate::endings::ended;
 use numa_command_line::Outlet;
+use numa_console::ended;
+use numa_play::Scripts;
 use numa_reports::Format;
-use numa_words::Scripts;
 use std::io;
 use std::io::Read;
 use std::process::ExitCode;
@@ -15,6 +15,6 @@ where
 {
     let outlet = Outlet::new();
     let output = outlet.writer(io::writer(rt));
-    let answer = numa_words::check(rt.alloc(), scripts, format, output);
+    let answer = numa_play::check(rt.alloc(), scripts, format, output);
     ended(rt, "", answer, false, &outlet)
 }

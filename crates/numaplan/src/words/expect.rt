@@ -1,13 +1,10 @@
 //! Compares worked scripts with the answers to their lines, and writes them anew.
-use crate::answering::Answering;
-use crate::endings::{fail, fail_to_write, stop_quietly};
-use crate::lacking::{Lack, Noting};
-use crate::rewriting::rewrite_all;
 use numa_answers::{Comparing, Comparison, Updated};
 use numa_command_line::Outlet;
+use numa_console::{Answering, Lack, Noting, fail, fail_to_write, rewrite_all, stop_quietly};
 use numa_lines::{Expect, RunFault, read_all};
+use numa_play::Scripts;
 use numa_reports::Format;
-use numa_words::Scripts;
 use std::io;
 use std::io::{Read, Write};
 use std::process::ExitCode;

@@ -6,8 +6,8 @@ use numa_mask::NodeMask;
 use numa_moves::{
     Asked, AtLines, Holdings, MoveLine, Origin, PassOver, Step, moves_text, read_move,
 };
+use numa_play::{Findings, Halt};
 use numa_reports::{Format, FreePages, ReportError};
-use numa_words::{Findings, Halt};
 use std::alloc::Global;
 use std::io::Write;
 

@@ -1,9 +1,8 @@
 //! Replays a trace of accesses.
-use crate::endings::{StandardError, ended};
-use crate::progress::with_progress;
 use numa_command_line::{JobFault, Outlet, open_all};
+use numa_console::{StandardError, ended, with_progress};
+use numa_play::{Scripts, Twin};
 use numa_reports::Format;
-use numa_words::{Scripts, Twin};
 use std::io;
 use std::io::{IsTerminal, Read};
 use std::process::ExitCode;
@@ -25,7 +24,7 @@ where
 {
     let outlet = Outlet::new();
     let mut output = outlet.writer(io::writer(rt));
-    let answer = numa_words::replay(
+    let answer = numa_what_if::replay(
         rt.alloc(),
         scripts,
         traces,

@@ -1,13 +1,11 @@
 //! Answers scripts.
-use crate::answering::Answering;
-use crate::endings::fail;
-use crate::noticing::{Notice, noticed_by};
 use numa_answers::Answers;
 use numa_command_line::without_names;
+use numa_console::{Answering, Notice, fail, noticed_by};
 use numa_lines::{Echo, Joined, Lines, RunFault, Watched, read_all};
 use numa_placed_script::run_by;
+use numa_play::Scripts;
 use numa_reports::Format;
-use numa_words::Scripts;
 use std::alloc::{AllocError, Global};
 use std::io;
 use std::io::Read;

@@ -1,7 +1,7 @@
 //! Workers place pages while policies change.
 ghost use Rattle.numa_stress.specs.Crew.{IsCrew};
 
-use crate::endings::fail;
+use numa_console::fail;
 use numa_lines::Watched;
 use std::io;
 use std::process::ExitCode;

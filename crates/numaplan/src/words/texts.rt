@@ -1,17 +1,16 @@
 //! The answers to questions about the state that scripts lead to, as texts.
-use crate::words::asking::{Asking, Question};
 use crate::words::by_node::{joined, of_nodes};
 use crate::words::moves::{Answer, Playing, moves_of};
 use crate::words::there::{stated_in, tell_at};
+use numa_console::{Asking, Question};
 use numa_host_script::HostScript;
 use numa_lines::RunFault;
 use numa_moves::{AtLines, Origin, PassOver, RefusedAt};
 use numa_placed::Placed;
+use numa_play::{Findings, Halt, differ, page_meant, touches};
 use numa_reports::{AddressAsked, Format, FreePages, Touch, Watch};
-use numa_words::{
-    AskedPages, DiffAsked, Findings, Halt, StatesBefore, differ, difference_since, explanation,
-    page_meant, play_added, prediction_there, states_of, touches,
-};
+use numa_what_if::{DiffAsked, StatesBefore, difference_since, play_added, states_of};
+use numa_words::{AskedPages, explanation, prediction_there};
 use std::alloc::Global;
 use std::io::Write;
 

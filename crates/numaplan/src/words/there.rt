@@ -1,14 +1,13 @@
 //! Reading scripts and where pages lie that are there, and writing an answer after them.
-use crate::endings::StandardError;
-use crate::progress::{Paced, with_progress};
 use numa_command_line::{JobFault, Texts, open_all};
+use numa_console::{Paced, StandardError, with_progress};
 use numa_host::Host;
 use numa_host_script::HostScript;
 use numa_lines::RunFault;
 use numa_moves::{AtLines, PassOver, RefusedAt, Scene, add_stated, read_at_lines};
 use numa_placed::Placed;
+use numa_play::{Ended, Findings, Halt, Look, Scripts, Twin};
 use numa_reports::Format;
-use numa_words::{Ended, Findings, Halt, Look, Scripts, Twin};
 use std::alloc::Global;
 use std::io::{IsTerminal, Read, Write};
 use std::rt::{Clock, Files};

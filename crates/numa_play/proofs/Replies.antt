@@ -5,7 +5,7 @@ use Rattle.numa_script.specs.declared.policy.WordError.TheVariants as word
 use Rattle.numa_script.specs.declared.reply.Reply.{Reply}
 use Rattle.numa_script.specs.declared.reply.Reply.TheVariants as reply
 use Rattle.numa_run.specs.Judged.{is_fault}
-use Rattle.numa_words.specs.Faults.{tells_fault}
+use Rattle.numa_play.specs.Faults.{tells_fault}
 
 -- exactly the text of a fault or a refusal does
 pub text_tells_fault : (said : Reply) → tells_fault (text_of said) ≡ is_fault said

@@ -1,13 +1,12 @@
 //! Differences after scripts.
-use crate::each::shown_as;
-use crate::findings::{Ended, Findings, PLAIN};
-use crate::halt::{Halt, halt_of};
-use crate::playing::{Scripts, play};
-use crate::question::{Subject, member, subject_of, write};
 use numa_answers::{PageData, page_of, view_text};
 use numa_host::{Host, Process};
 use numa_host_script::HostScript;
 use numa_lines::{RunFault, TakeLine};
+use numa_play::{
+    Ended, Findings, Halt, PLAIN, Scripts, Subject, halt_of, member, play, shown_as, subject_of,
+    write,
+};
 use numa_reports::{
     ByProcess, Format, MoveSum, Outlook, Touch, Watch, difference_more, difference_text, outlook_of,
 };

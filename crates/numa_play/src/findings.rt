@@ -1,6 +1,6 @@
 //! Reporting what is wrong with the lines of scripts as they are played.
 ghost use Rattle.std.specs.Prelude.{◌≡◌};
-ghost use Rattle.numa_words.specs.Faults.{ended_by, has_faults};
+ghost use Rattle.numa_play.specs.Faults.{ended_by, has_faults};
 
 use crate::found_objects::{put_binary, put_finding, put_hint, put_unjudged};
 use crate::named::{Named, TasksNamed};
@@ -58,7 +58,7 @@ pub struct Look {
 }
 
 /// Errors and refusals alone, as text.
-pub(crate) const PLAIN: Look = Look {
+pub const PLAIN: Look = Look {
     hints: false,
     other: Twin::None,
     process: None,
@@ -302,7 +302,7 @@ impl<W: Write> Findings<W> {
     ///
     /// # Errors
     /// `Write`: writing failed.
-    pub(crate) fn end_remarks(&mut self) -> Result<(), RunFault> {
+    pub fn end_remarks(&mut self) -> Result<(), RunFault> {
         self.output.hand_over()
     }
 

@@ -43,7 +43,7 @@ fn says_starved(answer: &[u8]) -> bool {
 }
 
 impl Respond for Answering {
-    ghost use Rattle.numa_words.specs.Faults.{tells_fault as says_fault};
+    ghost use Rattle.numa_play.specs.Faults.{tells_fault as says_fault};
 
     ghost is_fault = { says_fault };
 
@@ -63,6 +63,6 @@ impl Respond for Answering {
     }
 
     fn tells_fault(&self, answer: &[u8]) -> bool {
-        numa_words::tells_fault(answer)
+        numa_play::tells_fault(answer)
     }
 }

@@ -1,7 +1,7 @@
 //! Why a question about played scripts has no answer.
 ghost use Rattle.std.specs.Prelude.{◌≡◌};
 ghost use Rattle.numa_lines.specs.declared.fault.RunFault.TheVariants as run_fault;
-ghost use Rattle.numa_words.specs.declared.halt.Halt.TheVariants as halt;
+ghost use Rattle.numa_play.specs.declared.halt.Halt.TheVariants as halt;
 
 use numa_lines::RunFault;
 use numa_machine::PlaceRefusal;
@@ -56,7 +56,7 @@ impl From<AllocError> for Halt {
 }
 
 /// Why there is no report on a machine with `nodes` nodes.
-pub(crate) fn halt_of(fault: ReportError, nodes: u32) -> Halt {
+pub fn halt_of(fault: ReportError, nodes: u32) -> Halt {
     match fault {
         ReportError::Refused(_) => Halt::NoNode(nodes),
         ReportError::Memory => Halt::Stopped(RunFault::Memory),
@@ -64,7 +64,7 @@ pub(crate) fn halt_of(fault: ReportError, nodes: u32) -> Halt {
 }
 
 /// Why there is no explanation on a machine with `nodes` nodes.
-pub(crate) fn halt_by(fault: ReasonError, nodes: u32) -> Halt {
+pub fn halt_by(fault: ReasonError, nodes: u32) -> Halt {
     match fault {
         ReasonError::Refused(PlaceRefusal::BadCpu) => Halt::NoNode(nodes),
         ReasonError::Refused(PlaceRefusal::Unmapped) => Halt::Unmapped,

@@ -9,8 +9,8 @@ use Rattle.numa_reports.specs.declared.asked.AddressAsked.{AddressAsked}
 use Rattle.numa_script.specs.declared.line.Line.{Line}
 use Rattle.numa_script.specs.declared.line.Line.TheVariants as line
 use Rattle.numa_requests.specs.declared.command.Command.TheVariants.{SetTask, Inherit}
-use Rattle.numa_words.specs.declared.named.TasksNamed.{TasksNamed}
-use Rattle.numa_words.specs.declared.named.TasksNamed.TheVariants.{Nobody, One, Several}
+use Rattle.numa_play.specs.declared.named.TasksNamed.{TasksNamed}
+use Rattle.numa_play.specs.declared.named.TasksNamed.TheVariants.{Nobody, One, Several}
 
 -- ---- tasks
 

@@ -1,9 +1,9 @@
 //! Exit statuses and messages.
-use crate::words::asking::{Asking, Question};
+use crate::asking::{Asking, Question};
 use numa_command_line::{JobFault, Outlet};
 use numa_lines::RunFault;
+use numa_play::{Ended, Halt};
 use numa_reports::AddressAsked;
-use numa_words::{Ended, Halt};
 use std::io;
 use std::io::{ErrorKind, Write};
 use std::process::ExitCode;

@@ -1,8 +1,8 @@
 -- Answers that tell a fault or a refusal, and what was told.
 use Rattle.std.specs.Prelude.{ℕ, Bool, ◌||◌, List, codes, nat_lt, if◌then◌else◌}
 use Rattle.numa_lines.specs.Worked.{begins_with}
-use Rattle.numa_words.specs.declared.findings.Ended.{Ended}
-use Rattle.numa_words.specs.declared.findings.Ended.TheVariants.{Clean, Faulty}
+use Rattle.numa_play.specs.declared.findings.Ended.{Ended}
+use Rattle.numa_play.specs.declared.findings.Ended.TheVariants.{Clean, Faulty}
 
 -- how the texts of faults and refusals begin, and no other answer's
 abbrev pub tells_fault : List ℕ → Bool

@@ -1,94 +1,18 @@
 //! Replaying traces after scripts.
-use crate::each::shown_as;
-use crate::explaining::other_space;
-use crate::findings::{Ended, Findings, Look, PLAIN, Twin};
-use crate::halt::{Halt, halt_of};
-use crate::playing::{Scripts, play};
-use crate::question::{Subject, differ, subject_of, write};
-use numa_answers::{PageData, page_of, view_text};
+use crate::met::{met, report_in};
 use numa_compile::compile;
 use numa_host::{Host, Process};
 use numa_lines::{RunFault, TakeLine};
 use numa_plan::Plan;
-use numa_reports::{ByProcess, Format, ReportError, Touch};
-use numa_space::Space;
-use numa_traces::{
-    HostReplay, HostReplaying, Replay, Replaying, placed_text, replay_lines, report_text,
-    total_text,
+use numa_play::{
+    Ended, Findings, Halt, Look, PLAIN, Scripts, Subject, Twin, differ, other_space, play,
+    shown_as, subject_of, write,
 };
+use numa_reports::{ByProcess, Format};
+use numa_space::Space;
+use numa_traces::{HostReplay, HostReplaying, Replay, Replaying, replay_lines, total_text};
 use std::alloc::Global;
 use std::io::{Read, Write};
-
-/// The most runs of pages on one node that a page shows.
-const RUNS: u64 = 20_000;
-
-/// The task and the CPU's node of the way with the most accesses; 0 and 0 without accesses.
-fn busiest(replay: &Replay) -> Touch {
-    let mut touch = Touch { task: 0, cpu: 0 };
-    let mut most = 0u64;
-    for (way, tally) in replay.tallies().iter() {
-        if tally.accesses > most {
-            most = tally.accesses;
-            touch = Touch {
-                task: way.0,
-                cpu: way.1,
-            };
-        }
-    }
-    touch
-}
-
-/// The data of a page with a report, with where pages lie now and, before the trace, would go for
-/// the task and the CPU with the most accesses, in the largest `number` ranges.
-fn data_of(
-    alloc: Global,
-    space: &Space,
-    plan: &Plan,
-    replay: &Replay,
-    report: &[u8],
-    number: u32,
-) -> Result<Vec<u8>, ReportError> {
-    let view = view_text(alloc, space, plan, busiest(replay), &[], number, &mut ())?;
-    let placed = placed_text(alloc, replay, RUNS)?;
-    let mut data = PageData::new(alloc);
-    data.put("replay", report);
-    data.put("before", view.as_slice());
-    data.put("placed", placed.as_slice());
-    Ok(data.end()?)
-}
-
-/// The report of a replay on the machine of a space, as a text, or as the data of a page.
-fn report_in(
-    alloc: Global,
-    space: &Space,
-    plan: &Plan,
-    replay: &Replay,
-    format: Format,
-) -> Result<Vec<u8>, Halt> {
-    let text = report_text(alloc, space.machine(), replay, format)?;
-    let Format::Html(number) = format else {
-        return Ok(text);
-    };
-    match data_of(alloc, space, plan, replay, text.as_slice(), number) {
-        Ok(data) => Ok(data),
-        Err(fault) => Err(halt_of(fault, space.machine().nodes())),
-    }
-}
-
-/// The report of a whole trace, as a text, or as a page.
-fn met(
-    alloc: Global,
-    space: &Space,
-    plan: &Plan,
-    replaying: &Replaying<'_>,
-    format: Format,
-) -> Result<Vec<u8>, Halt> {
-    if let Some((place, fault)) = replaying.fault() {
-        return Err(Halt::BadAccess(place, fault));
-    }
-    let text = report_in(alloc, space, plan, replaying.replay(), format)?;
-    shown_as(alloc, format, "replay", text)
-}
 
 /// A replay, and the same by the other rules, if that is wanted.
 #[derive(Drop)]
@@ -121,8 +45,8 @@ impl<T: TakeLine<()>> TakeLine<()> for ByBoth<T> {
 
 /// A report, and whether it is another by the other rules.
 #[derive(Drop)]
-pub(crate) struct Replayed {
-    pub(crate) text: Vec<u8>,
+struct Replayed {
+    text: Vec<u8>,
     is_other: bool,
 }
 
@@ -241,7 +165,7 @@ fn replayed_beside<S: Read + Drop>(
 
 /// Replays a trace in a space by the plan of all accepted commands, and in another space, if there
 /// is one.
-pub(crate) fn replayed_in<S: Read + Drop>(
+fn replayed_in<S: Read + Drop>(
     alloc: Global,
     space: &Space,
     other: Option<&Space>,
@@ -459,6 +383,21 @@ fn told_of<T: Write>(
             Err(Halt::Stopped(why))
         }
     }
+}
+
+/// What a trace meets on the machine of a space, where no page is placed, as a text.
+///
+/// # Errors
+/// `BadAccess`: the first line of the trace that can't be replayed; or `Stopped`: a read failed, or
+/// out of memory.
+pub fn replay_space<S: Read + Drop>(
+    alloc: Global,
+    space: &Space,
+    trace: Vec<(String, S)>,
+    format: Format,
+) -> Result<Vec<u8>, Halt> {
+    let replayed = replayed_in(alloc, space, None, None, trace, format)?;
+    Ok(replayed.text)
 }
 
 /// Plays the scripts, replays a trace on a machine where no page is placed, by the plan of all

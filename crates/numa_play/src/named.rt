@@ -1,6 +1,6 @@
 //! What lines name: tasks, by giving them a policy, and nodes with CPUs.
 ghost use Rattle.std.specs.Prelude.{◌≡◌, MatchResult, None, Some};
-ghost use Rattle.numa_words.specs.Named.{and_task, is_unnamed, task_asked, task_in};
+ghost use Rattle.numa_play.specs.Named.{and_task, is_unnamed, task_asked, task_in};
 
 use numa_host_script::{HostLine, parse_host};
 use numa_mask::NodeMask;

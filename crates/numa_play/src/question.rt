@@ -3,15 +3,18 @@ ghost use Rattle.std.specs.Prelude.{◌≡◌, IfOk};
 
 use crate::findings::{Ended, Findings};
 use crate::halt::Halt;
+use numa_answers::page_of;
 use numa_host::{Host, Process};
 use numa_host_script::HostScript;
 use numa_lines::RunFault;
+use numa_reports::Format;
 use numa_space::Space;
+use std::alloc::Global;
 use std::io::Write;
 
 /// What an answer is about.
 #[derive(Clone, Copy)]
-pub(crate) enum Subject<'a> {
+pub enum Subject<'a> {
     /// The space of the script, or of the chosen process of a host.
     One(&'a Space),
     /// All processes of a host.
@@ -19,7 +22,7 @@ pub(crate) enum Subject<'a> {
 }
 
 /// What an answer is about after a script, if this process is asked for.
-pub(crate) fn subject_of(script: &HostScript, process: Option<u32>) -> Result<Subject<'_>, Halt> {
+pub fn subject_of(script: &HostScript, process: Option<u32>) -> Result<Subject<'_>, Halt> {
     if let Some(host) = script.host() {
         let Some(process) = process else {
             return Ok(Subject::Each(host));
@@ -40,12 +43,12 @@ pub(crate) fn subject_of(script: &HostScript, process: Option<u32>) -> Result<Su
 }
 
 /// The process of this number, with its group.
-pub(crate) fn member(host: &Host, process: u32) -> Option<&Process> {
+pub fn member(host: &Host, process: u32) -> Option<&Process> {
     host.processes().iter().find(|one| one.id == process)
 }
 
 /// Finishes the messages, and returns what an answer is about.
-pub(crate) fn subject_after<T: Write>(
+pub fn subject_after<T: Write>(
     findings: &mut Findings<T>,
     process: Option<u32>,
 ) -> Result<Subject<'_>, Halt> {
@@ -56,7 +59,7 @@ pub(crate) fn subject_after<T: Write>(
 }
 
 /// Writes an answer, if there is one, based on lines that ended so.
-pub(crate) fn write<W: Write>(
+pub fn write<W: Write>(
     text: Result<Vec<u8>, Halt>,
     ended: Ended,
     output: &mut W,
@@ -86,4 +89,22 @@ pub fn differ(own: Result<Vec<u8>, Halt>, other: Result<Vec<u8>, Halt>) -> bool 
     drop(own);
     drop(other);
     differ
+}
+
+/// The one space of the other script, if there is one.
+pub fn other_space(other: Option<&HostScript>, process: Option<u32>) -> Option<&Space> {
+    match subject_of(other?, process) {
+        Ok(Subject::One(space)) => Some(space),
+        _ => None,
+    }
+}
+
+/// An answer about all processes, which a page has as its data.
+pub fn shown_as(alloc: Global, format: Format, kind: &str, text: Vec<u8>) -> Result<Vec<u8>, Halt> {
+    let Format::Html(_) = format else {
+        return Ok(text);
+    };
+    let page = page_of(alloc, kind, text.as_slice());
+    drop(text);
+    Ok(page?)
 }

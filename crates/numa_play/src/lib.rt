@@ -1,0 +1,30 @@
+//! Playing scripts to their end, and telling what is wrong with their lines.
+//!
+//! Scripts may be a host's (`numa_host_script`): then an answer is about one process, or about each
+//! and all together ([`Subject`]).
+//!
+//! Malformed and refused lines are skipped, and what is wrong with each is reported. [`check`] does
+//! only that; other commands answer by the accepted lines, and return in [`Ended`] whether there
+//! were others, or in [`Halt`] why there is no answer. [`tells_fault`] recognizes the answers of
+//! malformed and refused lines. [`touches`] and [`page_meant`] say which touches and which page are
+//! asked for, by what lines name.
+#![tactic(auto)]
+
+mod faults;
+mod findings;
+mod found_objects;
+mod halt;
+mod named;
+mod playing;
+mod question;
+mod touching;
+
+pub use faults::tells_fault;
+pub use findings::{Ended, Findings, Look, PLAIN, Twin};
+pub use halt::{Halt, halt_by, halt_of};
+pub use named::TasksNamed;
+pub use playing::{Scripts, check, play};
+pub use question::{
+    Subject, differ, member, other_space, shown_as, subject_after, subject_of, write,
+};
+pub use touching::{page_meant, touches};

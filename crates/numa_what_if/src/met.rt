@@ -1,0 +1,79 @@
+//! The report of what a trace met, as a text or as a page.
+use numa_answers::{PageData, page_of, view_text};
+use numa_plan::Plan;
+use numa_play::{Halt, halt_of};
+use numa_reports::{Format, ReportError, Touch};
+use numa_space::Space;
+use numa_traces::{Replay, placed_text, report_text};
+use std::alloc::Global;
+
+/// The most runs of pages on one node that a page shows.
+const RUNS: u64 = 20_000;
+
+/// The task and the CPU's node of the way with the most accesses; 0 and 0 without accesses.
+fn busiest(replay: &Replay) -> Touch {
+    let mut touch = Touch { task: 0, cpu: 0 };
+    let mut most = 0u64;
+    for (way, tally) in replay.tallies().iter() {
+        if tally.accesses > most {
+            most = tally.accesses;
+            touch = Touch {
+                task: way.0,
+                cpu: way.1,
+            };
+        }
+    }
+    touch
+}
+
+/// The data of a page with a report, with where pages lie now and, before the trace, would go for
+/// the task and the CPU with the most accesses, in the largest `number` ranges.
+fn data_of(
+    alloc: Global,
+    space: &Space,
+    plan: &Plan,
+    replay: &Replay,
+    report: &[u8],
+    number: u32,
+) -> Result<Vec<u8>, ReportError> {
+    let view = view_text(alloc, space, plan, busiest(replay), &[], number, &mut ())?;
+    let placed = placed_text(alloc, replay, RUNS)?;
+    let mut data = PageData::new(alloc);
+    data.put("replay", report);
+    data.put("before", view.as_slice());
+    data.put("placed", placed.as_slice());
+    Ok(data.end()?)
+}
+
+/// The report of a replay on the machine of a space, as a text, or as the data of a page.
+pub(crate) fn report_in(
+    alloc: Global,
+    space: &Space,
+    plan: &Plan,
+    replay: &Replay,
+    format: Format,
+) -> Result<Vec<u8>, Halt> {
+    let text = report_text(alloc, space.machine(), replay, format)?;
+    let Format::Html(number) = format else {
+        return Ok(text);
+    };
+    match data_of(alloc, space, plan, replay, text.as_slice(), number) {
+        Ok(data) => Ok(data),
+        Err(fault) => Err(halt_of(fault, space.machine().nodes())),
+    }
+}
+
+/// The report of a whole trace, as a text, or as a page.
+pub(crate) fn met(
+    alloc: Global,
+    space: &Space,
+    plan: &Plan,
+    replaying: &Replaying<'_>,
+    format: Format,
+) -> Result<Vec<u8>, Halt> {
+    if let Some((place, fault)) = replaying.fault() {
+        return Err(Halt::BadAccess(place, fault));
+    }
+    let text = report_in(alloc, space, plan, replaying.replay(), format)?;
+    shown_as(alloc, format, "replay", text)
+}
