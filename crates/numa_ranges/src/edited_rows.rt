@@ -11,9 +11,9 @@ ghost use Rattle.numa_ranges.specs.declared.run.Run.{Run};
 use crate::edited_row::{EditedRow, row_continues, value_of};
 use crate::exact::Exact;
 use crate::fault::RangeError;
+use crate::list::{RowList, row_count, splice_rows};
 use crate::row::Row;
 use crate::values::Values;
-use numa_rows::{Owned, Rows};
 use std::alloc::AllocError;
 
 /// Rows that are added one by one, each joined to the one before if it continues that.
@@ -113,7 +113,7 @@ impl EditedRows {
     /// get numbers. `near` is a guess at the chunk of the window, `numbered` a vector for the rows.
     pub(crate) fn put<T: Exact, F: Fn(&T) -> Option<T>>(
         &mut self,
-        rows: &mut Rows<Row, Owned<Row>>,
+        rows: &mut RowList,
         values: &mut Values<T>,
         numbered: &mut Vec<Row>,
         from: usize,
@@ -145,7 +145,7 @@ impl EditedRows {
     {
         self.seal();
         let count = self.count;
-        let others = rows.len() - (to - from);
+        let others = row_count(rows) - (to - from);
         if others as u64 + count > u64::from(limit) {
             return Err(RangeError::TooManyRanges);
         }
@@ -155,7 +155,7 @@ impl EditedRows {
         let Ok(()) = number_rows(numbered, values, &self.closed, edit) else {
             return Err(RangeError::NoMemory);
         };
-        let Ok(()) = rows.splice_near(from, to, numbered.as_slice(), near) else {
+        let Ok(()) = splice_rows(rows, from, to, numbered.as_slice(), near) else {
             return Err(RangeError::NoMemory);
         };
         Ok(())

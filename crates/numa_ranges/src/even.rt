@@ -1,19 +1,18 @@
 //! Guessing a row's place from its page, as if rows were spread evenly.
 ghost use Rattle.std.specs.Prelude.{◌≡◌, ◌-◌, ◌<◌, ◌≤◌, length, slice_index_or, IfSome};
 
-use crate::row::Row;
-use numa_rows::{Owned, Rows};
+use crate::list::{RowList, chunk_count, no_part, part_with, row_count, row_in, row_near};
 
 /// The number of rows that are looked at around a guess.
 const LOOKED_AT: usize = 4;
 
 /// The rank of a row that starts at a page, if all rows were spread evenly from the first to the
 /// last. Only speed depends on it.
-fn even_rank(rows: &Rows<Row, Owned<Row>>, page: u64) -> Option<usize> {
-    let last = rows.len().checked_sub(1)?;
-    let mut chunk = rows.chunk_count();
-    let top = rows.get_near(last, &mut chunk).first;
-    let low = rows.get_near(0, &mut 0).first;
+fn even_rank(rows: &RowList, page: u64) -> Option<usize> {
+    let last = row_count(rows).checked_sub(1)?;
+    let mut chunk = chunk_count(rows);
+    let top = row_near(rows, last, &mut chunk).first;
+    let low = row_near(rows, 0, &mut 0).first;
     rank_between(page, low, top, last)
 }
 
@@ -27,11 +26,7 @@ fn rank_between(page: u64, low: u64, top: u64, last: usize) -> Option<usize> {
 
 /// The number of rows that start at a page or before it, if a few rows around the guessed rank
 /// decide it; `chunk` is then their chunk.
-pub(crate) fn starts_beside(
-    rows: &Rows<Row, Owned<Row>>,
-    page: u64,
-    chunk: &mut usize,
-) -> Option<usize>
+pub(crate) fn starts_beside(rows: &RowList, page: u64, chunk: &mut usize) -> Option<usize>
     ensures some { IfSome result (λ count. 0 < count) }
     ensures within { IfSome result (λ count. count < length rows.now) }
     ensures before { IfSome result (λ count. (d : _)
@@ -40,11 +35,11 @@ pub(crate) fn starts_beside(
         → page < (slice_index_or rows.now count d).first) }
 {
     let start = even_rank(rows, page)?.saturating_sub(1);
-    let near = start.saturating_mul(rows.chunk_count()) / rows.len().max(1);
-    let mut part = rows.no_part();
-    for place in start..rows.len().min(start.saturating_add(LOOKED_AT)) {
-        part = rows.part_with(part, place, near);
-        let row = rows.row_in(&part, place);
+    let near = start.saturating_mul(chunk_count(rows)) / row_count(rows).max(1);
+    let mut part = no_part(rows);
+    for place in start..row_count(rows).min(start.saturating_add(LOOKED_AT)) {
+        part = part_with(rows, part, place, near);
+        let row = row_in(rows, &part, place);
         if page < row.first {
             if place == start {
                 return None;
@@ -58,22 +53,18 @@ pub(crate) fn starts_beside(
 
 /// The number of rows, if all of them start at a page or before it, as where ranges are made in
 /// ascending order; `chunk` is then their last chunk.
-pub(crate) fn all_starts(
-    rows: &Rows<Row, Owned<Row>>,
-    page: u64,
-    chunk: &mut usize,
-) -> Option<usize>
+pub(crate) fn all_starts(rows: &RowList, page: u64, chunk: &mut usize) -> Option<usize>
     ensures some { IfSome result (λ count. 0 < count) }
     ensures all { IfSome result (λ count. count ≡ length rows.now) }
     ensures before { IfSome result (λ count. (d : _)
         → (slice_index_or rows.now (count - 1) d).first ≤ page) }
 {
-    let count = rows.len();
+    let count = row_count(rows);
     if count == 0 {
         return None;
     }
-    let mut last = rows.chunk_count();
-    let row = rows.get_near(count - 1, &mut last);
+    let mut last = chunk_count(rows);
+    let row = row_near(rows, count - 1, &mut last);
     if page < row.first {
         return None;
     }

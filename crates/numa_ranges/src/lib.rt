@@ -20,6 +20,7 @@ mod even;
 mod exact;
 mod fault;
 mod join;
+mod list;
 mod pieces;
 mod range_iter;
 mod range_map;

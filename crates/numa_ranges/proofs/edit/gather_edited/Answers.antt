@@ -100,3 +100,23 @@ loop-k-init g c = record {
   };
   count = omega (arith, c.requires.none);
 }
+
+pub add_before-requires-clause-room : goal.add_before-requires-clause-room
+add_before-requires-clause-room g c = omega (arith, c.loop-k.invariant.count, c.requires.len)
+
+pub add_within-requires-clause-room : goal.add_within-requires-clause-room
+add_within-requires-clause-room g c =
+    omega (arith, c.add_before.ensures.count, c.loop-k.invariant.count, c.requires.len)
+
+pub add_from-requires-clause-room : goal.add_from-requires-clause-room
+add_from-requires-clause-room g c =
+    omega (
+      arith,
+      c.add_within.ensures.count,
+      c.add_before.ensures.count,
+      c.loop-k.invariant.count,
+      c.requires.len,
+    )
+
+pub returns-clause-count : goal.returns-clause-count
+returns-clause-count g c = omega (arith, c.loop-k.invariant.count)

@@ -29,7 +29,7 @@ returns-then-others-count-clause-err g c change gives added h =
       size,
       shut.size,
       rows,
-      c.len.ensures.len,
+      c.row_count.ensures.len,
       c.requires.window.0,
       c.requires.window.1,
     ))
@@ -50,7 +50,7 @@ returns-then-self-clause-err g c change gives added h =
       size,
       shut.size,
       rows,
-      c.len.ensures.len,
+      c.row_count.ensures.len,
       c.requires.window.0,
       c.requires.window.1,
     ))
@@ -71,13 +71,13 @@ returns-in_default-clause-err g c change gives added h =
       size,
       shut.size,
       rows,
-      c.len.ensures.len,
+      c.row_count.ensures.len,
       c.requires.window.0,
       c.requires.window.1,
     ))
 
-pub returns-in_default-splice_near-clause-err : goal.returns-in_default-splice_near-clause-err
-returns-in_default-splice_near-clause-err g c change gives added h =
+pub returns-in_default-splice_rows-clause-err : goal.returns-in_default-splice_rows-clause-err
+returns-in_default-splice_rows-clause-err g c change gives added h =
     let M = maximal_runs g.T.PartialEq.eq added in
     let whole = runs_of c.args.values.now c.args.rows.now in
     let shut = sealed g.T.PartialEq.eq g.met.T.Exact.exact g.met.T.Eq.laws.refl change
@@ -92,7 +92,7 @@ returns-in_default-splice_near-clause-err g c change gives added h =
       size,
       shut.size,
       rows,
-      c.len.ensures.len,
+      c.row_count.ensures.len,
       c.requires.window.0,
       c.requires.window.1,
     ))
@@ -105,17 +105,17 @@ pub returns-in_default-clause-unchanged : goal.returns-in_default-clause-unchang
 returns-in_default-clause-unchanged g c = runs-longer c.args.values.now c.number_rows.new.values
     c.args.rows.now c.number_rows.ensures.longer c.requires.numbered
 
-pub returns-in_default-splice_near-clause-numbered :
-    goal.returns-in_default-splice_near-clause-numbered
-returns-in_default-splice_near-clause-numbered g c =
-    rw c.in_default-splice_near.ensures.unchanged
+pub returns-in_default-splice_rows-clause-numbered :
+    goal.returns-in_default-splice_rows-clause-numbered
+returns-in_default-splice_rows-clause-numbered g c =
+    rw c.in_default-splice_rows.ensures.unchanged
     (numbered-longer c.args.values.now c.number_rows.new.values c.args.rows.now
     c.number_rows.ensures.longer c.requires.numbered)
 
-pub returns-in_default-splice_near-clause-unchanged :
-    goal.returns-in_default-splice_near-clause-unchanged
-returns-in_default-splice_near-clause-unchanged g c =
-    ap (runs_of c.number_rows.new.values) c.in_default-splice_near.ensures.unchanged
+pub returns-in_default-splice_rows-clause-unchanged :
+    goal.returns-in_default-splice_rows-clause-unchanged
+returns-in_default-splice_rows-clause-unchanged g c =
+    ap (runs_of c.number_rows.new.values) c.in_default-splice_rows.ensures.unchanged
     ∙ runs-longer c.args.values.now c.number_rows.new.values c.args.rows.now
     c.number_rows.ensures.longer c.requires.numbered
 
@@ -134,9 +134,9 @@ returns-clause-numbered g c =
     let made = c.in-Ok.ensures.rows change gives M
     (subst (λ (l : List EditedRow). AreEditedRows change c.args.values.now l M)
     (sym c.deref.ensures.value) (shut.kept c.if-self.false)) in
-    let put : c.splice_near.new.self ≡ splice rows c.args.from c.args.to
+    let put : c.splice_rows.new.rows ≡ splice rows c.args.from c.args.to
     c.number_rows.new.rows.items =
-    c.in-Ok-splice_near.ensures.ok ∙ ap (splice rows c.args.from c.args.to)
+    c.in-Ok-splice_rows.ensures.ok ∙ ap (splice rows c.args.from c.args.to)
     c.as_slice.ensures.value in
     let kept = numbered-longer c.args.values.now new rows c.number_rows.ensures.longer
     c.requires.numbered in
@@ -154,9 +154,9 @@ returns-clause-ok g c change gives added h =
     let made = c.in-Ok.ensures.rows change gives M
     (subst (λ (l : List EditedRow). AreEditedRows change c.args.values.now l M)
     (sym c.deref.ensures.value) (shut.kept c.if-self.false)) in
-    let put : c.splice_near.new.self ≡ splice rows c.args.from c.args.to
+    let put : c.splice_rows.new.rows ≡ splice rows c.args.from c.args.to
     c.number_rows.new.rows.items =
-    c.in-Ok-splice_near.ensures.ok ∙ ap (splice rows c.args.from c.args.to)
+    c.in-Ok-splice_rows.ensures.ok ∙ ap (splice rows c.args.from c.args.to)
     c.as_slice.ensures.value in
     let kept = numbered-longer c.args.values.now new rows c.number_rows.ensures.longer
     c.requires.numbered in
@@ -173,7 +173,7 @@ returns-clause-ok g c change gives added h =
         size,
         shut.size,
         all,
-        c.len.ensures.len,
+        c.row_count.ensures.len,
         c.requires.window.0,
         c.requires.window.1,
         c.if-others-count.false,
