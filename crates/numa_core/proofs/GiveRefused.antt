@@ -42,7 +42,8 @@ module _ (state : State) (w : ℕ) (frame : Frame) (kept : IsKept state) where
   }
 
   -- the worker has no seat
-  pub no-seat : length state.seats.items ≤ w → Performs state (Give w frame) (Err NoSuchWorker) state
+  pub no-seat : length state.seats.items ≤ w
+      → Performs state (Give w frame) (Err NoSuchWorker) state
   no-seat high = refused NoSuchWorker
       (λ world stands.
       let none : length (map busy_of state.seats.items) ≤ w =

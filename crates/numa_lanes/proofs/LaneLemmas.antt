@@ -1,7 +1,8 @@
 -- Vectors of hits, and chunks of a span, by their lists.
-use Rattle.std.proofs.Common.{◌≡◌, ◌==◌, ℕ, ◌+◌, ◌<◌, ◌≤◌, ◌-◌, suc, List, [], ◌∷◌, length, take, drop}
-use Rattle.std.proofs.Common.{count_by, replicate, Bool, true, false, cond, refl, ap, sym, ◌∙◌}
-use Rattle.std.proofs.Common.{arith, map, get_or, set, get_or-set_same, get_or-set_other, inl, inr}
+use Rattle.std.proofs.Common.{◌≡◌, ◌==◌, ℕ, ◌+◌, ◌<◌, ◌≤◌, ◌-◌, suc, List, [], ◌∷◌, length, take}
+use Rattle.std.proofs.Common.{drop, count_by, replicate, Bool, true, false, cond, refl, ap, sym}
+use Rattle.std.proofs.Common.{◌∙◌, arith, map, get_or, set, inl, inr}
+use Rattle.std.proofs.Common.{get_or-set_same, get_or-set_other}
 use Rattle.std.specs.Simd.Lanes.{sum_l, sel_l, Each1, chunk, put_chunk}
 use Rattle.std.proofs.lemmas.List.Recursion.{is_count_by}
 use Rattle.std.proofs.lemmas.Bool.{cases_lt, cases_eq, eq-eqb, ne_eqb}

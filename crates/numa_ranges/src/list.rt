@@ -1,6 +1,7 @@
 //! The list of rows in chunks. What it is asked for is asked here: a proof that calls one of these
 //! sees a list of rows, and not how the chunks are kept.
-ghost use Rattle.std.specs.Prelude.{◌≡◌, ◌+◌, ◌/◌, ◌<◌, ◌≤◌, ◌^◌, length, slice_index_or, OnOk, OnErr};
+ghost use Rattle.std.specs.Prelude.{◌≡◌, ◌+◌, ◌/◌, ◌<◌, ◌≤◌, ◌^◌, length};
+ghost use Rattle.std.specs.Prelude.{slice_index_or, OnOk, OnErr};
 ghost use Rattle.std.specs.List.{splice};
 ghost use Rattle.numa_rows.specs.Searches.{HasRow, IsChunkOf};
 

@@ -1,5 +1,5 @@
-use Rattle.std.proofs.Common.{◌∷◌, ◌≡◌, List, None, Ok, OnOk, Result, length, ap, sym, subst}
-use Rattle.std.proofs.Common.{◌∙◌}
+use Rattle.std.proofs.Common.{◌∷◌, ◌≡◌, List, None, Ok, Err, OnOk, OnErr, Result, length, ap, sym}
+use Rattle.std.proofs.Common.{◌∙◌, subst, rules}
 use Rattle.std.proofs.lemmas.Result.{IfOk-at_ok}
 use Rattle.numa_machine.specs.Machine.{Hardware}
 use Rattle.numa_space.specs.Changed.{IsChange}
@@ -11,9 +11,11 @@ use Rattle.numa_requests.specs.declared.command.Command.{Command}
 use Rattle.numa_requests.specs.declared.refusal.Refusal.{Refusal}
 use Rattle.numa_requests.specs.declared.event.Event.TheVariants.{Accept}
 use Rattle.numa_requests.specs.declared.event.CoreReply.TheVariants.{Accepted}
+use Rattle.numa_requests.specs.declared.event.CoreRefusal.TheVariants.{Command as Because}
 use Rattle.numa_core.specs.Executions.{CoreStep}
-use Rattle.numa_core.specs.Kept.{core_state, Follows}
-use Rattle.numa_core.specs.Standing.{CoreState, LeadsTo, core_step_after, setup_of}
+use Rattle.numa_core.specs.Kept.{core_state, Follows, IsKept}
+use Rattle.numa_core.specs.Standing.{CoreState, HasPast, LeadsTo, core_step_after}
+use Rattle.numa_core.specs.Standing.{setup_of}
 use Rattle.numa_core.specs.declared.state.State.{State}
 use Rattle.numa_core.proofs.CoreExecutions.{leads_on, past_more}
 use Rattle.numa_core.proofs.CoreSteps.{accept-follows}
@@ -95,3 +97,31 @@ pub returns-in-Ok-clause-setup : goal.returns-in-Ok-clause-setup
 returns-in-Ok-clause-setup c =
     same_setup c.self.inside.state c.apply-answer.new.self c.apply-answer.ensures.applied.machine
     c.apply-answer.ensures.applied.bounds ∙ ap setup_of c.self.view_is
+
+-- a refused command leaves the space
+left : {old after : SpaceState} {result : Result Change Refusal} {refusal : Refusal}
+    → result ≡ Err refusal → OnErr result (after ≡ old) → after ≡ old
+left {old} {after} is same =
+    subst (λ (r : Result Change Refusal). OnErr r (after ≡ old)) is same
+
+pub invariant_of-self-in-Err : goal.invariant_of-self-in-Err
+invariant_of-self-in-Err c =
+    let old : State = c.self.inside.state in
+    let P : SpaceState → Type 0 = λ s. IsKept (record old { space = s })
+    × HasPast (core_state (record old { space = s })) in
+    subst P (sym (left c.in-Err.is c.apply-answer.ensures.applied.unchanged)) c.self.invariant
+
+pub returns-in-Err-clause-setup : goal.returns-in-Err-clause-setup
+returns-in-Err-clause-setup c =
+    same_setup c.self.inside.state c.apply-answer.new.self c.apply-answer.ensures.applied.machine
+    c.apply-answer.ensures.applied.bounds ∙ ap setup_of c.self.view_is
+
+pub returns-in-Err-clause-executions : goal.returns-in-Err-clause-executions
+returns-in-Err-clause-executions c =
+    let old : State = c.self.inside.state in
+    let new : CoreState = core_state (record old { space = c.apply-answer.new.self }) in
+    let follows : Follows c.args.self.now (Accept c.args.command.now)
+    (Err (Because c.in-Err.refusal)) new = search rules in
+    leads_on c.args.self.now new (Accept c.args.command.now) (Err (Because c.in-Err.refusal))
+    (same_setup old c.apply-answer.new.self c.apply-answer.ensures.applied.machine
+    c.apply-answer.ensures.applied.bounds ∙ ap setup_of c.self.view_is) follows

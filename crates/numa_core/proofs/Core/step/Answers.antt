@@ -63,7 +63,8 @@ returns-in-Publish c =
 pub returns-in-Begin : goal.returns-in-Begin
 returns-in-Begin c =
     let told = told-by c.args.self.now c.self-in-Begin.inside.state c.begin.new.self c.args.event
-    (Begin c.in-Begin.worker c.in-Begin.request) c.begin.result c.self-in-Begin.view_is c.in-Begin.is c.begin.ensures in
+    (Begin c.in-Begin.worker c.in-Begin.request) c.begin.result c.self-in-Begin.view_is
+    c.in-Begin.is c.begin.ensures in
     record {
       answer = told.answers;
       executions = told.executions;
@@ -74,7 +75,8 @@ returns-in-Begin c =
 pub returns-in-Look : goal.returns-in-Look
 returns-in-Look c =
     let told = told-by c.args.self.now c.self-in-Look.inside.state c.look.new.self c.args.event
-    (Look c.in-Look.worker c.in-Look.word) c.look.result c.self-in-Look.view_is c.in-Look.is c.look.ensures in
+    (Look c.in-Look.worker c.in-Look.word) c.look.result c.self-in-Look.view_is
+    c.in-Look.is c.look.ensures in
     record {
       answer = told.answers;
       executions = told.executions;
@@ -85,7 +87,8 @@ returns-in-Look c =
 pub returns-in-Try : goal.returns-in-Try
 returns-in-Try c =
     let told = told-by c.args.self.now c.self-in-Try.inside.state c.attempt.new.self c.args.event
-    (Try c.in-Try.worker c.in-Try.frame) c.attempt.result c.self-in-Try.view_is c.in-Try.is c.attempt.ensures in
+    (Try c.in-Try.worker c.in-Try.frame) c.attempt.result c.self-in-Try.view_is
+    c.in-Try.is c.attempt.ensures in
     record {
       answer = told.answers;
       executions = told.executions;
@@ -96,7 +99,8 @@ returns-in-Try c =
 pub returns-in-Give : goal.returns-in-Give
 returns-in-Give c =
     let told = told-by c.args.self.now c.self-in-Give.inside.state c.give.new.self c.args.event
-    (Give c.in-Give.worker c.in-Give.frame) c.give.result c.self-in-Give.view_is c.in-Give.is c.give.ensures in
+    (Give c.in-Give.worker c.in-Give.frame) c.give.result c.self-in-Give.view_is
+    c.in-Give.is c.give.ensures in
     record {
       answer = told.answers;
       executions = told.executions;
@@ -106,7 +110,8 @@ returns-in-Give c =
 
 pub returns-in-Ok : goal.returns-in-Ok
 returns-in-Ok c =
-    let done : Told c.args.self.now (Accept c.in-Accept.command) (Ok (Accepted c.in-Ok.version)) c.accept.new.self = record {
+    let done : Told c.args.self.now (Accept c.in-Accept.command) (Ok (Accepted c.in-Ok.version))
+    c.accept.new.self = record {
       answers = c.in-Ok.ensures.answer;
       executions = c.in-Ok.ensures.executions;
       unchanged = tt;
@@ -123,7 +128,8 @@ returns-in-Ok c =
 
 pub returns-in-Err : goal.returns-in-Err
 returns-in-Err c =
-    let done : Told c.args.self.now (Accept c.in-Accept.command) (Err (Command c.in-Err.refusal)) c.accept.new.self = record {
+    let done : Told c.args.self.now (Accept c.in-Accept.command) (Err (Command c.in-Err.refusal))
+    c.accept.new.self = record {
       answers = c.in-Err.ensures.answer;
       executions = c.in-Err.ensures.executions;
       unchanged = c.in-Err.ensures.unchanged;

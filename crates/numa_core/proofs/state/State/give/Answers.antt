@@ -121,4 +121,5 @@ returns-then-owner-worker c =
     c.index-seat.ensures) (Some c.in-Some-index.owner) (sym c.is_some.ensures ∙ c.if-is_some.false)
     (ap (owner_at c.args.self.now.owners.items) (sym c.place.ensures.place ∙ c.in-Some.is)
     ∙ (owner_read c.args.self.now.owners.items c.in-Some.place c.index.result.now within
-    c.index.ensures ∙ c.in-Some-index.is)) (ne_eqb c.in-Some-index.owner c.args.worker c.if-owner-worker.true)
+    c.index.ensures ∙ c.in-Some-index.is))
+    (ne_eqb c.in-Some-index.owner c.args.worker c.if-owner-worker.true)
