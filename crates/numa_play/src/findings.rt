@@ -260,8 +260,8 @@ impl<W: Write> Findings<W> {
 
     /// Drops the script by the other rules if a line chooses rules, where it is played only unless
     /// one does.
-    fn heed_rules(&mut self, line: &[u8]) {
-        if self.look.other == Twin::UnlessChosen && line.starts_with(b"rules ") {
+    fn heed_rules(&mut self) {
+        if self.look.other == Twin::UnlessChosen && self.named.has_rules() {
             drop(self.other.take());
         }
     }
@@ -411,7 +411,7 @@ impl<W: Write> TakeLine<()> for Findings<W> {
             return Ok(());
         }
         self.note(line);
-        self.heed_rules(line);
+        self.heed_rules();
         if let Err(why) = self.follow(line) {
             return Err(why);
         }

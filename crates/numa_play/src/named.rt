@@ -77,6 +77,8 @@ pub(crate) struct Named {
     // Whether a line names the task that is asked for.
     has_task: bool,
     cpus: Option<NodeMask>,
+    // Whether a line chooses rules.
+    has_rules: bool,
 }
 
 impl Named {
@@ -88,6 +90,7 @@ impl Named {
             tasks: TasksNamed::Nobody,
             has_task: false,
             cpus: None,
+            has_rules: false,
         }
     }
 
@@ -103,10 +106,11 @@ impl Named {
         self.has_task = self.has_task || self.task == Some(task);
     }
 
-    /// Notes what a line names. The nodes with CPUs are of the machine to come.
+    /// Notes what a line names. The nodes with CPUs and the rules are of the machine to come.
     pub(crate) fn note(&mut self, line: &[u8], is_ready: bool) {
         match parse_host(line) {
             HostLine::Plain(Line::Cpus(Ok(cpus))) if !is_ready => self.cpus = Some(cpus),
+            HostLine::Plain(Line::Rules(_)) if !is_ready => self.has_rules = true,
             HostLine::Plain(line) => self.note_task(None, &line),
             HostLine::In { process, line } => self.note_task(Some(process), &line),
             _ => {}
@@ -116,6 +120,11 @@ impl Named {
     /// The nodes with CPUs that lines name, if they name some.
     pub(crate) fn cpus(&self) -> Option<NodeMask> {
         self.cpus
+    }
+
+    /// Whether a line chooses rules.
+    pub(crate) fn has_rules(&self) -> bool {
+        self.has_rules
     }
 
     /// The task that is asked for.
