@@ -3,9 +3,11 @@
 # It is proved by `rt ci`, in a room: a repository of copies of those crates alone, among the
 # temporary files. Where the kit's rt keeps what passes, beside the kit and each crate as soon as it
 # is proved, neither this nor ./test proves again what the other proved, and a proof that was
-# interrupted goes on from there. rt runs as many proofs side by side as there are processors and
-# memory, and gives one the processors that no other waits for, since a chain of crates bounds the
-# whole; NUMAPLAN_JOBS is how many run side by side instead, each with one job. Not proved.
+# interrupted goes on from there. ahead.bash says what runs side by side; NUMAPLAN_JOBS is how many
+# proofs do instead, each with one job. Not proved.
+
+building=$top/tools/building
+. "$building/ahead.bash"
 
 declare -A proof_takes=(
     [proved]='some 40 minutes on four processors, and 3 GB of disk'
@@ -40,13 +42,11 @@ fill_room() {
 told() { sed -n "s/^rt: \([a-z0-9_]*\) \($1\).*/\1/p" "${@:2}"; }
 
 # Counts what rt has told: `found` crates kept from earlier runs, `ended` in all, and the latest.
-# (What the run ahead has proved is kept for the other, and not found.)
+# (What a run ahead has proved is kept for the whole one, and not found.)
 look() {
-    local logs=("$room/said" "$room/ahead")
-    [ "$room/said" -nt "$room/ahead" ] && logs=("$room/ahead" "$room/said")
-    latest=$(told 'proved$' "${logs[@]}" | tail -n 1)
-    ended=$(told 'proved$\|is kept: ' "${logs[@]}" | sort -u | wc -l)
-    found=$((ended - $(told 'proved$' "${logs[@]}" | sort -u | wc -l)))
+    latest=$(told 'proved$' "$room/said" | tail -n 1)
+    ended=$(told 'proved$\|is kept: ' "$room/said" | sort -u | wc -l)
+    found=$((ended - $(told 'proved$' "$room/said" | sort -u | wc -l)))
 }
 
 progress() {
@@ -80,32 +80,6 @@ tell_failure() {
 }
 
 # ---- the proof
-
-# Whether the kit's rt keeps what passes, in a folder of that name (rattle-kit-13b's doesn't).
-keeps_proofs() { grep -qs 'rattle-kept\|class Kept' "$kit"/bin/rt "$kit"/bin/rtlib.py; }
-
-# Whether the chain of crates below numa_core, which bounds the whole, is proved by a run of its own
-# beside the other: `rt ci` fills its places with what is ready first, also with crates beside the
-# chain, and each run waits for what the other proves. On few processors it would gain nothing.
-goes_ahead() {
-    keeps_proofs && [ -z "${RT_JOBS:-}" ] && [ "$(nproc)" -ge 4 ] &&
-        [[ " ${needed[*]} " = *' numa_core '* ]]
-}
-
-# Runs `rt ci`, with the one that goes ahead beside it.
-prove_all() {
-    local ahead='' status
-    : >"$room/ahead"
-    if goes_ahead; then
-        rt ci numa_core >"$room/ahead" 2>&1 &
-        ahead=$!
-    fi
-    rt ci
-    status=$?
-    [ -z "$ahead" ] || kill "$ahead" 2>/dev/null
-    wait
-    return "$status"
-}
 
 # Has all proved in the room, and shows how far it is.
 prove_in_room() {
