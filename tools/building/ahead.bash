@@ -54,7 +54,7 @@ prove_beside() {
 # Runs `rt ci` at the top of a repository here, where the folder of this file is in $building.
 prove_all() {
     local groups chain proved status
-    if goes_ahead && groups=$(python3 -B "$building/chain") && proved=$(mktemp); then
+    if goes_ahead && groups=$(python3 -B "$building/chain.py") && proved=$(mktemp); then
         trap 'rm -f "$proved"; end_below "$BASHPID"; exit 130' INT TERM HUP
         mapfile -t chain < <(cut -d ' ' -f 1 <<<"$groups" | grep -vx -e -)
         (renice -n 10 -p "$BASHPID" >/dev/null && prove_beside "$proved") &

@@ -1,5 +1,5 @@
 #!/usr/bin/env python3
-"""chain [FOLDER]: of the repository in a folder, the crates whose proofs wait for one another longest, by their lines:
+"""chain.py [FOLDER]: of the repository in a folder, the crates whose proofs wait for one another longest, by their lines:
 a line each, the lowest first, with the other crates that can be proved once it is. The first line is of none: `-`, and
 the crates that stand on none of these. Not proved."""
 
