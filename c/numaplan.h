@@ -46,11 +46,11 @@ extern "C" {
 #define NP_VERSION_MINOR 10
 #define NP_VERSION_PATCH 0
 #define NP_VERSION (NP_VERSION_MAJOR * 1000000 + NP_VERSION_MINOR * 1000 + NP_VERSION_PATCH)
+#define NP_UNPROVED UINT32_C(0x80000000)
 
 /* The version of the library, as one number like NP_VERSION. They differ where a program runs with
  * another library than it was compiled for. A library that was compiled without a proof
  * (`./numaplan library --unproved`) adds NP_UNPROVED. */
-#define NP_UNPROVED UINT32_C(0x80000000)
 uint32_t np_version(void);
 
 /* ---- answers; a number that was given once is never given to another cause */

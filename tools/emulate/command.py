@@ -5,6 +5,7 @@ import sys
 
 from .machine import Machine
 from .made_up import make_tree
+from .options import Words
 from .report import Outcome
 from .rooms import make_room, remove_room, sweep_rooms
 from .starting import begin
@@ -76,12 +77,13 @@ def open_log(path):
         raise Unfit(f"{path}: {fault.strerror}") from fault
 
 
-def main(words, is_real=False):
+def main(is_real=False):
     room = None
     pass_early_signals()
     try:
         if os.uname().machine != "x86_64" or sys.platform != "linux":
             raise Unfit("this runs on Linux on x86-64 alone")
+        words = Words(sys.argv[1:], is_real)
         sweep_rooms()
         room = make_room()
         status = run(words, room, is_real)

@@ -74,9 +74,9 @@ class Words:
 
 
 def read_words(is_real):
-    """The words of the command line. This needs no library."""
+    """Reads the words of the command line, and ends where these are for it alone. This needs no library."""
     try:
-        return Words(sys.argv[1:], is_real)
+        Words(sys.argv[1:], is_real)
     except Unfit as fault:
         tell(fault)
         sys.exit(OWN_FAULT)
