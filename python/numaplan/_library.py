@@ -261,8 +261,8 @@ def _find() -> ctypes.CDLL:
     """The library that NUMAPLAN_LIBRARY names; else that of this module's folder, of the PREFIX
     that it is installed in, where need be one without a proof, or of the system."""
     here = os.path.dirname(os.path.abspath(__file__))
-    beside = [os.path.join(here, *folder, name) for name in (NAME, UNPROVED)
-              for folder in ([], ["..", "..", "..", "lib"])]
+    folders = [here, os.path.join(here, "..", "..", "..", "lib")]
+    beside = [os.path.join(folder, name) for name in (NAME, UNPROVED) for folder in folders]
     found = [path for path in beside if os.path.exists(path)]
     path = os.environ.get("NUMAPLAN_LIBRARY") or (found + [NAME])[0]
     try:

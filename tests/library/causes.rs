@@ -5,7 +5,7 @@ use numaplan::{Core, Refused, VERSION, version};
 use std::error::Error;
 
 fn main() -> Result<(), Box<dyn Error>> {
-    let number = version();
+    let number = version() & !(1 << 31); // (which tells that it isn't proved)
     let parts = format!("{}.{}.{}", number / 1_000_000, number / 1_000 % 1_000, number % 1_000);
     assert_eq!(parts, VERSION);
     for cause in (1..200).map(Refused).filter(|cause| !cause.name().is_empty()) {

@@ -51,7 +51,8 @@ pub use values::{effective, nodes, nodes_text, policy_text, rebind, rebind_by};
 /// The version of this crate, and of the library that it is made for.
 pub const VERSION: &str = "0.10.0";
 
-/// The version of the library as one number, as 10000 for 0.10.0.
+/// The version of the library as one number, as 10000 for 0.10.0; 2^31 more where it was compiled
+/// without a proof.
 #[must_use]
 pub fn version() -> u32 {
     unsafe { raw::np_version() }
