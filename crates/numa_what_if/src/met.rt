@@ -1,10 +1,10 @@
 //! The report of what a trace met, as a text or as a page.
 use numa_answers::{PageData, page_of, view_text};
 use numa_plan::Plan;
-use numa_play::{Halt, halt_of};
+use numa_play::{Halt, halt_of, shown_as};
 use numa_reports::{Format, ReportError, Touch};
 use numa_space::Space;
-use numa_traces::{Replay, placed_text, report_text};
+use numa_traces::{Replay, Replaying, placed_text, report_text};
 use std::alloc::Global;
 
 /// The most runs of pages on one node that a page shows.

@@ -110,7 +110,7 @@ returns-in-Give c =
 
 pub returns-in-Ok : goal.returns-in-Ok
 returns-in-Ok c =
-    let done : Told c.args.self.now (Accept c.in-Accept.command) (Ok (Accepted c.in-Ok.version))
+    let done : Told c.args.self.now (Accept c.in-Accept.command) (Ok (Accepted c.in-Ok.acceptance.version))
     c.accept.new.self = record {
       answers = c.in-Ok.ensures.answer;
       executions = c.in-Ok.ensures.executions;
@@ -118,7 +118,7 @@ returns-in-Ok c =
       setup = c.in-Ok.ensures.setup;
     } in
     let told = told-same c.args.self.now c.accept.new.self c.args.event
-    (Accept c.in-Accept.command) (Ok (Accepted c.in-Ok.version)) c.in-Accept.is done in
+    (Accept c.in-Accept.command) (Ok (Accepted c.in-Ok.acceptance.version)) c.in-Accept.is done in
     record {
       answer = told.answers;
       executions = told.executions;
