@@ -9,11 +9,14 @@ from . import objects
 from .common import move
 from .cpus import getcpu
 from .policies import read_mask, word_of, write_mask
+from .prototypes import answer_text, statuses_text
 from .tracing import PAGE, TOP, fail, peek, poke
+from .words import list_text
 
 STRICT, MOVE, MOVE_ALL = 1, 2, 4  # MPOL_MF_*
 AS_NODE, AT_ADDRESS, ALLOWED = 1, 2, 4  # MPOL_F_*
-MODE_BITS, FLAGS = 2**32 - 1, 0xC000
+FLAGS = 0xC000  # of a mode, that keep the nodes as they were asked for
+NO_RIGHT = "MPOL_MF_MOVE_ALL takes CAP_SYS_NICE"
 INTERLEAVE, WEIGHTED = 3, 6
 
 
@@ -22,16 +25,13 @@ def whole_pages(length):
 
 
 def mbind(all_, task, start, length, mode, mask, most, flags):
-    if flags & ~(STRICT | MOVE | MOVE_ALL):
-        fail(errno.EINVAL)
-    word_of(mode & MODE_BITS, None)
+    word_of(mode, None)
     nodes = read_mask(task.number, mask, most)
-    if flags & MOVE_ALL and not all_.may_move_all:
-        fail(errno.EPERM)
+    judge_flags(all_, flags, STRICT | MOVE | MOVE_ALL)
     length = whole_pages(length)
     if start % PAGE == 0 and length == 0:
         return 0
-    word = word_of(mode & MODE_BITS, nodes)
+    word = word_of(mode, nodes)
     if word == "default":
         flags &= ~STRICT
     all_.wake(task)
@@ -50,6 +50,14 @@ def mbind(all_, task, start, length, mode, mask, most, flags):
     return 0
 
 
+def judge_flags(all_, flags, known):
+    """The flags MPOL_MF_* of a call."""
+    if flags & ~known:
+        fail(errno.EINVAL, f"flags 0x{flags & ~known:x} are none of this call")
+    if flags & MOVE_ALL and not all_.may_move_all:
+        fail(errno.EPERM, NO_RIGHT)
+
+
 def refuse_astray(space, start, length, word, pages):
     """Pages are on other nodes (EIO); a fault of the words comes before that, and mostly a hole."""
     try:
@@ -57,7 +65,7 @@ def refuse_astray(space, start, length, word, pages):
     except numaplan.Hole:
         if not is_met_first(space, start, start + length, pages):
             raise
-    fail(errno.EIO)
+    fail(errno.EIO, f"{len(pages)} pages are on other nodes, the first one at 0x{pages[0] * PAGE:x}")
 
 
 def is_met_first(space, start, end, pages):
@@ -83,7 +91,7 @@ def move_astray(all_, task, pages, flags):
 
 
 def set_mempolicy(all_, task, mode, mask, most, *_):
-    word = word_of(mode & MODE_BITS, read_mask(task.number, mask, most))
+    word = word_of(mode, read_mask(task.number, mask, most))
     all_.wake(task)
     all_.sweep(task)
     task.space.do("set_task", task.number, word)
@@ -93,21 +101,24 @@ def set_mempolicy(all_, task, mode, mask, most, *_):
 
 def get_mempolicy(all_, task, mode, mask, most, address, flags, *_):
     count = all_.machine.count
-    if flags & ~7 or mask and most < count:
-        fail(errno.EINVAL)
+    if flags & ~7:
+        fail(errno.EINVAL, f"flags 0x{flags & ~7:x} are none of this call")
+    if mask and most < count:
+        fail(errno.EINVAL, f"the mask has {most} bits, the machine {count} nodes")
     if flags & ALLOWED:
         if flags & (AS_NODE | AT_ADDRESS):
-            fail(errno.EINVAL)
+            fail(errno.EINVAL, "MPOL_F_MEMS_ALLOWED goes with no other flag")
         number, nodes = 0, all_.machine.allowed
     elif flags & AT_ADDRESS:
         number, nodes = policy_at(all_, task, address, flags)
     elif address:
-        fail(errno.EINVAL)
+        fail(errno.EINVAL, "an address without MPOL_F_ADDR")
     else:
         number, nodes = policy_of_task(all_, task, flags)
     if mode:
         poke(task.number, mode, struct.pack("I", number))
     write_mask(task.number, mask, most, nodes, count)
+    all_.tell(lambda: answer_text(number, nodes, flags))
     return 0
 
 
@@ -116,7 +127,7 @@ def policy_at(all_, task, address, flags):
     read alone the kernel has one page of zeros for all of it."""
     all_.look(task, address, address + 1)
     if not task.space.has(address):
-        fail(errno.EFAULT)
+        fail(errno.EFAULT, "nothing is mapped there")
     number, nodes = told_form(task.space.core.policy_at(address))
     if flags & AS_NODE:
         page = address // PAGE
@@ -133,7 +144,7 @@ def policy_of_task(all_, task, flags):
     number, nodes = told_form(task.space.core.task_policy(task.number))
     if flags & AS_NODE:
         if number & 0xFF not in (INTERLEAVE, WEIGHTED) or not nodes:
-            fail(errno.EINVAL)
+            fail(errno.EINVAL, "the task doesn't interleave")
         number = min(nodes)
     return number, nodes
 
@@ -146,10 +157,7 @@ def told_form(policy):
 
 
 def move_pages(all_, task, number, count, pages, nodes, status, flags):
-    if flags & ~(MOVE | MOVE_ALL):
-        fail(errno.EINVAL)
-    if flags & MOVE_ALL and not all_.may_move_all:
-        fail(errno.EPERM)
+    judge_flags(all_, flags, MOVE | MOVE_ALL)
     other = all_.other(task, number)
     all_.wake(other)
     if count >= 1 << 27:
@@ -165,8 +173,9 @@ def move_pages(all_, task, number, count, pages, nodes, status, flags):
         told.append(move_page(all_, other, start & -PAGE, node, flags, batch))
     if status:
         poke(task.number, status, struct.pack(f"{len(told)}i", *told))
+    all_.tell(lambda: statuses_text(told))
     if fault:
-        fail(fault)
+        fail(fault, f"node {node} has no memory" if fault == errno.ENODEV else f"node {node} isn't allowed")
     return 0
 
 
@@ -230,10 +239,10 @@ def migrate_pages(all_, task, number, most, old, new, *_):
     targets = read_mask(task.number, new, most) or set()
     other, machine = all_.other(task, number), all_.machine
     if targets - machine.allowed and not all_.may_move_all:
-        fail(errno.EPERM)
+        fail(errno.EPERM, f"nodes {list_text(targets - machine.allowed)} aren't allowed")
     targets &= machine.allowed
     if not targets:
-        fail(errno.EINVAL)
+        fail(errno.EINVAL, "no node to go to is allowed")
     all_.wake(other)
     all_.sweep(other)
     stays = set() if all_.may_move_all else other.space.shared_of(other.number, other.space.placed)
@@ -261,7 +270,7 @@ def steps_of(sources, targets):
 
 def set_mempolicy_home_node(all_, task, start, length, node, flags, *_):
     if flags:
-        fail(errno.EINVAL)
+        fail(errno.EINVAL, f"flags 0x{flags:x}: there are none yet")
     length = whole_pages(length)
     all_.look(task, start, start + length)
     all_.sweep(task, start, min(start + length, TOP))

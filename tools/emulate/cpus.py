@@ -80,8 +80,8 @@ def read_cpus(text, count, nodes):
 
 def sched_setaffinity(all_, task, number, size, start, *_):
     """The task goes to the first CPU of the mask, unless it is on one of its CPUs."""
+    bits = int.from_bytes(peek(task.number, start, min(size, MOST // 8)), "little")
     other = all_.other(task, number)
-    bits = int.from_bytes(peek(task.number, start, min(size & 2**32 - 1, MOST // 8)), "little")
     mask = {cpu for cpu in all_.machine.cpus.node_of if bits >> cpu & 1}
     if not mask:
         fail(errno.EINVAL)
@@ -94,10 +94,11 @@ def sched_setaffinity(all_, task, number, size, start, *_):
 
 
 def sched_getaffinity(all_, task, number, size, start, *_):
-    other, size = all_.other(task, number), size & 2**32 - 1
-    needed = max(all_.machine.cpus.node_of) // 64 * 8 + 8
-    if size % 8 or size < needed:
-        fail(errno.EINVAL)
+    count = max(all_.machine.cpus.node_of) + 1
+    needed = (count + 63) // 64 * 8
+    if size % 8 or size * 8 % 2**32 < count:
+        fail(errno.EINVAL, f"{size} bytes are no whole words, or no room for {count} CPUs")
+    other = all_.other(task, number)
     poke(task.number, start, sum(1 << cpu for cpu in other.mask).to_bytes(needed, "little"))
     return needed
 

@@ -12,11 +12,13 @@ from .common import pages_on
 from .cpus import OF_MADE_UP
 from .made_up import file_for
 from .mappings import FOLLOWED
+from .prototypes import call_text, nodes_asked, result_text, words_of
 from .space import Space
 from .tracing import CLONE, CONTINUE, EXEC, EXIT, FORK, LISTEN, NAMES, ONLY_WITH, SECCOMP, STOP, TO_CALL_END
 from .tracing import TOP, VFORK, Failed, fail, message_of, peek, poke, ptrace, registers_of, set_registers, text_at
 from .vdso import make_getcpu_a_call
 from .waiting import Waiting
+from .words import list_text
 
 SHARES_MEMORY = 0x100  # CLONE_VM
 GONE = (ProcessLookupError, FileNotFoundError)
@@ -51,6 +53,7 @@ class Emulator:
         self.may_move_all = os.geteuid() == 0  # (CAP_SYS_NICE)
         self.answered, self.followed = self.calls_answered(), self.calls_followed()
         self.early, self.has_begun, self.stops = {}, False, Counter()
+        self.told = ""  # what the call that is answered now tells, for the log
         self.unread = []  # (number, status) of tasks that were waited for elsewhere
         self.tasks = {}
 
@@ -73,6 +76,10 @@ class Emulator:
         """The calls that stop a program, each with the word that makes it matter, or None."""
         names = [*self.answered, *self.followed, *(("open", "openat") if self.fakes else ())]
         return {name: ONLY_WITH.get(name) for name in names}
+
+    def tell(self, text):
+        """What a call has found out, where there is a log: the text comes from a function."""
+        self.told = text() if self.log else ""
 
     def say(self, *words):
         if self.log:
@@ -127,21 +134,31 @@ class Emulator:
 
     def answer(self, task, registers):
         """The result of a call about policies: the kernel never sees it."""
-        name, words = NAMES[registers.orig_rax], registers.arguments()
+        name = NAMES[registers.call()]
+        words, why, self.told = words_of(name, registers), "", ""
+        shown = call_text(task.number, name, words) if self.log else None
         try:
             result = self.answered[name](self, task, *words)
         except Failed as fault:
-            result = -fault.number
+            result, why = -fault.number, fault.why
             task.space.refuse(f"{name} by {task.number}", str(fault))
         except numaplan.Refused as refusal:
-            result = -(refusal.errno or errno.EINVAL)
-        told = errno.errorcode[-result] if result < 0 else result
-        self.say(task.number, f"{name}({', '.join(map(hex, words))}) = {told}")
+            result, why = -(refusal.errno or errno.EINVAL), self.cause_of(refusal, name, task, words)
+        self.say(task.number, shown, "=", result_text(result, why or self.told))
         return result
+
+    def cause_of(self, refusal, name, task, words):
+        """Why numaplan refuses a call, in its words; of nodes that aren't allowed it tells which."""
+        nodes = nodes_asked(task.number, name, words) if isinstance(refusal, numaplan.NodesNotAllowed) else set()
+        absent = nodes - self.machine.allowed
+        if not absent:
+            return str(refusal)
+        verb = "nodes {} aren't" if len(absent) > 1 else "node {} isn't"
+        return f"{verb.format(list_text(absent))} allowed (cpuset {list_text(self.machine.allowed)})"
 
     def redirect(self, task, registers):
         """A file that is made up is opened in place of another one: its name is put below the stack."""
-        at = "rdi" if NAMES[registers.orig_rax] == "open" else "rsi"
+        at = "rdi" if NAMES[registers.call()] == "open" else "rsi"
         path = getattr(registers, at)
         try:
             made = file_for(self, task, text_at(task.number, path))
@@ -164,7 +181,7 @@ class Emulator:
     def at_call(self, task):
         """How the task goes on."""
         registers = registers_of(task.number)
-        name = NAMES.get(registers.orig_rax)
+        name = NAMES.get(registers.call())
         self.stops[name] += 1
         if name in self.answered:
             registers.rax = self.answer(task, registers) & 2**64 - 1
@@ -175,7 +192,7 @@ class Emulator:
             task.at_end = self.redirect(task, registers)
         elif name in self.followed:
             try:
-                task.at_end = self.followed[name](self, task, *registers.arguments())
+                task.at_end = self.followed[name](self, task, *words_of(name, registers))
             except Failed:
                 pass  # (a text that isn't there: the kernel says so)
         return TO_CALL_END if task.at_end else CONTINUE
@@ -184,8 +201,8 @@ class Emulator:
 
     def at_child(self, task):
         number, registers = message_of(task.number), registers_of(task.number)
-        flags = {56: registers.rdi, 58: SHARES_MEMORY}.get(registers.orig_rax, 0)
-        if registers.orig_rax == 435:  # clone3
+        flags = {56: registers.rdi, 58: SHARES_MEMORY}.get(registers.call(), 0)
+        if registers.call() == 435:  # clone3
             flags = int.from_bytes(peek(task.number, registers.rdi, 8), "little")
         space = task.space
         if not flags & SHARES_MEMORY:

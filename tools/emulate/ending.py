@@ -15,9 +15,9 @@ def number_of_child(task):
     """Where the number of a thread that has just been made is cleared as it ends (clone(2)); 0 where nowhere."""
     registers = registers_of(task)
     flags, at = registers.rdi, registers.r10
-    if registers.orig_rax == CLONE3:
+    if registers.call() == CLONE3:
         flags, _, at = struct.unpack("3Q", peek(task, registers.rdi, 24))
-    return at if registers.orig_rax in (CLONE, CLONE3) and flags & CLEARS_NUMBER else 0
+    return at if registers.call() in (CLONE, CLONE3) and flags & CLEARS_NUMBER else 0
 
 
 def locks_of(task):

@@ -31,7 +31,7 @@ OPTIONS = {
                "writes where pages are as each process ends, and refused calls, in the form that the name ends with"
                " (.json, .svg, .html, else text); - is standard error. SIGUSR1 asks for it before the end"),
     "expect": ("FILE", True, "lines NAME NODE=PAGES,..: where the pages of an area are to be as PROGRAM ends"),
-    "log": ("FILE", True, "writes each call about policies, and its answer"),
+    "log": ("FILE", True, "writes each call about policies, its answer, and why it was refused"),
 }
 OF_EMULATE = {"machine": "two nodes", "rules": "else the documents'"}
 OF_RECORD = {"machine": "what sysfs tells, and the kernel's rules", "rules": "without one the kernel's"}

@@ -19,10 +19,10 @@ def read_mask(task, start, most):
         return None
     bits = (most - 1) % 2**64
     if bits > PAGE * 8:
-        fail(errno.EINVAL)
+        fail(errno.EINVAL, f"a mask of {bits} bits: a page is the most")
     mask = int.from_bytes(peek(task, start, (bits + 63) // 64 * 8), "little") & (1 << bits) - 1
     if mask >> MOST_BITS:
-        fail(errno.EINVAL)
+        fail(errno.EINVAL, f"node {mask.bit_length() - 1}: kernels have {MOST_BITS} at the most")
     return {node for node in range(256) if mask >> node & 1}
 
 
@@ -31,7 +31,7 @@ def write_mask(task, start, most, nodes, count):
     if not start:
         return
     if most < count:
-        fail(errno.EINVAL)
+        fail(errno.EINVAL, f"the mask has {most} bits, the machine {count} nodes")
     size = max(8, (min(most, PAGE * 8) + 62) // 64 * 8)
     poke(task, start, sum(1 << node for node in nodes).to_bytes(max(size, 32), "little")[:size])
 
@@ -39,12 +39,14 @@ def write_mask(task, start, most, nodes, count):
 def word_of(mode, nodes):
     """The word of a mode with its flags, and nodes; the library judges the rest."""
     flags, mode = mode & 0xE000, mode & ~0xE000
-    if mode >= len(MODES) or flags & STATIC and flags & RELATIVE:
-        fail(errno.EINVAL)
+    if mode >= len(MODES):
+        fail(errno.EINVAL, f"{mode} is no mode")
+    if flags & STATIC and flags & RELATIVE:
+        fail(errno.EINVAL, "both flags, static and relative nodes")
     if flags & BALANCING and MODES[mode] not in ("bind", "many"):
-        fail(errno.EINVAL)
+        fail(errno.EINVAL, "MPOL_F_NUMA_BALANCING goes with MPOL_BIND and MPOL_PREFERRED_MANY alone")
     if mode == 0 and nodes:
-        fail(errno.EINVAL)
+        fail(errno.EINVAL, "MPOL_DEFAULT takes no nodes")
     flag = "=static" if flags & STATIC else "=relative" if flags & RELATIVE else ""
     return MODES[mode] + flag + (":" + list_text(nodes) if nodes else "")
 

@@ -6,12 +6,13 @@ import errno
 import numaplan
 
 from .areas import Areas
-from .calls import MODE_BITS, whole_pages
+from .calls import whole_pages
 from .emulator import Emulator
 from .host import nodes_of
 from .mappings import FAILED, FOLLOWED
 from .placed import Placed
 from .policies import read_mask, word_of
+from .prototypes import call_text
 from .space import Space
 from .touched import Pagemap
 from .tracing import TOP
@@ -51,11 +52,11 @@ class Recorder(Emulator):
 
 def observed(all_, task, name, words, what, *arguments):
     """Follows a call at its end: the command `what`, if the kernel did it."""
-    space = task.space
+    space, shown = task.space, call_text(task.number, name, words) if all_.log else None
 
     def follow(registers):
         told = errno.errorcode.get(2**64 - registers.rax) if registers.rax >= FAILED else "0"
-        all_.say(task.number, f"{name}({', '.join(map(hex, words))}) = {told}")
+        all_.say(task.number, shown, "=", told if told == "0" else f"-1 {told}")
         try:
             if told == "0":
                 space.do(what, *arguments)
@@ -74,7 +75,7 @@ def observed(all_, task, name, words, what, *arguments):
 
 def mbind(all_, task, start, length, mode, mask, most, flags):
     all_.look(task, start, start + whole_pages(length))
-    word = word_of(mode & MODE_BITS, read_mask(task.number, mask, most))
+    word = word_of(mode, read_mask(task.number, mask, most))
     if flags & 6:
         task.space.lines.append(f"# mbind 0x{start:x} moves pages too")
     return observed(all_, task, "mbind", [start, length, mode, mask, most, flags], "mbind", start,
@@ -83,7 +84,7 @@ def mbind(all_, task, start, length, mode, mask, most, flags):
 
 def set_mempolicy(all_, task, mode, mask, most, *_):
     all_.wake(task)
-    word = word_of(mode & MODE_BITS, read_mask(task.number, mask, most))
+    word = word_of(mode, read_mask(task.number, mask, most))
     return observed(all_, task, "set_mempolicy", [mode, mask, most], "set_task", task.number, word)
 
 

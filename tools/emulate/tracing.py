@@ -42,17 +42,21 @@ class Registers(ctypes.Structure):
     def arguments(self):
         return [self.rdi, self.rsi, self.rdx, self.r10, self.r8, self.r9]
 
+    def call(self):
+        """The number of the call (of the word the kernel takes 32 bits)."""
+        return self.orig_rax & 2**32 - 1
+
 
 class Failed(Exception):
-    """A call fails with this error number."""
+    """A call fails with this error number; `why` is for who reads a log."""
 
-    def __init__(self, number):
-        super().__init__(errno.errorcode[number])
-        self.number = number
+    def __init__(self, number, why=""):
+        super().__init__(errno.errorcode[number] + (f": {why}" if why else ""))
+        self.number, self.why = number, why
 
 
-def fail(number):
-    raise Failed(number)
+def fail(number, why=""):
+    raise Failed(number, why)
 
 
 def ptrace(request, task, address=0, data=0):
