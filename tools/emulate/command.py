@@ -5,6 +5,7 @@ import sys
 
 from .machine import Machine
 from .made_up import make_tree
+from .marks import make_file
 from .options import Words
 from .report import Outcome
 from .rooms import make_room, remove_room, sweep_rooms
@@ -12,7 +13,7 @@ from .starting import begin
 from .waiting import block_signals, pass_early_signals
 from .words import OWN_FAULT, Unfit, read_lines, tell
 
-ELSEWHERE = 3  # the status where pages lie elsewhere than is wanted
+ELSEWHERE, UNTOLD = 3, 4  # the status where pages lie elsewhere than is wanted; where that can't be told
 TWO_NODES = [(1, "machine 2 0-1 0 flat")]
 
 
@@ -57,6 +58,8 @@ def run(words, room, is_real):
     emulator = kind_of(words, is_real)(machine, room, outcome, log)
     if not is_real:
         make_tree(machine, room)
+    if emulator.marks:
+        make_file(room)
     emulator.begin(begin(words.program, None if is_real else room, emulator))
     block_signals()
     status = emulator.serve()
@@ -64,10 +67,10 @@ def run(words, room, is_real):
     if not emulator.has_begun or status is None:
         return OWN_FAULT if status is None else status
     outcome.write_report()
-    failures = outcome.failures()
-    for failure in failures:
+    failures, untold = outcome.failures()
+    for failure in failures + untold:
         tell(failure)
-    return ELSEWHERE if failures else status
+    return ELSEWHERE if failures else UNTOLD if untold else status
 
 
 def open_log(path):

@@ -54,6 +54,7 @@ def move(space, page, node):
     frame = space.common.get(page)
     for other, place in frame.holders if frame else [(space, page)]:
         other.placed[place] = node
+        other.raced.pop(place, None)
     for _, _, (key, shift) in space.objects.between(page, page + 1):
         move_of_object(space.machine.objects[key], key, page + shift, node)
 

@@ -2,11 +2,15 @@
 
 import errno
 import os
+import resource
 import signal
+import struct
 from collections import Counter
+from time import monotonic_ns
 
 import numaplan
 
+from . import marks, tracing
 from .calls import ANSWERED
 from .common import pages_on
 from .cpus import OF_MADE_UP
@@ -14,13 +18,14 @@ from .made_up import file_for
 from .mappings import FOLLOWED
 from .prototypes import call_text, nodes_asked, result_text, words_of
 from .space import Space
+from .touchers import Looker, Telling
 from .tracing import CLONE, CONTINUE, EXEC, EXIT, FORK, LISTEN, NAMES, ONLY_WITH, SECCOMP, STOP, TO_CALL_END
-from .tracing import TOP, VFORK, Failed, fail, message_of, peek, poke, ptrace, registers_of, set_registers, text_at
+from .tracing import PAGE, TOP, VFORK, Failed, fail, message_of, peek, poke, ptrace, registers_of, set_registers, text_at
 from .vdso import make_getcpu_a_call
 from .waiting import Waiting
 from .words import list_text
 
-SHARES_MEMORY = 0x100  # CLONE_VM
+SHARES_MEMORY, WAITS = 0x100, 0x4000  # CLONE_VM, CLONE_VFORK
 GONE = (ProcessLookupError, FileNotFoundError)
 
 
@@ -28,6 +33,14 @@ def fault_text():
     from traceback import format_exc  # (each start would take its time)
 
     return format_exc()
+
+
+def stack_of_child(task, registers):
+    """Where the stack of a child by clone(2) begins, its highest address."""
+    if registers.call() != 435:
+        return registers.rsi
+    low, size = struct.unpack("2Q", peek(task, registers.rdi + 40, 16))
+    return low + size
 
 
 class Task:
@@ -51,11 +64,15 @@ class Emulator:
         self.machine, self.room, self.log, self.first = machine, room, log, None
         self.outcome, self.watches = outcome, outcome.is_asked()
         self.may_move_all = os.geteuid() == 0  # (CAP_SYS_NICE)
-        self.answered, self.followed = self.calls_answered(), self.calls_followed()
+        self.marks = marks.number_of_file() if outcome.is_asked() else None
+        self.answered, self.followed = self.calls_answered(), self.calls_followed() | {"write": marks.write}
         self.early, self.has_begun, self.stops = {}, False, Counter()
         self.told = ""  # what the call that is answered now tells, for the log
         self.unread = []  # (number, status) of tasks that were waited for elsewhere
         self.tasks = {}
+        nodes = [node for node in machine.cpus.of_node if machine.cpus.of_node[node]]
+        self.telling = Telling(not machine.cpus.are_made_up and len(nodes) > 1)
+        tracing.before_access.append(self.note_write)
 
     def in_child(self, room):
         """In the process that is to be the program, with mounts of its own. (--exact has something to do.)"""
@@ -63,6 +80,9 @@ class Emulator:
     def begin(self, first):
         """With a process that is about to become the program."""
         self.first = first
+        if self.telling:
+            most = resource.getrlimit(resource.RLIMIT_NOFILE)[1]
+            resource.setrlimit(resource.RLIMIT_NOFILE, (most, most))  # (each ring takes a file)
         self.add_task(first, self.space_type(self.machine), None)
 
     def calls_answered(self):
@@ -74,8 +94,9 @@ class Emulator:
 
     def watched(self):
         """The calls that stop a program, each with the word that makes it matter, or None."""
-        names = [*self.answered, *self.followed, *(("open", "openat") if self.fakes else ())]
-        return {name: ONLY_WITH.get(name) for name in names}
+        names = [*self.answered, *(self.followed.keys() - {"write"}), *(("open", "openat") if self.fakes else ())]
+        found = {name: ONLY_WITH.get(name) for name in names}
+        return found | {"write": (0, False, self.marks)} if self.marks else found
 
     def tell(self, text):
         """What a call has found out, where there is a log: the text comes from a function."""
@@ -94,6 +115,13 @@ class Emulator:
 
     def node_of(self, task):
         return self.machine.cpus.node_of.get(self.machine.cpus.of(task), 0)
+
+    def node_on(self, number, cpu):
+        """The node of a CPU on which a thread was: of this machine's CPUs that which was told, else the one of now."""
+        cpus, task = self.machine.cpus, self.tasks.get(number)
+        if cpu is not None and not cpus.are_made_up:
+            return cpus.node_of.get(cpu, 0)
+        return self.node_of(task) if task else 0
 
     def wake(self, task):
         """The core of the task's address space."""
@@ -115,7 +143,7 @@ class Emulator:
         return True
 
     def sweep(self, task, start=0, end=TOP):
-        task.space.sweep(task.number, task.word, lambda: self.node_of(task), start, end)
+        task.space.sweep(Looker(self, task), start, end)
 
     def survey(self, task):
         """All that is mapped, and where all pages are."""
@@ -204,12 +232,17 @@ class Emulator:
         flags = {56: registers.rdi, 58: SHARES_MEMORY}.get(registers.call(), 0)
         if registers.call() == 435:  # clone3
             flags = int.from_bytes(peek(task.number, registers.rdi, 8), "little")
-        space = task.space
+        space, is_thread = task.space, flags & SHARES_MEMORY and not flags & WAITS
         if not flags & SHARES_MEMORY:
             if self.follows(task):
                 self.sweep(task)  # (what was touched by now is the parent's)
             space = space.copy(task.number)
+        elif is_thread:
+            self.tell_apart(task)
+            space.stacks[number] = stack_of_child(task.number, registers)
         child = self.add_task(number, space, task.word, task, flags)
+        if self.telling and (is_thread or self.telling.each and space is not task.space):
+            space.touchers.follow(number, self.telling.ring(number))
         if space.core is not None and child.word:
             try:
                 space.do("inherit", number, task.number)
@@ -219,6 +252,27 @@ class Emulator:
         if number in self.early:
             self.at_stop(child, self.early.pop(number))
 
+    def tell_apart(self, task):
+        """A process gets a second thread: from now on it is told who touches a page. What was by now is the first's."""
+        touchers = task.space.touchers
+        if not self.telling or touchers.are_apart:
+            return
+        touchers.are_apart = True
+        if self.follows(task):
+            self.sweep(task)
+        elif self.has_begun:
+            task.space.note_earlier(Looker(self, task))
+        if task.number not in touchers.rings:
+            touchers.follow(task.number, self.telling.ring(task.number))
+
+    def note_write(self, number, start, size, is_write):
+        """This one writes to the memory of a task, for a call of it: the task touches it."""
+        task = self.tasks.get(number)
+        if is_write and task and task.space.touchers.are_apart:
+            for page in range(start // PAGE, (start + size - 1) // PAGE + 1):
+                if page not in task.space.placed:
+                    task.space.touchers.told.setdefault(page, (monotonic_ns(), 0, number, self.node_of(task)))
+
     def child_begins(self, task, child):
         """Before it has done anything. (--exact has something to do.)"""
 
@@ -226,8 +280,10 @@ class Emulator:
         """The program of a process is another one: its memory is new, its policy is kept."""
         self.has_begun = True
         old = self.tasks.pop(message_of(number), task)
-        self.leave(old)
+        self.leave(old)  # (with its ring, which belongs to the number that it had)
         task = self.add_task(number, self.space_type(self.machine), old.word, old)
+        if self.telling and self.telling.each:
+            task.space.touchers.follow(number, self.telling.ring(number))
         if self.fakes:
             self.program_begins(task, make_getcpu_a_call(number))
         with open(f"/proc/{number}/comm", encoding="utf-8", errors="replace") as file:
@@ -241,6 +297,7 @@ class Emulator:
     def at_exit(self, task):
         task.ends = True
         if not self.follows(task):
+            task.space.touchers.leave(task.number, self.node_on, False)
             return
         if all(one.ends for one in self.tasks.values() if one.space is task.space):
             self.survey(task)
@@ -249,9 +306,11 @@ class Emulator:
         if task.number != task.space.leader and task.word:
             task.space.do("set_task", task.number, "default")
             task.word = None
+        task.space.touchers.leave(task.number, self.node_on, False)
 
     def leave(self, task):
         """A task has left its address space."""
+        task.space.touchers.leave(task.number, self.node_on)
         task.space.users -= 1
         if task.space.users == 0 and task.space.core is not None:
             self.outcome.add(self, task)
@@ -273,6 +332,11 @@ class Emulator:
         if event == STOP:
             self.at_stop(task, signal_)
             return
+        if not event and signal_ == signal.SIGSTOP and self.telling and self.telling.is_stop(task):
+            self.stops["faults"] += 1
+            task.space.touchers.keep(number, task.space.touchers.rings[number].taken(), self.node_on)
+            ptrace(CONTINUE, number)
+            return
         if event == SECCOMP:
             go_on = self.at_call(task)
         elif event in (FORK, VFORK, CLONE):
@@ -286,6 +350,12 @@ class Emulator:
             finish(registers_of(number))
         is_ours = bool(event) or signal_ == signal.SIGTRAP | 0x80
         ptrace(go_on, number, 0, 0 if is_ours else signal_)
+
+    def at_mark(self, task, moment):
+        """A program says that a moment has come."""
+        if self.follows(task):
+            self.survey(task)
+            self.outcome.mark(self, task, moment)
 
     def asked(self):
         """A report is wanted while the program runs (SIGUSR1)."""

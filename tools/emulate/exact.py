@@ -19,6 +19,7 @@ from .injected import Ended, make_device, opened_in
 from .mappings import FAILED, FOLLOWED
 from .spans import Spans
 from .touched import Pagemap, is_own, is_protected
+from .touchers import Toucher
 from .tracing import LIBC, PAGE, TOP
 from .vdso import TO_SYSCALL
 from .words import tell
@@ -60,7 +61,7 @@ def set_tid_address(_, task, start, *__):
 class Exact(Emulator):
     def __init__(self, machine, room, outcome, log):
         super().__init__(machine, room, outcome, log)
-        self.watches = True
+        self.watches, self.telling = True, None
         self.by_file, self.poll = {}, select.epoll()
         self.signals = None  # a file that tells of them
         tracing.before_access.append(self.touch)
@@ -200,7 +201,8 @@ class Exact(Emulator):
             self.wake(task)
             if not space.has(address):
                 self.look(task, address, address + 1)
-            space.place(task.number, task.word, node, page, 1, area)
+            toucher = [Toucher(task.number, task.word, node)]
+            space.place(page, page + 1, area, lambda *gap: [(*gap, toucher)])
         except numaplan.Refused as fault:
             self.say(task.number, f"page 0x{address:x} can't be placed: {fault}")
 

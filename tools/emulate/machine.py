@@ -51,6 +51,7 @@ class Machine:
         # pages placed on each node, and among them those interleaved, and those touched on a CPU of the node
         self.hits = [[0, 0, 0] for _ in range(self.count)]
         self.objects = {}  # in memory that processes share
+        self.names_touchers = False  # whether it is kept who touched each page
         try:
             self.core()[0].close()
         except TypeError as fault:

@@ -8,6 +8,7 @@ from itertools import count
 
 from .machine import KILOBYTES
 from .policies import MOST_BITS, shown_form
+from .spans import Spans
 from .tracing import PAGE
 from .words import list_text, mask_text
 
@@ -136,12 +137,17 @@ def times_text(cpus):
     return "".join(rows[:1] + made + rows[1 + len(times):])
 
 
-def range_rows(space, word):
-    """(start, end, policy that serves it, nodes of placed pages) of each range."""
-    served = shown_form(word, space.machine.allowed) or "default"
-    for start, end, _, policy in space.ranges():
-        nodes = [space.placed[page] for page in space.placed_between(start, end)]
-        yield start, end, policy or served, nodes
+def area_rows(space, word):
+    """(start, end, policy that serves it, name, placed pages) of each area as the kernel has them, parted where its
+    policy changes; at last of what is known of no area any more."""
+    served, known = shown_form(word, space.machine.allowed) or "default", Spans()
+    for area in space.areas:
+        known.add(area.start, area.end)
+        for start, end, _, policy in space.ranges(area.start, area.end):
+            yield start, end, policy or served, area.name or space.stack_of(area), space.placed_between(start, end)
+    for first, after, policy in [(start, end, policy) for start, end, _, policy in space.ranges()]:
+        for start, end in known.gaps(first, after):
+            yield start, end, policy or served, "", space.placed_between(start, end)
 
 
 def pages_text(pages):
@@ -150,13 +156,21 @@ def pages_text(pages):
 
 
 def numa_maps_text(all_, task):
-    """As proc_pid_numa_maps(5) says: only ranges, no names."""
+    """As proc_pid_numa_maps(5) says, but for the pages of files that are in their cache."""
     all_.survey(task)
     rows = []
-    for start, _, policy, nodes in range_rows(task.space, task.word):
+    for start, _, policy, name, pages in area_rows(task.space, task.word):
+        nodes = [task.space.placed[page] for page in pages]
         placed = f" anon={len(nodes)} dirty={len(nodes)} {pages_text(Counter(nodes))} kernelpagesize_kB=4" if nodes else ""
-        rows.append(f"{start:08x} {policy}{placed}\n")
+        rows.append(f"{start:08x} {policy}{name_in_maps(name)}{placed}\n")
     return "".join(rows)
+
+
+def name_in_maps(name):
+    """As numa_maps has it: files, heap and stack alone; blanks of files as octal numbers."""
+    if name.startswith("/"):
+        return " file=" + "".join(f"\\{ord(letter):03o}" if letter in " \t\n=" else letter for letter in name)
+    return f" {name[1:-1]}" if name in ("[heap]", "[stack]") else ""
 
 
 OF_ALL_CPUS = {"/proc/cpuinfo": cpuinfo_text, "/proc/stat": times_text}

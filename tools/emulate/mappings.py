@@ -23,16 +23,30 @@ def munmap(all_, task, start, length, *_):
 def forget(all_, task, start, length):
     """Pages that go: what was touched of them is placed before."""
     end = start + whole_pages(length)
-    if start % PAGE or end > TOP or not all_.follows(task):
+    if start % PAGE or end > TOP:
+        return
+    if not all_.follows(task):
+        forget_touchers(all_, task, start, end)
         return
     all_.sweep(task, start, end)
     task.space.unmap(start, end)
 
 
+def forget_touchers(all_, task, start, end):
+    """The same where pages aren't followed: of those that go nobody has to be known."""
+    touchers = task.space.touchers
+    if touchers.rings or touchers.earlier:
+        touchers.take(all_.node_on)
+        touchers.forget(start // PAGE, end // PAGE)
+
+
 def madvise(all_, task, start, length, *_):
     """MADV_DONTNEED: the pages go, and are placed anew when they are touched again."""
     end = start + whole_pages(length)
-    if start % PAGE or end > TOP or not all_.follows(task):
+    if start % PAGE or end > TOP:
+        return
+    if not all_.follows(task):
+        forget_touchers(all_, task, start, end)
         return
     all_.sweep(task, start, end)
     task.space.forget(start, end)
@@ -71,6 +85,8 @@ def before_exec(all_, task, *_):
 
 def mremap(all_, task, old, old_length, new_length, *_):
     space, old_length, new_length = task.space, whole_pages(old_length), whole_pages(new_length)
+    if task.space.touchers.are_apart and all_.has_begun:
+        all_.wake(task)
     if old % PAGE or old + old_length > TOP or not all_.follows(task):
         return None
     all_.look(task, old, old + old_length)

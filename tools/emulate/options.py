@@ -12,7 +12,7 @@ docs/EMULATE.md says what is exact and what isn't. It isn't proved; the rules ar
 ABOUT_RECORD = """Runs a program on this machine as it is, and writes down what it does about memory: scripts
 that numaplan takes, and where the kernel has put its pages. docs/EMULATE.md tells more. It isn't proved."""
 STATUS = """The status is the program's, or 128 and the number of the signal that ended it; 3 where pages
-lie elsewhere than --expect wants, or nothing was compared; 126 or 127 where the program can't be run
+lie elsewhere than --expect wants, or nothing was compared; 4 where that can't be told, since threads raced; 126 or 127 where the program can't be run
 or found; 125 where the command itself can't go on."""
 
 # Each option: what its value is called (None: it has none), whether numaplan-record has it, what it does.
@@ -30,7 +30,8 @@ OPTIONS = {
     "report": ("FILE", True,
                "writes where pages are as each process ends, and refused calls, in the form that the name ends with"
                " (.json, .svg, .html, else text); - is standard error. SIGUSR1 asks for it before the end"),
-    "expect": ("FILE", True, "lines NAME NODE=PAGES,..: where the pages of an area are to be as PROGRAM ends"),
+    "expect": ("FILE", True, "lines NAME NODE=PAGES,.. [at MOMENT]: where the pages of an area are to be as PROGRAM ends, at its peak, or at"
+               " a moment that the program marks"),
     "log": ("FILE", True, "writes each call about policies, its answer, and why it was refused"),
 }
 OF_EMULATE = {"machine": "two nodes", "rules": "else the documents'"}

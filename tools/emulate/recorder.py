@@ -21,7 +21,7 @@ from .tracing import TOP
 class Recorded(Space):
     """An address space; its pages are looked for where it is told of, and never before."""
 
-    def sweep(self, task, word, cpu, start=0, end=0):
+    def sweep(self, looker, start=0, end=0):
         """(A policy places nothing here.)"""
 
     def survey(self, task):
@@ -37,6 +37,10 @@ class Recorder(Emulator):
     """`outcome` is told of each address space that ends."""
 
     space_type, fakes = Recorded, False
+
+    def __init__(self, *words):
+        super().__init__(*words)
+        self.telling = None
 
     def sweep(self, task, start=None, end=None):
         """Before a program ends, or where a report is wanted."""

@@ -2,29 +2,24 @@
 
 import os
 import re
-from bisect import bisect_left, bisect_right
 from collections import Counter
 
 from .areas import shown_name
-from .made_up import range_rows
+from .made_up import area_rows
 from .words import Unfit, read_lines
 
-WANTED = r"(.+) (\d+=\d+(?:,\d+=\d+)*)$"
-
-
-def names_between(space, start, end):
-    first = bisect_right(space.areas, start, key=lambda area: area.end)
-    after = bisect_left(space.areas, end, first, key=lambda area: area.start)
-    return list(map(shown_name, dict.fromkeys(area.name for area in space.areas[first:after] if area.name)))
+WANTED = r"(.+) (\d+=\d+(?:,\d+=\d+)*)(?: at (\S+))?$"
+END, PEAK = "end", "peak"  # moments that need no mark
 
 
 class Outcome:
-    """What is asked of a run: told of each address space that ends."""
+    """What is asked of a run: told of each address space that ends, and of moments."""
 
     def __init__(self, words, machine, is_real):
         self.records = Records(words.record, "record" if is_real else "emulate") if words.record else None
         self.path, self.report = words.report, Report(machine, is_real)
         self.wanted = Wanted(words.expect) if words.expect else None
+        machine.names_touchers = bool(words.report)
 
     def is_asked(self):
         return bool(self.records or self.path or self.wanted)
@@ -32,10 +27,20 @@ class Outcome:
     def add(self, emulator, task):
         if self.records:
             self.records.add(task.space)
+        self.look(emulator, task, "ended", END)
+
+    def mark(self, emulator, task, moment):
+        """A program says that a moment has come; its pages have just been looked at."""
+        self.look(emulator, task, f"at {moment}", moment)
+
+    def look(self, emulator, task, state, moment):
+        space = task.space
+        space.note_peaks(space.pages_by_name())
+        self.report.note_why(emulator, space)
         if self.path:
-            self.report.add(task.space, task.word)
-        if self.wanted and task.space.leader == emulator.first:
-            self.wanted.compare(task.space)
+            self.report.add(space, task.word, state)
+        if self.wanted and space.leader == emulator.first:
+            self.wanted.compare(space, moment)
 
     def write_report(self, standing=()):
         if self.path:
@@ -44,7 +49,9 @@ class Outcome:
             write_report(self.path, self.report.told(standing))
 
     def failures(self):
-        return self.wanted.failures() if self.wanted else []
+        """(what differs from what is wanted, what can't be told)"""
+        failures, untold = self.wanted.failures() if self.wanted else ([], [])
+        return failures, untold + [self.report.why] * bool(untold and self.report.why)
 
 
 class Records:
@@ -67,73 +74,124 @@ class Records:
 
 
 class Report:
-    """By process and range where pages are, and the refused calls: of each address space at its end, and
-    of those that stand when the report is written. shown.py writes it."""
+    """By process and area where pages are, and the refused calls: of each address space at its end and at moments
+    that were marked, and of those that stand when the report is written. shown.py writes it."""
 
     def __init__(self, machine, is_real):
-        self.machine, self.is_real, self.parts = machine, is_real, []
+        self.machine, self.is_real, self.parts, self.why = machine, is_real, [], None
 
-    def add(self, space, word):
-        self.parts.append(part_of(space, word, "ended"))
+    def add(self, space, word, state):
+        self.parts.append(part_of(space, word, state))
+
+    def note_why(self, emulator, space):
+        """What would tell first touches that were raced."""
+        if space.raced and emulator.telling:
+            self.why = emulator.telling.what_helps()
 
     def told(self, standing=()):
         """The whole report, as JSON has it; `standing`: (space, policy) of each that hasn't ended. Where the
         kernel placed the pages it has no sum of all."""
         parts = self.parts + [part_of(space, word, "running") for space, word in standing]
         hits = {node: count for node, (count, *_) in enumerate(self.machine.hits) if count}
-        return {"nodes": self.machine.count, "processes": parts, "placed": None if self.is_real else hits}
+        return {"nodes": self.machine.count, "processes": parts, "placed": None if self.is_real else hits,
+                "raced": self.why}
 
 
 def part_of(space, word, state):
     """What a report says of an address space."""
     rows, all_ = [], Counter()
-    for start, end, policy, nodes in range_rows(space, word):
-        if nodes:
+    for start, end, policy, name, pages in area_rows(space, word):
+        if pages:
+            nodes = Counter(space.placed[page] for page in pages)
             all_.update(nodes)
-            rows.append({"start": start, "end": end, "policy": policy, "pages": dict(sorted(Counter(nodes).items())),
-                         "names": names_between(space, start, end)})
+            rows.append({"start": start, "end": end, "policy": policy, "pages": dict(sorted(nodes.items())),
+                         "name": shown_name(name) if name else "", "touched": touchers_of(space, pages),
+                         "bounds": bounds_of(space, pages)})
     refused = [{"call": what, "reason": why, "times": times} for (what, why), times in space.refused.items()]
     return {"process": space.leader, "program": space.name, "state": state, "policy": word, "ranges": rows,
-            "pages": dict(sorted(all_.items())), "refused": refused}
+            "pages": dict(sorted(all_.items())), "refused": refused,
+            "peaks": {shown_name(name): dict(sorted(pages.items())) for name, pages in space.peaks.items()
+                      if pages and name.startswith("[anon:")}}
+
+
+def touchers_of(space, pages):
+    """Which threads touched these pages first, on CPUs of which nodes, as far as that is known."""
+    found = Counter(space.touched_by[page][::2] for page in pages if page in space.touched_by)
+    return [{"thread": number, "node": node, "pages": count} for (number, node), count in sorted(found.items())]
+
+
+def bounds_of(space, pages):
+    """By node the least and the most of these pages that can be there, where some were raced; else nothing."""
+    raced = [page for page in pages if page in space.raced] if space.raced else []
+    if not raced:
+        return {}
+    sure = Counter(space.placed[page] for page in pages)
+    sure.subtract(space.placed[page] for page in raced)
+    most = sure + Counter(node for page in raced for node in space.raced[page])
+    return {node: [sure[node], most[node]] for node in sorted(most)}
 
 
 class Wanted:
-    """Lines `NAME NODE=PAGES,..`, held against the first process's memory as it ends."""
+    """Lines `NAME NODE=PAGES,.. [at MOMENT]`, held against the first process's memory as it ends, or at a moment."""
 
     def __init__(self, path):
-        self.rows, self.problems, self.compared = [], [], 0
+        self.rows, self.problems, self.untold, self.seen = [], {}, {}, set()
         for number, line in read_lines(path):
             found = re.match(WANTED, line.strip())
             if found:
                 pairs = (item.split("=") for item in found[2].split(","))
-                self.rows.append((number, found[1], {int(node): int(pages) for node, pages in pairs}))
+                pages = {int(node): int(pages) for node, pages in pairs}
+                self.rows.append((number, found[1], {node: count for node, count in pages.items() if count}, found[3] or END))
             elif line.strip() and not line.startswith("#"):
                 raise Unfit(f"{path}:{number}: {line}: write NAME NODE=PAGES,.. or # and a comment")
         self.path = path
 
-    def compare(self, space):
-        self.problems, self.compared = [], 0
-        by_name = {}
-        for area in space.areas:
-            nodes = [space.placed[page] for page in space.placed_between(area.start, area.end)]
-            by_name.setdefault(area.name, Counter()).update(nodes)
-        for number, name, pages in self.rows:
-            self.compare_row(f"{self.path}:{number}: {name}", by_name.get(name), pages)
+    def compare(self, space, moment):
+        """The lines of a moment; at the end those of peaks too. What was found at an earlier end (before the process
+        became another program) counts no more."""
+        by_name = space.pages_by_name()
+        for number, name, pages, due in self.rows:
+            if due == PEAK and moment == END:
+                self.compare_row(number, name, space.peaks.get(name), pages, {}, "at any time")
+            elif due == moment:
+                bounds = bounds_of(space, pages_of(space, name)) if name in by_name else {}
+                self.compare_row(number, name, by_name.get(name), pages, bounds,
+                                 "as it ends" if due == END else f"as it marks {due}")
 
-    def compare_row(self, where, found, pages):
+    def compare_row(self, number, name, found, wanted, bounds, when):
+        where = f"{self.path}:{number}: {name}"
         if found is None:
-            self.problems.append(f"{where}: the program has no area of this name as it ends")
+            self.problems[number] = f"{where}: the program has no area of this name {when}"
             return
-        self.compared += 1
-        wanted = {node: count for node, count in pages.items() if count}
-        if dict(found) != wanted:
-            self.problems.append(f"{where}: {pairs_text(found)}, not {pairs_text(wanted)}")
+        self.seen.add(number)
+        self.problems.pop(number, None)
+        self.untold.pop(number, None)
+        if is_open(wanted, found, bounds):
+            texts = ", ".join(f"{least} to {most} on node {node}" for node, (least, most) in bounds.items())
+            self.untold[number] = f"{where}: {pairs_text(wanted)} can't be told: first touches were raced; sure is {texts}"
+        elif dict(found) != wanted:
+            self.problems[number] = f"{where}: {pairs_text(found)}, not {pairs_text(wanted)}"
 
     def failures(self):
-        if not self.problems and not self.compared:
-            return [f"{self.path}: nothing was compared"]
-        return self.problems
+        """(what differs, what can't be told)"""
+        for number, name, _, due in self.rows:
+            if number not in self.seen and number not in self.problems:
+                self.problems[number] = f"{self.path}:{number}: {name}: the program never marked {due}"
+        if not self.rows:
+            return [f"{self.path}: nothing was compared"], []
+        return list(self.problems.values()), list(self.untold.values())
+
+
+def pages_of(space, name):
+    return [page for area in space.areas if (area.name or space.stack_of(area)) == name
+            for page in space.placed_between(area.start, area.end)]
+
+
+def is_open(wanted, found, bounds):
+    """Whether what is wanted can be so, and needn't."""
+    return bool(bounds) and sum(wanted.values()) == sum(found.values()) and set(wanted) <= set(bounds) and all(
+        least <= wanted.get(node, 0) <= most for node, (least, most) in bounds.items())
 
 
 def pairs_text(pages):
-    return ",".join(f"{node}={count}" for node, count in sorted(pages.items())) or "no pages"
+    return ",".join(f"{node}={count}" for node, count in sorted(pages.items()) if count) or "no pages"

@@ -3,11 +3,13 @@ Not proved."""
 
 import os
 import sys
+from collections import Counter
 
 from .made_up import pages_text
 from .words import Unfit
 
 COLORS = ("#a6cee3", "#fdbf6f", "#b2df8a", "#fb9a99", "#cab2d6", "#ffff99", "#dddddd", "#ffffff")
+MOST_TOUCHERS = 8  # that a row names
 WIDTH, HEIGHT = 600, 16  # of a bar that shows all pages of a row
 
 
@@ -33,15 +35,35 @@ def write_report(path, told):
 
 
 def heading(part):
-    running = ", running" if part["state"] == "running" else ""
+    running = "" if part["state"] == "ended" else f", {part['state']}"
     policy = f", policy {part['policy']}" if part["policy"] else ""
     return f"process {part['process']} {part['program']}{policy}{running}"
 
 
 def row_text(row):
-    names = ", ".join(row["names"])
+    notes = "; ".join(notes_of(row))
     return (f"{row['start']:08x}-{row['end']:08x} {row['policy']} anon={sum(row['pages'].values())}"
-            f" {pages_text(row['pages'])} kernelpagesize_kB=4" + (f"  # {names}" if names else ""))
+            f" {pages_text(row['pages'])} kernelpagesize_kB=4" + (f"  # {notes}" if notes else ""))
+
+
+def notes_of(row):
+    """The name of an area; who touched it, where that was more than one thread on one node; what isn't sure."""
+    yield from [row["name"]] * bool(row["name"])
+    touched = sorted(row["touched"], key=lambda one: -one["pages"])
+    if len(touched) > 1:
+        texts = [f"{one['pages']} by thread {one['thread']} on node {one['node']}" for one in touched[:MOST_TOUCHERS]]
+        yield "touched " + ", ".join(texts) + ", .." * (len(touched) > MOST_TOUCHERS)
+    if row["bounds"]:
+        yield "raced: " + ", ".join(f"{least} to {most} on node {node}" for node, (least, most) in row["bounds"].items())
+
+
+def peak_texts(part):
+    """Areas that the program named, and that had more pages, or were there, before."""
+    now = Counter()
+    for row in part["ranges"]:
+        now[row["name"]] += sum(row["pages"].values())
+    return [f"peak of {name}: anon={sum(pages.values())} {pages_text(pages)}" for name, pages in part["peaks"].items()
+            if sum(pages.values()) > now[name]]
 
 
 def total_text(part):
@@ -54,14 +76,15 @@ def refusal_text(refusal):
 
 
 def placed_text(told):
-    """The sum of all, where there is one: a list of one text."""
+    """The sum of all, where there is one, and why something isn't sure."""
+    texts = [f"raced: {told['raced']}"] if told["raced"] else []
     if told["placed"] is None:
-        return []
-    return [f"placed in all, as pages were first touched: {pages_text(told['placed']) or 'none'}"]
+        return texts
+    return texts + [f"placed in all, as pages were first touched: {pages_text(told['placed']) or 'none'}"]
 
 
 def text_of(told):
-    parts = ["\n".join([heading(part), *map(row_text, part["ranges"]), total_text(part),
+    parts = ["\n".join([heading(part), *map(row_text, part["ranges"]), total_text(part), *peak_texts(part),
                         *map(refusal_text, part["refused"])]) for part in told["processes"]]
     return "\n\n".join(parts + placed_text(told)) + "\n"
 
@@ -117,8 +140,8 @@ def svg_of(told):
             say(total_text(row) if row is part else row_text(row))
             rows.append(bar(row["pages"], 16, top - 12))
             top += HEIGHT + 8
-        for refusal in part["refused"]:
-            say(refusal_text(refusal))
+        for text in peak_texts(part) + list(map(refusal_text, part["refused"])):
+            say(text)
         top += 14
     for text in placed_text(told):
         say(text, 14)
@@ -140,11 +163,12 @@ def html_row(cells):
 
 def html_part(part):
     rows = [html_row([f"{row['start']:08x}-{row['end']:08x}", escaped(row["policy"]),
-                      escaped(", ".join(row["names"])), sum(row["pages"].values()), pages_text(row["pages"]),
+                      escaped("; ".join(notes_of(row))), sum(row["pages"].values()), pages_text(row["pages"]),
                       cell_of(row["pages"])]) for row in part["ranges"]]
     rows.append(html_row(["total", "", "", sum(part["pages"].values()), pages_text(part["pages"]),
                           cell_of(part["pages"])]))
-    refused = "".join(f"<li>{escaped(refusal_text(one))}</li>" for one in part["refused"])
+    texts = peak_texts(part) + list(map(refusal_text, part["refused"]))
+    refused = "".join(f"<li>{escaped(text)}</li>" for text in texts)
     return (f"<h2>{escaped(heading(part))}</h2>\n<table>\n<tr><th>addresses<th>policy<th>name<th>pages"
             "<th>by node<th></tr>\n" + "\n".join(rows) + "\n</table>\n" + (f"<ul>{refused}</ul>\n" if refused else ""))
 

@@ -2,6 +2,7 @@
 a script that does the same. Not proved."""
 
 import errno
+from collections import Counter
 
 import numaplan
 
@@ -12,6 +13,7 @@ from .placed import Placed
 from .policies import is_interleaved
 from .spans import Spans
 from .touched import Pagemap, is_own
+from .touchers import Touchers
 from .tracing import PAGE, TOP
 from .words import list_text
 
@@ -34,6 +36,10 @@ class Space:
         self.spans = Spans()  # what the core has mapped
         self.areas = []  # all of them, as they were when they were last looked at as a whole
         self.names = Spans()  # that the program gave
+        self.touchers, self.stacks = Touchers(), {}  # (the latter: by thread where its stack began)
+        self.peaks = {}  # by name the pages of its areas by node, when they were most
+        self.touched_by = {}  # by page its toucher, where that is known, and a report names it
+        self.raced = {}  # by page the nodes on which it could be, where it isn't known who touched it first
         self.lines, self.refused = [], {}
         self.plan, self.takes_turns = None, False
 
@@ -105,10 +111,18 @@ class Space:
         self.names.remove(start, end)
 
     def forget(self, start, end):
-        """The pages that have an address from start to end aren't there any more."""
+        """The pages that have an address from start to end aren't there any more, and nobody has touched them."""
+        self.note_peaks_between(start, end)
+        self.drop(start, end)
+        self.touchers.forget(start // PAGE, -(-end // PAGE))
+
+    def drop(self, start, end):
+        """The pages that have an address from start to end aren't placed any more."""
         first, after = start // PAGE, -(-end // PAGE)
         for page in self.placed.drop(first, after):
             leave(self, page)
+            self.raced.pop(page, None)
+            self.touched_by.pop(page, None)
         self.objects.remove(first, after)
 
     def placed_between(self, start, end):
@@ -132,22 +146,35 @@ class Space:
 
     # ---- first touches
 
-    def sweep(self, task, word, cpu, start=0, end=TOP):
-        """Places each page that is there and isn't placed yet: `task`, whose policy is `word`, touched it
-        on a CPU of the node that `cpu` tells. Pages that are gone are forgotten."""
+    def sweep(self, looker, start=0, end=TOP):
+        """Places each page that is there and isn't placed yet, as who touched it first does; where that isn't known,
+        as the looker. Pages that are gone are forgotten."""
         start, end = start & -PAGE, min(-(-end // PAGE) * PAGE, TOP)
         there = Spans()
-        with Pagemap(task) as pagemap, Areas(task) as areas:
+        with Pagemap(looker.number) as pagemap, Areas(looker.number) as areas:
             if self.common:
                 for page in list(written(self, start // PAGE, end // PAGE, pagemap)):
-                    self.forget(page * PAGE, (page + 1) * PAGE)
-            for first, count in list(self.placeable(pagemap, areas, start, end)):
+                    self.drop(page * PAGE, (page + 1) * PAGE)
+            runs = list(self.placeable(pagemap, areas, start, end))
+            looker.take()  # (the faults of pages that were there a moment ago are told by now)
+            for first, count in runs:
                 there.add(first, first + count)
                 if self.placed.runs.gaps(first, first + count):
-                    self.place_run(task, word, cpu(), areas, first, count)
+                    self.place_run(looker, areas, first, count)
         for first, after, _ in self.placed.runs.between(start // PAGE, end // PAGE):
             for low, high in there.gaps(first, after):
-                self.forget(low * PAGE, high * PAGE)
+                self.drop(low * PAGE, high * PAGE)
+        if (start, end) == (0, TOP):
+            self.touchers.looked_at_all(lambda page: page not in self.placed or page in self.common)
+
+    def note_earlier(self, looker):
+        """The pages that are there, and of which nobody is known, are of the looker, who is alone yet."""
+        first_toucher = looker.itself()
+        with Pagemap(looker.number) as pagemap, Areas(looker.number) as areas:
+            runs = list(self.placeable(pagemap, areas, 0, TOP))
+        looker.take()
+        for first, count in runs:
+            self.touchers.earlier.add(first, first + count, (first_toucher.number, first_toucher.node))
 
     def placeable(self, pagemap, areas, start, end):
         """(first page, pages) of each run of pages that are there, but for those of a file's cache."""
@@ -175,24 +202,50 @@ class Space:
                   for page in self.placed_between(max(start, area.start), min(end, area.end))]
         return closed + [run for span in open_spans(found, start, end) for run in pagemap.runs(*span[:2])]
 
-    def place_run(self, task, word, cpu, areas, first, count):
+    def place_run(self, looker, areas, first, count):
         """Places the pages of a run that are in areas: others are the kernel's own."""
         start, end = first * PAGE, (first + count) * PAGE
         for area in self.look_at(areas, start, end):
             begin, after = max(start, area.start) // PAGE, min(end, area.end) // PAGE
-            self.place(task, word, cpu, begin, after - begin, area)
+            self.place(begin, after, area, lambda *gap: self.touchers.touched_by(looker, *gap))
 
-    def place(self, task, word, cpu, first, count, area):
-        """Places the pages of a run that aren't placed yet. Those of an object that a process has had before
-        are where that one put them."""
-        for span in self.placed.runs.gaps(first, first + count):
-            for low, high in have_known(self, area, *span) if area.shared else [span]:
-                nodes = bytearray(high - low)
-                self.lists().fill(task, cpu, low, nodes)
-                self.placed.add(low, nodes)
-                if area.shared:
-                    have_new(self, low, nodes)
-                self.count(word, cpu, low, nodes)
+    def place(self, first, after, area, touched_by):
+        """Places the pages of a run that aren't placed yet: `touched_by` gives (first page, page behind, touchers) of
+        a gap. Those of an object that a process has had before are where that one put them."""
+        for gap in self.placed.runs.gaps(first, after):
+            for span in have_known(self, area, *gap) if area.shared else [gap]:
+                self.place_new(*span, area, list(touched_by(*span)))
+
+    def place_new(self, first, after, area, parts):
+        """Places pages that aren't placed. All of the run is asked for once for each toucher, and its own are taken."""
+        nodes, filled = bytearray(after - first), {}
+        for low, high, some in parts:
+            key = some[0].key()
+            if key not in filled:
+                filled[key] = self.filled(some[0], first, after)
+            nodes[low - first:high - first] = filled[key][low - first:high - first]
+        self.placed.add(first, nodes)
+        if area.shared:
+            have_new(self, first, nodes)
+        for low, high, some in parts:
+            self.count(some[0].word, some[0].node, low, nodes[low - first:high - first])
+            if len(some) > 1:
+                self.note_raced(some, low, nodes[low - first:high - first])
+            elif self.machine.names_touchers:
+                self.touched_by.update(dict.fromkeys(range(low, high), some[0]))
+
+    def filled(self, toucher, first, after):
+        """The nodes of all pages from first on, as one toucher places them."""
+        nodes = bytearray(after - first)
+        self.lists().fill(toucher.number, toucher.node, first, nodes)
+        return nodes
+
+    def note_raced(self, some, first, nodes):
+        """Where it isn't known which of some touched pages, and it counts, the nodes on which they could be."""
+        for other in some[1:]:
+            for place, (node, one) in enumerate(zip(nodes, self.filled(other, first, first + len(nodes)))):
+                if node != one:
+                    self.raced.setdefault(first + place, {node}).add(one)
 
     def count(self, word, cpu, first, nodes):
         """Counts new pages by node."""
@@ -249,6 +302,8 @@ class Space:
         other.placed, other.spans, other.areas = self.placed.copy(), self.spans.copy(), list(self.areas)
         other.lines, other.name, other.names = list(self.lines), self.name, self.names.copy()
         other.core, other.takes_turns = self.core and self.core.copy(), self.takes_turns
+        other.touchers, other.raced = self.touchers.copy(), self.raced.copy()
+        other.touched_by, other.stacks = self.touched_by.copy(), self.stacks.copy()
         if self.placed:
             with Pagemap(task) as pagemap:
                 share(self, other, pagemap)
@@ -257,8 +312,36 @@ class Space:
     def close(self):
         """The address space has ended."""
         leave_all(self)
+        self.touchers.close()
         self.core.close()
         self.core = None
+
+    def stack_of(self, area):
+        """What an area without a name is called that the stack of a thread began in, the last one."""
+        found = [number for number, at in self.stacks.items() if area.start < at <= area.end]
+        return f"[stack:{found[-1]}]" if found else ""
+
+    def pages_by_name(self):
+        """By name of areas how many pages they have on each node, as they were last looked at as a whole."""
+        found = {}
+        for area in self.areas:
+            nodes = [self.placed[page] for page in self.placed_between(area.start, area.end)]
+            found.setdefault(area.name or self.stack_of(area), Counter()).update(nodes)
+        return found
+
+    def note_peaks(self, found):
+        for name, pages in found.items():
+            if name and sum(pages.values()) > sum(self.peaks.get(name, {}).values()):
+                self.peaks[name] = pages
+
+    def note_peaks_between(self, start, end):
+        """Before what is there goes: the areas that the program has named."""
+        names = {name for _, _, name in self.names.between(start, end)}
+        found = {name: Counter() for name in names}
+        for first, after, name in self.names if names else ():
+            if name in found:
+                found[name].update(self.placed[page] for page in self.placed_between(first, after))
+        self.note_peaks(found)
 
     def allowed(self):
         return list_text(self.machine.allowed)

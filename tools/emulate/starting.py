@@ -5,6 +5,7 @@ import os
 import sys
 
 from .made_up import CPUS, NODES, WEIGHTS
+from .marks import open_file
 from .tracing import LIBC, OPTIONS, SEIZE, install_filter, ptrace
 from .waiting import free_signals
 from .words import OWN_FAULT, Unfit, tell
@@ -53,6 +54,8 @@ def run_program(room, program, emulator, ready, go):
             cover(room)
             emulator.in_child(room)
             LIBC.prctl(NO_HUGE_PAGES, 1, 0, 0, 0)
+        if emulator.marks:
+            open_file(emulator.room, emulator.marks)
         os.write(ready, b"r")
         if not os.read(go, 1):
             return

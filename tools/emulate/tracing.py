@@ -19,7 +19,7 @@ FORK, VFORK, CLONE, EXEC, EXIT, SECCOMP, STOP = 1, 2, 3, 4, 6, 7, 128
 OPTIONS = 1 | 1 << FORK | 1 << VFORK | 1 << CLONE | 1 << EXEC | 1 << EXIT | 1 << SECCOMP | 1 << 20
 
 CALLS = {
-    "open": 2, "mmap": 9, "munmap": 11, "brk": 12, "mremap": 25, "madvise": 28, "shmat": 30, "execve": 59,
+    "write": 1, "open": 2, "mmap": 9, "munmap": 11, "brk": 12, "mremap": 25, "madvise": 28, "shmat": 30, "execve": 59,
     "shmdt": 67,
     "prctl": 157, "sched_setaffinity": 203, "sched_getaffinity": 204, "set_tid_address": 218, "mbind": 237,
     "set_mempolicy": 238, "get_mempolicy": 239, "migrate_pages": 256, "openat": 257,

@@ -1,0 +1,74 @@
+/* The commonest test of placement: four threads, each on a CPU of its node, touch pages of one area at once, in turns or
+ * in parts; between them no call tells when. raced PAGES HOW: each thread touches so many pages. HOW: parts, turns, or
+ * read (read(2) touches them, in the kernel). The area is named "table" (PR_SET_VMA_ANON_NAME). With `itself` behind that
+ * the program asks where its pages are, and the status is 0 where each one is on the node of who touched it first (it
+ * runs with --cpus 2, so thread k is on node k). Not proved. */
+#define _GNU_SOURCE
+#include <errno.h>
+#include <fcntl.h>
+#include <pthread.h>
+#include <sched.h>
+#include <stdio.h>
+#include <stdlib.h>
+#include <string.h>
+#include <sys/mman.h>
+#include <sys/prctl.h>
+#include <sys/syscall.h>
+#include <unistd.h>
+
+#define MUST(what)                                                                                 \
+    do {                                                                                           \
+        if (!(what)) {                                                                             \
+            printf("line %d: %s (%s)\n", __LINE__, #what, strerror(errno));                        \
+            exit(1);                                                                               \
+        }                                                                                          \
+    } while (0)
+
+enum { PAGE = 4096, THREADS = 4, AREA = 0x53564d41 };
+static char *table;
+static int pages, in_turns, by_reading;
+static pthread_barrier_t all;
+
+static char *page_of(int thread, int k) { return table + (size_t)(in_turns ? k * THREADS + thread : thread * pages + k) * PAGE; }
+
+static void *touches(void *mine) {
+    int thread = (int)(long)mine, zeros = open("/dev/zero", O_RDONLY);
+    cpu_set_t set;
+    CPU_ZERO(&set);
+    CPU_SET(2 * thread, &set);
+    MUST(sched_setaffinity(0, sizeof set, &set) == 0 && zeros >= 0);
+    pthread_barrier_wait(&all);
+    for (int k = 0; k < pages; k++)
+        if (by_reading)
+            MUST(read(zeros, page_of(thread, k), 1) == 1);
+        else
+            *page_of(thread, k) = 1;
+    pthread_barrier_wait(&all);
+    return NULL;
+}
+
+int main(int count, char **words) {
+    pthread_t threads[THREADS];
+    MUST(count >= 3 && (pages = atoi(words[1])) > 0);
+    in_turns = !strcmp(words[2], "turns"), by_reading = !strcmp(words[2], "read");
+    table = mmap(NULL, (size_t)THREADS * pages * PAGE, PROT_READ | PROT_WRITE, MAP_PRIVATE | MAP_ANONYMOUS, -1, 0);
+    MUST(table != MAP_FAILED && pthread_barrier_init(&all, NULL, THREADS) == 0);
+    prctl(AREA, 0L, table, (size_t)THREADS * pages * PAGE, "table");
+    for (long k = 0; k < THREADS; k++)
+        MUST(pthread_create(&threads[k], NULL, touches, (void *)k) == 0);
+    for (int k = 0; k < THREADS; k++)
+        MUST(pthread_join(threads[k], NULL) == 0);
+    if (count == 3)
+        return 0;
+    int wrong = 0;
+    for (int thread = 0; thread < THREADS; thread++)
+        for (int k = 0; k < pages; k++) {
+            void *at = page_of(thread, k);
+            int status = -99;
+            MUST(syscall(SYS_move_pages, 0L, 1L, &at, NULL, &status, 0L) == 0);
+            wrong += status != thread;
+        }
+    if (wrong)
+        printf("%d pages are on other nodes\n", wrong);
+    return wrong != 0;
+}
