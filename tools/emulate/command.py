@@ -3,15 +3,8 @@
 import os
 import sys
 
-from .machine import Machine
-from .made_up import make_tree
-from .marks import make_file
 from .options import Words
-from .report import Outcome
-from .rooms import make_room, remove_room, sweep_rooms
-from .starting import begin
-from .waiting import block_signals, pass_early_signals
-from .words import OWN_FAULT, Unfit, read_lines, tell
+from .words import OWN_FAULT, Unfit, tell
 
 ELSEWHERE, UNTOLD = 3, 4  # the status where pages lie elsewhere than is wanted; where that can't be told
 TWO_NODES = [(1, "machine 2 0-1 0 flat")]
@@ -19,8 +12,12 @@ TWO_NODES = [(1, "machine 2 0-1 0 flat")]
 
 def machine_of(words, is_real):
     """The machine that is described, or this one."""
+    from .machine import Machine
+
     if words.machine:
-        lines = read_lines(words.machine)
+        from .described import lines_of
+
+        lines = lines_of(words.machine)
     elif is_real:
         from .host import host_lines
 
@@ -51,6 +48,12 @@ def kind_of(words, is_real):
 
 def run(words, room, is_real):
     """The status of the whole."""
+    from .made_up import make_tree
+    from .marks import make_file
+    from .report import Outcome
+    from .starting import begin
+    from .waiting import block_signals
+
     if is_real and not (words.record or words.report or words.expect):
         words.report = "-"
     machine = machine_of(words, is_real)
@@ -80,13 +83,27 @@ def open_log(path):
         raise Unfit(f"{path}: {fault.strerror}") from fault
 
 
+def need_library():
+    """The Python module, over the library (--help and --version need neither)."""
+    try:
+        import numaplan
+    except ImportError as fault:
+        what = str(fault).split(";", maxsplit=1)[0]
+        raise Unfit(f"{what}; in numaplan's sources './numaplan library --unproved PREFIX' makes the library in some "
+                    "three minutes, and NUMAPLAN_LIBRARY names one") from fault
+
+
 def main(is_real=False):
     room = None
-    pass_early_signals()
     try:
         if os.uname().machine != "x86_64" or sys.platform != "linux":
             raise Unfit("this runs on Linux on x86-64 alone")
         words = Words(sys.argv[1:], is_real)
+        need_library()
+        from .rooms import make_room, remove_room, sweep_rooms
+        from .waiting import pass_early_signals
+
+        pass_early_signals()
         sweep_rooms()
         room = make_room()
         status = run(words, room, is_real)

@@ -2,6 +2,7 @@
 quarter of a start.) Not proved."""
 
 import os
+import re
 import sys
 
 from .words import OWN_FAULT, RULES, Unfit, tell
@@ -18,7 +19,8 @@ or found; 125 where the command itself can't go on."""
 # Each option: what its value is called (None: it has none), whether numaplan-record has it, what it does.
 OPTIONS = {
     "machine": ("FILE", True,
-                "a script whose lines machine, cpus, rules, mems and weight describe it (otherwise {machine})"),
+                "a script whose lines machine, cpus, rules, mems and weight describe it; what numactl --hardware or"
+                " lstopo --of xml prints; hwloc's synthetic text; or live, this machine (otherwise {machine})"),
     "mems": ("LIST", False, "the allowed nodes, as 0-2"),
     "cpus": ("NUMBERS", False,
              "made-up CPUs in place of this machine's: so many a node, as 4, or for each node, as 4,4,0,0"),
@@ -100,8 +102,7 @@ def help_text(is_real):
     from textwrap import fill
 
     width = min(get_terminal_size().columns, 100) - 2
-    name = "numaplan-record" if is_real else "numaplan-emulate"
-    lines = [f"usage: {name} [OPTION].. PROGRAM [ARGUMENT]..", "", fill(ABOUT_RECORD if is_real else ABOUT_EMULATE, width), ""]
+    lines = [f"usage: {command_name(is_real)} [OPTION].. PROGRAM [ARGUMENT]..", "", fill(ABOUT_RECORD if is_real else ABOUT_EMULATE, width), ""]
     for option, (value, is_of_record, about) in OPTIONS.items():
         if is_of_record or not is_real:
             about = about.format(**(OF_RECORD if is_real else OF_EMULATE))
