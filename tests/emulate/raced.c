@@ -1,8 +1,9 @@
 /* The commonest test of placement: four threads, each on a CPU of its node, touch pages of one area at once, in turns or
  * in parts; between them no call tells when. raced PAGES HOW: each thread touches so many pages. HOW: parts, turns, or
- * read (read(2) touches them, in the kernel). The area is named "table" (PR_SET_VMA_ANON_NAME). With `itself` behind that
- * the program asks where its pages are, and the status is 0 where each one is on the node of who touched it first (it
- * runs with --cpus 2, so thread k is on node k). Not proved. */
+ * read (read(2) touches them, in the kernel), or one (all threads touch all pages, and each has to be on one node). The
+ * area is named "table" (PR_SET_VMA_ANON_NAME). With `itself` behind that the program asks where its pages are, and the
+ * status is 0 where each one is on the node of who touched it first (it runs with --cpus 2, so thread k is on node k).
+ * With `exec` it does so once it was started anew, by a thread of its own; with `fork` in a child. Not proved. */
 #define _GNU_SOURCE
 #include <errno.h>
 #include <fcntl.h>
@@ -14,6 +15,7 @@
 #include <sys/mman.h>
 #include <sys/prctl.h>
 #include <sys/syscall.h>
+#include <sys/wait.h>
 #include <unistd.h>
 
 #define MUST(what)                                                                                 \
@@ -26,7 +28,7 @@
 
 enum { PAGE = 4096, THREADS = 4, AREA = 0x53564d41 };
 static char *table;
-static int pages, in_turns, by_reading;
+static int pages, in_turns, by_reading, all_touch;
 static pthread_barrier_t all;
 
 static char *page_of(int thread, int k) { return table + (size_t)(in_turns ? k * THREADS + thread : thread * pages + k) * PAGE; }
@@ -38,8 +40,10 @@ static void *touches(void *mine) {
     CPU_SET(2 * thread, &set);
     MUST(sched_setaffinity(0, sizeof set, &set) == 0 && zeros >= 0);
     pthread_barrier_wait(&all);
-    for (int k = 0; k < pages; k++)
-        if (by_reading)
+    for (int k = 0; k < pages * (all_touch ? THREADS : 1); k++)
+        if (all_touch)
+            table[(size_t)k * PAGE] += 1;
+        else if (by_reading)
             MUST(read(zeros, page_of(thread, k), 1) == 1);
         else
             *page_of(thread, k) = 1;
@@ -47,10 +51,26 @@ static void *touches(void *mine) {
     return NULL;
 }
 
+static void *starts_anew(void *words) {
+    execv(((char **)words)[0], words);
+    return NULL;
+}
+
 int main(int count, char **words) {
     pthread_t threads[THREADS];
+    if (count == 4 && !strcmp(words[3], "exec")) {
+        words[3] = "itself";
+        MUST(pthread_create(threads, NULL, starts_anew, words) == 0 && pthread_join(threads[0], NULL) == 0);
+        return 1;
+    }
+    pid_t child = count == 4 && !strcmp(words[3], "fork") ? fork() : 0;
+    if (child != 0) {
+        int status = -1;
+        MUST(waitpid(child, &status, 0) == child);
+        return status != 0;
+    }
     MUST(count >= 3 && (pages = atoi(words[1])) > 0);
-    in_turns = !strcmp(words[2], "turns"), by_reading = !strcmp(words[2], "read");
+    in_turns = !strcmp(words[2], "turns"), all_touch = !strcmp(words[2], "one"), by_reading = !strcmp(words[2], "read");
     table = mmap(NULL, (size_t)THREADS * pages * PAGE, PROT_READ | PROT_WRITE, MAP_PRIVATE | MAP_ANONYMOUS, -1, 0);
     MUST(table != MAP_FAILED && pthread_barrier_init(&all, NULL, THREADS) == 0);
     prctl(AREA, 0L, table, (size_t)THREADS * pages * PAGE, "table");
@@ -66,7 +86,7 @@ int main(int count, char **words) {
             void *at = page_of(thread, k);
             int status = -99;
             MUST(syscall(SYS_move_pages, 0L, 1L, &at, NULL, &status, 0L) == 0);
-            wrong += status != thread;
+            wrong += all_touch ? status < 0 || status >= THREADS : status != thread;
         }
     if (wrong)
         printf("%d pages are on other nodes\n", wrong);

@@ -82,7 +82,11 @@ def counts_of(node):
 before = counts_of(2)
 area[0], area[4096], area[2 * 4096], area[3 * 4096] = 1, 1, 1, 1
 shown = line_of(read("/proc/self/numa_maps"), f"{start:08x} ").split()[1:]
-want(shown[:3], ["interleave:1-3", "anon=4", "dirty=4"], "numa_maps")
+want(shown[:4], ["interleave:1-3", f"file={sys.argv[1]}", "anon=4", "dirty=4"], "numa_maps")
+want([" heap " in f"{line} " for line in read("/proc/self/numa_maps").splitlines()].count(True), 1, "lines of the heap")
+child = subprocess.Popen(["sleep", "9"])
+want("file=" in read(f"/proc/{child.pid}/numa_maps"), True, "numa_maps of another process")
+child.kill()
 want([word for word in shown if word.startswith("N")], ["N1=1", "N2=2", "N3=1"], "numa_maps's nodes")
 after = counts_of(2)
 want(after["numa_hit"] >= before["numa_hit"] + 2, True, "two pages more on node 2")
