@@ -1,6 +1,7 @@
 /* The commonest test of placement: four threads, each on a CPU of its node, touch pages of one area at once, in turns or
  * in parts; between them no call tells when. raced PAGES HOW: each thread touches so many pages. HOW: parts, turns, or
- * read (read(2) touches them, in the kernel), or one (all threads touch all pages, and each has to be on one node). The
+ * read (read(2) touches them, in the kernel), both (in parts, and as many pages of another area), or one (all threads touch
+ * all pages, and each has to be on one node). The
  * area is named "table" (PR_SET_VMA_ANON_NAME). With `itself` behind that the program asks where its pages are, and the
  * status is 0 where each one is on the node of who touched it first (it runs with --cpus 2, so thread k is on node k).
  * With `exec` it does so once it was started anew, by a thread of its own; with `fork` in a child. Not proved. */
@@ -28,7 +29,8 @@
 
 enum { PAGE = 4096, THREADS = 4, AREA = 0x53564d41 };
 static char *table;
-static int pages, in_turns, by_reading, all_touch;
+static int pages, in_turns, by_reading, all_touch, has_other;
+static char *other;
 static pthread_barrier_t all;
 
 static char *page_of(int thread, int k) { return table + (size_t)(in_turns ? k * THREADS + thread : thread * pages + k) * PAGE; }
@@ -46,7 +48,7 @@ static void *touches(void *mine) {
         else if (by_reading)
             MUST(read(zeros, page_of(thread, k), 1) == 1);
         else
-            *page_of(thread, k) = 1;
+            *page_of(thread, k) = 1, has_other && (other[page_of(thread, k) - table] = 1);
     pthread_barrier_wait(&all);
     return NULL;
 }
@@ -70,9 +72,11 @@ int main(int count, char **words) {
         return status != 0;
     }
     MUST(count >= 3 && (pages = atoi(words[1])) > 0);
-    in_turns = !strcmp(words[2], "turns"), all_touch = !strcmp(words[2], "one"), by_reading = !strcmp(words[2], "read");
+    in_turns = !strcmp(words[2], "turns"), all_touch = !strcmp(words[2], "one");
+    has_other = !strcmp(words[2], "both"), by_reading = !strcmp(words[2], "read");
     table = mmap(NULL, (size_t)THREADS * pages * PAGE, PROT_READ | PROT_WRITE, MAP_PRIVATE | MAP_ANONYMOUS, -1, 0);
-    MUST(table != MAP_FAILED && pthread_barrier_init(&all, NULL, THREADS) == 0);
+    other = mmap(NULL, (size_t)THREADS * pages * PAGE, PROT_READ | PROT_WRITE, MAP_PRIVATE | MAP_ANONYMOUS, -1, 0);
+    MUST(table != MAP_FAILED && other != MAP_FAILED && pthread_barrier_init(&all, NULL, THREADS) == 0);
     prctl(AREA, 0L, table, (size_t)THREADS * pages * PAGE, "table");
     for (long k = 0; k < THREADS; k++)
         MUST(pthread_create(&threads[k], NULL, touches, (void *)k) == 0);

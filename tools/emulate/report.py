@@ -102,16 +102,18 @@ def part_of(space, word, state):
     rows, all_ = [], Counter()
     for start, end, policy, name, pages in area_rows(space, word):
         if pages:
-            nodes = Counter(space.placed[page] for page in pages)
+            bounds = bounds_of(space, pages)
+            nodes = Counter({node: least for node, (least, _) in bounds.items()}) if are_sure(bounds) else Counter(
+                space.placed[page] for page in pages)
             all_.update(nodes)
             rows.append({"start": start, "end": end, "policy": policy, "pages": dict(sorted(nodes.items())),
                          "name": shown_name(name) if name else "", "touched": touchers_of(space, pages),
-                         "bounds": bounds_of(space, pages)})
+                         "bounds": {} if are_sure(bounds) else bounds})
     refused = [{"call": what, "reason": why, "times": times} for (what, why), times in space.refused.items()]
     return {"process": space.leader, "program": space.name, "state": state, "policy": word, "ranges": rows,
             "pages": dict(sorted(all_.items())), "refused": refused,
-            "peaks": {shown_name(name): dict(sorted(pages.items())) for name, pages in space.peaks.items()
-                      if pages and name.startswith("[anon:")}}
+            "peaks": {shown_name(name) if name.startswith("[") else name: dict(sorted(pages.items()))
+                      for name, pages in space.peaks.items() if pages and (name.startswith("[anon:") or " " in name)}}
 
 
 def touchers_of(space, pages):
@@ -125,10 +127,29 @@ def bounds_of(space, pages):
     raced = [page for page in pages if page in space.raced] if space.raced else []
     if not raced:
         return {}
-    sure = Counter(space.placed[page] for page in pages)
-    sure.subtract(space.placed[page] for page in raced)
-    most = sure + Counter(node for page in raced for node in space.raced[page])
-    return {node: [sure[node], most[node]] for node in sorted(most)}
+    least = Counter(space.placed[page] for page in pages)
+    least.subtract(space.placed[page] for page in raced)
+    most = Counter(least)
+    for group in groups_of(space, raced):
+        those = Counter(node for page in group for node in space.raced[page][0])
+        limits = space.raced[group[0]][1]
+        those = {node: min(count, limits[node]) for node, count in those.items()}
+        most.update(those)
+        least.update({node: max(0, len(group) - sum(those.values()) + count) for node, count in those.items()})
+    return {node: [least[node], most[node]] for node in sorted(most) if most[node]}
+
+
+def are_sure(bounds):
+    """Whether how many faults each thread had tells how many pages are on each node."""
+    return bool(bounds) and all(least == most for least, most in bounds.values())
+
+
+def groups_of(space, raced):
+    """The pages that were found at one look: who touched them had so many faults at most."""
+    found = {}
+    for page in raced:
+        found.setdefault(id(space.raced[page][1]), []).append(page)
+    return found.values()
 
 
 class Wanted:
@@ -166,11 +187,12 @@ class Wanted:
         self.seen.add(number)
         self.problems.pop(number, None)
         self.untold.pop(number, None)
-        if is_open(wanted, found, bounds):
-            texts = ", ".join(f"{least} to {most} on node {node}" for node, (least, most) in bounds.items())
-            self.untold[number] = f"{where}: {pairs_text(wanted)} can't be told: first touches were raced; sure is {texts}"
-        elif dict(found) != wanted:
-            self.problems[number] = f"{where}: {pairs_text(found)}, not {pairs_text(wanted)}"
+        texts = ", ".join(f"{least} to {most} on node {node}" for node, (least, most) in bounds.items())
+        if bounds and can_be(wanted, found, bounds):
+            if not are_sure(bounds):
+                self.untold[number] = f"{where}: {pairs_text(wanted)} can't be told: first touches were raced; sure is {texts}"
+        elif bounds or dict(found) != wanted:
+            self.problems[number] = f"{where}: {texts or pairs_text(found)}, not {pairs_text(wanted)}"
 
     def failures(self):
         """(what differs, what can't be told)"""
@@ -187,9 +209,9 @@ def pages_of(space, name):
             for page in space.placed_between(area.start, area.end)]
 
 
-def is_open(wanted, found, bounds):
-    """Whether what is wanted can be so, and needn't."""
-    return bool(bounds) and sum(wanted.values()) == sum(found.values()) and set(wanted) <= set(bounds) and all(
+def can_be(wanted, found, bounds):
+    """Whether what is wanted is within the bounds of what was found."""
+    return sum(wanted.values()) == sum(found.values()) and set(wanted) <= set(bounds) and all(
         least <= wanted.get(node, 0) <= most for node, (least, most) in bounds.items())
 
 

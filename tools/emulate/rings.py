@@ -78,8 +78,11 @@ class Ring:
 
     def untold(self, thread):
         """How many faults the thread has had that aren't told. (What is in the ring was written before it was counted.)"""
-        had = faults_of(thread) - self.earlier
-        return had - self.told - (self.page[HEAD] - self.page[TAIL]) // self.record
+        return faults_of(thread) - self.known()
+
+    def known(self):
+        """Of how many faults of the thread is known, or nobody has to know."""
+        return self.earlier + self.told + (self.page[HEAD] - self.page[TAIL]) // self.record
 
     def unmap(self):
         Ring.count -= 1
@@ -141,10 +144,15 @@ def rows_one_by_one(words, size):
 
 
 def faults_of(thread):
-    """How many faults a thread has had, those in the kernel too (proc_pid_stat(5), fields 10 and 12)."""
+    """How many faults a thread has had, those in the kernel too."""
+    return faults_and_state(thread)[0]
+
+
+def faults_and_state(thread):
+    """(faults, whether it runs: then one more may be on its way) of a thread (proc_pid_stat(5), fields 3, 10 and 12)."""
     with open(f"/proc/{thread}/task/{thread}/stat", "rb", 0) as file:
         words = file.read(4096).rsplit(b")", 1)[1].split()
-    return int(words[7]) + int(words[9])
+    return int(words[7]) + int(words[9]), words[0] in (b"R", b"D")
 
 
 def is_of_ring(thread):

@@ -17,6 +17,7 @@ from .touchers import Touchers
 from .tracing import PAGE, TOP
 from .words import list_text
 
+MOST_PEAKS = 1000  # that are kept
 LINES = {
     "map": "map 0x{:x} 0x{:x} 0x{:x}", "unmap": "unmap 0x{:x} 0x{:x}", "mbind": "mbind 0x{:x} 0x{:x} {}",
     "set_task": "task {} {}", "inherit": "inherit {} {}", "set_home": "home 0x{:x} 0x{:x} {}",
@@ -39,7 +40,7 @@ class Space:
         self.touchers, self.stacks = Touchers(), {}  # (the latter: by thread where its stack began)
         self.peaks = {}  # by name the pages of its areas by node, when they were most
         self.touched_by = {}  # by page its toucher, where that is known, and a report names it
-        self.raced = {}  # by page the nodes on which it could be, where it isn't known who touched it first
+        self.raced = {}  # by page (nodes on which it could be, by node how many such), where nobody knows who touched it
         self.lines, self.refused = [], {}
         self.plan, self.takes_turns = None, False
 
@@ -207,16 +208,16 @@ class Space:
         start, end = first * PAGE, (first + count) * PAGE
         for area in self.look_at(areas, start, end):
             begin, after = max(start, area.start) // PAGE, min(end, area.end) // PAGE
-            self.place(begin, after, area, lambda *gap: self.touchers.touched_by(looker, *gap))
+            self.place(begin, after, area, lambda *gap: self.touchers.touched_by(looker, *gap), looker)
 
-    def place(self, first, after, area, touched_by):
+    def place(self, first, after, area, touched_by, looker=None):
         """Places the pages of a run that aren't placed yet: `touched_by` gives (first page, page behind, touchers) of
-        a gap. Those of an object that a process has had before are where that one put them."""
+        a gap, the looker at most how many pages each of several touchers had. Those of an object that a process has had before are where that one put them."""
         for gap in self.placed.runs.gaps(first, after):
             for span in have_known(self, area, *gap) if area.shared else [gap]:
-                self.place_new(*span, area, list(touched_by(*span)))
+                self.place_new(*span, area, list(touched_by(*span)), looker)
 
-    def place_new(self, first, after, area, parts):
+    def place_new(self, first, after, area, parts, looker):
         """Places pages that aren't placed. All of the run is asked for once for each toucher, and its own are taken."""
         nodes, filled = bytearray(after - first), {}
         for low, high, some in parts:
@@ -230,7 +231,7 @@ class Space:
         for low, high, some in parts:
             self.count(some[0].word, some[0].node, low, nodes[low - first:high - first])
             if len(some) > 1:
-                self.note_raced(some, low, nodes[low - first:high - first])
+                self.note_raced(some, low, nodes[low - first:high - first], looker.most)
             elif self.machine.names_touchers:
                 self.touched_by.update(dict.fromkeys(range(low, high), some[0]))
 
@@ -240,12 +241,12 @@ class Space:
         self.lists().fill(toucher.number, toucher.node, first, nodes)
         return nodes
 
-    def note_raced(self, some, first, nodes):
+    def note_raced(self, some, first, nodes, most):
         """Where it isn't known which of some touched pages, and it counts, the nodes on which they could be."""
         for other in some[1:]:
             for place, (node, one) in enumerate(zip(nodes, self.filled(other, first, first + len(nodes)))):
                 if node != one:
-                    self.raced.setdefault(first + place, {node}).add(one)
+                    self.raced.setdefault(first + place, ({node}, most))[0].add(one)
 
     def count(self, word, cpu, first, nodes):
         """Counts new pages by node."""
@@ -335,7 +336,11 @@ class Space:
                 self.peaks[name] = pages
 
     def note_peaks_between(self, start, end):
-        """Before what is there goes: the areas that the program has named."""
+        """Before what is there goes: the areas that the program has named, or that have policies of their own."""
+        for low, high, _, policy in self.ranges(start, end) if self.core else ():
+            pages = self.placed_between(low, high) if policy else ()
+            if pages and len(self.peaks) < MOST_PEAKS:
+                self.note_peaks({f"{low:08x}-{high:08x} {policy}": Counter(self.placed[page] for page in pages)})
         names = {name for _, _, name in self.names.between(start, end)}
         found = {name: Counter() for name in names}
         for first, after, name in self.names if names else ():

@@ -1,11 +1,13 @@
 """Which thread of an address space touched a page first, and on a CPU of which node: by the rings of the threads where
 they are told; else by who of them had faults that weren't told. Not proved."""
 
-from collections import namedtuple
+from collections import Counter, namedtuple
 
-from .rings import Ring, faults_of, is_of_ring
+from .rings import Ring, faults_and_state, faults_of, is_of_ring
 from .spans import Spans
 from .tracing import PAGE
+
+MANY = 1 << 40  # more pages than any process has
 
 
 class Toucher(namedtuple("Toucher", "number word node")):
@@ -24,7 +26,7 @@ class Touchers:
         self.counts = {}  # by thread without one, how many faults it had had when pages were last looked at as a whole
         self.told = {}  # by page (time, what was mapped there before, thread, node) of the fault that counts
         self.earlier = Spans()  # by page (thread, node) of those that were there before threads were told apart
-        self.gone = set()  # (thread, node) of those that have ended, with faults that weren't told
+        self.gone = {}  # by (thread, node) of those that have ended how many faults weren't told
         self.are_apart = False
 
     def copy(self):
@@ -64,8 +66,9 @@ class Touchers:
         ring = self.rings.pop(number, None)
         if ring is not None:
             self.keep(number, ring.taken(), node_of)
-            if not has_ended and ring.untold(number) > 0:
-                self.gone.add((number, node_of(number, None)))
+            untold = 0 if has_ended else ring.untold(number)
+            if untold > 0:
+                self.gone[number, node_of(number, None)] = untold
             ring.close()
         self.counts.pop(number, None)
 
@@ -110,10 +113,12 @@ class Touchers:
         row = self.told.get(page)
         return row[2:] if row else self.earlier.at(page) if self.earlier else None
 
-    def had_faults(self):
-        """The threads that had faults that weren't told."""
-        found = [number for number, ring in self.rings.items() if ring.untold(number) > 0]
-        return found + [number for number, count in self.counts.items() if faults_of(number) > count]
+    def untold(self):
+        """(thread, most faults) of those that had faults that weren't told."""
+        for number, count in [*self.counts.items(), *((number, ring.known()) for number, ring in self.rings.items())]:
+            had, runs = faults_and_state(number)
+            if had + runs > count:
+                yield number, had + runs - count
 
     def close(self):
         for ring in self.rings.values():
@@ -133,6 +138,7 @@ class Looker:
 
     def __init__(self, all_, task):
         self.all_, self.task, self.number, self.found = all_, task, task.number, None
+        self.most = None  # by node at most how many pages those could have touched that have no policy
 
     def take(self):
         self.task.space.touchers.take(self.all_.node_on)
@@ -150,14 +156,14 @@ class Looker:
         """Those who could have touched a page of which nobody knows: threads that had faults that weren't told. The
         first one is taken: the thread itself where it is among them, or nobody."""
         if self.found is None:
-            touchers = self.task.space.touchers
-            pairs = [(number, self.all_.node_on(number, None)) for number in touchers.had_faults()] if touchers.are_apart else []
-            found = [self.of(pair) for pair in pairs + sorted(touchers.gone)] or [self.itself()]
-            found.sort(key=lambda one: one.number != self.number)
-            by_key = {}
-            for one in found:
+            touchers, by_key, self.most = self.task.space.touchers, {}, Counter()
+            rows = [(self.of((number, self.all_.node_on(number, None))), most) for number, most in touchers.untold()
+                    ] if touchers.are_apart else []
+            rows += [(self.of(pair), most) for pair, most in touchers.gone.items()]
+            for one, most in sorted(rows, key=lambda row: row[0].number != self.number):
                 by_key.setdefault(one.key(), one)
-            self.found = list(by_key.values())
+                self.most[one.node] += most if one.word is None else MANY
+            self.found = list(by_key.values()) or [self.itself()]
         return self.found
 
 
