@@ -22,7 +22,7 @@ from .touchers import Looker, Telling
 from .tracing import CLONE, CONTINUE, EXEC, EXIT, FORK, LISTEN, NAMES, ONLY_WITH, SECCOMP, STOP, TO_CALL_END
 from .tracing import PAGE, TOP, VFORK, Failed, fail, message_of, peek, poke, ptrace, registers_of, set_registers, text_at
 from .vdso import make_getcpu_a_call
-from .waiting import Waiting
+from .waiting import ANY_CHILD, Waiting
 from .words import list_text
 
 SHARES_MEMORY, WAITS = 0x100, 0x4000  # CLONE_VM, CLONE_VFORK
@@ -49,7 +49,8 @@ class Task:
     def __init__(self, number, space, word):
         self.number, self.space, self.word, self.at_end = number, space, word, None
         self.number_at = 0  # where its number is cleared as it ends (--exact)
-        self.is_still = self.ends = False
+        self.lent_to = None  # the process by vfork(2) that has its memory meanwhile
+        self.is_still = self.ends = self.is_looked_at = False  # (the last: stands at a call that is answered now)
         space.users += 1
         space.leader = space.leader or number
 
@@ -229,7 +230,7 @@ class Emulator:
 
     def at_child(self, task):
         number, registers = message_of(task.number), registers_of(task.number)
-        flags = {56: registers.rdi, 58: SHARES_MEMORY}.get(registers.call(), 0)
+        flags = {56: registers.rdi, 58: SHARES_MEMORY | WAITS}.get(registers.call(), 0)
         if registers.call() == 435:  # clone3
             flags = int.from_bytes(peek(task.number, registers.rdi, 8), "little")
         space, is_thread = task.space, flags & SHARES_MEMORY and not flags & WAITS
@@ -239,6 +240,8 @@ class Emulator:
             space = space.copy(task.number)
         elif is_thread:
             self.tell_apart(task)
+        else:
+            task.lent_to = number
             space.stacks[number] = stack_of_child(task.number, registers)
         child = self.add_task(number, space, task.word, task, flags)
         if self.telling and (is_thread or self.telling.each and space is not task.space):
@@ -251,6 +254,29 @@ class Emulator:
         self.child_begins(task, child)
         if number in self.early:
             self.at_stop(child, self.early.pop(number))
+
+    def end_loan(self, task):
+        """A task goes on that has made a process by vfork(2): that one has left its memory, be it by an exec that isn't
+        told yet, or never will be since it was killed."""
+        child, task.lent_to = self.tasks.get(task.lent_to), None
+        if child and child.space is task.space:
+            child.space.users -= 1
+            child.space = self.space_type(self.machine)
+            child.space.users, child.space.leader = 1, child.number
+
+    def settled(self, number):
+        """Another task, once what has happened to it is followed; None where it isn't one that is told of."""
+        task = self.tasks.get(number)
+        if task is not None and not task.is_looked_at:
+            try:
+                told, status = os.waitpid(number, ANY_CHILD | os.WNOHANG)
+            except ChildProcessError:
+                told = 0
+            if told and os.WIFSTOPPED(status):
+                self.step(told, status)
+            elif told:
+                self.unread.append((told, status))
+        return self.tasks.get(number)
 
     def tell_apart(self, task):
         """A process gets a second thread: from now on it is told who touches a page. What was by now is the first's."""
@@ -279,7 +305,10 @@ class Emulator:
     def at_exec(self, number, task):
         """The program of a process is another one: its memory is new, its policy is kept."""
         self.has_begun = True
-        old = self.tasks.pop(message_of(number), task)
+        try:
+            old = self.tasks.pop(message_of(number), task)
+        except GONE:
+            old = task  # (killed meanwhile)
         self.leave(old)  # (with its ring, which belongs to the number that it had)
         task = self.add_task(number, self.space_type(self.machine), old.word, old)
         if self.telling and self.telling.each:
@@ -329,6 +358,8 @@ class Emulator:
         if task is None:
             self.early[number] = signal_  # (its parent's call isn't told yet)
             return
+        if task.lent_to:
+            self.end_loan(task)
         if event == STOP:
             self.at_stop(task, signal_)
             return
@@ -338,7 +369,9 @@ class Emulator:
             ptrace(CONTINUE, number)
             return
         if event == SECCOMP:
+            task.is_looked_at = True
             go_on = self.at_call(task)
+            task.is_looked_at = False
         elif event in (FORK, VFORK, CLONE):
             self.at_child(task)
         elif event == EXEC:

@@ -183,7 +183,7 @@ def text_of(all_, task, path):
     found = re.match(PROCESS, path)
     if found:
         number = int(found[2] or (task.number if found[1].endswith("self") else found[1]))
-        other = all_.tasks.get(number)
+        other = all_.settled(number)
         if other is None:
             return None
         if found[3] == "stat":

@@ -113,7 +113,7 @@ def part_of(space, word, state):
     return {"process": space.leader, "program": space.name, "state": state, "policy": word, "ranges": rows,
             "pages": dict(sorted(all_.items())), "refused": refused,
             "peaks": {shown_name(name) if name.startswith("[") else name: dict(sorted(pages.items()))
-                      for name, pages in space.peaks.items() if pages and (name.startswith("[anon:") or " " in name)}}
+                      for name, pages in space.peaks.items() if pages and re.match(r"\[anon:|[0-9a-f]+-", name)}}
 
 
 def touchers_of(space, pages):
