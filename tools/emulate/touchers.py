@@ -2,12 +2,14 @@
 they are told; else by who of them had faults that weren't told. Not proved."""
 
 from collections import Counter, namedtuple
+from time import monotonic
 
 from .rings import Ring, faults_and_state, faults_of, is_of_ring
 from .spans import Spans
 from .tracing import PAGE
 
 MANY = 1 << 40  # more pages than any process has
+FEW, SHARE = 32, 20  # the counts of so many threads are always read; of more for that part of the time
 
 
 class Toucher(namedtuple("Toucher", "number word node")):
@@ -27,7 +29,7 @@ class Touchers:
         self.told = {}  # by page (time, what was mapped there before, thread, node) of the fault that counts
         self.earlier = Spans()  # by page (thread, node) of those that were there before threads were told apart
         self.gone = {}  # by (thread, node) of those that have ended how many faults weren't told
-        self.are_apart = False
+        self.are_apart, self.not_before = False, 0.0
 
     def copy(self):
         """Those of a child by fork: the threads stay with the parent."""
@@ -85,11 +87,16 @@ class Touchers:
     def looked_at_all(self, kept):
         """All pages that are there are placed: what else is known, but for pages that `kept` tells, is of the past."""
         self.told = {page: row for page, row in self.told.items() if kept(page)}
+        begun = monotonic()
+        if len(self.rings) + len(self.counts) > FEW and begun < self.not_before:
+            return  # (more threads could have touched a page that isn't told, then)
         self.gone.clear()
         for number, ring in self.rings.items():
             ring.earlier += ring.untold(number)
         for number in self.counts:
             self.counts[number] = faults_of(number)
+        now = monotonic()
+        self.not_before = now + SHARE * (now - begun)
 
     def touched_by(self, looker, first, after):
         """(first page, page behind, touchers) of all from first on: the one who touched them, or some who could have."""
@@ -185,6 +192,8 @@ class Telling:
 
     def what_helps(self):
         """What would tell of touches that aren't told."""
+        if self.is_allowed and self.why:
+            return f"faults of some threads aren't told here ({self.why}); higher limits would allow it (ulimit -l and -n)"
         if self.is_allowed:
             return ("touches of threads in the kernel, as by read(2), aren't told here; kernel.perf_event_paranoid=1, "
                     "CAP_PERFMON, or --exact as root would allow it")
