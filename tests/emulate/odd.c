@@ -307,6 +307,34 @@ static void processes(void) {
     MUST(status_of(child) == 7 << 8);
 }
 
+/* After a fork both have pages in common. Who writes to one gets a new page, by its own policy, and the other keeps the
+ * old one, also when it writes later. */
+static void copied(void) {
+    char *at = some_pages(10), byte = 0;
+    int go[2];
+    unsigned long mask = 2;
+    pid_t child;
+    MUST(syscall(SYS_set_mempolicy, (long)BIND, &mask, 65L) == 0 && pipe(go) == 0);
+    for (int k = 0; k < 10; k++)
+        at[k * 4096] = 1;
+    if ((child = fork()) == 0) {
+        mask = 8;
+        MUST(syscall(SYS_set_mempolicy, (long)BIND, &mask, 65L) == 0 && read(go[0], &byte, 1) == 1);
+        for (int k = 0; k < 10; k++)
+            at[k * 4096] = 2;
+        for (int k = 0; k < 10; k++)
+            MUST(node_of(at + k * 4096) == (k < 5 ? 1 : 3));
+        exit(4);
+    }
+    mask = 4;
+    MUST(syscall(SYS_set_mempolicy, (long)BIND, &mask, 65L) == 0);
+    for (int k = 0; k < 5; k++)
+        at[k * 4096] = 3;
+    MUST(write(go[1], "x", 1) == 1 && status_of(child) == 4 << 8);
+    for (int k = 0; k < 10; k++)
+        MUST(node_of(at + k * 4096) == (k < 5 ? 2 : 1));
+}
+
 /* Rights that can't be had: setuid programs run without. */
 static void rights(void) {
     char *words[] = {"su", "-c", "true", "nobody", NULL};
@@ -327,7 +355,7 @@ int main(int count, char **words) {
     } rows[] = {{"after-exec", after_exec}, {"vfork", by_vfork}, {"exec-from-thread", exec_from_thread},
                 {"signals", signals}, {"threads", threads}, {"children", children}, {"killed", killed},
                 {"areas", areas}, {"apart", apart}, {"closed", closed}, {"moved", moved}, {"read", only_read},
-                {"processes", processes}, {"rights", rights}, {"shared", shared}, {"for-all", for_all}};
+                {"processes", processes}, {"rights", rights}, {"shared", shared}, {"for-all", for_all}, {"copied", copied}};
     self = words[0];
     for (size_t k = 0; k < sizeof rows / sizeof rows[0]; k++)
         if (count == 2 && !strcmp(rows[k].name, words[1])) {

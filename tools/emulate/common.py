@@ -1,18 +1,20 @@
 """Pages that several processes have: those that they have in common since a fork, until one of them writes and gets
 its own. (objects.py has those of objects in memory.) Not proved."""
 
+from time import monotonic_ns
+
 from .objects import move_of_object
 from .touched import is_own, number_of
 
 
 class Frame:
     """A page in common since a fork: (space, page) of each that has it, the oldest first; the machine's own number
-    for it, 0 where only root is told."""
+    for it, 0 where only root is told; when others that had it wrote to it for their own, or had it no more."""
 
-    __slots__ = ("holders", "number")
+    __slots__ = ("holders", "number", "left")
 
     def __init__(self, number=0):
-        self.holders, self.number = {}, number
+        self.holders, self.number, self.left = {}, number, []
 
 
 def share(parent, child, pagemap):
@@ -31,15 +33,14 @@ def share(parent, child, pagemap):
         child.common[page] = frame
 
 
-def leave(space, page):
-    """The space has the page no more, or a page of its own in its place."""
+def leave(space, page, is_copied=False):
+    """The space has the page no more, or a copy of its own in its place. (The last one of all may have a copy too: that
+    is seen when its pages are looked at.)"""
     frame = space.common.pop(page, None)
-    if frame is None:
-        return
-    del frame.holders[space, page]
-    if len(frame.holders) == 1:
-        for other, place in frame.holders:
-            del other.common[place]
+    if frame is not None:
+        del frame.holders[space, page]
+        if not is_copied:
+            frame.left.append(space.touchers.written_at(page) or monotonic_ns())
 
 
 def leave_all(space):
@@ -61,14 +62,27 @@ def move(space, page, node):
 
 def written(space, first, after, pagemap):
     """Those of the common pages from first on that the space has written to, and has for its own now. By the page's
-    number; where that isn't told, of two that have a page each the younger process has the new one."""
+    number; where that isn't told by who wrote when; else of two that have a page each the younger process has the new
+    one."""
     some, span = space.common, range(first, after)
     pages = [page for page in some if page in span] if len(some) < len(span) else [page for page in span if page in some]
     for page, entry in pagemap.entries(pages):
         frame, number = space.common[page], number_of(entry)
-        is_other = number != frame.number if number and frame.number else next(iter(frame.holders))[0] is not space
+        is_other = number != frame.number if number and frame.number else is_new_by_writes(space, page, frame)
         if is_own(entry) and is_other:
             yield page
+        elif len(frame.holders) == 1:
+            del space.common[page]
+
+
+def is_new_by_writes(space, page, frame):
+    """Whether the space's page of its own is a new one: it wrote while another one had the page too, which keeps it."""
+    mine = space.touchers.written_at(page)
+    others = [other.touchers.written_at(place) for other, place in frame.holders if other is not space]
+    others += frame.left
+    if mine is None and not any(others):
+        return next(iter(frame.holders))[0] is not space
+    return mine is not None and any(time is None or time > mine for time in others)
 
 
 def pages_on(spaces, objects, node):

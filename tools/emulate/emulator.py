@@ -72,7 +72,8 @@ class Emulator:
         self.unread = []  # (number, status) of tasks that were waited for elsewhere
         self.tasks = {}
         nodes = [node for node in machine.cpus.of_node if machine.cpus.of_node[node]]
-        self.telling = Telling(not machine.cpus.are_made_up and len(nodes) > 1)
+        # (only root is told by which number a page is another one since a fork)
+        self.telling = Telling(not machine.cpus.are_made_up and len(nodes) > 1, os.geteuid() != 0)
         tracing.before_access.append(self.note_write)
 
     def in_child(self, room):
@@ -238,13 +239,15 @@ class Emulator:
             if self.follows(task):
                 self.sweep(task)  # (what was touched by now is the parent's)
             space = space.copy(task.number)
+            if self.telling and self.telling.forks and task.number not in task.space.touchers.rings:
+                task.space.touchers.follow(task.number, self.telling.ring(task.number))
         elif is_thread:
             self.tell_apart(task)
         else:
             task.lent_to = number
             space.stacks[number] = stack_of_child(task.number, registers)
         child = self.add_task(number, space, task.word, task, flags)
-        if self.telling and (is_thread or self.telling.each and space is not task.space):
+        if self.telling and (is_thread or space is not task.space and (self.telling.each or self.telling.forks)):
             space.touchers.follow(number, self.telling.ring(number))
         if space.core is not None and child.word:
             try:

@@ -117,11 +117,11 @@ class Space:
         self.drop(start, end)
         self.touchers.forget(start // PAGE, -(-end // PAGE))
 
-    def drop(self, start, end):
-        """The pages that have an address from start to end aren't placed any more."""
+    def drop(self, start, end, are_copied=False):
+        """The pages that have an address from start to end aren't placed any more; new ones may be copies of theirs."""
         first, after = start // PAGE, -(-end // PAGE)
         for page in self.placed.drop(first, after):
-            leave(self, page)
+            leave(self, page, are_copied)
             self.raced.pop(page, None)
             self.touched_by.pop(page, None)
         self.objects.remove(first, after)
@@ -154,8 +154,9 @@ class Space:
         there = Spans()
         with Pagemap(looker.number) as pagemap, Areas(looker.number) as areas:
             if self.common:
+                looker.take_of_all()
                 for page in list(written(self, start // PAGE, end // PAGE, pagemap)):
-                    self.drop(page * PAGE, (page + 1) * PAGE)
+                    self.drop(page * PAGE, (page + 1) * PAGE, True)
             runs = list(self.placeable(pagemap, areas, start, end))
             looker.take()  # (the faults of pages that were there a moment ago are told by now)
             for first, count in runs:
@@ -303,7 +304,7 @@ class Space:
         other.placed, other.spans, other.areas = self.placed.copy(), self.spans.copy(), list(self.areas)
         other.lines, other.name, other.names = list(self.lines), self.name, self.names.copy()
         other.core, other.takes_turns = self.core and self.core.copy(), self.takes_turns
-        other.touchers, other.raced = self.touchers.copy(), self.raced.copy()
+        other.touchers, other.raced = self.touchers.copy(self.placed), self.raced.copy()
         other.touched_by, other.stacks = self.touched_by.copy(), self.stacks.copy()
         if self.placed:
             with Pagemap(task) as pagemap:

@@ -31,11 +31,17 @@ class Touchers:
         self.gone = {}  # by (thread, node) of those that have ended how many faults weren't told
         self.are_apart, self.not_before = False, 0.0
 
-    def copy(self):
-        """Those of a child by fork: the threads stay with the parent."""
+    def copy(self, placed):
+        """Those of a child by fork: the threads stay with the parent. Both write anew to pages that are placed."""
         other = Touchers()
+        self.told = {page: row for page, row in self.told.items() if page not in placed}
         other.told, other.earlier = self.told.copy(), self.earlier.copy()
         return other
+
+    def written_at(self, page):
+        """When a page was written to that was there; None: that isn't told."""
+        row = self.told.get(page)
+        return row[0] if row and row[1] else None
 
     def follow(self, number, ring):
         """A thread that has done nothing yet; its ring, where it has one."""
@@ -150,6 +156,11 @@ class Looker:
     def take(self):
         self.task.space.touchers.take(self.all_.node_on)
 
+    def take_of_all(self):
+        """The same of those who have pages in common with the space."""
+        for space in {space for frame in self.task.space.common.values() for space, _ in frame.holders}:
+            space.touchers.take(self.all_.node_on)
+
     def itself(self):
         return Toucher(self.number, self.task.word, self.all_.node_of(self.task))
 
@@ -177,8 +188,9 @@ class Looker:
 class Telling:
     """Which threads have rings: the part of the emulator that opens them."""
 
-    def __init__(self, each):
-        self.each, self.is_allowed, self.why = each, True, None  # (whether of each process, or of those with threads)
+    def __init__(self, each, forks):
+        self.each, self.forks = each, forks  # of each process, or of those with threads; after forks
+        self.is_allowed, self.why = True, None
 
     def ring(self, number):
         """A new one; None where it can't be had, and why is noted."""
