@@ -9,12 +9,12 @@ from .touched import is_own, number_of
 
 class Frame:
     """A page in common since a fork: (space, page) of each that has it, the oldest first; the machine's own number
-    for it, 0 where only root is told; when others that had it wrote to it for their own, or had it no more."""
+    for it, 0 where only root is told; when the last of others that kept it wrote to it, or left it."""
 
     __slots__ = ("holders", "number", "left")
 
     def __init__(self, number=0):
-        self.holders, self.number, self.left = {}, number, []
+        self.holders, self.number, self.left = {}, number, 0
 
 
 def share(parent, child, pagemap):
@@ -40,12 +40,15 @@ def leave(space, page, is_copied=False):
     if frame is not None:
         del frame.holders[space, page]
         if not is_copied:
-            frame.left.append(space.touchers.written_at(page) or monotonic_ns())
+            frame.left = max(frame.left, space.touchers.written_at(page) or monotonic_ns())
 
 
 def leave_all(space):
-    for page in list(space.common):
-        leave(space, page)
+    now, told = monotonic_ns(), space.touchers.told
+    for page, frame in space.common.items():
+        del frame.holders[space, page]
+        frame.left = max(frame.left, space.touchers.written_at(page) or now) if page in told else now
+    space.common = {}
     for _, _, (key, _) in space.objects:
         space.machine.objects[key].holders.discard(space)
 
@@ -67,9 +70,10 @@ def written(space, first, after, pagemap):
     some, span = space.common, range(first, after)
     pages = [page for page in some if page in span] if len(some) < len(span) else [page for page in span if page in some]
     for page, entry in pagemap.entries(pages):
+        if not is_own(entry):
+            continue
         frame, number = space.common[page], number_of(entry)
-        is_other = number != frame.number if number and frame.number else is_new_by_writes(space, page, frame)
-        if is_own(entry) and is_other:
+        if number != frame.number if number and frame.number else is_new_by_writes(space, page, frame):
             yield page
         elif len(frame.holders) == 1:
             del space.common[page]
@@ -79,10 +83,9 @@ def is_new_by_writes(space, page, frame):
     """Whether the space's page of its own is a new one: it wrote while another one had the page too, which keeps it."""
     mine = space.touchers.written_at(page)
     others = [other.touchers.written_at(place) for other, place in frame.holders if other is not space]
-    others += frame.left
-    if mine is None and not any(others):
-        return next(iter(frame.holders))[0] is not space
-    return mine is not None and any(time is None or time > mine for time in others)
+    if mine is None:
+        return not frame.left and not any(others) and next(iter(frame.holders))[0] is not space
+    return frame.left > mine or any(time is None or time > mine for time in others)
 
 
 def pages_on(spaces, objects, node):

@@ -157,8 +157,8 @@ class Looker:
         self.task.space.touchers.take(self.all_.node_on)
 
     def take_of_all(self):
-        """The same of those who have pages in common with the space."""
-        for space in {space for frame in self.task.space.common.values() for space, _ in frame.holders}:
+        """The same of all processes, some of which have pages in common with the space."""
+        for space in {task.space for task in self.all_.tasks.values()}:
             space.touchers.take(self.all_.node_on)
 
     def itself(self):
