@@ -355,7 +355,8 @@ int main(int count, char **words) {
     } rows[] = {{"after-exec", after_exec}, {"vfork", by_vfork}, {"exec-from-thread", exec_from_thread},
                 {"signals", signals}, {"threads", threads}, {"children", children}, {"killed", killed},
                 {"areas", areas}, {"apart", apart}, {"closed", closed}, {"moved", moved}, {"read", only_read},
-                {"processes", processes}, {"rights", rights}, {"shared", shared}, {"for-all", for_all}, {"copied", copied}};
+                {"processes", processes}, {"rights", rights}, {"shared", shared}, {"for-all", for_all},
+                {"copied", copied}};
     self = words[0];
     for (size_t k = 0; k < sizeof rows / sizeof rows[0]; k++)
         if (count == 2 && !strcmp(rows[k].name, words[1])) {

@@ -1,7 +1,7 @@
-/* The commonest test of placement: four threads, each on a CPU of its node, touch pages of one area at once, in turns or
- * in parts; between them no call tells when. raced PAGES HOW: each thread touches so many pages. HOW: parts, turns, or
- * read (read(2) touches them, in the kernel), both (in parts, and as many pages of another area), or one (all threads touch
- * all pages, and each has to be on one node). The
+/* The commonest test of placement: four threads, each on a CPU of its node, touch pages of one area at once, in
+ * turns or in parts; between them no call tells when. raced PAGES HOW: each thread touches so many pages. HOW:
+ * parts, turns, read (read(2) touches them, in the kernel), both (in parts, and as many pages of another area), or
+ * one (all threads touch all pages, and each has to be on one node). The
  * area is named "table" (PR_SET_VMA_ANON_NAME). With `itself` behind that the program asks where its pages are, and the
  * status is 0 where each one is on the node of who touched it first (it runs with --cpus 2, so thread k is on node k).
  * With `exec` it does so once it was started anew, by a thread of its own; with `fork` in a child. Not proved. */
@@ -33,7 +33,9 @@ static int pages, in_turns, by_reading, all_touch, has_other;
 static char *other;
 static pthread_barrier_t all;
 
-static char *page_of(int thread, int k) { return table + (size_t)(in_turns ? k * THREADS + thread : thread * pages + k) * PAGE; }
+static char *page_of(int thread, int k) {
+    return table + (size_t)(in_turns ? k * THREADS + thread : thread * pages + k) * PAGE;
+}
 
 static void *touches(void *mine) {
     int thread = (int)(long)mine, zeros = open("/dev/zero", O_RDONLY);

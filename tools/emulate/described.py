@@ -1,5 +1,6 @@
-"""A machine's description as lines of a script: a script as it is; what machine-line reads (numactl --hardware, hwloc's
-XML, a folder of sysfs, and this machine: live); and hwloc's synthetic texts, which hwloc itself makes XML of. Not proved."""
+"""A machine's description as lines of a script: a script as it is; what machine-line reads (numactl
+--hardware, hwloc's XML, a folder of sysfs, and this machine: live); and hwloc's synthetic texts, of
+which hwloc itself makes XML. Not proved."""
 
 import os
 import sys

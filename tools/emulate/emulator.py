@@ -20,7 +20,8 @@ from .prototypes import call_text, nodes_asked, result_text, words_of
 from .space import Space
 from .touchers import Looker, Telling
 from .tracing import CLONE, CONTINUE, EXEC, EXIT, FORK, LISTEN, NAMES, ONLY_WITH, SECCOMP, STOP, TO_CALL_END
-from .tracing import PAGE, TOP, VFORK, Failed, fail, message_of, peek, poke, ptrace, registers_of, set_registers, text_at
+from .tracing import PAGE, TOP, VFORK, Failed, fail, message_of, peek, poke, ptrace, registers_of
+from .tracing import set_registers, text_at
 from .vdso import make_getcpu_a_call
 from .waiting import ANY_CHILD, Waiting
 from .words import list_text

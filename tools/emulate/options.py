@@ -13,8 +13,8 @@ docs/EMULATE.md says what is exact and what isn't. It isn't proved; the rules ar
 ABOUT_RECORD = """Runs a program on this machine as it is, and writes down what it does about memory: scripts
 that numaplan takes, and where the kernel has put its pages. docs/EMULATE.md tells more. It isn't proved."""
 STATUS = """The status is the program's, or 128 and the number of the signal that ended it; 3 where pages
-lie elsewhere than --expect wants, or nothing was compared; 4 where that can't be told, since threads raced; 126 or 127 where the program can't be run
-or found; 125 where the command itself can't go on."""
+lie elsewhere than --expect wants, or nothing was compared; 4 where that can't be told, since threads
+raced; 126 or 127 where the program can't be run or found; 125 where the command itself can't go on."""
 
 # Each option: what its value is called (None: it has none), whether numaplan-record has it, what it does.
 OPTIONS = {
@@ -32,8 +32,9 @@ OPTIONS = {
     "report": ("FILE", True,
                "writes where pages are as each process ends, and refused calls, in the form that the name ends with"
                " (.json, .svg, .html, else text); - is standard error. SIGUSR1 asks for it before the end"),
-    "expect": ("FILE", True, "lines NAME NODE=PAGES,.. [at MOMENT]: where the pages of an area are to be as PROGRAM ends, at its peak, or at"
-               " a moment that the program marks"),
+    "expect": ("FILE", True,
+               "lines NAME NODE=PAGES,.. [at MOMENT]: where the pages of an area are to be as PROGRAM ends, at"
+               " peak, or at a moment that the program marks"),
     "log": ("FILE", True, "writes each call about policies, its answer, and why it was refused"),
 }
 OF_EMULATE = {"machine": "two nodes", "rules": "else the documents'"}
@@ -102,7 +103,8 @@ def help_text(is_real):
     from textwrap import fill
 
     width = min(get_terminal_size().columns, 100) - 2
-    lines = [f"usage: {command_name(is_real)} [OPTION].. PROGRAM [ARGUMENT]..", "", fill(ABOUT_RECORD if is_real else ABOUT_EMULATE, width), ""]
+    about = fill(ABOUT_RECORD if is_real else ABOUT_EMULATE, width)
+    lines = [f"usage: {command_name(is_real)} [OPTION].. PROGRAM [ARGUMENT]..", "", about, ""]
     for option, (value, is_of_record, about) in OPTIONS.items():
         if is_of_record or not is_real:
             about = about.format(**(OF_RECORD if is_real else OF_EMULATE))

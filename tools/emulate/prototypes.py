@@ -62,7 +62,8 @@ def call_text(task, name, words):
     kinds = WORDS[name].split()
     most = words[kinds.index("most")] if "most" in kinds else 0
     count = words[kinds.index("count")] if "count" in kinds else 0
-    parts = [text_of(task, kind, word, most, count) for kind, word in zip(kinds, words) if kind not in ("most", "count")]
+    parts = [text_of(task, kind, word, most, count) for kind, word in zip(kinds, words)
+             if kind not in ("most", "count")]
     return f"{name}({', '.join(parts)})"
 
 

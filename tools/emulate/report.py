@@ -160,9 +160,9 @@ class Wanted:
         for number, line in read_lines(path):
             found = re.match(WANTED, line.strip())
             if found:
-                pairs = (item.split("=") for item in found[2].split(","))
-                pages = {int(node): int(pages) for node, pages in pairs}
-                self.rows.append((number, found[1], {node: count for node, count in pages.items() if count}, found[3] or END))
+                pairs = (map(int, item.split("=")) for item in found[2].split(","))
+                pages = {node: count for node, count in pairs if count}
+                self.rows.append((number, found[1], pages, found[3] or END))
             elif line.strip() and not line.startswith("#"):
                 raise Unfit(f"{path}:{number}: {line}: write NAME NODE=PAGES,.. or # and a comment")
         self.path = path
@@ -190,7 +190,8 @@ class Wanted:
         texts = ", ".join(f"{least} to {most} on node {node}" for node, (least, most) in bounds.items())
         if bounds and can_be(wanted, found, bounds):
             if not are_sure(bounds):
-                self.untold[number] = f"{where}: {pairs_text(wanted)} can't be told: first touches were raced; sure is {texts}"
+                what = f"{pairs_text(wanted)} can't be told: first touches were raced; sure is {texts}"
+                self.untold[number] = f"{where}: {what}"
         elif bounds or dict(found) != wanted:
             self.problems[number] = f"{where}: {texts or pairs_text(found)}, not {pairs_text(wanted)}"
 

@@ -1,11 +1,12 @@
-"""Page faults of threads, each with its CPU and time, told by a perf event of each thread (perf_event_open(2)). It takes
-no rights where kernel.perf_event_paranoid is 2 or less; faults in the kernel (read(2) into a new page) are told at 1 or
-less, or to root. Not proved.
+"""Page faults of threads, each with its CPU and time, told by a perf event of each thread
+(perf_event_open(2)). It takes no rights where kernel.perf_event_paranoid is 2 or less; faults in the
+kernel (read(2) into a new page) are told at 1 or less, or to root. Not proved.
 
-The kernel writes each fault into the thread's ring before it serves it: so a page that is seen to be there has its fault
-in a ring by then. A second event stops the thread (SIGSTOP, which only the tracer sees) when the ring is half full by
-faults of the program: none is lost, however slow the tracer is. Faults in the kernel don't stop it: a call that waits
-would end early by that. They can overrun a ring, and the thread's count of faults says so."""
+The kernel writes each fault into the thread's ring before it serves it: so a page that is seen to be
+there has its fault in a ring by then. A second event stops the thread (SIGSTOP, which only the tracer
+sees) when the ring is half full by faults of the program: none is lost, however slow the tracer is.
+Faults in the kernel don't stop it: a call that waits would end early by that. They can overrun a
+ring, and the thread's count of faults says so."""
 
 import ctypes
 import errno
@@ -77,11 +78,12 @@ class Ring:
         return rows
 
     def untold(self, thread):
-        """How many faults the thread has had that aren't told. (What is in the ring was written before it was counted.)"""
+        """How many faults the thread has had that aren't told."""
         return faults_of(thread) - self.known()
 
     def known(self):
-        """Of how many faults of the thread is known, or nobody has to know."""
+        """Of how many faults of the thread is known, or nobody has to know. (What is in the ring was written
+        before it was counted.)"""
         return self.earlier + self.told + (self.page[HEAD] - self.page[TAIL]) // self.record
 
     def unmap(self):
@@ -115,7 +117,8 @@ def open_event(thread, period, in_kernel=True):
 
 
 def map_ring(file):
-    """(start, bytes) of a ring. Rings are locked memory (kernel.perf_event_mlock_kb, RLIMIT_MEMLOCK): many are small."""
+    """(start, bytes) of a ring. Rings are locked memory (kernel.perf_event_mlock_kb, RLIMIT_MEMLOCK): of many
+    each is small."""
     size = (16 if Ring.count < 16 else 4 if Ring.count < 64 else 1) * PAGE
     while size >= PAGE:
         start = LIBC.mmap(None, PAGE + size, 3, 1, file, 0)
@@ -149,7 +152,8 @@ def faults_of(thread):
 
 
 def faults_and_state(thread):
-    """(faults, whether it runs: then one more may be on its way) of a thread (proc_pid_stat(5), fields 3, 10 and 12)."""
+    """(faults, whether it runs: then one more may be on its way) of a thread (proc_pid_stat(5), fields 3, 10
+    and 12)."""
     with open(f"/proc/{thread}/task/{thread}/stat", "rb", 0) as file:
         words = file.read(4096).rsplit(b")", 1)[1].split()
     return int(words[7]) + int(words[9]), words[0] in (b"R", b"D")

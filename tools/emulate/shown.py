@@ -54,7 +54,8 @@ def notes_of(row):
         texts = [f"{one['pages']} by thread {one['thread']} on node {one['node']}" for one in touched[:MOST_TOUCHERS]]
         yield "touched " + ", ".join(texts) + ", .." * (len(touched) > MOST_TOUCHERS)
     if row["bounds"]:
-        yield "raced: " + ", ".join(f"{least} to {most} on node {node}" for node, (least, most) in row["bounds"].items())
+        bounds = row["bounds"].items()
+        yield "raced: " + ", ".join(f"{least} to {most} on node {node}" for node, (least, most) in bounds)
 
 
 def peak_texts(part):

@@ -40,7 +40,8 @@ class Space:
         self.touchers, self.stacks = Touchers(), {}  # (the latter: by thread where its stack began)
         self.peaks = {}  # by name the pages of its areas by node, when they were most
         self.touched_by = {}  # by page its toucher, where that is known, and a report names it
-        self.raced = {}  # by page (nodes on which it could be, by node how many such), where nobody knows who touched it
+        # Where nobody knows who touched a page: the nodes on which it could be, and at most how many such by node.
+        self.raced = {}
         self.lines, self.refused = [], {}
         self.plan, self.takes_turns = None, False
 
@@ -213,7 +214,8 @@ class Space:
 
     def place(self, first, after, area, touched_by, looker=None):
         """Places the pages of a run that aren't placed yet: `touched_by` gives (first page, page behind, touchers) of
-        a gap, the looker at most how many pages each of several touchers had. Those of an object that a process has had before are where that one put them."""
+        a gap, the looker at most how many pages each of several touchers had. Those of an object that a process
+        has had before are where that one put them."""
         for gap in self.placed.runs.gaps(first, after):
             for span in have_known(self, area, *gap) if area.shared else [gap]:
                 self.place_new(*span, area, list(touched_by(*span)), looker)

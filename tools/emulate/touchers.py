@@ -105,7 +105,7 @@ class Touchers:
         self.not_before = now + SHARE * (now - begun)
 
     def touched_by(self, looker, first, after):
-        """(first page, page behind, touchers) of all from first on: the one who touched them, or some who could have."""
+        """(first page, page behind, touchers) of all from first on: who touched them, or some who could have."""
         for low, high, known in self.known(first, after):
             yield low, high, [looker.of(known)] if known else looker.others()
 
@@ -205,7 +205,8 @@ class Telling:
     def what_helps(self):
         """What would tell of touches that aren't told."""
         if self.is_allowed and self.why:
-            return f"faults of some threads aren't told here ({self.why}); higher limits would allow it (ulimit -l and -n)"
+            return (f"faults of some threads aren't told here ({self.why}); "
+                    "higher limits would allow it (ulimit -l and -n)")
         if self.is_allowed:
             return ("touches of threads in the kernel, as by read(2), aren't told here; kernel.perf_event_paranoid=1, "
                     "CAP_PERFMON, or --exact as root would allow it")
