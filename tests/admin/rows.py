@@ -5,6 +5,7 @@ stands: under numaplan-emulate on four nodes, whose --record says which line eac
 it, on node 0 of this machine, whose kernel says in numa_maps what came of it. A row without a program here
 is left out with a word. Not proved."""
 
+import atexit
 import os
 import re
 import shutil
@@ -19,6 +20,7 @@ MACHINE = "rules linux\nmachine 4 0-3 0 10,12,20,22;12,10,22,20;20,22,10,12;22,2
 SECONDS = 120
 room = tempfile.mkdtemp(prefix="admin-")
 os.chmod(room, 0o755)
+atexit.register(shutil.rmtree, room, ignore_errors=True)
 failed = False
 
 
@@ -195,6 +197,14 @@ def try_postgres(settings, lines):
          f"PostgreSQL after {settings[0]}: {lines[0]}, in {len(tasks)} places", f"{made[0]}\n{said}\n{set(found)}")
 
 
+def try_threads():
+    """What tools/thread-policies tells of a program with threads, in a cpuset."""
+    said, status, _ = recorded(["python3", f"{TOP}/tests/admin/threads.py", f"{TOP}/tools/thread-policies"], "1-2")
+    found = [re.sub(r"^task \d{2,} ", "task TID ", line) for line in said.splitlines() if line.startswith("task ")]
+    wanted = ["task 1 bind:1", "task TID interleave:1-2", "task TID bind:1", "task TID prefer:2"]
+    tell(status == 0 and found == wanted, "threads of a program in a cpuset, each with its policy", said)
+
+
 # what a setting has in it, the commands that it takes, and what tries it
 TRIES = [
     ("NUMAPolicy", ["/lib/systemd/systemd", "unshare"], try_systemd),
@@ -231,7 +241,7 @@ def main():
             print(f"left out, since {lacks(found[0][0])[0]} isn't here: {settings[0]}")
         elif found:
             found[0][1](settings, lines)
-    shutil.rmtree(room, ignore_errors=True)
+    try_threads()
     sys.exit(failed)
 
 
