@@ -1,7 +1,7 @@
 #!/usr/bin/env python3
-"""chain.py [FOLDER]: of the repository in a folder, the crates whose proofs wait for one another longest, by their lines:
-a line each, the lowest first, with the other crates that can be proved once it is. The first line is of none: `-`, and
-the crates that stand on none of these. Not proved."""
+"""chain.py [FOLDER]: of the repository in a folder, the crates whose proofs wait for one another
+longest, by their lines: a line each, the lowest first, with the other crates that can be proved once
+it is. The first line is of none: `-`, and the crates that stand on none of these. Not proved."""
 
 import os
 import sys

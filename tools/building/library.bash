@@ -21,7 +21,7 @@ link_library() {
 
 write_pc() {
     printf '%s\n' "prefix=$(realpath -m "$1")" 'Name: numaplan' \
-        "Description: A planner of NUMA memory placement, $2" "Version: $version" \
+        "Description: A planner of NUMA memory placement ($2)" "Version: $version" \
         "Libs: -L\${prefix}/lib -l${stem#lib}" 'Cflags: -I${prefix}/include'
 }
 
@@ -73,12 +73,14 @@ library_in() {
     name_library "$2"
     [ -n "$prefix" ] || { say "usage: ./numaplan library [--unproved] PREFIX" && exit 2; }
     command -v rt >/dev/null || { say "rt, which builds the library, isn't in PATH" && exit 1; }
+    [ "$kind" = library ] || state='not proved'
     made=${NUMAPLAN_ARCHIVE:-} # (built already, as tests/library/archive does)
-    if [ -z "$made" ]; then
+    if [ -n "$made" ]; then
+        state="of $made"
+    else
         need_library
         made=$out/$kind/libnumaplan_c.a
     fi
-    [ "$kind" = library ] || state='not proved'
     work=$(mktemp -d) || exit 1
     link_library "$made" "$work" && write_pc "$prefix" "$state" >"$work/${stem#lib}.pc" || exit 1
     install -D -m 644 "$work/$stem.a" "$prefix/lib/$stem.a" &&
@@ -94,8 +96,8 @@ library_in() {
             { make_wheel "$work/$stem.so" "$prefix/share/numaplan" && crate_in "$prefix"; }; } &&
         emulate_in "$prefix" || exit 1
     rm -rf "$work"
-    say "the library, which is $state, is in $prefix: lib, include, share/numaplan;" \
-        'and bin/numaplan-emulate, numaplan-record'
+    say "in $prefix: the library ($state), in lib, include and share/numaplan;" \
+        'bin/numaplan-emulate and numaplan-record'
 }
 
 # Sees to it that the library of this kind stands.
