@@ -51,8 +51,8 @@ _numaplan() {
             ;;
         predict)
             _arguments \
-                '(--task)--task[The task that touches the pages]:T: ' \
-                '(--node)--node[The node of the CPU on which it does]:N: ' \
+                '(--task)--task[The task that touches the pages; where scripts name one task or none, it may be left out]:T: ' \
+                '(--node)--node[The node of the CPU on which it does; all for each node with CPUs in turn]:N: ' \
                 '(--at)--at[A file with further lines at START LENGTH NODE; - is standard input]:FILE:_files' \
                 '(--process)--process[Asks process P of a host alone; all of them where it is all, or isn'\''t given]:P: ' \
                 '(--format)--format[How the answer is written]:FORMAT:(text json csv svg html)' \
@@ -65,8 +65,8 @@ _numaplan() {
             ;;
         diff)
             _arguments \
-                '(--task)--task[The task that touches the pages]:T: ' \
-                '(--node)--node[The node of the CPU on which it does]:N: ' \
+                '(--task)--task[The task that touches the pages; where scripts name one task or none, it may be left out]:T: ' \
+                '(--node)--node[The node of the CPU on which it does; all for each node with CPUs in turn]:N: ' \
                 '*--then[A script line that is added; several in turn]:LINE: ' \
                 '(--at)--at[A file with further lines at START LENGTH NODE; - is standard input]:FILE:_files' \
                 '(--process)--process[Asks process P of a host alone; all of them where it is all, or isn'\''t given]:P: ' \
@@ -80,8 +80,8 @@ _numaplan() {
         moves)
             _arguments \
                 '(--at)--at[A file with further lines at START LENGTH NODE; - is standard input]:FILE:_files' \
-                '(--task)--task[Pages lie where this task would touch them, and not as lines at state]:T: ' \
-                '(--node)--node[The node of the CPU on which it would]:N: ' \
+                '(--task)--task[The task that would touch the pages; where scripts name one task or none, it may be left out]:T: ' \
+                '(--node)--node[Pages lie where the task would touch them on a CPU of this node, and not as lines at state]:N: ' \
                 '*--then[A line that moves pages\: mems, migrate FROM TO, cgroup-mems or attach; several in turn]:LINE: ' \
                 '(--free)--free[These nodes take so many more pages; with K, M, G or T behind it a number is one of bytes]:NODE=PAGES,..: ' \
                 '(--process)--process[Asks process P of a host alone; all of them where it is all, or isn'\''t given]:P: ' \
@@ -94,8 +94,8 @@ _numaplan() {
             ;;
         explain)
             _arguments \
-                '(--task)--task[The task that touches the pages]:T: ' \
-                '(--node)--node[The node of the CPU on which it does]:N: ' \
+                '(--task)--task[The task that touches the pages; where scripts name one task or none, it may be left out]:T: ' \
+                '(--node)--node[The node of the CPU on which it does; all for each node with CPUs in turn]:N: ' \
                 '(--pages)--pages[Tells by which rules N pages go, from that of ADDRESS on]:N: ' \
                 '(--process)--process[Asks process P of a host alone; all of them where it is all, or isn'\''t given]:P: ' \
                 '(--format)--format[How the answer is written]:FORMAT:(text json)' \
