@@ -142,7 +142,9 @@ where
     };
     let notice = Notice::new();
     let run = answer_noticed(rt, scripts, echo, format, &notice);
-    tell_answers(rt, names.as_slice(), &notice);
+    if run.is_ok() {
+        tell_answers(rt, names.as_slice(), &notice);
+    }
     drop(names);
     match run {
         Ok(()) => ExitCode::SUCCESS,
