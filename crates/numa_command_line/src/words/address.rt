@@ -3,7 +3,7 @@ ghost use Rattle.std.specs.Prelude.{◌≡◌, ◌++◌, IfOk, codes};
 ghost use Rattle.std.specs.Char.{is_digit};
 ghost use Rattle.std.specs.List.{list_all};
 ghost use Rattle.numa_script.specs.Numbers.{number_of};
-ghost use Rattle.numa_command_line.specs.Values.{address_of, is_hexadecimal};
+ghost use Rattle.numa_command_line.specs.Values.{address_of, is_hexadecimal, sure};
 
 use numa_reports::AddressAsked;
 use numa_script::number::number;
@@ -37,7 +37,9 @@ fn by_hexadecimal(alloc: Global, digits: &[u8]) -> Result<Option<u64>, AllocErro
 }
 
 /// An address that can be read in one way.
-fn sure(read: Option<u64>) -> Option<AddressAsked> {
+fn sure(read: Option<u64>) -> Option<AddressAsked>
+    ensures { result ≡ sure read }
+{
     match read {
         Some(value) => Some(AddressAsked {
             value,

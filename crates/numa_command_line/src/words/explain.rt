@@ -6,6 +6,7 @@ ghost use Rattle.numa_command_line.specs.Usage.{Names};
 ghost use Rattle.clap.specs.Words.{found_of, rows_of};
 ghost use Rattle.numa_command_line.specs.Asked.{work_asked};
 ghost use Rattle.numa_command_line.specs.Jobs.{IsMade, work_of};
+ghost use Rattle.numa_command_line.specs.Values.{address_in};
 ghost use Rattle.numa_command_line.specs.declared.command.Subcommand.TheVariants as word;
 
 use crate::found::{small_at, text_at};
@@ -18,6 +19,7 @@ use crate::words::format::{PLAIN, format_in};
 use crate::words::lenient::LENIENT;
 use crate::words::process::PROCESS;
 use clap::ArgMatches;
+use numa_reports::AddressAsked;
 use std::alloc::Global;
 
 /// The message for an invalid address.
@@ -73,6 +75,18 @@ pub fn word() -> &'static SubcommandHelp
     &WORD
 }
 
+/// The value of `ADDRESS`.
+fn address_in(alloc: Global, matches: &ArgMatches<'_>) -> Result<AddressAsked, JobFault>
+    ensures { IsMade (λ address. address) (address_in (rows_of (found_of matches.now))) result }
+{
+    let word = text_at(matches, "ADDRESS").unwrap_or("");
+    match address(alloc, word.as_bytes()) {
+        Ok(Some(address)) => Ok(address),
+        Ok(None) => Err(JobFault::usage(alloc, BAD_ADDRESS)),
+        Err(_) => Err(JobFault::NoMemory),
+    }
+}
+
 /// The job of a command line with this subcommand.
 ///
 /// # Errors
@@ -80,9 +94,9 @@ pub fn word() -> &'static SubcommandHelp
 pub fn work(alloc: Global, matches: &ArgMatches<'_>) -> Result<ScriptJob, JobFault>
     ensures { IsMade work_of (work_asked word.Explain (rows_of (found_of matches.now))) result }
 {
-    let word = text_at(matches, "ADDRESS").unwrap_or("");
-    let Some(address) = address(alloc, word.as_bytes())? else {
-        return Err(JobFault::usage(alloc, BAD_ADDRESS));
+    let address = match address_in(alloc, matches) {
+        Ok(address) => address,
+        Err(fault) => return Err(fault),
     };
     let question = PageQuestion::Explain {
         address,

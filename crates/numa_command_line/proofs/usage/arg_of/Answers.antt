@@ -32,7 +32,8 @@ returns-in-NumberOr-clause-rule c =
     (λ (arg : Arg). AddsAliases c.number-in-NumberOr.result arg
     ((c.in-NumberOr.other, true) ∷ []))
     (λ (arg : Arg). rule_of arg ≡ rule_said said)
-    (λ (arg : Arg) adds. with_other _ arg _ said.is_required (number said.name.now) adds
+    (λ (arg : Arg) adds. with_other c.number-in-NumberOr.result arg _ said.is_required
+    (number said.name.now) adds
     c.number-in-NumberOr.ensures.rule refl
     ∙ sym (ap (λ (takes : Takes). needed said.is_required (rule_by takes said.name.now))
     c.in-NumberOr.is)) c.visible_alias.ensures
@@ -43,7 +44,8 @@ returns-in-TextOr-clause-rule c =
     IfOk-weaker c.visible_alias-in-TextOr.result
     (λ (arg : Arg). AddsAliases c.option-in-TextOr.result arg ((c.in-TextOr.other, true) ∷ []))
     (λ (arg : Arg). rule_of arg ≡ rule_said said)
-    (λ (arg : Arg) adds. with_other _ arg _ said.is_required (option said.name.now) adds
+    (λ (arg : Arg) adds. with_other c.option-in-TextOr.result arg _ said.is_required
+    (option said.name.now) adds
     c.option-in-TextOr.ensures.rule refl
     ∙ sym (ap (λ (takes : Takes). needed said.is_required (rule_by takes said.name.now))
     c.in-TextOr.is)) c.visible_alias-in-TextOr.ensures
