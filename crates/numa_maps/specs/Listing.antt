@@ -11,7 +11,8 @@ use Rattle.numa_mode.specs.Policy.{PolicyRecord, policy_text}
 use Rattle.numa_ranges.specs.Counts.{IsRange}
 use Rattle.numa_ranges.specs.Runs.{AreApart, in_pages}
 use Rattle.numa_ranges.specs.declared.run.Run.{Run}
-pub use Rattle.numa_requests.specs.NodeCounts.{node_text, nodes_text}
+pub use Rattle.numa_requests.specs.NodeCounts.{node_text}
+unfoldable pub use Rattle.numa_requests.specs.NodeCounts.{nodes_text}
 use Rattle.numa_space.specs.Pages.{page_in, resolved_policy}
 use Rattle.numa_space.specs.Same.{same_record}
 use Rattle.numa_space.specs.Standing.{SpaceState, policy_in}
