@@ -244,9 +244,9 @@ class Emulator:
                 task.space.touchers.follow(task.number, self.telling.ring(task.number))
         elif is_thread:
             self.tell_apart(task)
+            space.stacks[number] = stack_of_child(task.number, registers)
         else:
             task.lent_to = number
-            space.stacks[number] = stack_of_child(task.number, registers)
         child = self.add_task(number, space, task.word, task, flags)
         if self.telling and (is_thread or space is not task.space and (self.telling.each or self.telling.forks)):
             space.touchers.follow(number, self.telling.ring(number))
