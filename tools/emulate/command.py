@@ -6,6 +6,12 @@ import sys
 from .options import Words
 from .words import OWN_FAULT, Unfit, tell
 
+try:
+    import numaplan  # (over the library)
+except ImportError as fault:
+    raise ImportError(f"{str(fault).split(';', maxsplit=1)[0]}; in numaplan's sources './numaplan library --unproved "
+                      "PREFIX' makes the library in some three minutes, and NUMAPLAN_LIBRARY names one") from fault
+
 ELSEWHERE, UNTOLD = 3, 4  # the status where pages lie elsewhere than is wanted; where that can't be told
 TWO_NODES = [(1, "machine 2 0-1 0 flat")]
 
@@ -83,23 +89,12 @@ def open_log(path):
         raise Unfit(f"{path}: {fault.strerror}") from fault
 
 
-def need_library():
-    """The Python module, over the library (--help and --version need neither)."""
-    try:
-        import numaplan
-    except ImportError as fault:
-        what = str(fault).split(";", maxsplit=1)[0]
-        raise Unfit(f"{what}; in numaplan's sources './numaplan library --unproved PREFIX' makes the library in some "
-                    "three minutes, and NUMAPLAN_LIBRARY names one") from fault
-
-
 def main(is_real=False):
     room = None
     try:
         if os.uname().machine != "x86_64" or sys.platform != "linux":
             raise Unfit("this runs on Linux on x86-64 alone")
         words = Words(sys.argv[1:], is_real)
-        need_library()
         from .rooms import make_room, remove_room, sweep_rooms
         from .waiting import pass_early_signals
 
