@@ -54,7 +54,7 @@ bind:2' examples/before-a-node-goes.numaplan",
 with those before them, and `moves` tells what becomes of pages that are there. For each span \
 of pages of which some would go to another node it tells how many (differs=), from which node \
 to which, and in all, if the task touched each of them on a CPU of the node. Pages that are \
-mapped only before or only after are left out.\n\nWith --at it tells behind that what becomes \
+mapped only before or only after are left out.\n\nWith --at it tells after that what becomes \
 of pages that are there, as `moves` does: they lie as lines `at START LENGTH NODE` of the \
 scripts and of that file state, and lines `migrate FROM TO` move them too; without it such \
 lines of the scripts are passed over. Of a host it tells that by process and in all, or with \

@@ -50,7 +50,7 @@ the top of the repository:\n  ./numaplan expect examples/*.answers\n  ./numaplan
 --format tap examples",
     more: "Worked scripts hold the answers that are wanted as `run --echo` writes them; each \
 answer that is another is told. Each file is a script of its own. A line holds a script line \
-and its answer, as LINE => ANSWER, or a script line alone, or, behind `=> `, the next line of \
+and its answer, as LINE => ANSWER, or a script line alone, or, after `=> `, the next line of \
 the answer to the script line above; a script line of which no answer stands there is carried \
 out and not compared, but a fault or a refusal isn't wanted there. The last line on standard \
 output counts the lines of answers: as wanted, not so, and not compared. Of a folder the files \

@@ -56,7 +56,7 @@ static WORD: SubcommandHelp = SubcommandHelp {
 now on a CPU of the node: in six lines the nodes in order, the range with the page's index, \
 which policy counts and why the other doesn't, the sets of nodes, the rule that chose the first \
 node with its arithmetic, and the order of the others with their distances.\n\nADDRESS is \
-hexadecimal behind 0x, with a letter, or as eight digits or more of which the first is 0, as \
+hexadecimal after 0x, with a letter, or as eight digits or more of which the first is 0, as \
 answers print it. Other digits are decimal, or hexadecimal where that page alone is mapped; \
 where both pages are, say which.\n\nWith --pages it tells for each stretch of so many pages \
 from there on which policy counts, and its rule. Of a host it tells that for each process that \

@@ -52,7 +52,7 @@ const THEN: Argument = Argument {
 const FREE: Argument = Argument {
     name: "free",
     value: "NODE=PAGES,..",
-    help: "These nodes take so many more pages; with K, M, G or T behind it a number is one of \
+    help: "These nodes take so many more pages; with K, M, G or T after it a number is one of \
 bytes",
     is_required: false,
     takes: Takes::Text,

@@ -10,7 +10,7 @@ use crate::words::format::PLAIN;
 const ECHO: Argument = Argument {
     name: "echo",
     value: "",
-    help: "Writes each line of the script, and its answer behind `=> `",
+    help: "Writes each line of the script, and its answer after `=> `",
     is_required: false,
     takes: Takes::Nothing,
 };
@@ -26,7 +26,7 @@ examples/first-run.numaplan",
 are written to standard output: one line for each line of the script, but none for an empty \
 line or a comment, and for `maps` one for each range. With --format json there is a line of \
 JSON for each answer.\n\nAt a terminal, where no file is named, there is a prompt, what is \
-wrong with a line is told too, and a line `help` tells the lines. Where answers stand behind \
+wrong with a line is told too, and a line `help` tells the lines. Where answers stand after \
 `=>` in a script, a line on standard error says so at the end: `expect` compares them.\n\nThe \
 language of scripts is told in docs/SCRIPT.md of the repository.",
     reads_lines: true,

@@ -12,9 +12,9 @@ static WORD: SubcommandHelp = SubcommandHelp {
     about: "Answers lines as they are typed, after scripts\n\nExample, from the top of the \
 repository:\n  ./numaplan shell examples/interleaved-range.numaplan",
     more: "It plays the scripts of the files, and then answers the lines of standard input, \
-each behind a prompt. What is wrong with a line is told on standard error as by `check`. Beside \
+each after a prompt. What is wrong with a line is told on standard error as by `check`. Beside \
 the lines of scripts it takes `predict TASK NODE`, `explain TASK ADDR NODE`, `help` and `quit`; \
-so does the end of the input. Of a host the first two ask all processes, behind `in P` or with \
+so does the end of the input. Of a host the first two ask all processes, after `in P` or with \
 --process P process P alone. The status is 0.",
     reads_lines: true,
     arguments: &[PROCESS, FILES],
