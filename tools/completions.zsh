@@ -26,7 +26,7 @@ _numaplan() {
     case $words[1] in
         run)
             _arguments \
-                '(--echo)--echo[Writes each line of the script, and its answer behind `=> `]' \
+                '(--echo)--echo[Writes each line of the script, and its answer after `=> `]' \
                 '(--format)--format[How the answer is written]:FORMAT:(text json)' \
                 '(--rules)--rules[Whose rules count, where no line `rules` of the scripts says so]:RULES:(document linux)' \
                 '(-h --help)-h[Print help]' '(-h --help)--help[Print help]' \
@@ -57,7 +57,7 @@ _numaplan() {
                 '(--process)--process[Asks process P of a host alone; all of them where it is all, or isn'\''t given]:P: ' \
                 '(--format)--format[How the answer is written]:FORMAT:(text json csv svg html)' \
                 '(--largest)--largest[Shows the N largest ranges by themselves, and sums the others\: 40 in a picture and 400 in a page, where it isn'\''t given]:N: ' \
-                '(--free)--free[So many free pages on these nodes; with K, M, G or T behind it a number is one of bytes]:NODE=PAGES,..: ' \
+                '(--free)--free[So many free pages on these nodes; with K, M, G or T after it a number is one of bytes]:NODE=PAGES,..: ' \
                 '(--lenient)--lenient[Ends with status 0 where lines were faulty or refused]' \
                 '(--rules)--rules[Whose rules count, where no line `rules` of the scripts says so]:RULES:(document linux)' \
                 '(-h --help)-h[Print help]' '(-h --help)--help[Print help]' \
@@ -83,7 +83,7 @@ _numaplan() {
                 '(--task)--task[The task that would touch the pages; where scripts name one task or none, it may be left out]:T: ' \
                 '(--node)--node[Pages lie where the task would touch them on a CPU of this node, and not as lines at state]:N: ' \
                 '*--then[A line that moves pages\: mems, migrate FROM TO, cgroup-mems or attach; several in turn]:LINE: ' \
-                '(--free)--free[These nodes take so many more pages; with K, M, G or T behind it a number is one of bytes]:NODE=PAGES,..: ' \
+                '(--free)--free[These nodes take so many more pages; with K, M, G or T after it a number is one of bytes]:NODE=PAGES,..: ' \
                 '(--process)--process[Asks process P of a host alone; all of them where it is all, or isn'\''t given]:P: ' \
                 '(--format)--format[How the answer is written]:FORMAT:(text json svg)' \
                 '(--largest)--largest[Shows the N largest ranges by themselves, and sums the others\: 40 in a picture and 400 in a page, where it isn'\''t given]:N: ' \
