@@ -303,7 +303,7 @@ static void texts(void) {
     WANT(is_told("00010000-00014000 differs=2 N1->N0=2\ntotal differs=2 N1->N0=2\n", ""), 1);
     forget();
     WANT(np_core_diff_text(&core, &after, &other, room, 4, &told), NP_NO_ROOM);
-    WANT(told.answer == 58 && is_untouched(), 1);
+    WANT(told.answer == 62 && is_untouched(), 1);
     forget();
     WANT(np_core_replay_text(&core, TEXT("1 0x10000 0\n\n1 2 3 4 5"), &asked, room, sizeof room,
                              &told),

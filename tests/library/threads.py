@@ -87,7 +87,7 @@ def of_core(thread, each):
 
 def of_reports(thread, each):
     one, two = (core, other) if thread % 2 else (other, core)
-    want("moved=1" in one.diff_text(two).text, True, "diff_text")
+    want("differs=1" in one.diff_text(two).text, True, "diff_text")
     want("anon=16 " in two.predict_text(format="text").text, True, "predict_text")
     want(len(core.maps(1).splitlines()), 1, "maps")
 

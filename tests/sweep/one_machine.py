@@ -93,8 +93,8 @@ check("by both rules", [one(moves, rules=rules).nodes for rules in ("document", 
 
 answer = one(RANGE, None, ["task 1 interlave:0-1"], node=3)
 check("a faulty line is told, and passed over", (answer.failed, answer.nodes, answer.faults), (None, {
-    0: 3, 1: 1, 2: 2}, ["--then:1: bad policy UnknownMode: what stands before the colon is no policy"
-                        " with its flag"]))
+    0: 3, 1: 1, 2: 2}, ["--then:1: bad policy UnknownMode: what stands before the colon is none of default, local,"
+                            " bind, prefer, many, interleave and weighted, nor one of these with =static or =relative"]))
 check("in bytes, too", one(b"machine 1 0 0 flat\nmap 1 2 3 4\n").faults[0][:18], "-:2:11: bad words:")
 WHY = [
     (("/none.numaplan",), "can't read '/none.numaplan': No such file or directory"),

@@ -2,7 +2,6 @@
 quarter of a start.) Not proved."""
 
 import os
-import re
 import sys
 
 from .words import OWN_FAULT, RULES, Unfit, tell
@@ -104,7 +103,8 @@ def help_text(is_real):
 
     width = min(get_terminal_size().columns, 100) - 2
     about = fill(ABOUT_RECORD if is_real else ABOUT_EMULATE, width)
-    lines = [f"usage: {command_name(is_real)} [OPTION].. PROGRAM [ARGUMENT]..", "", about, ""]
+    name = "numaplan-record" if is_real else "numaplan-emulate"
+    lines = [f"usage: {name} [OPTION].. PROGRAM [ARGUMENT]..", "", about, ""]
     for option, (value, is_of_record, about) in OPTIONS.items():
         if is_of_record or not is_real:
             about = about.format(**(OF_RECORD if is_real else OF_EMULATE))
