@@ -1,5 +1,5 @@
 //! Which touches and which page are asked for, by the state that scripts lead to.
-ghost use Rattle.std.specs.Prelude.{◌≡◌, is_some};
+ghost use Rattle.std.specs.Prelude.{◌≡◌, ◌/◌, is_some};
 ghost use Rattle.numa_rules.specs.Reasons.{run_with};
 ghost use Rattle.numa_play.specs.Named.{address_meant, has_cpus};
 
