@@ -335,7 +335,7 @@ fn replayed_in_each<S: Read + Drop>(
 
 /// Finishes the messages, replays a trace by the plans of all accepted commands, and by the other
 /// rules, if the lines were played by them.
-fn replayed<S: Read + Drop, T: Write>(
+fn replayed_whole<S: Read + Drop, T: Write>(
     alloc: Global,
     findings: &mut Findings<T>,
     process: Option<u32>,
@@ -435,7 +435,7 @@ pub fn replay<R: Read + Drop, S: Read + Drop, W: Write, T: Write + Drop>(
             return Err(Halt::Stopped(why));
         }
     };
-    let replayed = replayed(alloc, &mut findings, process, trace, format);
+    let replayed = replayed_whole(alloc, &mut findings, process, trace, format);
     let text = told_of(&mut findings, replayed);
     let ended = findings.ended();
     drop(findings);
