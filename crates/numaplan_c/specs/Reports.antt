@@ -32,6 +32,8 @@ halt_code (halt.BadAccess place why) = 81
 halt_code halt.NoHost = 82
 halt_code (halt.NoProcess process) = 82
 halt_code halt.ManyProcesses = 82
+halt_code (halt.ManyTasks first second) = 36
+halt_code halt.TwoPages = 36
 
 abbrev pub end_code : Result Ended Halt → ℕ
 end_code (Ok lines) = 0
