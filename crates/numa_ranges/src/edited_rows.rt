@@ -190,10 +190,14 @@ fn number_rows<T: Exact, F: Fn(&T) -> Option<T>>(
         → OnOk result (AreRowsOf values.new rows.new.items runs) }
 {
     rows.clear();
-    rows.reserve(edited.len())?;
+    if let Err(refused) = rows.reserve(edited.len()) {
+        return Err(refused);
+    }
     for i in 0..edited.len() {
         let row = row_at(edited, i);
-        let number = number_of(values, &row, edit)?;
+        let Ok(number) = number_of(values, &row, edit) else {
+            return Err(AllocError);
+        };
         rows.push_reserved(Row {
             first: row.first,
             pages: row.pages,

@@ -82,7 +82,9 @@ impl<T: Exact> RangeMap<T> {
     pub fn copy(&self) -> Result<RangeMap<T>, AllocError>
         ensures { IfOk result (λ copy. copy ≡ self.now) }
     {
-        let runs = self.runs.copy()?;
+        let Ok(runs) = self.runs.copy() else {
+            return Err(AllocError);
+        };
         Ok(RangeMap {
             runs,
             alloc: self.alloc,
@@ -228,7 +230,9 @@ impl<T: Exact> RangeMap<T> {
         let from = place.saturating_sub(1);
         let to = self.runs.len().min(place + 1);
         let pieces = gather_with(self.alloc, &self.runs, from, place, to, run, near);
-        pieces.put(&mut self.runs, from, to, self.max_ranges, near)?;
+        if let Err(refused) = pieces.put(&mut self.runs, from, to, self.max_ranges, near) {
+            return Err(refused);
+        }
         self.near = near;
         self.edited = place;
         Ok(())
@@ -391,8 +395,10 @@ impl<T: Exact> RangeMap<T> {
         let (from, to) = window;
         let limit = self.max_ranges;
         self.runs.tidy();
-        self.runs
-            .edit_near(from, to, near, first, end, edit, limit)?;
+        let edited = self.runs.edit_near(from, to, near, first, end, edit, limit);
+        if let Err(refused) = edited {
+            return Err(refused);
+        }
         self.near = near;
         self.edited = place;
         Ok(())

@@ -79,8 +79,12 @@ impl<T: Exact> Runs<T> {
     pub(crate) fn copy(&self) -> Result<Runs<T>, AllocError>
         ensures { IfOk result (λ copy. copy ≡ self.now) }
     {
-        let rows = self.rows.copy()?;
-        let values = self.values.copy(self.alloc)?;
+        let Ok(rows) = self.rows.copy() else {
+            return Err(AllocError);
+        };
+        let Ok(values) = self.values.copy(self.alloc) else {
+            return Err(AllocError);
+        };
         Ok(Runs {
             rows,
             values,
@@ -188,8 +192,12 @@ impl<T: Exact> Runs<T> {
         ensures ok { OnOk result (self.new ≡ splice self.old from to runs.now) }
         ensures unchanged { OnErr result (self.new ≡ self.old) }
     {
-        let rows = numbered(self.alloc, &mut self.values, runs)?;
-        self.rows.splice_near(from, to, &rows, near)?;
+        let Ok(rows) = numbered(self.alloc, &mut self.values, runs) else {
+            return Err(AllocError);
+        };
+        if let Err(refused) = self.rows.splice_near(from, to, &rows, near) {
+            return Err(refused);
+        }
         Ok(())
     }
 
@@ -321,10 +329,14 @@ fn numbered<T: Exact>(
     ensures longer { IsLonger values.old values.new }
     ensures rows { IfOk result (λ rows. AreRowsOf values.new rows.items runs.now) }
 {
-    let mut rows = Vec::with_capacity(alloc, runs.len())?;
+    let Ok(mut rows) = Vec::with_capacity(alloc, runs.len()) else {
+        return Err(AllocError);
+    };
     for i in 0..runs.len() {
         let run = runs[i];
-        let number = values.add(run.value)?;
+        let Ok(number) = values.add(run.value) else {
+            return Err(AllocError);
+        };
         rows.push_reserved(Row {
             first: run.first,
             pages: run.pages,
@@ -339,7 +351,9 @@ fn numbered<T: Exact>(
 fn gathered<T: Exact>(alloc: Global, runs: &Runs<T>) -> Result<Vec<Run<T>>, AllocError>
     ensures { IfOk result (λ all. all.items ≡ runs.now) }
 {
-    let mut all = Vec::with_capacity(alloc, runs.len())?;
+    let Ok(mut all) = Vec::with_capacity(alloc, runs.len()) else {
+        return Err(AllocError);
+    };
     for run in runs.iter() {
         all.push_reserved(run);
     }

@@ -61,7 +61,9 @@ impl<T: Exact> Values<T> {
     pub(crate) fn copy(&self, alloc: Global) -> Result<Values<T>, AllocError>
         ensures { IfOk result (λ copy. copy ≡ self.now) }
     {
-        let items = Vec::from_slice(alloc, &self.items)?;
+        let Ok(items) = Vec::from_slice(alloc, &self.items) else {
+            return Err(AllocError);
+        };
         Ok(Values {
             items,
             recent: self.recent,

@@ -37,7 +37,9 @@ impl<T: Copy + Drop> Keep<T> for Group<T> {
 
     fn keep(alloc: Global, rows: &[T]) -> Result<Group<T>, AllocError> {
         let mut list = Rows::new(alloc);
-        list.splice(0, 0, rows)?;
+        if let Err(refused) = list.splice(0, 0, rows) {
+            return Err(refused);
+        }
         Group::of(alloc, list)
     }
 
@@ -57,15 +59,26 @@ impl<T: Copy + Drop> Keep<T> for Group<T> {
     }
 
     fn copied(&self, _alloc: Global) -> Result<Group<T>, AllocError> {
-        let list = Arc::try_clone(&self.list)?;
+        let Ok(list) = Arc::try_clone(&self.list) else {
+            return Err(AllocError);
+        };
         Ok(Group { list })
     }
 
     fn replace(&mut self, alloc: Global, span: Range<usize>, rows: &[T]) -> Result<(), AllocError> {
         if Arc::strong_count(&self.list) != 1 {
-            *self = Group::of(alloc, self.list.copy()?)?;
+            let Ok(list) = self.list.copy() else {
+                return Err(AllocError);
+            };
+            let Ok(own) = Group::of(alloc, list) else {
+                return Err(AllocError);
+            };
+            *self = own;
         }
         let near = span.start / Shared::<T>::most();
-        sole(&mut self.list)?.splice_near(span.start, span.end, rows, near)
+        let Ok(list) = sole(&mut self.list) else {
+            return Err(AllocError);
+        };
+        list.splice_near(span.start, span.end, rows, near)
     }
 }

@@ -35,7 +35,9 @@ impl<T: Copy + Drop> Keep<T> for Owned<T> {
     }
 
     fn keep(alloc: Global, rows: &[T]) -> Result<Owned<T>, AllocError> {
-        let rows = with_room(alloc, MOST_OWNED, rows)?;
+        let Ok(rows) = with_room(alloc, MOST_OWNED, rows) else {
+            return Err(AllocError);
+        };
         Ok(Owned { rows })
     }
 

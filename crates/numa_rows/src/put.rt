@@ -16,7 +16,9 @@ pub(crate) fn with_room<T: Copy + Drop>(
     ensures { IfOk result (λ items. items.items ≡ rows.now) }
 {
     let room = rows.len().saturating_add(MORE).max(most);
-    let mut items = Vec::with_capacity(alloc, room)?;
+    let Ok(mut items) = Vec::with_capacity(alloc, room) else {
+        return Err(AllocError);
+    };
     items.extend_from_slice(rows)?;
     Ok(items)
 }
@@ -38,7 +40,9 @@ pub(crate) fn put_in<T: Copy + Drop>(
         return Err(AllocError);
     };
     if len < size {
-        items.resize(size, rows[0])?;
+        if let Err(refused) = items.resize(size, rows[0]) {
+            return Err(refused);
+        }
     }
     put_among(items, len, from, to, rows);
     items.truncate(size);

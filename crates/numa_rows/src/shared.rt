@@ -29,7 +29,10 @@ impl<T: Copy + Drop> Keep<T> for Shared<T> {
     }
 
     fn keep(alloc: Global, rows: &[T]) -> Result<Shared<T>, AllocError> {
-        let rows = Arc::new(alloc, with_room(alloc, MOST_SHARED, rows)?)?;
+        let Ok(rows) = with_room(alloc, MOST_SHARED, rows) else {
+            return Err(AllocError);
+        };
+        let rows = Arc::new(alloc, rows)?;
         Ok(Shared { rows })
     }
 
@@ -50,16 +53,24 @@ impl<T: Copy + Drop> Keep<T> for Shared<T> {
     }
 
     fn copied(&self, _alloc: Global) -> Result<Shared<T>, AllocError> {
-        let rows = Arc::try_clone(&self.rows)?;
+        let Ok(rows) = Arc::try_clone(&self.rows) else {
+            return Err(AllocError);
+        };
         Ok(Shared { rows })
     }
 
     fn replace(&mut self, alloc: Global, span: Range<usize>, rows: &[T]) -> Result<(), AllocError> {
         if Arc::strong_count(&self.rows) != 1 {
             let items: &Vec<T> = &self.rows;
-            *self = Shared::keep(alloc, items)?;
+            let Ok(own) = Shared::keep(alloc, items) else {
+                return Err(AllocError);
+            };
+            *self = own;
         }
-        put_in(sole(&mut self.rows)?, span.start, span.end, rows)
+        let Ok(items) = sole(&mut self.rows) else {
+            return Err(AllocError);
+        };
+        put_in(items, span.start, span.end, rows)
     }
 }
 

@@ -16,7 +16,7 @@ loop-i-init g c =
       so_far = λ change gives runs all.
           rw none (record { numbered = tt; runs = refl });
       size = c.reserve.ensures.len ∙ c.clear.ensures.len;
-      room = omega (arith, c.in_ok-reserve.ensures.ok, c.reserve.ensures.len, c.clear.ensures.len);
+      room = omega (arith, c.in_default.ensures.ok, c.reserve.ensures.len, c.clear.ensures.len);
     }
 
 pub loop-i-preserved : goal.loop-i-preserved
@@ -30,10 +30,10 @@ loop-i-preserved g c =
           AreRowsOf c.number_of.new.values l (take (c.loop-i.i + 1) runs))
           (sym c.push_reserved.ensures.items)
           (rows-step change c.args.values.now c.loop-i.values c.number_of.new.values
-          c.args.edited.now c.loop-i.rows.items runs c.loop-i.i c.in_ok-number.number
+          c.args.edited.now c.loop-i.rows.items runs c.loop-i.i c.in-Ok.number
           c.row_at-row.result inv.longer c.number_of.ensures.longer all (omega arith)
           (c.row_at-row.ensures c.row_at-row.result) (inv.so_far change gives runs all)
-          (c.in_ok-number.ensures.number change gives));
+          (c.in-Ok.ensures.number change gives));
       size = c.push_reserved.ensures.len ∙ ap (λ n. n + 1) inv.size;
       room = omega (arith, c.push_reserved.ensures.capacity, inv.room);
     }

@@ -5,14 +5,14 @@ use Rattle.numa_ranges.proofs.runs.gathered.Goals as goal
 
 pub loop-run-init : goal.loop-run-init
 loop-run-init g c = record {
-  whole = ap (λ l. l ++ c.into_iter-run-iterator.result) c.in_ok-all.ensures.items
+  whole = ap (λ l. l ++ c.into_iter-run-iterator.result) c.in-Ok.ensures.items
       ∙ (c.into_iter-run-iterator.ensures.into_iter_gives ∙ c.iter-run-items.ensures);
   room =
       omega (
         arith,
-        ap length c.in_ok-all.ensures.items,
+        ap length c.in-Ok.ensures.items,
         ap length (c.into_iter-run-iterator.ensures.into_iter_gives ∙ c.iter-run-items.ensures),
-        c.in_ok-all.ensures.capacity,
+        c.in-Ok.ensures.capacity,
         c.len.ensures.len,
       );
 }

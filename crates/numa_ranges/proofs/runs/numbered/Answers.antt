@@ -16,10 +16,10 @@ loop-i-preserved g c =
       pages = run.pages;
       index = run.index;
       number =
-          c.in_ok-number.number;
+          c.in-Ok-add.number;
     } in
-    let within = slice_get_within c.add.new.self c.in_ok-number.number run.value
-    c.in_ok-number.ensures.number in
+    let within = slice_get_within c.add.new.self c.in-Ok-add.number run.value
+    c.in-Ok-add.ensures.number in
     record {
       longer = longer-both c.args.values.now c.loop-i.values c.add.new.self inv.longer
           c.add.ensures.longer;
@@ -30,7 +30,7 @@ loop-i-preserved g c =
       so_far = ap (runs_of c.add.new.self) c.push_reserved.ensures.items
           ∙ runs-more c.loop-i.values c.add.new.self c.loop-i.rows.items c.args.runs.now row run
           c.loop-i.i c.add.ensures.longer inv.numbered inv.so_far (omega arith) c.index-runs-i.is
-          (ap (run_of_row row) c.in_ok-number.ensures.number);
+          (ap (run_of_row row) c.in-Ok-add.ensures.number);
       size = c.push_reserved.ensures.len ∙ ap (λ n. n + 1) inv.size;
       room = omega (arith, c.push_reserved.ensures.capacity, inv.room);
     }
@@ -47,18 +47,18 @@ returns-clause-rows g c = record {
 pub loop-i-init : goal.loop-i-init
 loop-i-init g c = record {
   longer = longer-same c.args.values.now;
-  numbered = rw c.in_ok-rows.ensures.items tt;
-  so_far = ap (runs_of c.args.values.now) c.in_ok-rows.ensures.items;
-  size = c.in_ok-rows.ensures.len;
-  room = c.in_ok-rows.ensures.capacity;
+  numbered = rw c.in-Ok.ensures.items tt;
+  so_far = ap (runs_of c.args.values.now) c.in-Ok.ensures.items;
+  size = c.in-Ok.ensures.len;
+  room = c.in-Ok.ensures.capacity;
 }
 
 pub returns-clause-longer : goal.returns-clause-longer
 returns-clause-longer g c = c.loop-i.invariant.longer
 
-pub returns-in_err-number-clause-longer : goal.returns-in_err-number-clause-longer
-returns-in_err-number-clause-longer g c = longer-both c.args.values.now c.loop-i.values
+pub returns-in_default-add-clause-longer : goal.returns-in_default-add-clause-longer
+returns-in_default-add-clause-longer g c = longer-both c.args.values.now c.loop-i.values
     c.add.new.self c.loop-i.invariant.longer c.add.ensures.longer
 
-pub returns-in_err-rows-clause-longer : goal.returns-in_err-rows-clause-longer
-returns-in_err-rows-clause-longer g c = longer-same c.args.values.now
+pub returns-in_default-clause-longer : goal.returns-in_default-clause-longer
+returns-in_default-clause-longer g c = longer-same c.args.values.now

@@ -12,6 +12,6 @@ returns-clause-ok g c =
     (λ some. omega (arith, some)) (λ some. c.requires.full some []) in
     added-part 6144 parts c.add_piece.new.chunks.items c.args.starts.now.items
     c.push_reserved.new.self.items c.args.len rows rows c.requires.table refl
-    c.in_ok-add_piece.ensures.ok (c.push_reserved.ensures.items
+    c.in_default-add_piece.ensures.ok (c.push_reserved.ensures.items
     ∙ ap (λ l. l ++ c.args.len ∷ []) c.reserve.ensures.items) c.requires.some c.requires.most
     c.requires.few long

@@ -9,7 +9,7 @@ pub loop-chunk-preserved : goal.loop-chunk-preserved
 loop-chunk-preserved g c =
     appended-more c.args.chunks.now c.args.others.now.items c.loop-chunk.others.items
     c.append_to.new.others.items c.chunk-item.result c.loop-chunk.chunk-index (omega arith)
-    c.chunk-item.is c.loop-chunk.invariant c.in_ok-append_to.ensures
+    c.chunk-item.is c.loop-chunk.invariant c.in_default.ensures
 
 pub returns : goal.returns
 returns g c = c.loop-chunk.invariant ∙ ap (λ l. c.args.others.now.items ++ flat l)

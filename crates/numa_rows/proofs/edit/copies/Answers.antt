@@ -7,8 +7,8 @@ use Rattle.numa_rows.proofs.edit.copies.Goals as goal
 pub loop-chunk-preserved : goal.loop-chunk-preserved
 loop-chunk-preserved g c = record {
   same = copied-more c.args.chunks.now c.loop-chunk.others.items c.push_reserved.new.self.items
-      c.chunk-item.result c.in_ok-copy.field-0 c.loop-chunk.chunk-index (omega arith)
-      c.chunk-item.is c.in_ok-copy.ensures c.loop-chunk.invariant.same
+      c.chunk-item.result c.in-Ok-copy.copy c.loop-chunk.chunk-index (omega arith)
+      c.chunk-item.is c.in-Ok-copy.ensures c.loop-chunk.invariant.same
       c.push_reserved.ensures.items;
   size = c.push_reserved.ensures.len ∙ ap (λ n. n + 1) c.loop-chunk.invariant.size;
   room = omega (arith, c.push_reserved.ensures.capacity, c.loop-chunk.invariant.room);

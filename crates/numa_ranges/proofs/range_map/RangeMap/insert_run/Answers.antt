@@ -1,6 +1,5 @@
 -- The window that is put in its place makes the whole list with the run put in and joined.
 use Rattle.std.proofs.Common.{◌≡◌, ◌+◌, ◌-◌, ◌≤◌, min, length, arith, ap}
-use Rattle.std.proofs.lemmas.Result.{err_from_is_err_and}
 use Rattle.numa_ranges.proofs.Placed.{placed-stands, placed-refused}
 use Rattle.numa_ranges.proofs.range_map.RangeMap.insert_run.Goals as goal
 
@@ -20,19 +19,18 @@ put-requires-clause-window g c =
 pub put-requires-clause-room : goal.put-requires-clause-room
 put-requires-clause-room g c = omega (arith, c.gather_with-pieces.ensures.count)
 
-pub returns-in_err-put-clause-err : goal.returns-in_err-put-clause-err
-returns-in_err-put-clause-err g c =
+pub returns-in-Err-clause-err : goal.returns-in-Err-clause-err
+returns-in-Err-clause-err g c =
     let runs = ap (λ v. v.runs) c.self.view_is in
     let from : c.saturating_sub-from.result ≡ c.args.place - 1 = omega arith in
     let to : c.min-to.result ≡ min (length c.args.self.now.runs) (c.args.place + 1) =
     omega (arith, ap length runs) in
-    let exit = err_from_is_err_and c.from_residual.result c.from_residual.ensures.1 in
-    rw (exit.1, exit.2, ← (ap (λ v. v.max_ranges) c.self.view_is))
+    rw (← (ap (λ v. v.max_ranges) c.self.view_is))
     (placed-refused g.T.PartialEq.eq g.met.T.Exact.exact g.met.T.Eq.laws.refl
     c.args.self.now.runs c.self.inside.runs c.gather_with-pieces.result c.args.run c.args.place
-    c.saturating_sub-from.result c.min-to.result c.self.inside.max_ranges c.in_err-put.field-0.0
+    c.saturating_sub-from.result c.min-to.result c.self.inside.max_ranges c.in-Err.refused
     runs from to c.requires.room c.requires.span.some c.requires.span.within c.requires.index
-    c.gather_with-pieces.ensures.gathered c.in_err-put.ensures.err)
+    c.gather_with-pieces.ensures.gathered c.in-Err.ensures.err)
 
 pub invariant_of-self-2 : goal.invariant_of-self-2
 invariant_of-self-2 g c =
@@ -45,7 +43,7 @@ invariant_of-self-2 g c =
     c.args.run c.args.place c.saturating_sub-from.result c.min-to.result
     c.self.inside.max_ranges runs from to c.requires.room c.requires.span.some
     c.requires.span.within c.requires.index c.gather_with-pieces.ensures.gathered
-    c.in_ok-put.ensures.ok in
+    c.in_default.ensures.ok in
     (all.apart, all.maximal, all.size)
 
 pub returns-clause-ok : goal.returns-clause-ok
@@ -59,7 +57,7 @@ returns-clause-ok g c =
     c.args.run c.args.place c.saturating_sub-from.result c.min-to.result
     c.self.inside.max_ranges runs from to c.requires.room c.requires.span.some
     c.requires.span.within c.requires.index c.gather_with-pieces.ensures.gathered
-    c.in_ok-put.ensures.ok in
+    c.in_default.ensures.ok in
     record {
       shows = all.page;
       accepted = rw (← (ap (λ v. v.max_ranges) c.self.view_is))
@@ -75,5 +73,5 @@ returns-clause-unchanged g c = tt
 pub returns-clause-max_ranges : goal.returns-clause-max_ranges
 returns-clause-max_ranges g c = ap (λ v. v.max_ranges) c.self.view_is
 
-pub returns-in_err-put-clause-max_ranges : goal.returns-in_err-put-clause-max_ranges
-returns-in_err-put-clause-max_ranges g c = ap (λ v. v.max_ranges) c.self.view_is
+pub returns-in-Err-clause-max_ranges : goal.returns-in-Err-clause-max_ranges
+returns-in-Err-clause-max_ranges g c = ap (λ v. v.max_ranges) c.self.view_is

@@ -83,3 +83,23 @@ returns-clause-steps g c =
     ∙ ap
     (λ l. l ++ drop c.loop-parts.self-inside.gone (flat c.loop-parts.self-inside.chunks.now))
     c.in-Some-split_first.ensures.cases.0)
+
+pub loop-parts-init : goal.loop-parts-init
+loop-parts-init g c = refl
+
+pub part_at-requires : goal.part_at-requires
+part_at-requires g c = omega (arith, c.len-size.ensures, c.if-self-size.true)
+
+pub rows_from-self-inside-requires : goal.rows_from-self-inside-requires
+rows_from-self-inside-requires g c = c.part_at.ensures.has
+
+pub overflow_sub-self : goal.overflow_sub-self
+overflow_sub-self g c = omega (arith, c.len-size.ensures, c.if-self-size.false)
+
+pub returns-in_default-clause-goes : goal.returns-in_default-clause-goes
+returns-in_default-clause-goes g c =
+    record { on = λ finite. tt; keeps = tt; rests = λ finite. finite }
+
+pub returns-in_default-split_first-clause-goes : goal.returns-in_default-split_first-clause-goes
+returns-in_default-split_first-clause-goes g c =
+    record { on = λ finite. tt; keeps = tt; rests = λ finite. finite }

@@ -10,7 +10,7 @@ returns-clause-ok g c =
     ∙ ap length c.splice.view_is in
     let one : c.deref.result.now ≡ c.args.row ∷ [] = c.deref.ensures.value
     ∙ (c.push_reserved.ensures.items
-    ∙ ap (λ l. l ++ c.args.row ∷ []) c.in_ok-rows.ensures.items) in
+    ∙ ap (λ l. l ++ c.args.row ∷ []) c.in-Ok.ensures.items) in
     on_ok_weaker c.splice-2.result
     (λ so. so ∙ behind-all c.args.self.now c.deref.result.now c.splice.inside.len c.args.row
     size one) c.splice-2.ensures.ok
