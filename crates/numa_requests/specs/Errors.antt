@@ -1,7 +1,8 @@
 -- The error number of each refusal (errno(3)).
 use Rattle.numa_requests.specs.declared.refusal.Refusal.{Refusal}
 use Rattle.numa_requests.specs.declared.refusal.Refusal.TheVariants.{CommandsSpent, Unaligned}
-use Rattle.numa_requests.specs.declared.refusal.Refusal.TheVariants.{OutOfSpace, EmptyLength}
+use Rattle.numa_requests.specs.declared.refusal.Refusal.TheVariants.{OutOfSpace, BadSpan}
+use Rattle.numa_requests.specs.declared.refusal.Refusal.TheVariants.{EmptyLength, NoNodes}
 use Rattle.numa_requests.specs.declared.refusal.Refusal.TheVariants.{BadOffset, Overlap, Hole}
 use Rattle.numa_requests.specs.declared.refusal.Refusal.TheVariants.{NoSuchNode, BadWeight}
 use Rattle.numa_requests.specs.declared.refusal.Refusal.TheVariants.{NodesNotAllowed, NotSupported}
@@ -15,6 +16,7 @@ abbrev pub errno_of : Refusal → Errno
 errno_of CommandsSpent = ENoSpc
 errno_of Unaligned = EInval
 errno_of OutOfSpace = ENoMem
+errno_of BadSpan = EInval
 errno_of EmptyLength = EInval
 errno_of BadOffset = EInval
 errno_of Overlap = EExist
@@ -22,6 +24,7 @@ errno_of Hole = EFault
 errno_of NoSuchNode = EInval
 errno_of BadWeight = EInval
 errno_of NodesNotAllowed = EInval
+errno_of NoNodes = ENoSpc
 errno_of NotSupported = EOpNotSupp
 errno_of NoPolicy = ENoEnt
 errno_of TooManyTasks = ENoMem

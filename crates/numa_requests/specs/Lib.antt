@@ -1,3 +1,5 @@
 pub mod Errors
+pub mod HostErrors
+pub mod PageErrors
 pub mod Limited
 pub mod NodeCounts

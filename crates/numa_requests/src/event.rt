@@ -15,6 +15,9 @@ pub enum Event {
     Publish,
     /// A worker takes a published version, and that version's fallback list for the request.
     Begin(u32, Request),
+    /// A worker takes a published version, and looks for a frame of this node alone, whatever the
+    /// policies say.
+    Seek(u32, u8),
     /// A worker looks at a word of its current node: the first listed one with a frame that it
     /// hasn't met. Each owned frame there counts as met.
     Look(u32, u32),
@@ -39,6 +42,10 @@ pub enum CoreReply {
     Exhausted(u64),
     /// The frame was free and is the worker's now, and the worker is idle.
     Won(Placement),
+    /// The same for a worker that looked for a frame of one node.
+    Found(Frame),
+    /// The worker that looked for a frame of one node has met every frame of it, and is idle.
+    Full,
     /// The frame is free.
     Given,
 }
@@ -50,7 +57,7 @@ pub enum CoreRefusal {
     Command(Refusal),
     /// There is no worker with this number.
     NoSuchWorker,
-    /// A Begin or a Give of a worker that is still searching for a frame.
+    /// A Begin, a Seek or a Give of a worker that is still searching for a frame.
     Busy,
     /// A Look or a Try of a worker that isn't searching for a frame.
     Idle,
@@ -60,6 +67,8 @@ pub enum CoreRefusal {
     NotOwned,
     /// The machine lacks the faulting node.
     BadCpu,
+    /// The machine lacks the node of a Seek, or the node has no frames.
+    NoSuchNode,
     /// The page isn't mapped in the version that the worker took.
     Unmapped(u64),
     /// Out of memory for a Publish.

@@ -9,8 +9,11 @@ pub enum Refusal {
     CommandsSpent,
     /// The start isn't a multiple of 4,096.
     Unaligned,
-    /// The span ends above address 2^47; by the kernel's rules a map, above 2^47 - 4096.
+    /// The span ends above address 2^47; by the kernel's rules a map alone, above 2^47 - 4096.
     OutOfSpace,
+    /// By the kernel's rules, an unmap that ends above address 2^47 - 4096, or an mbind or a home
+    /// that ends above 2^64 - 1.
+    BadSpan,
     /// A map of no bytes; by the kernel's rules an unmap too.
     EmptyLength,
     /// The offset of a map is 2^35 pages or more.
@@ -23,8 +26,11 @@ pub enum Refusal {
     NoSuchNode,
     /// A weight above 255, or of 0 by the documents' rules.
     BadWeight,
-    /// The policy would have no node when it is set, or the new allowed nodes have no memory.
+    /// The policy would have no node when it is set, or by the documents' rules the new allowed
+    /// nodes have no memory.
     NodesNotAllowed,
+    /// By the kernel's rules, an empty set of new allowed nodes.
+    NoNodes,
     /// A home for a page whose own policy is neither BIND nor PREFERRED_MANY.
     NotSupported,
     /// By the kernel's rules, a home for a span of which no page has an own policy.
@@ -55,8 +61,9 @@ impl Refusal {
         ensures { result ≡ errno_of self }
     {
         match self {
-            Refusal::CommandsSpent => Errno::ENoSpc,
+            Refusal::CommandsSpent | Refusal::NoNodes => Errno::ENoSpc,
             Refusal::Unaligned
+            | Refusal::BadSpan
             | Refusal::EmptyLength
             | Refusal::BadOffset
             | Refusal::NoSuchNode
