@@ -14,17 +14,20 @@ use Rattle.numa_ranges.proofs.Walked.{IsWalked}
 use Rattle.numa_space.proofs.Homes.{any_page-within}
 use Rattle.numa_rules.specs.Pages.{passes, reaches}
 use Rattle.numa_rules.specs.declared.span.SpanTest.{SpanTest}
-use Rattle.numa_rules.specs.declared.span.SpanTest.TheVariants.{IsMapped, HasPolicy}
+use Rattle.numa_rules.specs.declared.span.SpanTest.TheVariants.{IsMapped, HasPolicy, TakesNoHome}
 
 -- a test asks nothing of a page's index, and no page that isn't mapped passes
 any-index : (test : SpanTest) (i j : ℕ) (r : Option PolicyRecord)
     → passes test (Some (i, r)) ≡ passes test (Some (j, r))
 any-index IsMapped i j r = refl
 any-index HasPolicy i j r = refl
+any-index TakesNoHome i j None = refl
+any-index TakesNoHome i j (Some r) = refl
 
 unmapped-fails : (test : SpanTest) → passes test None ≡ false
 unmapped-fails IsMapped = refl
 unmapped-fails HasPolicy = refl
+unmapped-fails TakesNoHome = refl
 
 all-three : (a b c : Bool) → (a && (b && c)) ≡ true → (a ≡ true) × (b ≡ true) × (c ≡ true)
 all-three true true true h = (refl, refl, refl)

@@ -14,12 +14,21 @@ use Rattle.numa_ranges.specs.Maps.{any_page}
 use Rattle.numa_ranges.specs.Runs.{page_at}
 use Rattle.numa_ranges.specs.declared.run.Run.{Run}
 use Rattle.numa_space.specs.History.{page_count, page_of}
-use Rattle.numa_space.specs.Refusals.{bad_span, has_no_node, has_policy}
+use Rattle.numa_space.specs.Refusals.{bad_span, ends_above, has_no_node, has_policy, unaligned}
+use Rattle.numa_space.specs.Refusals.{takes_no_home}
 use Rattle.numa_space.specs.Standing.{SpaceState}
 use Rattle.numa_requests.specs.declared.command.Command.{Command}
 use Rattle.numa_requests.specs.declared.command.Command.TheVariants as command
+use Rattle.numa_requests.specs.declared.refusal.Refusal.{Refusal}
+use Rattle.numa_requests.specs.declared.refusal.Refusal.TheVariants.{BadSpan, Hole, NoPolicy}
+use Rattle.numa_requests.specs.declared.refusal.Refusal.TheVariants.{NoSuchNode, NodesNotAllowed}
+use Rattle.numa_requests.specs.declared.refusal.Refusal.TheVariants.{NotSupported}
 use Rattle.numa_rules.specs.declared.otherwise.Otherwise.{Otherwise}
 use Rattle.numa_rules.specs.declared.otherwise.Otherwise.TheVariants.{KeepsLastPage, WantsLength}
+use Rattle.numa_rules.specs.declared.otherwise.Otherwise.TheVariants.{JudgesLengthFirst}
+use Rattle.numa_rules.specs.declared.otherwise.Otherwise.TheVariants.{JudgesEndFirst}
+use Rattle.numa_rules.specs.declared.otherwise.Otherwise.TheVariants.{LeavesLastPage, LooksPastEnd}
+use Rattle.numa_rules.specs.declared.otherwise.Otherwise.TheVariants.{WantsNodes}
 use Rattle.numa_rules.specs.declared.otherwise.Otherwise.TheVariants.{JudgesNodesFirst, PassesHoles}
 use Rattle.numa_rules.specs.declared.otherwise.Otherwise.TheVariants.{WantsPolicy, PutsBackWeight}
 use Rattle.numa_rules.specs.declared.otherwise.Otherwise.TheVariants.{AllowsAllMemory, LeavesNodes}
@@ -72,23 +81,51 @@ parted_in space new = first_of (parted_ranges space.allowed new space.ranges)
 
 -- ---- commands
 
--- map: the kernel keeps the last page below address 2^47 free
+-- map: the kernel keeps the last page below address 2^47 free; and it judges a length of 0 first,
+-- and the end before the start
 abbrev pub with_map : ℕ → ℕ → Option Otherwise
 with_map start bytes =
-    if is_some (bad_span start bytes) then None
-    else if nat_lt (2 ^ 35 - 1) (page_of start + page_count bytes) then Some KeepsLastPage else None
+    if bytes == 0 then (if is_some (bad_span start bytes) then Some JudgesLengthFirst else None)
+    else if not (ends_above (2 ^ 47 - 4096) start bytes) then None
+    else if is_some (unaligned start) then Some JudgesEndFirst
+    else if ends_above (2 ^ 47) start bytes then None else Some KeepsLastPage
 
--- unmap: the kernel wants a byte
+-- unmap: the kernel leaves that page alone, and wants a byte
 abbrev pub with_unmap : ℕ → ℕ → Option Otherwise
 with_unmap start bytes =
-    if is_some (bad_span start bytes) then None
+    if is_some (unaligned start) then None
+    else if ends_above (2 ^ 47 - 4096) start bytes then Some LeavesLastPage
     else if bytes == 0 then Some WantsLength else None
+
+-- why the kernel refuses an mbind or a home that ends above address 2^47, the number of ranges
+-- apart: it looks for pages there as below, and finds none
+abbrev pub bind_past_end : SpaceState → ℕ → ℕ → Specification → Option Refusal
+bind_past_end space start bytes spec =
+    if ends_above (2 ^ 64 - 1) start bytes then Some BadSpan
+    else if bytes == 0 then None
+    else if has_no_node space.allowed spec then Some NodesNotAllowed
+    else if is_default spec && any_page (λ page. is_some (page_at space.ranges page))
+    (page_of start) (page_count bytes) then None
+    else Some Hole
+
+abbrev pub home_past_end : SpaceState → ℕ → ℕ → ℕ → Option Refusal
+home_past_end space start bytes node =
+    if ends_above (2 ^ 64 - 1) start bytes then Some BadSpan
+    else if nat_le space.machine.nodes node then Some NoSuchNode
+    else if bytes == 0 then None
+    else if any_page (λ page. takes_no_home (page_at space.ranges page)) (page_of start)
+    (page_count bytes) then Some NotSupported
+    else if any_page (λ page. has_policy (page_at space.ranges page)) (page_of start)
+    (page_count bytes) then None
+    else Some NoPolicy
 
 -- mbind: of DEFAULT over a hole the kernel takes the policies of the other pages away, where there
 -- are others; of another policy over a hole it answers first that its nodes aren't allowed
 abbrev pub with_bind : SpaceState → ℕ → ℕ → Specification → Option Otherwise
 with_bind space start bytes spec =
-    if is_some (bad_span start bytes) then None
+    if is_some (unaligned start) then None
+    else if ends_above (2 ^ 47) start bytes
+    then Some (LooksPastEnd (bind_past_end space start bytes spec))
     else if bytes == 0 then None
     else if is_default spec then (if is_mapped && has_hole then Some PassesHoles else None)
     else if has_no_node space.allowed spec && has_hole then Some JudgesNodesFirst else None
@@ -104,7 +141,9 @@ with_bind space start bytes spec =
 -- home: the kernel wants a page with a policy of its own; one that takes no home is refused by both
 abbrev pub with_home : SpaceState → ℕ → ℕ → ℕ → Option Otherwise
 with_home space start bytes node =
-    if is_some (bad_span start bytes) then None
+    if is_some (unaligned start) then None
+    else if ends_above (2 ^ 47) start bytes
+    then Some (LooksPastEnd (home_past_end space start bytes node))
     else if nat_le space.machine.nodes node || bytes == 0 then None
     else if any_page (λ page. has_policy (page_at space.ranges page)) (page_of start)
     (page_count bytes) then None
@@ -115,11 +154,13 @@ abbrev pub with_weight : SpaceState → ℕ → ℕ → Option Otherwise
 with_weight space node weight =
     if nat_le space.machine.nodes node || not (weight == 0) then None else Some PutsBackWeight
 
--- mems: the kernel allows all nodes with memory where none of these has some; else it leaves the
--- nodes of PREFERRED and PREFERRED_MANY as they are, and no other policy without any
+-- mems: the kernel refuses no nodes for a cause of its own, and allows all nodes with memory where
+-- none of these has some; else it leaves the nodes of PREFERRED and PREFERRED_MANY as they are, and
+-- no other policy without any
 abbrev pub with_mems : SpaceState → ℕ → Option Otherwise
 with_mems space mask =
-    if list_any (λ node. nat_le space.machine.nodes node) (members mask) || mask == 0 then None
+    if list_any (λ node. nat_le space.machine.nodes node) (members mask) then None
+    else if mask == 0 then Some WantsNodes
     else if both mask space.machine.memory == 0 then Some AllowsAllMemory
     else option_map LeavesNodes (parted_in space (both mask space.machine.memory))
 
@@ -143,4 +184,4 @@ otherwise_of space command =
 abbrev pub otherwise_of_empty_bind : SpaceState → ℕ → Option Otherwise
 otherwise_of_empty_bind space start =
     if is_linux space.machine.rules then None
-    else if is_some (bad_span start 0) then None else Some OverlooksPolicy
+    else if is_some (unaligned start) then None else Some OverlooksPolicy

@@ -6,7 +6,7 @@ use crate::text::Text;
 use numa_machine::Rules;
 use numa_mask::{NodeMask, list_text};
 use numa_mode::{Mode, Record};
-use numa_requests::PAGE_BYTES;
+use numa_requests::{Errno, PAGE_BYTES};
 use std::alloc::AllocError;
 
 /// The end of every hint.
@@ -56,6 +56,10 @@ fn put_parted(text: &mut Text, parted: &Parted) {
 fn otherwise_words(otherwise: &Otherwise) -> &'static str {
     match otherwise {
         Otherwise::KeepsLastPage => "keeps the last page below 2^47 free: ENOMEM",
+        Otherwise::JudgesLengthFirst => "judges length 0 before the span: EINVAL",
+        Otherwise::JudgesEndFirst => "judges the end before the start: ENOMEM",
+        Otherwise::LeavesLastPage => "unmaps nothing above 2^47 - 4096: EINVAL",
+        Otherwise::LooksPastEnd(_) => "looks for pages above 2^47 too, and finds none",
         Otherwise::WantsLength => "refuses to unmap 0 bytes: EINVAL",
         Otherwise::JudgesNodesFirst => "judges the nodes before the hole: EINVAL",
         Otherwise::PassesHoles => "passes over the hole here",
@@ -64,8 +68,22 @@ fn otherwise_words(otherwise: &Otherwise) -> &'static str {
         Otherwise::AllowsAllMemory => {
             "takes nodes without memory, and allows all that have some"
         }
+        Otherwise::WantsNodes => "refuses an empty set of nodes: ENOSPC",
         Otherwise::OverlooksPolicy => "takes an mbind of 0 bytes before it judges the policy",
         Otherwise::LeavesNodes(_) => "",
+    }
+}
+
+/// An error number, after what it is told of.
+fn errno_words(errno: Errno) -> &'static str {
+    match errno {
+        Errno::EInval => ": EINVAL",
+        Errno::ENoMem => ": ENOMEM",
+        Errno::EExist => ": EEXIST",
+        Errno::EFault => ": EFAULT",
+        Errno::ENoSpc => ": ENOSPC",
+        Errno::EOpNotSupp => ": EOPNOTSUPP",
+        Errno::ENoEnt => ": ENOENT",
     }
 }
 
@@ -74,6 +92,10 @@ fn put_otherwise(text: &mut Text, otherwise: &Otherwise) {
     text.put("a kernel ");
     match otherwise {
         Otherwise::LeavesNodes(parted) => put_parted(text, parted),
+        Otherwise::LooksPastEnd(Some(cause)) => {
+            text.put(otherwise_words(otherwise));
+            text.put(errno_words(cause.errno()));
+        }
         _ => text.put(otherwise_words(otherwise)),
     }
     text.put(SEE);

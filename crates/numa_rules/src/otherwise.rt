@@ -7,13 +7,13 @@ ghost use Rattle.numa_mode.specs.Policy.{is_default};
 ghost use Rattle.numa_space.specs.Refusals.{has_no_node};
 ghost use Rattle.numa_rules.specs.Otherwise.{with_bind, with_home, with_map, with_mems, with_unmap};
 ghost use Rattle.numa_rules.specs.Otherwise.{otherwise_of, otherwise_of_empty_bind, with_weight};
-ghost use Rattle.numa_rules.specs.Otherwise.{with_command};
+ghost use Rattle.numa_rules.specs.Otherwise.{bind_past_end, home_past_end, with_command};
 
 use crate::parted::{Parted, parted_in};
-use crate::span::{SpanTest, has_hole, has_page, span_of};
+use crate::span::{SPACE_END, SpanTest, ends_above, has_hole, has_page, pages_of, span_of};
 use numa_mask::NodeMask;
 use numa_mode::{Mode, PolicySpec, Record};
-use numa_requests::Command;
+use numa_requests::{Command, PAGE_BYTES, Refusal};
 use numa_space::Space;
 
 /// What a running kernel does with a command, where that differs from the documents
@@ -22,6 +22,15 @@ use numa_space::Space;
 pub enum Otherwise {
     /// It refuses a map that reaches address 2^47, since it keeps the last page free: ENOMEM.
     KeepsLastPage,
+    /// It refuses a map of length 0 before it judges its span: EINVAL.
+    JudgesLengthFirst,
+    /// It refuses a map that ends above 2^47 - 4096 before it judges its start: ENOMEM.
+    JudgesEndFirst,
+    /// It refuses an unmap that ends above 2^47 - 4096: EINVAL.
+    LeavesLastPage,
+    /// It looks for the pages of an mbind or a home also above 2^47, and finds none there: it
+    /// refuses it for this cause, or accepts it.
+    LooksPastEnd(Option<Refusal>),
     /// It refuses an unmap of length 0: EINVAL.
     WantsLength,
     /// It checks the nodes of an mbind before the holes in its span: EINVAL instead of EFAULT.
@@ -34,6 +43,8 @@ pub enum Otherwise {
     PutsBackWeight,
     /// It accepts allowed nodes of which none has memory, and allows all nodes with memory.
     AllowsAllMemory,
+    /// It refuses an empty set of allowed nodes by another error number: ENOSPC.
+    WantsNodes,
     /// It accepts an mbind of length 0 before it checks whether mode, flag and nodes go together.
     /// By the documents that is no command, so [`otherwise_of`] doesn't answer this.
     OverlooksPolicy,
@@ -45,22 +56,34 @@ pub enum Otherwise {
 fn with_map(start: u64, length: u64) -> Option<Otherwise>
     ensures { result ≡ with_map start length }
 {
-    let Some((first, pages)) = span_of(start, length) else {
-        return None;
-    };
-    if (1 << 35) - 1 < first + pages {
-        return Some(Otherwise::KeepsLastPage);
+    if length == 0 {
+        return match span_of(start, length) {
+            Some(_) => None,
+            None => Some(Otherwise::JudgesLengthFirst),
+        };
     }
-    None
+    if !ends_above(SPACE_END - PAGE_BYTES, start, length) {
+        return None;
+    }
+    if start % PAGE_BYTES != 0 {
+        return Some(Otherwise::JudgesEndFirst);
+    }
+    if ends_above(SPACE_END, start, length) {
+        return None;
+    }
+    Some(Otherwise::KeepsLastPage)
 }
 
 /// What a kernel does differently with an unmap.
 fn with_unmap(start: u64, length: u64) -> Option<Otherwise>
     ensures { result ≡ with_unmap start length }
 {
-    let Some(_) = span_of(start, length) else {
+    if start % PAGE_BYTES != 0 {
         return None;
-    };
+    }
+    if ends_above(SPACE_END - PAGE_BYTES, start, length) {
+        return Some(Otherwise::LeavesLastPage);
+    }
     if length == 0 {
         return Some(Otherwise::WantsLength);
     }
@@ -79,12 +102,39 @@ fn has_no_node(spec: PolicySpec, allowed: &NodeMask) -> bool
     }
 }
 
+/// Why a kernel refuses an mbind that ends above 2^47.
+fn bind_past_end(space: &Space, start: u64, length: u64, spec: PolicySpec) -> Option<Refusal>
+    ensures { result ≡ bind_past_end space.now start length spec }
+{
+    if ends_above(u64::MAX, start, length) {
+        return Some(Refusal::BadSpan);
+    }
+    if length == 0 {
+        return None;
+    }
+    let (first, pages) = pages_of(start, length);
+    if spec.mode() == Mode::Default {
+        if has_page(space, SpanTest::IsMapped, first, pages) {
+            return None;
+        }
+        return Some(Refusal::Hole);
+    }
+    if has_no_node(spec, &space.allowed()) {
+        return Some(Refusal::NodesNotAllowed);
+    }
+    Some(Refusal::Hole)
+}
+
 /// What a kernel does differently with an mbind.
 fn with_bind(space: &Space, start: u64, length: u64, spec: PolicySpec) -> Option<Otherwise>
     ensures { result ≡ with_bind space.now start length spec }
 {
-    let Some((first, pages)) = span_of(start, length) else {
+    if start % PAGE_BYTES != 0 {
         return None;
+    }
+    let Some((first, pages)) = span_of(start, length) else {
+        let cause = bind_past_end(space, start, length, spec);
+        return Some(Otherwise::LooksPastEnd(cause));
     };
     if length == 0 {
         return None;
@@ -101,12 +151,39 @@ fn with_bind(space: &Space, start: u64, length: u64, spec: PolicySpec) -> Option
     None
 }
 
+/// Why a kernel refuses a home that ends above 2^47.
+fn home_past_end(space: &Space, start: u64, length: u64, node: u32) -> Option<Refusal>
+    ensures { result ≡ home_past_end space.now start length node }
+{
+    if ends_above(u64::MAX, start, length) {
+        return Some(Refusal::BadSpan);
+    }
+    if node >= space.machine().nodes() {
+        return Some(Refusal::NoSuchNode);
+    }
+    if length == 0 {
+        return None;
+    }
+    let (first, pages) = pages_of(start, length);
+    if has_page(space, SpanTest::TakesNoHome, first, pages) {
+        return Some(Refusal::NotSupported);
+    }
+    if has_page(space, SpanTest::HasPolicy, first, pages) {
+        return None;
+    }
+    Some(Refusal::NoPolicy)
+}
+
 /// What a kernel does differently with a home.
 fn with_home(space: &Space, start: u64, length: u64, node: u32) -> Option<Otherwise>
     ensures { result ≡ with_home space.now start length node }
 {
-    let Some((first, pages)) = span_of(start, length) else {
+    if start % PAGE_BYTES != 0 {
         return None;
+    }
+    let Some((first, pages)) = span_of(start, length) else {
+        let cause = home_past_end(space, start, length, node);
+        return Some(Otherwise::LooksPastEnd(cause));
     };
     if node >= space.machine().nodes() || length == 0 {
         return None;
@@ -138,8 +215,11 @@ fn has_node_from(mask: &NodeMask, first: u32) -> bool
 fn with_mems(space: &Space, mask: &NodeMask) -> Option<Otherwise>
     ensures { result ≡ with_mems space.now mask.now }
 {
-    if has_node_from(mask, space.machine().nodes()) || mask.is_empty() {
+    if has_node_from(mask, space.machine().nodes()) {
         return None;
+    }
+    if mask.is_empty() {
+        return Some(Otherwise::WantsNodes);
     }
     let allowed = mask.and(&space.machine().memory());
     if allowed.is_empty() {
@@ -195,8 +275,8 @@ pub fn otherwise_of_empty_bind(space: &Space, start: u64) -> Option<Otherwise>
     if space.machine().rules().is_linux() {
         return None;
     }
-    let Some(_) = span_of(start, 0) else {
+    if start % PAGE_BYTES != 0 {
         return None;
-    };
+    }
     Some(Otherwise::OverlooksPolicy)
 }

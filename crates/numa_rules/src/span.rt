@@ -1,10 +1,10 @@
 //! Tests of the pages of a span.
-ghost use Rattle.std.specs.Prelude.{◌≡◌, ◌+◌, ◌≤◌, ◌^◌, Some, None, MatchOption, not, is_some};
+ghost use Rattle.std.specs.Prelude.{◌≡◌, ◌+◌, ◌<◌, ◌≤◌, ◌^◌, Some, None, MatchOption, not, is_some};
 ghost use Rattle.std.specs.Prelude.{true};
-ghost use Rattle.numa_ranges.specs.Maps.{IsSpan, any_page};
+ghost use Rattle.numa_ranges.specs.Maps.{any_page};
 ghost use Rattle.numa_ranges.specs.Runs.{page_at};
 ghost use Rattle.numa_space.specs.History.{page_count, page_of};
-ghost use Rattle.numa_space.specs.Refusals.{bad_span};
+ghost use Rattle.numa_space.specs.Refusals.{bad_span, ends_above, takes_no_home};
 ghost use Rattle.numa_rules.specs.Pages.{passes, reaches};
 
 use numa_ranges::Run;
@@ -18,9 +18,32 @@ pub(crate) enum SpanTest {
     IsMapped,
     /// Whether its range has an own policy.
     HasPolicy,
+    /// Whether its range has an own policy that takes no home node.
+    TakesNoHome,
 }
 
-/// The first page of a span, and the number of its pages; `None` if the span is invalid.
+/// The end of the addresses of a space.
+pub(crate) const SPACE_END: u64 = 1 << 47;
+
+/// The first page of a span, and the number of its pages.
+pub(crate) fn pages_of(start: u64, length: u64) -> (u64, u64)
+    ensures first { result.0 ≡ page_of start }
+    ensures count { result.1 ≡ page_count length }
+{
+    let pages = length / PAGE_BYTES + u64::from(length % PAGE_BYTES != 0);
+    (start / PAGE_BYTES, pages)
+}
+
+/// Whether a span ends above an address.
+pub(crate) fn ends_above(address: u64, start: u64, length: u64) -> bool
+    ensures { result ≡ ends_above address start length }
+{
+    let (_, pages) = pages_of(start, length);
+    start > address || pages > (address - start) / PAGE_BYTES
+}
+
+/// The first page of a span, and the number of its pages; `None` if the span is invalid by the
+/// documents' rules.
 pub(crate) fn span_of(start: u64, length: u64) -> Option<(u64, u64)>
     ensures span { MatchOption result (is_some (bad_span start length) ≡ true)
         (λ span. (bad_span start length ≡ None) × (span.0 ≡ page_of start)
@@ -30,11 +53,20 @@ pub(crate) fn span_of(start: u64, length: u64) -> Option<(u64, u64)>
     if start % PAGE_BYTES != 0 {
         return None;
     }
-    let pages = length / PAGE_BYTES + u64::from(length % PAGE_BYTES != 0);
-    if start > 1 << 47 || pages > (1 << 35) - start / PAGE_BYTES {
+    if ends_above(SPACE_END, start, length) {
         return None;
     }
-    Some((start / PAGE_BYTES, pages))
+    Some(pages_of(start, length))
+}
+
+/// Whether a range has an own policy that takes no home node.
+fn takes_no_home(value: &RangeRecord) -> bool
+    ensures { result ≡ takes_no_home (Some (0, value.now)) }
+{
+    match value.policy() {
+        None => false,
+        Some(policy) => policy.with_home(0).is_none(),
+    }
 }
 
 /// Whether a mapped page whose range has this record passes a test.
@@ -44,6 +76,7 @@ fn passes(test: SpanTest, value: &RangeRecord) -> bool
     match test {
         SpanTest::IsMapped => true,
         SpanTest::HasPolicy => value.policy().is_some(),
+        SpanTest::TakesNoHome => takes_no_home(value),
     }
 }
 
@@ -58,7 +91,8 @@ fn reaches(test: SpanTest, run: &Run<RangeRecord>, first: u64, end: u64) -> bool
 
 /// Whether some page of a span passes a test.
 pub(crate) fn has_page(space: &Space, test: SpanTest, first: u64, pages: u64) -> bool
-    requires span { IsSpan first pages }
+    requires some { 0 < pages }
+    requires fits { first + pages < 2 ^ 64 }
     ensures { result ≡ any_page (λ page. passes test (page_at space.now.ranges page)) first
         pages }
 {

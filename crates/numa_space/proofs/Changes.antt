@@ -20,7 +20,8 @@ use Rattle.numa_requests.specs.declared.refusal.Refusal.TheVariants.{NoMemory}
 use Rattle.numa_space.specs.Edits.{PageRanges, IsEdit, hole_cause, too_many}
 use Rattle.numa_space.specs.History.{page_of, page_count}
 use Rattle.numa_machine.specs.Rules.{is_linux}
-use Rattle.numa_space.specs.Refusals.{PageMap, bad_span, first_of, has_no_node, passes_holes}
+use Rattle.numa_space.specs.Refusals.{PageMap, bad_policy_span, bad_unmap_span, first_of}
+use Rattle.numa_space.specs.Refusals.{has_no_node, passes_holes}
 use Rattle.numa_space.specs.Refusals.{bind_cause, refusal_in, lacks_policy, takes_no_home}
 use Rattle.numa_space.specs.Standing.{SpaceState, record_of}
 use Rattle.numa_space.specs.Steps.{IsAnswer, IsNext, scene_in, record_now, policy_with_home}
@@ -41,17 +42,18 @@ edited-answer old command after limit new (Some cause) e next edit =
     let odd : ◌≡◌ {A = Result (Unit {0}) Refusal} (Ok (tt {0})) (Err cause) = edit.0 in absurd (cc)
 
 module _ (old : SpaceState) (start bytes first count limit : ℕ) (new : PageRanges)
-    (room : old.version < old.bounds.max_commands) (span : bad_span start bytes ≡ None)
+    (room : old.version < old.bounds.max_commands)
     (some : (bytes == 0) ≡ false) (is_first : first ≡ page_of start)
     (is_count : count ≡ page_count bytes) (is_limit : limit ≡ old.bounds.max_ranges) where
   abbrev unmapped : ℕ → ℕ → PageMap
   unmapped a b = without_span a b (page_at old.ranges)
 
-  pub unmap-answer : IsEdit (too_many limit (unmapped first count)) (unmapped first count)
+  pub unmap-answer : bad_unmap_span old.machine.rules start bytes ≡ None
+      → IsEdit (too_many limit (unmapped first count)) (unmapped first count)
       (record { runs = old.ranges; limit = limit }) (Ok (tt {0})) new
       → IsAnswer old (Unmap start bytes) (Ok (tt {0}))
       (record old { ranges = new.runs; version = old.version + 1 })
-  unmap-answer edit =
+  unmap-answer span edit =
       edited-answer old (Unmap start bytes) (unmapped first count) limit new
       (too_many limit (unmapped first count))
       (cause ∙ (λ i. too_many (sym is_limit i) (unmapped (sym is_first i) (sym is_count i))))
@@ -73,14 +75,15 @@ module _ (old : SpaceState) (start bytes first count limit : ℕ) (new : PageRan
   abbrev homed : ℕ → ℕ → ℕ → PageMap
   homed node a b = changed_span a b (policy_with_home node) (page_at old.ranges)
 
-  pub home-answer : (node : ℕ) → node < old.machine.nodes
+  pub home-answer : bad_policy_span old.machine.rules start bytes ≡ None
+      → (node : ℕ) → node < old.machine.nodes
       → any_page (λ page. takes_no_home (page_at old.ranges page)) first count ≡ false
       → lacks_policy old.machine.rules (page_at old.ranges) first count ≡ false
       → IsEdit (too_many limit (homed node first count)) (homed node first count)
       (record { runs = old.ranges; limit = limit }) (Ok (tt {0})) new
       → IsAnswer old (SetHome start bytes node) (Ok (tt {0}))
       (record old { ranges = new.runs; version = old.version + 1 })
-  home-answer node there homes policies edit =
+  home-answer span node there homes policies edit =
       edited-answer old (SetHome start bytes node) (homed node first count) limit new
       (too_many limit (homed node first count))
       (cause ∙ (λ i. too_many (sym is_limit i) (homed node (sym is_first i) (sym is_count i))))
@@ -119,7 +122,8 @@ module _ (old : SpaceState) (start bytes first count limit : ℕ) (new : PageRan
 -- ---- an Mbind
 
 module _ (old : SpaceState) (start bytes : ℕ) (spec : Specification)
-    (room : old.version < old.bounds.max_commands) (span : bad_span start bytes ≡ None)
+    (room : old.version < old.bounds.max_commands)
+    (span : bad_policy_span old.machine.rules start bytes ≡ None)
     (some : (bytes == 0) ≡ false) (node : has_no_node old.allowed spec ≡ false) where
   abbrev pub bound : ℕ → ℕ → Option PolicyRecord → PageMap
   bound first count policy = changed_span first count (λ r. policy) (page_at old.ranges)
@@ -212,7 +216,8 @@ module _ (old : SpaceState) (start bytes : ℕ) (spec : Specification)
       placed
 
 module _ (old : SpaceState) (start bytes : ℕ) (spec : Specification)
-    (room : old.version < old.bounds.max_commands) (span : bad_span start bytes ≡ None)
+    (room : old.version < old.bounds.max_commands)
+    (span : bad_policy_span old.machine.rules start bytes ≡ None)
     (some : (bytes == 0) ≡ false) (node : has_no_node old.allowed spec ≡ true) where
   -- a policy without a node is refused, by the documents behind a hole
   pub bind-refused : (first count : ℕ) (refusal : Refusal) → first ≡ page_of start

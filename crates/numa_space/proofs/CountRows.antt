@@ -19,7 +19,8 @@ use Rattle.numa_space.specs.History.{page_of, page_count}
 use Rattle.numa_space.specs.Policies.{allowed_nodes}
 use Rattle.numa_space.specs.Pages.{page_in}
 use Rattle.numa_space.specs.Same.{same_record}
-use Rattle.numa_space.specs.Refusals.{bad_map_span, when, refusal_of, range_count_of}
+use Rattle.numa_space.specs.Refusals.{bad_map_span, bad_policy_span, bad_unmap_span, when}
+use Rattle.numa_space.specs.Refusals.{refusal_of, range_count_of}
 use Rattle.numa_space.specs.Steps.{record_now, policy_with_home}
 use Rattle.numa_requests.specs.declared.command.Command.{Command}
 use Rattle.numa_requests.specs.declared.command.Command.TheVariants.{Map, Unmap, Mbind, SetTask}
@@ -220,7 +221,7 @@ bind-in_the_middle = counted (flat 2) (Mbind 0x11000 0x1000 bind_one ∷ three_p
 
 bind-splits_too_far : refusal_of (flat 2) narrow three_pages (Mbind 0x11000 0x1000 bind_one)
     ≡ Some TooManyRanges
-unfolding members any_page narrow three_pages bind_one
+unfolding members any_page bad_policy_span narrow three_pages bind_one
 bind-splits_too_far =
     refused-by_count (range_count_of (flat 2) (Mbind 0x11000 0x1000 bind_one ∷ three_pages)) 2 3
     bind-in_the_middle refl
@@ -235,7 +236,7 @@ unmap-in_the_middle = counted (flat 1) (Unmap 0x11000 0x1000 ∷ three_pages) _
 
 unmap-splits_too_far : refusal_of (flat 1) single three_pages (Unmap 0x11000 0x1000)
     ≡ Some TooManyRanges
-unfolding members any_page single three_pages
+unfolding members any_page bad_unmap_span single three_pages
 unmap-splits_too_far =
     refused-by_count (range_count_of (flat 1) (Unmap 0x11000 0x1000 ∷ three_pages)) 1 2
     unmap-in_the_middle refl

@@ -21,8 +21,8 @@ use Rattle.numa_ranges.specs.Runs.{page_at, in_pages}
 use Rattle.numa_ranges.specs.Maps.{changed_page}
 use Rattle.numa_space.specs.History.{page_of, page_count}
 use Rattle.numa_space.specs.Policies.{mems_of}
-use Rattle.numa_space.specs.Refusals.{Scene, PageMap, when, bad_span, has_no_node, lacks_mems}
-use Rattle.numa_space.specs.Refusals.{cause_in, refusal_in}
+use Rattle.numa_space.specs.Refusals.{Scene, PageMap, when, bad_policy_span, has_no_node}
+use Rattle.numa_space.specs.Refusals.{cause_in, lacks_mems, mems_cause, refusal_in}
 use Rattle.numa_space.specs.Standing.{SpaceState, record_of, IsInForce, IsSound}
 use Rattle.numa_space.specs.Steps.{record_now, policy_with_home, policy_after, allowed_next}
 use Rattle.numa_space.specs.Steps.{pages_next, task_next, task_count_next, IsNext, scene_in}
@@ -188,17 +188,17 @@ mems-some scene mask memory none =
     let rest =
     first_of-none (when (list_any (λ node. leb scene.machine.nodes node) (members mask))
     NoSuchNode) (when (lacks_mems scene.machine.rules mask scene.machine.memory)
-    NodesNotAllowed) causes.1 in
+    (mems_cause scene.machine.rules)) causes.1 in
     allows-some scene.machine.rules mask scene.machine.memory memory
-    (when-none (lacks_mems scene.machine.rules mask scene.machine.memory) NodesNotAllowed
-    rest.1)
+    (when-none (lacks_mems scene.machine.rules mask scene.machine.memory)
+    (mems_cause scene.machine.rules) rest.1)
 
 home-node : (scene : Scene) (start bytes node : ℕ) → refusal_in scene (SetHome start bytes node)
     ≡ None → node < scene.machine.nodes
 home-node scene start bytes node none =
     let causes = first_of-none (when (leb scene.bounds.max_commands scene.version) CommandsSpent)
     (cause_in scene (SetHome start bytes node)) none in
-    let behind = first_of-none (bad_span start bytes) _ causes.1 in
+    let behind = first_of-none (bad_policy_span scene.machine.rules start bytes) _ causes.1 in
     let rest = first_of-none (when (leb scene.machine.nodes node) NoSuchNode) _ behind.1 in
     leb-false scene.machine.nodes node (when-none (leb scene.machine.nodes node) NoSuchNode rest.0)
 

@@ -1,4 +1,5 @@
 pub mod Editing
+pub mod Ends
 pub mod Moving
 pub mod SameTest
 pub mod Homes

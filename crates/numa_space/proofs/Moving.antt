@@ -28,7 +28,9 @@ use Rattle.numa_requests.specs.declared.refusal.Refusal.TheVariants.{CommandsSpe
 use Rattle.numa_requests.specs.declared.refusal.Refusal.TheVariants.{BadOffset, Overlap}
 use Rattle.numa_space.specs.History.{page_of, page_count}
 use Rattle.numa_space.specs.Refusals.{PageMap, cause_in, first_of, too_many_ranges, when}
-use Rattle.numa_space.specs.Refusals.{bad_map_span}
+use Rattle.numa_space.specs.Refusals.{bad_map_span, bad_span}
+use Rattle.numa_machine.specs.declared.rules.Rules.{Rules}
+use Rattle.numa_machine.specs.declared.rules.Rules.TheVariants.{Document, Linux}
 use Rattle.numa_space.specs.Same.{same_record}
 use Rattle.numa_space.specs.Spans.{span_first, span_pages, span_end, StaysInSpan, EditsSpan}
 use Rattle.numa_space.specs.Spans.{span_edit}
@@ -283,6 +285,15 @@ module _ (old new : SpaceState) (start bytes node : ℕ)
 
 -- ---- Map
 
+-- a map that isn't refused has a byte
+map-length : (rules : Rules) (start bytes : ℕ) → bad_map_span rules start bytes ≡ None
+    → (bytes == 0) ≡ false
+unfolding bad_map_span
+map-length Document start bytes none = when-none (bytes == 0) EmptyLength
+    (first_of-none (bad_span start bytes) (when (bytes == 0) EmptyLength) none).1
+map-length Linux start bytes none = when-none (bytes == 0) EmptyLength
+    (first_of-none (when (bytes == 0) EmptyLength) _ none).0
+
 module _ (old new : SpaceState) (start bytes offset : ℕ)
     (step : IsStep old (Map start bytes offset) new) where
   -- the command has a page, and none of its span was mapped
@@ -298,13 +309,11 @@ module _ (old new : SpaceState) (start bytes offset : ℕ)
       (page_count bytes)) Overlap in
       let offsets = first_of (when (nat_le (2 ^ 35) offset) BadOffset)
       (first_of overlap (too_many_ranges scene)) in
-      let span = first_of-none (bad_map_span old.machine.rules start bytes)
-      (first_of (when (bytes == 0) EmptyLength) offsets) room.1 in
-      let some = first_of-none (when (bytes == 0) EmptyLength) offsets span.1 in
+      let span = first_of-none (bad_map_span old.machine.rules start bytes) offsets room.1 in
       let index = first_of-none (when (nat_le (2 ^ 35) offset) BadOffset)
-      (first_of overlap (too_many_ranges scene)) some.1 in
+      (first_of overlap (too_many_ranges scene)) span.1 in
       let free = first_of-none overlap (too_many_ranges scene) index.1 in (
-        when-none (bytes == 0) EmptyLength some.0,
+        map-length old.machine.rules start bytes span.0,
         when-none (any_page (λ page. is_some (page_at old.ranges page)) (page_of start)
             (page_count bytes)) Overlap free.0,
       )

@@ -15,18 +15,21 @@ use Rattle.numa_space.specs.Policies.{mems_of}
 use Rattle.numa_space.specs.Refusals.{lacks_mems}
 use Rattle.numa_space.specs.Limited.{Bounds}
 use Rattle.numa_space.specs.Lists.{node_list}
-use Rattle.numa_space.specs.Refusals.{bad_map_span, lacks_policy, refusal_of, too_many_ranges}
+use Rattle.numa_space.specs.Refusals.{bad_map_span, bad_policy_span, bad_unmap_span, lacks_policy}
+use Rattle.numa_space.specs.Refusals.{refusal_of, too_many_ranges}
 use Rattle.numa_space.specs.Refusals.{scene_of}
 use Rattle.numa_space.specs.Standing.{place_refusal_of}
 use Rattle.numa_requests.specs.declared.command.Command.{Command}
 use Rattle.numa_requests.specs.declared.command.Command.TheVariants.{Map, Unmap, Mbind, SetTask}
 use Rattle.numa_requests.specs.declared.command.Command.TheVariants.{SetHome, SetWeight}
+use Rattle.numa_requests.specs.declared.command.Command.TheVariants.{SetMems}
 use Rattle.numa_requests.specs.declared.refusal.Refusal.TheVariants.{CommandsSpent, Unaligned}
 use Rattle.numa_requests.specs.declared.refusal.Refusal.TheVariants.{OutOfSpace, EmptyLength}
 use Rattle.numa_requests.specs.declared.refusal.Refusal.TheVariants.{BadOffset, Overlap, Hole}
 use Rattle.numa_requests.specs.declared.refusal.Refusal.TheVariants.{NoSuchNode, BadWeight}
 use Rattle.numa_requests.specs.declared.refusal.Refusal.TheVariants.{NodesNotAllowed, NotSupported}
 use Rattle.numa_requests.specs.declared.refusal.Refusal.TheVariants.{NoPolicy, TooManyTasks}
+use Rattle.numa_requests.specs.declared.refusal.Refusal.TheVariants.{BadSpan, NoNodes}
 use Rattle.numa_machine.specs.declared.refusal.PlaceRefusal.TheVariants.{BadCpu, Unmapped}
 use Rattle.numa_space.proofs.Rows.{flat, in_a_row, asked, mems}
 
@@ -40,12 +43,14 @@ two_maps = Map 0x12000 0x1000 2 ∷ Map 0x10000 0x1000 0 ∷ []
 
 bind-over_a_hole : refusal_of (flat 2) wide two_maps
     (Mbind 0x10000 0x3000 (asked Bind Plain (1 ∷ []))) ≡ Some Hole
-unfolding any_page bad_map_span lacks_policy two_maps wide mems_of lacks_mems
+unfolding any_page bad_policy_span bad_unmap_span bad_map_span lacks_policy two_maps wide mems_of
+    lacks_mems
 bind-over_a_hole = refl
 
 default-over_a_hole : refusal_of (flat 2) wide two_maps
     (Mbind 0x10000 0x3000 (asked Default Plain [])) ≡ Some Hole
-unfolding any_page bad_map_span lacks_policy two_maps wide mems_of lacks_mems
+unfolding any_page bad_policy_span bad_unmap_span bad_map_span lacks_policy two_maps wide mems_of
+    lacks_mems
 default-over_a_hole = refl
 
 mapped-has_a_list : node_list (flat 2) two_maps 1 0x10 0 ≡ 0 ∷ 1 ∷ []
@@ -68,50 +73,57 @@ last_page = Map 0x7ffffffff000 0x1000 0 ∷ []
 -- up to address 2^47 only the number of ranges can stand against a map
 map-up_to_the_end : refusal_of (flat 2) wide [] (Map 0x7ffffffff000 0x1000 0) ≡ too_many_ranges
     (scene_of (flat 2) wide [] (Map 0x7ffffffff000 0x1000 0))
-unfolding any_page bad_map_span lacks_policy wide mems_of lacks_mems
+unfolding any_page bad_policy_span bad_unmap_span bad_map_span lacks_policy wide mems_of lacks_mems
 map-up_to_the_end = refl
 
 map-past_the_end : refusal_of (flat 2) wide last_page (Map 0x7ffffffff000 0x1001 0)
     ≡ Some OutOfSpace
-unfolding any_page bad_map_span lacks_policy last_page wide mems_of lacks_mems
+unfolding any_page bad_policy_span bad_unmap_span bad_map_span lacks_policy last_page wide mems_of
+    lacks_mems
 map-past_the_end = refl
 
 -- a sum above every u64 is no small number
 map-far_past_the_end : refusal_of (flat 2) wide [] (Map 0xfffffffffffff000 0x2000 0)
     ≡ Some OutOfSpace
-unfolding any_page bad_map_span lacks_policy wide mems_of lacks_mems
+unfolding any_page bad_policy_span bad_unmap_span bad_map_span lacks_policy wide mems_of lacks_mems
 map-far_past_the_end = refl
 
 map-of_the_greatest_length : refusal_of (flat 2) wide [] (Map 0x10000 0xffffffffffffffff 0)
     ≡ Some OutOfSpace
-unfolding any_page bad_map_span lacks_policy wide mems_of lacks_mems
+unfolding any_page bad_policy_span bad_unmap_span bad_map_span lacks_policy wide mems_of lacks_mems
 map-of_the_greatest_length = refl
 
 map-of_nothing : refusal_of (flat 2) wide last_page (Map 0x10000 0 0) ≡ Some EmptyLength
-unfolding any_page bad_map_span lacks_policy last_page wide mems_of lacks_mems
+unfolding any_page bad_policy_span bad_unmap_span bad_map_span lacks_policy last_page wide mems_of
+    lacks_mems
 map-of_nothing = refl
 
 bind-of_nothing : refusal_of (flat 2) wide last_page (Mbind 0x20000 0 (asked Bind Plain (1 ∷ [])))
     ≡ None
-unfolding any_page bad_map_span lacks_policy last_page wide mems_of lacks_mems
+unfolding any_page bad_policy_span bad_unmap_span bad_map_span lacks_policy last_page wide mems_of
+    lacks_mems
 bind-of_nothing = refl
 
 unmap-of_nothing : refusal_of (flat 2) wide last_page (Unmap 0x20000 0) ≡ None
-unfolding any_page bad_map_span lacks_policy last_page wide mems_of lacks_mems
+unfolding any_page bad_policy_span bad_unmap_span bad_map_span lacks_policy last_page wide mems_of
+    lacks_mems
 unmap-of_nothing = refl
 
 map-between_pages : refusal_of (flat 2) wide last_page (Map 0x10001 1 0) ≡ Some Unaligned
-unfolding any_page bad_map_span lacks_policy last_page wide mems_of lacks_mems
+unfolding any_page bad_policy_span bad_unmap_span bad_map_span lacks_policy last_page wide mems_of
+    lacks_mems
 map-between_pages = refl
 
 map-offset_too_large : refusal_of (flat 2) wide last_page (Map 0x30000 1 34359738368)
     ≡ Some BadOffset
-unfolding any_page bad_map_span lacks_policy last_page wide mems_of lacks_mems
+unfolding any_page bad_policy_span bad_unmap_span bad_map_span lacks_policy last_page wide mems_of
+    lacks_mems
 map-offset_too_large = refl
 
 map-over_a_map : refusal_of (flat 2) wide (Map 0x10000 1 0 ∷ last_page) (Map 0x10000 0x2000 5)
     ≡ Some Overlap
-unfolding any_page bad_map_span lacks_policy last_page wide mems_of lacks_mems
+unfolding any_page bad_policy_span bad_unmap_span bad_map_span lacks_policy last_page wide mems_of
+    lacks_mems
 map-over_a_map = refl
 
 part_of_a_page-is_mapped : node_list (flat 2) (Map 0x10000 1 0 ∷ last_page) 1 0x10 0 ≡ 0 ∷ 1 ∷ []
@@ -205,30 +217,36 @@ bound_run = Mbind 0x12000 0x1000 (asked Interleave Plain (0 ∷ 1 ∷ 2 ∷ []))
 
 home-over_interleave : refusal_of in_a_row wide bound_run (SetHome 0x10000 0x3000 2)
     ≡ Some NotSupported
-unfolding any_page bad_map_span lacks_policy bound_run wide mems_of lacks_mems
+unfolding any_page bad_policy_span bad_unmap_span bad_map_span lacks_policy bound_run wide mems_of
+    lacks_mems
 home-over_interleave = refl
 
 home-no_such_node : refusal_of in_a_row wide bound_run (SetHome 0x10000 0x1000 3) ≡ Some NoSuchNode
-unfolding any_page bad_map_span lacks_policy bound_run wide mems_of lacks_mems
+unfolding any_page bad_policy_span bad_unmap_span bad_map_span lacks_policy bound_run wide mems_of
+    lacks_mems
 home-no_such_node = refl
 
 home-of_bound_pages : refusal_of in_a_row wide bound_run (SetHome 0x11000 0x1000 2)
     ≡ too_many_ranges (scene_of in_a_row wide bound_run (SetHome 0x11000 0x1000 2))
-unfolding any_page bad_map_span lacks_policy bound_run wide mems_of lacks_mems
+unfolding any_page bad_policy_span bad_unmap_span bad_map_span lacks_policy bound_run wide mems_of
+    lacks_mems
 home-of_bound_pages = refl
 
 home-over_unmapped_pages : refusal_of in_a_row wide bound_run (SetHome 0x13000 0x2000 2)
     ≡ too_many_ranges (scene_of in_a_row wide bound_run (SetHome 0x13000 0x2000 2))
-unfolding any_page bad_map_span lacks_policy bound_run wide mems_of lacks_mems
+unfolding any_page bad_policy_span bad_unmap_span bad_map_span lacks_policy bound_run wide mems_of
+    lacks_mems
 home-over_unmapped_pages = refl
 
 home-of_nothing : refusal_of in_a_row wide bound_run (SetHome 0x20000 0 2) ≡ None
-unfolding any_page bad_map_span lacks_policy bound_run wide mems_of lacks_mems
+unfolding any_page bad_policy_span bad_unmap_span bad_map_span lacks_policy bound_run wide mems_of
+    lacks_mems
 home-of_nothing = refl
 
 home-of_nothing_at_no_such_node : refusal_of in_a_row wide bound_run (SetHome 0x20000 0 3)
     ≡ Some NoSuchNode
-unfolding any_page bad_map_span lacks_policy bound_run wide mems_of lacks_mems
+unfolding any_page bad_policy_span bad_unmap_span bad_map_span lacks_policy bound_run wide mems_of
+    lacks_mems
 home-of_nothing_at_no_such_node = refl
 
 -- ---- specifications
@@ -272,12 +290,12 @@ linux = record (flat 2) { rules = Linux }
 linux-default_passes_over_a_hole : refusal_of linux wide two_maps
     (Mbind 0x10000 0x3000 (asked Default Plain [])) ≡ too_many_ranges
     (scene_of linux wide two_maps (Mbind 0x10000 0x3000 (asked Default Plain [])))
-unfolding any_page two_maps wide linux mems_of lacks_mems
+unfolding any_page bad_policy_span bad_unmap_span two_maps wide linux mems_of lacks_mems
 linux-default_passes_over_a_hole = refl
 
 linux-default_where_nothing_is_mapped : refusal_of linux wide two_maps
     (Mbind 0x11000 0x1000 (asked Default Plain [])) ≡ Some Hole
-unfolding any_page two_maps wide linux mems_of lacks_mems
+unfolding any_page bad_policy_span bad_unmap_span two_maps wide linux mems_of lacks_mems
 linux-default_where_nothing_is_mapped = refl
 
 linux-hole_stays_one : place_refusal_of linux (Mbind 0x10000 0x3000 (asked Default Plain [])
@@ -287,16 +305,16 @@ linux-hole_stays_one = refl
 
 linux-nodes_before_holes : refusal_of linux wide two_maps
     (Mbind 0x10000 0x3000 (asked Bind Plain (7 ∷ []))) ≡ Some NodesNotAllowed
-unfolding members any_page two_maps wide linux mems_of lacks_mems
+unfolding members any_page bad_policy_span bad_unmap_span two_maps wide linux mems_of lacks_mems
 linux-nodes_before_holes = refl
 
 linux-map_of_the_last_page : refusal_of linux wide [] (Map 0x7ffffffff000 0x1000 0)
     ≡ Some OutOfSpace
-unfolding any_page bad_map_span wide linux mems_of lacks_mems
+unfolding any_page bad_policy_span bad_unmap_span bad_map_span wide linux mems_of lacks_mems
 linux-map_of_the_last_page = refl
 
 linux-unmap_of_nothing : refusal_of linux wide last_page (Unmap 0x20000 0) ≡ Some EmptyLength
-unfolding any_page last_page wide linux mems_of lacks_mems
+unfolding any_page bad_policy_span bad_unmap_span last_page wide linux mems_of lacks_mems
 linux-unmap_of_nothing = refl
 
 linux-weight_zero : refusal_of linux wide one_page (SetWeight 1 0) ≡ None
@@ -305,5 +323,71 @@ linux-weight_zero = refl
 
 linux-home_without_policy : refusal_of linux wide one_page (SetHome 0x10000 0x1000 1)
     ≡ Some NoPolicy
-unfolding any_page lacks_policy one_page wide linux mems_of lacks_mems
+unfolding any_page bad_policy_span bad_unmap_span lacks_policy one_page wide linux mems_of
+    lacks_mems
 linux-home_without_policy = refl
+
+-- ---- at the end of the addresses
+
+linux-map_of_nothing_there : refusal_of linux wide [] (Map 0x7ffffffff000 0 0) ≡ Some EmptyLength
+unfolding any_page bad_map_span wide linux mems_of lacks_mems
+linux-map_of_nothing_there = refl
+
+-- the end before the start, which is no page's
+linux-map_between_pages_there : refusal_of linux wide [] (Map 0x7fffffffe001 1 0) ≡ Some OutOfSpace
+unfolding any_page bad_map_span wide linux mems_of lacks_mems
+linux-map_between_pages_there = refl
+
+linux-unmap_of_the_last_page : refusal_of linux wide [] (Unmap 0x7ffffffff000 0x1000)
+    ≡ Some BadSpan
+unfolding any_page bad_unmap_span wide linux mems_of lacks_mems
+linux-unmap_of_the_last_page = refl
+
+linux-unmap_past_the_end : refusal_of linux wide [] (Unmap 0x800000000000 0x1000) ≡ Some BadSpan
+unfolding any_page bad_unmap_span wide linux mems_of lacks_mems
+linux-unmap_past_the_end = refl
+
+unmap-past_the_end : refusal_of (flat 2) wide [] (Unmap 0x800000000000 0x1000) ≡ Some OutOfSpace
+unfolding any_page bad_unmap_span wide mems_of lacks_mems
+unmap-past_the_end = refl
+
+linux-bind_past_the_end : refusal_of linux wide two_maps
+    (Mbind 0x800000000000 0x1000 (asked Bind Plain (1 ∷ []))) ≡ Some Hole
+unfolding any_page bad_policy_span two_maps wide linux mems_of lacks_mems
+linux-bind_past_the_end = refl
+
+linux-bind_of_nothing_past_the_end : refusal_of linux wide two_maps
+    (Mbind 0x800000001000 0 (asked Bind Plain (1 ∷ []))) ≡ None
+unfolding any_page bad_policy_span two_maps wide linux mems_of lacks_mems
+linux-bind_of_nothing_past_the_end = refl
+
+-- a sum above every u64
+linux-bind_past_all : refusal_of linux wide two_maps
+    (Mbind 0xfffffffffffff000 0x1000 (asked Bind Plain (1 ∷ []))) ≡ Some BadSpan
+unfolding any_page bad_policy_span two_maps wide linux mems_of lacks_mems
+linux-bind_past_all = refl
+
+bind-past_the_end : refusal_of (flat 2) wide two_maps
+    (Mbind 0x800000001000 0 (asked Bind Plain (1 ∷ []))) ≡ Some OutOfSpace
+unfolding any_page bad_policy_span two_maps wide mems_of lacks_mems
+bind-past_the_end = refl
+
+linux-home_past_the_end : refusal_of linux wide one_page (SetHome 0x800000000000 0x1000 1)
+    ≡ Some NoPolicy
+unfolding any_page bad_policy_span lacks_policy one_page wide linux mems_of lacks_mems
+linux-home_past_the_end = refl
+
+linux-home_of_nothing_past_the_end : refusal_of linux wide one_page (SetHome 0x800000000000 0 1)
+    ≡ None
+unfolding any_page bad_policy_span lacks_policy one_page wide linux mems_of lacks_mems
+linux-home_of_nothing_past_the_end = refl
+
+-- ---- no nodes
+
+linux-mems_of_nothing : refusal_of linux wide one_page (SetMems 0) ≡ Some NoNodes
+unfolding members one_page wide linux mems_of lacks_mems
+linux-mems_of_nothing = refl
+
+mems-of_nothing : refusal_of (flat 2) wide one_page (SetMems 0) ≡ Some NodesNotAllowed
+unfolding members one_page wide mems_of lacks_mems
+mems-of_nothing = refl

@@ -11,6 +11,7 @@ use Rattle.numa_space.specs.Limited.{Bounds}
 use Rattle.numa_space.specs.Policies.{allowed_nodes, task_record}
 use Rattle.numa_space.specs.Pages.{is_mapped, index_of, range_record, page_in}
 use Rattle.numa_space.specs.Refusals.{Scene, first_of, when, bad_span, bad_map_span, bind_cause}
+use Rattle.numa_space.specs.Refusals.{bad_policy_span, bad_unmap_span, mems_cause}
 use Rattle.numa_space.specs.Refusals.{too_many_ranges, cause_in, refusal_in, scene_of, refusal_of}
 use Rattle.numa_space.specs.Standing.{SpaceState, StandsFor, record_of}
 use Rattle.numa_space.specs.Steps.{pages_next, scene_in}
@@ -21,6 +22,7 @@ use Rattle.numa_requests.specs.declared.command.Command.TheVariants.{SetMems}
 use Rattle.numa_requests.specs.declared.refusal.Refusal.{Refusal}
 use Rattle.numa_requests.specs.declared.refusal.Refusal.TheVariants.{CommandsSpent, Unaligned}
 use Rattle.numa_requests.specs.declared.refusal.Refusal.TheVariants.{OutOfSpace, EmptyLength}
+use Rattle.numa_requests.specs.declared.refusal.Refusal.TheVariants.{BadSpan}
 use Rattle.numa_requests.specs.declared.refusal.Refusal.TheVariants.{BadOffset, Overlap, Hole}
 use Rattle.numa_requests.specs.declared.refusal.Refusal.TheVariants.{NoSuchNode, BadWeight}
 use Rattle.numa_requests.specs.declared.refusal.Refusal.TheVariants.{NodesNotAllowed, NotSupported}
@@ -134,8 +136,33 @@ bad_span-not_memory start bytes = first_of-not_memory _ _ (when-not_memory _ Una
 bad_map_span-not_memory : (rules : Rules) (start bytes : ℕ) → bad_map_span rules start bytes
     ≡ Some NoMemory → ⊥
 unfolding bad_map_span
-bad_map_span-not_memory rules start bytes = first_of-not_memory (bad_span start bytes) _
-    (bad_span-not_memory start bytes) (when-not_memory _ OutOfSpace (λ e. cc))
+bad_map_span-not_memory Document start bytes = first_of-not_memory (bad_span start bytes) _
+    (bad_span-not_memory start bytes) (when-not_memory _ EmptyLength (λ e. cc))
+bad_map_span-not_memory Linux start bytes =
+    first_of-not_memory _ _ (when-not_memory _ EmptyLength (λ e. cc))
+    (first_of-not_memory _ _ (when-not_memory _ OutOfSpace (λ e. cc))
+    (when-not_memory _ Unaligned (λ e. cc)))
+
+pub bad_unmap_span-not_memory : (rules : Rules) (start bytes : ℕ) → bad_unmap_span rules start bytes
+    ≡ Some NoMemory → ⊥
+unfolding bad_unmap_span
+bad_unmap_span-not_memory Document start bytes = bad_span-not_memory start bytes
+bad_unmap_span-not_memory Linux start bytes =
+    first_of-not_memory _ _ (when-not_memory _ Unaligned (λ e. cc))
+    (first_of-not_memory _ _ (when-not_memory _ BadSpan (λ e. cc))
+    (when-not_memory _ EmptyLength (λ e. cc)))
+
+pub bad_policy_span-not_memory : (rules : Rules) (start bytes : ℕ)
+    → bad_policy_span rules start bytes ≡ Some NoMemory → ⊥
+unfolding bad_policy_span
+bad_policy_span-not_memory Document start bytes = bad_span-not_memory start bytes
+bad_policy_span-not_memory Linux start bytes =
+    first_of-not_memory _ _ (when-not_memory _ Unaligned (λ e. cc))
+    (when-not_memory _ BadSpan (λ e. cc))
+
+mems-not_memory : (rules : Rules) → mems_cause rules ≡ NoMemory → ⊥
+mems-not_memory Document e = cc
+mems-not_memory Linux e = cc
 
 too_many-not_memory : (scene : Scene) → too_many_ranges scene ≡ Some NoMemory → ⊥
 too_many-not_memory scene = when-not_memory _ TooManyRanges (λ e. cc)
@@ -152,15 +179,15 @@ cause-not_memory : (scene : Scene) (command : Command) → cause_in scene comman
 cause-not_memory scene (Map start bytes offset) =
     first_of-not_memory (bad_map_span scene.machine.rules start bytes) _
     (bad_map_span-not_memory scene.machine.rules start bytes)
-    (first_of-not_memory _ _ (when-not_memory _ EmptyLength (λ e. cc))
     (first_of-not_memory _ _ (when-not_memory _ BadOffset (λ e. cc))
-    (first_of-not_memory _ _ (when-not_memory _ Overlap (λ e. cc))
-    (too_many-not_memory scene))))
-cause-not_memory scene (Unmap start bytes) = first_of-not_memory (bad_span start bytes) _
-    (bad_span-not_memory start bytes)
-    (choice-not_memory _ _ _ (when-not_memory _ EmptyLength (λ e. cc)) (too_many-not_memory scene))
+    (first_of-not_memory _ _ (when-not_memory _ Overlap (λ e. cc)) (too_many-not_memory scene)))
+cause-not_memory scene (Unmap start bytes) =
+    first_of-not_memory (bad_unmap_span scene.machine.rules start bytes) _
+    (bad_unmap_span-not_memory scene.machine.rules start bytes)
+    (choice-not_memory _ None _ (λ e. cc) (too_many-not_memory scene))
 cause-not_memory scene (Mbind start bytes spec) =
-    first_of-not_memory (bad_span start bytes) _ (bad_span-not_memory start bytes)
+    first_of-not_memory (bad_policy_span scene.machine.rules start bytes) _
+    (bad_policy_span-not_memory scene.machine.rules start bytes)
     (choice-not_memory _ None _ (λ e. cc)
     (bind_cause-not_memory scene.machine.rules _ _ _
     (when-not_memory _ NodesNotAllowed (λ e. cc)) (when-not_memory _ Hole (λ e. cc))
@@ -170,7 +197,8 @@ cause-not_memory scene (SetTask task spec) =
     (when-not_memory _ TooManyTasks (λ e. cc))
 cause-not_memory scene (Inherit heir from) = when-not_memory _ TooManyTasks (λ e. cc)
 cause-not_memory scene (SetHome start bytes node) =
-    first_of-not_memory (bad_span start bytes) _ (bad_span-not_memory start bytes)
+    first_of-not_memory (bad_policy_span scene.machine.rules start bytes) _
+    (bad_policy_span-not_memory scene.machine.rules start bytes)
     (first_of-not_memory _ _ (when-not_memory _ NoSuchNode (λ e. cc))
     (choice-not_memory _ None _ (λ e. cc)
     (first_of-not_memory _ _ (when-not_memory _ NotSupported (λ e. cc))
@@ -181,7 +209,7 @@ cause-not_memory scene (SetWeight node weight) =
     (when-not_memory _ BadWeight (λ e. cc))
 cause-not_memory scene (SetMems mask) =
     first_of-not_memory _ _ (when-not_memory _ NoSuchNode (λ e. cc))
-    (when-not_memory _ NodesNotAllowed (λ e. cc))
+    (when-not_memory _ (mems_cause scene.machine.rules) (mems-not_memory scene.machine.rules))
 
 -- no history refuses a command for want of memory
 pub refusal-not_memory : (scene : Scene) (command : Command)

@@ -1,6 +1,7 @@
 -- What an edit of a space's ranges answers.
-use Rattle.std.specs.Prelude.{◌≡◌, ℕ, ◌-◌, ◌&&◌, Bool, nat_lt, is_some, Option, Some, Result}
-use Rattle.std.specs.Prelude.{Err, List, MatchOption, MatchResult}
+use Rattle.std.specs.Prelude.{◌≡◌, ◌+◌, ◌<◌, ◌≤◌, ◌^◌, ℕ, ◌-◌, ◌&&◌, Bool, nat_lt, is_some, Option}
+use Rattle.std.specs.Prelude.{Some, Result}
+use Rattle.std.specs.Prelude.{Err, List, MatchOption, MatchResult, None}
 use Rattle.numa_mode.specs.Policy.{PolicyRecord}
 use Rattle.numa_ranges.specs.Maps.{any_page}
 use Rattle.numa_ranges.specs.Runs.{page_at}
@@ -11,6 +12,7 @@ use Rattle.numa_ranges.specs.declared.fault.RangeError.TheVariants as fault
 use Rattle.numa_requests.specs.declared.refusal.Refusal.{Refusal}
 use Rattle.numa_requests.specs.declared.refusal.Refusal.TheVariants.{Overlap, Hole, TooManyRanges}
 use Rattle.numa_requests.specs.declared.refusal.Refusal.TheVariants.{NoMemory}
+use Rattle.numa_space.specs.History.{page_of, page_count}
 use Rattle.numa_space.specs.Refusals.{PageMap, when, lacks_pages, has_policy, takes_no_home}
 use Rattle.numa_space.specs.declared.page_ranges.PageTest.{PageTest}
 use Rattle.numa_space.specs.declared.page_ranges.PageTest.TheVariants.{IsMapped, HasPolicy}
@@ -47,6 +49,18 @@ IsEdit cause after old result new =
     (MatchResult result (λ _. (page : ℕ) → page_at new.runs page ≡ after page)
     (λ refusal. (refusal ≡ NoMemory) × (new ≡ old)))
     (λ first. (result ≡ Err first) × (new ≡ old))
+
+-- the first page of a span and how many it has, where no cause stands against it; else the cause
+abbrev pub IsSpanOf : Option Refusal → ℕ → ℕ → Result (ℕ × ℕ) Refusal → Type 0
+IsSpanOf cause start bytes result = MatchResult result
+    (λ span. (cause ≡ None) × (span.0 ≡ page_of start) × (span.1 ≡ page_count bytes))
+    (λ refusal. cause ≡ Some refusal)
+
+-- this many of a span's pages lie below page 2^35: all, unless that end cuts the span
+pub record AreMappable (first pages there : ℕ) : Type 0 where
+  pub at_most : there ≤ pages
+  pub within : 0 < there → first + there ≤ 2 ^ 35
+  pub all : first + there < 2 ^ 35 → there ≡ pages
 
 -- whether a page passes a test
 abbrev pub passes : PageTest → Option (ℕ × Option PolicyRecord) → Bool

@@ -20,7 +20,8 @@ use Rattle.numa_requests.specs.declared.command.Command.TheVariants.{Inherit}
 use Rattle.numa_requests.specs.declared.command.Command.TheVariants.{SetHome, SetWeight, SetMems}
 use Rattle.numa_requests.specs.declared.refusal.Refusal.{Refusal}
 use Rattle.numa_requests.specs.declared.refusal.Refusal.TheVariants.{CommandsSpent, Unaligned}
-use Rattle.numa_requests.specs.declared.refusal.Refusal.TheVariants.{OutOfSpace, EmptyLength}
+use Rattle.numa_requests.specs.declared.refusal.Refusal.TheVariants.{OutOfSpace, BadSpan}
+use Rattle.numa_requests.specs.declared.refusal.Refusal.TheVariants.{EmptyLength, NoNodes}
 use Rattle.numa_requests.specs.declared.refusal.Refusal.TheVariants.{BadOffset, Overlap, Hole}
 use Rattle.numa_requests.specs.declared.refusal.Refusal.TheVariants.{NoSuchNode, BadWeight}
 use Rattle.numa_requests.specs.declared.refusal.Refusal.TheVariants.{NodesNotAllowed, NotSupported}
@@ -58,10 +59,18 @@ when false cause = None
 
 -- ---- causes that several commands share
 
+-- a start that is no page's
+abbrev pub unaligned : ℕ → Option Refusal
+unaligned start = when (not (start % 4096 == 0)) Unaligned
+
+-- whether a span ends above an address
+abbrev pub ends_above : ℕ → ℕ → ℕ → Bool
+ends_above address start bytes = nat_lt address (start + page_count bytes * 4096)
+
 -- a span begins at a page, and ends at address 2^47 at the latest
 abbrev pub bad_span : ℕ → ℕ → Option Refusal
-bad_span start bytes = first_of (when (not (start % 4096 == 0)) Unaligned)
-    (when (nat_lt (2 ^ 47) (start + page_count bytes * 4096)) OutOfSpace)
+bad_span start bytes = first_of (unaligned start)
+    (when (ends_above (2 ^ 47) start bytes) OutOfSpace)
 
 -- a policy other than DEFAULT and LOCAL that has no node when it is set
 abbrev pub has_no_node : ℕ → Specification → Bool
@@ -80,10 +89,26 @@ takes_no_home (Some (index, Some r)) = not (takes_home r)
 
 -- ---- where the kernel judges otherwise than the documents
 
--- the kernel maps nothing in the last page below address 2^47
+-- map: the kernel judges the start last, and keeps the last page below address 2^47 free
 unfoldable pub bad_map_span : Rules → ℕ → ℕ → Option Refusal
-bad_map_span rules start bytes = first_of (bad_span start bytes)
-    (when (is_linux rules && nat_lt (2 ^ 35 - 1) (page_of start + page_count bytes)) OutOfSpace)
+bad_map_span Document start bytes =
+    first_of (bad_span start bytes) (when (bytes == 0) EmptyLength)
+bad_map_span Linux start bytes = first_of (when (bytes == 0) EmptyLength)
+    (first_of (when (ends_above (2 ^ 47 - 4096) start bytes) OutOfSpace) (unaligned start))
+
+-- unmap: the kernel leaves that page alone, and wants a byte
+unfoldable pub bad_unmap_span : Rules → ℕ → ℕ → Option Refusal
+bad_unmap_span Document start bytes = bad_span start bytes
+bad_unmap_span Linux start bytes = first_of (unaligned start)
+    (first_of (when (ends_above (2 ^ 47 - 4096) start bytes) BadSpan)
+    (when (bytes == 0) EmptyLength))
+
+-- mbind and home: the kernel takes every span below address 2^64, though none of its pages from
+-- that page on is mapped
+unfoldable pub bad_policy_span : Rules → ℕ → ℕ → Option Refusal
+bad_policy_span Document start bytes = bad_span start bytes
+bad_policy_span Linux start bytes =
+    first_of (unaligned start) (when (ends_above (2 ^ 64 - 1) start bytes) BadSpan)
 
 -- the kernel passes over holes where an Mbind of DEFAULT takes policies away
 abbrev pub passes_holes : Rules → Specification → Bool
@@ -119,22 +144,25 @@ unfoldable pub lacks_mems : Rules → ℕ → ℕ → Bool
 lacks_mems Document mask memory = both mask memory == 0
 lacks_mems Linux mask memory = mask == 0
 
+-- such a mask's cause
+abbrev pub mems_cause : Rules → Refusal
+mems_cause Document = NodesNotAllowed
+mems_cause Linux = NoNodes
+
 -- ---- the causes of each command, in order
 
 abbrev pub cause_in : Scene → Command → Option Refusal
 cause_in scene (Map start bytes offset) =
     first_of (bad_map_span scene.machine.rules start bytes)
-    (first_of (when (bytes == 0) EmptyLength)
     (first_of (when (nat_le (2 ^ 35) offset) BadOffset)
     (first_of (when (any_page (λ page. is_some (scene.pages page)) (page_of start)
     (page_count bytes)) Overlap)
-    (too_many_ranges scene))))
+    (too_many_ranges scene)))
 cause_in scene (Unmap start bytes) =
-    first_of (bad_span start bytes)
-    (if bytes == 0 then when (is_linux scene.machine.rules) EmptyLength
-    else too_many_ranges scene)
+    first_of (bad_unmap_span scene.machine.rules start bytes)
+    (if bytes == 0 then None else too_many_ranges scene)
 cause_in scene (Mbind start bytes spec) =
-    first_of (bad_span start bytes)
+    first_of (bad_policy_span scene.machine.rules start bytes)
     (if bytes == 0 then None
     else bind_cause scene.machine.rules (when (has_no_node scene.allowed spec) NodesNotAllowed)
     (when (lacks_pages (passes_holes scene.machine.rules spec) scene.pages (page_of start)
@@ -148,7 +176,7 @@ cause_in scene (Inherit heir from) =
     when (is_some (scene.task from) && (not (is_some (scene.task heir))
     && nat_le scene.bounds.max_tasks scene.task_count)) TooManyTasks
 cause_in scene (SetHome start bytes node) =
-    first_of (bad_span start bytes)
+    first_of (bad_policy_span scene.machine.rules start bytes)
     (first_of (when (nat_le scene.machine.nodes node) NoSuchNode)
     (if bytes == 0 then None
     else first_of (when (any_page (λ page. takes_no_home (scene.pages page)) (page_of start)
@@ -161,7 +189,8 @@ cause_in scene (SetWeight node weight) =
     (when (is_bad_weight scene.machine.rules weight) BadWeight)
 cause_in scene (SetMems mask) =
     first_of (when (list_any (λ node. nat_le scene.machine.nodes node) (members mask)) NoSuchNode)
-    (when (lacks_mems scene.machine.rules mask scene.machine.memory) NodesNotAllowed)
+    (when (lacks_mems scene.machine.rules mask scene.machine.memory)
+    (mems_cause scene.machine.rules))
 
 -- the first cause, that of the number of commands before all others
 abbrev pub refusal_in : Scene → Command → Option Refusal

@@ -2,7 +2,8 @@
 use numa_mask::NodeMask;
 use numa_mode::Record;
 
-/// The pages of a command's span, at least one: from `first` up to `end`, which is excluded.
+/// The pages of a command's span, at least one: from `first` up to `end`, which is excluded. By the
+/// kernel's rules `end` may be above page 2^35, from which on no page is mapped.
 /// `place` is a guess at the place of their ranges in ascending order, on which only speed depends.
 #[derive(Clone, Copy, Debug)]
 pub struct ChangedPages {

@@ -1,7 +1,7 @@
 //! The pages of a space: a range map, with a space's refusals.
 ghost use Rattle.std.specs.Prelude.{◌≡◌, ◌≢◌, ◌+◌, ◌<◌, ◌≤◌, ◌^◌, ℕ, Some, None, Option, Ok, Err};
 ghost use Rattle.std.specs.Prelude.{IfOk, MatchResult, is_some, not, false, [], length, Contains};
-ghost use Rattle.std.specs.Prelude.{◌↔◌};
+ghost use Rattle.std.specs.Prelude.{◌↔◌, nat_lt};
 ghost use Rattle.std.specs.Prelude.{slice_get};
 ghost use Rattle.numa_mode.specs.Policy.{PolicyRecord};
 ghost use Rattle.numa_ranges.specs.Runs.{AreApart, AreMaximal, page_at};
@@ -11,7 +11,7 @@ ghost use Rattle.numa_ranges.specs.Maps.{any_page, IsSpan};
 ghost use Rattle.numa_ranges.specs.Numbered.{AreRowsOf};
 ghost use Rattle.numa_ranges.specs.Maps.{with_span, without_span, changed_span, changed_page};
 ghost use Rattle.numa_space.specs.Edits.{IsEdit, too_many, overlap_cause, hole_cause, refusal_from};
-ghost use Rattle.numa_space.specs.Edits.{passes, reaches};
+ghost use Rattle.numa_space.specs.Edits.{AreMappable, passes, reaches};
 ghost use Rattle.numa_space.specs.Refusals.{first_of};
 ghost use Rattle.numa_space.specs.Same.{same_record};
 ghost use Rattle.numa_space.specs.Steps.{policy_with_home, policy_after};
@@ -26,6 +26,9 @@ use numa_ranges::{RangeError, RangeIter, RangeMap, Run};
 use numa_requests::Refusal;
 use std::alloc::{AllocError, Global};
 use std::marker::Model;
+
+/// The end of the pages that can be mapped.
+const PAGES_END: u64 = 1 << 35;
 
 /// A test of the pages of a span.
 #[derive(Clone, Copy)]
@@ -107,7 +110,7 @@ impl Pages {
 
     /// The pages of a span that was edited last, with the place of that edit as a guess.
     pub(crate) fn changed(&self, first: u64, pages: u64) -> ChangedPages
-        requires span { IsSpan first pages }
+        requires fits { first + pages < 2 ^ 64 }
         ensures first { result.first ≡ first }
         ensures end { result.end ≡ first + pages }
     {
@@ -158,7 +161,8 @@ impl Pages {
         to: &RangeRecord,
         passes_holes: bool,
     ) -> Result<(), Refusal>
-        requires span { IsSpan first pages }
+        requires some { 0 < pages }
+        requires fits { first + pages < 2 ^ 64 }
         ensures edit { IsEdit (first_of
             (hole_cause passes_holes (page_at self.old.runs) first pages)
             (too_many self.old.limit (changed_span first pages (λ old. to.now)
@@ -177,19 +181,36 @@ impl Pages {
 
     /// Sets the policy of a span's pages, all of which have to be mapped.
     fn bind_whole(&mut self, first: u64, pages: u64, to: &RangeRecord) -> Result<(), Refusal>
-        requires span { IsSpan first pages }
+        requires some { 0 < pages }
+        requires fits { first + pages < 2 ^ 64 }
         ensures edit { IsEdit (first_of (hole_cause false (page_at self.old.runs) first pages)
             (too_many self.old.limit (changed_span first pages (λ old. to.now)
             (page_at self.old.runs)))) (changed_span first pages (λ old. to.now)
             (page_at self.old.runs)) self.old result self.new }
         ensures limit { self.new.limit ≡ self.old.limit }
     {
+        if first + pages > PAGES_END {
+            // Tells the proof that no page is mapped there.
+            let _ = self.map.iter();
+            return Err(Refusal::Hole);
+        }
         answered(self.map.set_span(first, pages, *to))
+    }
+
+    /// How many of a span's pages lie below page 2^35, from which on no page is ever mapped.
+    fn mappable_pages(&self, first: u64, pages: u64) -> u64
+        ensures there { AreMappable first pages result }
+        ensures rising { AreApart 0 self.now.runs }
+        ensures few { nat_lt self.now.limit (range_count same_record (page_at self.now.runs))
+            ≡ false }
+    {
+        let _ = self.map.iter();
+        let _ = self.len();
+        pages.min(PAGES_END.saturating_sub(first))
     }
 
     /// Sets the policy of the mapped pages of a span.
     fn bind_mapped(&mut self, first: u64, pages: u64, to: &RangeRecord) -> Result<(), Refusal>
-        requires span { IsSpan first pages }
         ensures edit { IsEdit (too_many self.old.limit (changed_span first pages (λ old. to.now)
             (page_at self.old.runs))) (changed_span first pages (λ old. to.now)
             (page_at self.old.runs)) self.old result self.new }
@@ -199,6 +220,10 @@ impl Pages {
         let bound = |old: &RangeRecord| -> RangeRecord
             ensures { result ≡ made }
         { made };
+        let pages = self.mappable_pages(first, pages);
+        if pages == 0 {
+            return Ok(());
+        }
         answered(self.map.update_span(first, pages, bound))
     }
 
@@ -213,7 +238,6 @@ impl Pages {
 
     /// Sets the home node of the policies of a span's pages, where they have one.
     pub(crate) fn home_span(&mut self, first: u64, pages: u64, node: u8) -> Result<(), Refusal>
-        requires span { IsSpan first pages }
         ensures edit { IsEdit (too_many self.old.limit
             (changed_span first pages (policy_with_home node) (page_at self.old.runs)))
             (changed_span first pages (policy_with_home node) (page_at self.old.runs)) self.old
@@ -224,6 +248,10 @@ impl Pages {
         let at_home = |value: &RangeRecord| -> RangeRecord
             ensures { result ≡ policy_with_home node value.now }
         { value.homed(node) };
+        let pages = self.mappable_pages(first, pages);
+        if pages == 0 {
+            return Ok(());
+        }
         answered(self.map.update_span(first, pages, at_home))
     }
 
@@ -244,7 +272,8 @@ impl Pages {
 
     /// Whether some page of a span passes a test.
     pub(crate) fn has_page(&self, test: PageTest, first: u64, pages: u64) -> bool
-        requires span { IsSpan first pages }
+        requires some { 0 < pages }
+        requires fits { first + pages < 2 ^ 64 }
         ensures { result ≡ any_page (λ page. passes test (page_at self.now.runs page)) first
             pages }
     {

@@ -34,6 +34,7 @@ use std::marker::Model;
 
 mod changes;
 mod place;
+mod spans;
 
 /// The pages, policies, weights and allowed nodes of one machine, as the accepted commands left
 /// them.

@@ -12,13 +12,11 @@ ghost use Rattle.numa_ranges.specs.Runs.{page_at};
 ghost use Rattle.numa_space.specs.Changed.{IsChange};
 ghost use Rattle.numa_space.specs.declared.change.Change.{Change};
 ghost use Rattle.numa_requests.specs.declared.command.Command.{Command};
-ghost use Rattle.numa_space.specs.History.{page_of, page_count};
-ghost use Rattle.numa_ranges.specs.Maps.{IsSpan};
 ghost use Rattle.numa_space.specs.Policies.{weight_given};
 ghost use Rattle.numa_machine.specs.Rules.{is_linux};
 ghost use Rattle.numa_space.specs.Policies.{mems_of};
-ghost use Rattle.numa_space.specs.Refusals.{bad_span, has_no_node, passes_holes, lacks_mems};
-ghost use Rattle.numa_space.specs.Refusals.{lacks_policy, is_bad_weight, bad_map_span};
+ghost use Rattle.numa_space.specs.Refusals.{has_no_node, is_bad_weight, lacks_mems, lacks_policy};
+ghost use Rattle.numa_space.specs.Refusals.{mems_cause, passes_holes};
 ghost use Rattle.numa_space.specs.Standing.{SpaceState, record_of};
 ghost use Rattle.numa_space.specs.Steps.{IsAnswer, MayNeedRoom, record_now};
 
@@ -29,24 +27,7 @@ use crate::space::Space;
 use numa_machine::{Rules, WeightError};
 use numa_mask::NodeMask;
 use numa_mode::{Mode, PolicySpec, Record};
-use numa_requests::{Command, PAGE_BYTES, Refusal};
-
-/// The first page of a span and the number of its pages.
-fn span_of(start: u64, length: u64) -> Result<(u64, u64), Refusal>
-    ensures span { MatchResult result (λ span. (bad_span start length ≡ None)
-        × (span.0 ≡ page_of start) × (span.1 ≡ page_count length))
-        (λ refusal. bad_span start length ≡ Some refusal) }
-    ensures within { MatchResult result (λ span. span.0 + span.1 ≤ 2 ^ 35) (λ refusal. Unit {0}) }
-{
-    if start % PAGE_BYTES != 0 {
-        return Err(Refusal::Unaligned);
-    }
-    let pages = length / PAGE_BYTES + u64::from(length % PAGE_BYTES != 0);
-    if start > 1 << 47 || pages > (1 << 35) - start / PAGE_BYTES {
-        return Err(Refusal::OutOfSpace);
-    }
-    Ok((start / PAGE_BYTES, pages))
-}
+use numa_requests::{Command, Refusal};
 
 /// Whether a set has node `first` or a higher one.
 fn has_node_from(mask: &NodeMask, first: u32) -> bool
@@ -73,24 +54,6 @@ impl Space {
         self.machine.rules().is_linux()
     }
 
-    /// The first page of a span that is to be mapped, and the number of its pages: the kernel maps
-    /// nothing in the last page below 2^47.
-    #[tactic(auto, unfolding(crate::specs::Refusals::bad_map_span))]
-    fn map_span_of(&self, start: u64, length: u64) -> Result<(u64, u64), Refusal>
-        ensures span { MatchResult result
-            (λ span. (bad_map_span self.now.machine.rules start length ≡ None)
-            × (span.0 ≡ page_of start) × (span.1 ≡ page_count length))
-            (λ refusal. bad_map_span self.now.machine.rules start length ≡ Some refusal) }
-        ensures within { MatchResult result (λ span. span.0 + span.1 ≤ 2 ^ 35)
-            (λ refusal. Unit {0}) }
-    {
-        let (first, pages) = span_of(start, length)?;
-        if self.is_linux() && (1 << 35) - 1 < first + pages {
-            return Err(Refusal::OutOfSpace);
-        }
-        Ok((first, pages))
-    }
-
     /// Whether an Mbind skips holes: that of DEFAULT does in the kernel.
     fn passes_holes(&self, spec: &PolicySpec) -> bool
         ensures { result ≡ passes_holes self.now.machine.rules spec.now }
@@ -101,7 +64,8 @@ impl Space {
     /// Whether no page of a span has an own policy, if the kernel's rules require one.
     #[tactic(auto, unfolding(crate::specs::Refusals::lacks_policy))]
     fn lacks_policy(&self, first: u64, pages: u64) -> bool
-        requires span { IsSpan first pages }
+        requires some { 0 < pages }
+        requires fits { first + pages < 2 ^ 64 }
         ensures { result ≡ lacks_policy self.now.machine.rules (page_at self.now.ranges) first
             pages }
     {
@@ -181,9 +145,6 @@ impl Space {
             → MayNeedRoom (Command.Map start length offset)) }
     {
         let (first, pages) = self.map_span_of(start, length)?;
-        if length == 0 {
-            return Err(Refusal::EmptyLength);
-        }
         if offset >= 1 << 35 {
             return Err(Refusal::BadOffset);
         }
@@ -201,11 +162,8 @@ impl Space {
         ensures room { IfErr result (λ refusal. refusal ≡ Refusal.NoMemory
             → MayNeedRoom (Command.Unmap start length)) }
     {
-        let (first, pages) = span_of(start, length)?;
+        let (first, pages) = self.unmap_span_of(start, length)?;
         if length == 0 {
-            if self.is_linux() {
-                return Err(Refusal::EmptyLength);
-            }
             self.version += 1;
             return Ok(Change::Nothing);
         }
@@ -218,7 +176,7 @@ impl Space {
 
     /// The refusal for a span of a policy that has no node: by the documents a hole comes first.
     fn hole_or_nodes(&self, first: u64, pages: u64) -> Refusal
-        requires span { first + pages ≤ 2 ^ 35 }
+        requires span { is_linux self.now.machine.rules ≡ false → first + pages ≤ 2 ^ 35 }
         ensures { result ≡ (if not (is_linux self.now.machine.rules)
             && any_page (λ page. not (is_some (page_at self.now.ranges page))) first pages
             then Refusal.Hole else Refusal.NodesNotAllowed) }
@@ -237,7 +195,7 @@ impl Space {
         ensures room { IfErr result (λ refusal. refusal ≡ Refusal.NoMemory
             → MayNeedRoom (Command.Mbind start length spec.now)) }
     {
-        let (first, pages) = span_of(start, length)?;
+        let (first, pages) = self.policy_span_of(start, length)?;
         if length == 0 {
             self.version += 1;
             return Ok(Change::Nothing);
@@ -318,7 +276,7 @@ impl Space {
         ensures room { IfErr result (λ refusal. refusal ≡ Refusal.NoMemory
             → MayNeedRoom (Command.SetHome start length node)) }
     {
-        let (first, pages) = span_of(start, length)?;
+        let (first, pages) = self.policy_span_of(start, length)?;
         if node >= self.machine.nodes() {
             return Err(Refusal::NoSuchNode);
         }
@@ -358,6 +316,16 @@ impl Space {
             node,
             weight: meant,
         })
+    }
+
+    /// The refusal of a mask that allows no node.
+    fn mems_refusal(&self) -> Refusal
+        ensures { result ≡ mems_cause self.now.machine.rules }
+    {
+        match self.machine.rules() {
+            Rules::Document => Refusal::NodesNotAllowed,
+            Rules::Linux => Refusal::NoNodes,
+        }
     }
 
     /// The nodes that a mask allows, or `None` if it allows none.
@@ -402,7 +370,7 @@ impl Space {
             return Err(Refusal::NoSuchNode);
         }
         let Some(allowed) = self.mems_of(mask) else {
-            return Err(Refusal::NodesNotAllowed);
+            return Err(self.mems_refusal());
         };
         let before = self.allowed;
         let rules = self.machine.rules();

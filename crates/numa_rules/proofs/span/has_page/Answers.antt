@@ -21,11 +21,11 @@ returns-then-reaches c =
     c.loop-run.run-iterator c.next.new.self c.in-Some.run' c.in-Some.ensures.steps
     (sym c.if-reaches.ensures)) ∙ (c.loop-run.invariant
     ∙ reaches-pages c.args.test c.args.space.now.ranges 0 c.args.first c.args.pages
-    c.requires.span.some c.range_iter-run-items.ensures.rising)
+    c.requires.some c.range_iter-run-items.ensures.rising)
 
 pub returns : goal.returns
 returns c =
     ap (list_any (reaches c.args.test c.args.first (c.args.first + c.args.pages)))
     (sym c.in-None.ensures.steps.0) ∙ (c.loop-run.invariant
     ∙ reaches-pages c.args.test c.args.space.now.ranges 0 c.args.first c.args.pages
-    c.requires.span.some c.range_iter-run-items.ensures.rising)
+    c.requires.some c.range_iter-run-items.ensures.rising)

@@ -14,7 +14,7 @@ loop-run-init c =
     let gives = c.into_iter-run-iterator.ensures.into_iter_gives in
     record {
       any = ap (list_any (reaches test first (first + c.args.pages))) gives
-          ∙ (reaches-pages test runs 0 first c.args.pages c.requires.span.some
+          ∙ (reaches-pages test runs 0 first c.args.pages c.requires.some
           c.iter_from-run-items.ensures.rising
           ∙ any_page-within (λ page. passes test (page_at runs page))
           (λ page. passes test (page_at c.args.self.now.runs page)) first c.args.pages

@@ -4,6 +4,7 @@ use Rattle.numa_space.specs.Steps.{IsAnswer}
 use Rattle.numa_requests.specs.declared.command.Command.TheVariants.{Mbind}
 use Rattle.numa_space.specs.declared.space.Space.TheInside.{Inside}
 use Rattle.numa_space.proofs.Kept.{kept-answer}
+use Rattle.numa_space.proofs.Refused.{bad_policy_span-not_memory}
 use Rattle.numa_space.proofs.space.Space.bind.Goals as goal
 use Rattle.std.proofs.Common.{subst}
 use Rattle.numa_space.specs.Standing.{SpaceState}
@@ -13,13 +14,16 @@ use Rattle.numa_space.specs.declared.change.Change.{Change}
 use Rattle.numa_space.proofs.Answers.{answer-done, answer-refused}
 use Rattle.numa_space.proofs.Changes.{bind-answer, bind-after}
 use Rattle.numa_space.proofs.Telling.{told-bind}
-use Rattle.std.proofs.Common.{false, sym}
+use Rattle.std.proofs.Common.{None, Some, false, sym}
 use Rattle.std.proofs.lemmas.Bool.{ne_eqb}
-use Rattle.numa_space.specs.Refusals.{has_no_node, passes_holes}
+use Rattle.numa_space.specs.Refusals.{bad_policy_span, has_no_node, passes_holes}
 use Rattle.numa_space.specs.Steps.{record_now}
 
 pub invariant_of-self-2 : goal.invariant_of-self-2
 invariant_of-self-2 c =
+    let span : bad_policy_span (shown_of c.self.inside).machine.rules c.args.start c.args.length
+    ≡ None = ap (λ (s : SpaceState). bad_policy_span s.machine.rules c.args.start c.args.length)
+    c.self.view_is ∙ c.in_ok-first.ensures.span.0 in
     let node : has_no_node (shown_of c.self.inside).allowed c.args.spec.now ≡ false =
     ap (λ (s : SpaceState). has_no_node s.allowed c.args.spec.now) c.self.view_is
     ∙ c.in-Ok.ensures.0 in
@@ -37,7 +41,7 @@ invariant_of-self-2 c =
       c.requires,
       ap (λ (s : SpaceState). s.version) c.self.view_is,
       ap (λ (s : SpaceState). s.bounds.max_commands) c.self.view_is,
-    )) c.in_ok-first.ensures.span.0
+    )) span
     (ne_eqb c.args.length 0 c.if-length-eq0.false) node c.bind_span.result
     c.bind_span.new.self) =
     bind-answer (shown_of c.self.inside) c.args.start c.args.length c.args.spec.now
@@ -46,7 +50,7 @@ invariant_of-self-2 c =
       c.requires,
       ap (λ (s : SpaceState). s.version) c.self.view_is,
       ap (λ (s : SpaceState). s.bounds.max_commands) c.self.view_is,
-    )) c.in_ok-first.ensures.span.0
+    )) span
     (ne_eqb c.args.length 0 c.if-length-eq0.false) node c.in_ok-first.first c.in_ok-first.pages
     c.self.inside.pages.limit c.in-Ok.policy c.passes_holes-passes_holes.result
     c.bind_span.new.self c.bind_span.result
@@ -60,7 +64,7 @@ invariant_of-self-2 c =
       c.requires,
       ap (λ (s : SpaceState). s.version) c.self.view_is,
       ap (λ (s : SpaceState). s.bounds.max_commands) c.self.view_is,
-    )) c.in_ok-first.ensures.span.0
+    )) span
     (ne_eqb c.args.length 0 c.if-length-eq0.false) node r c.bind_span.new.self) in
     let new : Inside =
     record c.self.inside {
@@ -75,6 +79,9 @@ invariant_of-self-2 c =
 
 pub returns-clause-answer : goal.returns-clause-answer
 returns-clause-answer c =
+    let span : bad_policy_span (shown_of c.self.inside).machine.rules c.args.start c.args.length
+    ≡ None = ap (λ (s : SpaceState). bad_policy_span s.machine.rules c.args.start c.args.length)
+    c.self.view_is ∙ c.in_ok-first.ensures.span.0 in
     let node : has_no_node (shown_of c.self.inside).allowed c.args.spec.now ≡ false =
     ap (λ (s : SpaceState). has_no_node s.allowed c.args.spec.now) c.self.view_is
     ∙ c.in-Ok.ensures.0 in
@@ -92,7 +99,7 @@ returns-clause-answer c =
       c.requires,
       ap (λ (s : SpaceState). s.version) c.self.view_is,
       ap (λ (s : SpaceState). s.bounds.max_commands) c.self.view_is,
-    )) c.in_ok-first.ensures.span.0
+    )) span
     (ne_eqb c.args.length 0 c.if-length-eq0.false) node c.bind_span.result
     c.bind_span.new.self) =
     bind-answer (shown_of c.self.inside) c.args.start c.args.length c.args.spec.now
@@ -101,7 +108,7 @@ returns-clause-answer c =
       c.requires,
       ap (λ (s : SpaceState). s.version) c.self.view_is,
       ap (λ (s : SpaceState). s.bounds.max_commands) c.self.view_is,
-    )) c.in_ok-first.ensures.span.0
+    )) span
     (ne_eqb c.args.length 0 c.if-length-eq0.false) node c.in_ok-first.first c.in_ok-first.pages
     c.self.inside.pages.limit c.in-Ok.policy c.passes_holes-passes_holes.result
     c.bind_span.new.self c.bind_span.result
@@ -115,7 +122,7 @@ returns-clause-answer c =
       c.requires,
       ap (λ (s : SpaceState). s.version) c.self.view_is,
       ap (λ (s : SpaceState). s.bounds.max_commands) c.self.view_is,
-    )) c.in_ok-first.ensures.span.0
+    )) span
     (ne_eqb c.args.length 0 c.if-length-eq0.false) node r c.bind_span.new.self) in
     let new : Inside =
     record c.self.inside {
@@ -134,6 +141,9 @@ returns-clause-answer c =
 
 pub returns-in_err-bind_span-clause-answer : goal.returns-in_err-bind_span-clause-answer
 returns-in_err-bind_span-clause-answer c =
+    let span : bad_policy_span (shown_of c.self.inside).machine.rules c.args.start c.args.length
+    ≡ None = ap (λ (s : SpaceState). bad_policy_span s.machine.rules c.args.start c.args.length)
+    c.self.view_is ∙ c.in_ok-first.ensures.span.0 in
     let node : has_no_node (shown_of c.self.inside).allowed c.args.spec.now ≡ false =
     ap (λ (s : SpaceState). has_no_node s.allowed c.args.spec.now) c.self.view_is
     ∙ c.in-Ok.ensures.0 in
@@ -151,7 +161,7 @@ returns-in_err-bind_span-clause-answer c =
       c.requires,
       ap (λ (s : SpaceState). s.version) c.self.view_is,
       ap (λ (s : SpaceState). s.bounds.max_commands) c.self.view_is,
-    )) c.in_ok-first.ensures.span.0
+    )) span
     (ne_eqb c.args.length 0 c.if-length-eq0.false) node c.bind_span.result
     c.bind_span.new.self) =
     bind-answer (shown_of c.self.inside) c.args.start c.args.length c.args.spec.now
@@ -160,7 +170,7 @@ returns-in_err-bind_span-clause-answer c =
       c.requires,
       ap (λ (s : SpaceState). s.version) c.self.view_is,
       ap (λ (s : SpaceState). s.bounds.max_commands) c.self.view_is,
-    )) c.in_ok-first.ensures.span.0
+    )) span
     (ne_eqb c.args.length 0 c.if-length-eq0.false) node c.in_ok-first.first c.in_ok-first.pages
     c.self.inside.pages.limit c.in-Ok.policy c.passes_holes-passes_holes.result
     c.bind_span.new.self c.bind_span.result
@@ -174,7 +184,7 @@ returns-in_err-bind_span-clause-answer c =
       c.requires,
       ap (λ (s : SpaceState). s.version) c.self.view_is,
       ap (λ (s : SpaceState). s.bounds.max_commands) c.self.view_is,
-    )) c.in_ok-first.ensures.span.0
+    )) span
     (ne_eqb c.args.length 0 c.if-length-eq0.false) node r c.bind_span.new.self) in
     let new : Inside = record c.self.inside { pages = c.bind_span.new.self } in
     let done : IsAnswer {A = Unit {0}} (shown_of c.self.inside)
@@ -192,6 +202,9 @@ returns-in_err-bind_span-clause-answer c =
 
 pub invariant_of-self-in_err-bind_span : goal.invariant_of-self-in_err-bind_span
 invariant_of-self-in_err-bind_span c =
+    let span : bad_policy_span (shown_of c.self.inside).machine.rules c.args.start c.args.length
+    ≡ None = ap (λ (s : SpaceState). bad_policy_span s.machine.rules c.args.start c.args.length)
+    c.self.view_is ∙ c.in_ok-first.ensures.span.0 in
     let node : has_no_node (shown_of c.self.inside).allowed c.args.spec.now ≡ false =
     ap (λ (s : SpaceState). has_no_node s.allowed c.args.spec.now) c.self.view_is
     ∙ c.in-Ok.ensures.0 in
@@ -209,7 +222,7 @@ invariant_of-self-in_err-bind_span c =
       c.requires,
       ap (λ (s : SpaceState). s.version) c.self.view_is,
       ap (λ (s : SpaceState). s.bounds.max_commands) c.self.view_is,
-    )) c.in_ok-first.ensures.span.0
+    )) span
     (ne_eqb c.args.length 0 c.if-length-eq0.false) node c.bind_span.result
     c.bind_span.new.self) =
     bind-answer (shown_of c.self.inside) c.args.start c.args.length c.args.spec.now
@@ -218,7 +231,7 @@ invariant_of-self-in_err-bind_span c =
       c.requires,
       ap (λ (s : SpaceState). s.version) c.self.view_is,
       ap (λ (s : SpaceState). s.bounds.max_commands) c.self.view_is,
-    )) c.in_ok-first.ensures.span.0
+    )) span
     (ne_eqb c.args.length 0 c.if-length-eq0.false) node c.in_ok-first.first c.in_ok-first.pages
     c.self.inside.pages.limit c.in-Ok.policy c.passes_holes-passes_holes.result
     c.bind_span.new.self c.bind_span.result
@@ -232,7 +245,7 @@ invariant_of-self-in_err-bind_span c =
       c.requires,
       ap (λ (s : SpaceState). s.version) c.self.view_is,
       ap (λ (s : SpaceState). s.bounds.max_commands) c.self.view_is,
-    )) c.in_ok-first.ensures.span.0
+    )) span
     (ne_eqb c.args.length 0 c.if-length-eq0.false) node r c.bind_span.new.self) in
     let new : Inside = record c.self.inside { pages = c.bind_span.new.self } in
     let done : IsAnswer {A = Unit {0}} (shown_of c.self.inside)
@@ -256,3 +269,9 @@ returns-clause-change c =
     c.in_ok-first.ensures.span.1 c.in_ok-first.ensures.span.2
     (ne_eqb c.args.length 0 c.if-length-eq0.false) c.args.spec.now c.in-Ok.policy
     c.in-Ok.ensures.1 c.bound.result c.bound.ensures
+
+pub returns-in_err-first-clause-room : goal.returns-in_err-first-clause-room
+returns-in_err-first-clause-room c =
+    let is_err : c.from_residual.result ≡ Err c.in_err-first.field-0.0 = search rules in
+    rw is_err (λ memory. absurd (bad_policy_span-not_memory c.args.self.now.machine.rules
+    c.args.start c.args.length (c.in_err-first.ensures.span ∙ ap Some memory)))

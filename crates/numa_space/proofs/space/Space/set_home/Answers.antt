@@ -3,12 +3,12 @@ use Rattle.numa_space.specs.Inside.{shown_of}
 use Rattle.numa_space.specs.Steps.{IsAnswer}
 use Rattle.numa_requests.specs.declared.command.Command.TheVariants.{SetHome}
 use Rattle.numa_space.specs.declared.space.Space.TheInside.{Inside}
-use Rattle.std.proofs.Common.{◌≡◌, ◌<◌, ◌==◌, false, sym, ap, ◌∙◌, arith}
+use Rattle.std.proofs.Common.{◌≡◌, ◌<◌, ◌==◌, Err, None, Some, false, sym, ap, ◌∙◌, arith}
 use Rattle.std.proofs.lemmas.Bool.{ne_eqb}
 use Rattle.numa_ranges.specs.Maps.{any_page, changed_span}
 use Rattle.numa_ranges.specs.Runs.{page_at}
 use Rattle.numa_space.specs.Edits.{IsEdit, too_many}
-use Rattle.numa_space.specs.Refusals.{lacks_policy, takes_no_home}
+use Rattle.numa_space.specs.Refusals.{bad_policy_span, lacks_policy, takes_no_home}
 use Rattle.numa_space.specs.Standing.{SpaceState}
 use Rattle.numa_space.specs.Steps.{policy_with_home}
 use Rattle.numa_space.proofs.Changes.{home-answer}
@@ -18,6 +18,7 @@ use Rattle.std.proofs.Common.{subst}
 use Rattle.numa_space.proofs.Answers.{answer-done}
 use Rattle.numa_space.proofs.Kept.{kept-answer}
 use Rattle.numa_space.proofs.Telling.{told-home}
+use Rattle.numa_space.proofs.Refused.{bad_policy_span-not_memory}
 use Rattle.numa_space.proofs.space.Space.set_home.Goals as goal
 
 pub invariant_of-self-2 : goal.invariant_of-self-2
@@ -30,6 +31,9 @@ invariant_of-self-2 c =
       ap (λ (s : SpaceState). s.bounds.max_commands) c.self.view_is,
     ) in
     let some : (c.args.length == 0) ≡ false = ne_eqb c.args.length 0 c.if-length-eq0.false in
+    let span : bad_policy_span (shown_of c.self.inside).machine.rules c.args.start c.args.length
+    ≡ None = ap (λ (s : SpaceState). bad_policy_span s.machine.rules c.args.start c.args.length)
+    c.self.view_is ∙ c.in_ok-first.ensures.span.0 in
     let new : Inside =
     record c.self.inside {
       pages = c.home_span.new.self;
@@ -52,8 +56,8 @@ invariant_of-self-2 c =
     let answer : IsAnswer (shown_of c.self.inside) (SetHome c.args.start c.args.length c.args.node)
     (Ok (tt {0})) (shown_of new) = home-answer (shown_of c.self.inside) c.args.start c.args.length
     c.in_ok-first.first c.in_ok-first.pages c.self.inside.pages.limit c.home_span.new.self room
-    c.in_ok-first.ensures.span.0 some c.in_ok-first.ensures.span.1 c.in_ok-first.ensures.span.2
-    c.self.invariant.limit c.args.node there homes policies edit in
+    some c.in_ok-first.ensures.span.1 c.in_ok-first.ensures.span.2 c.self.invariant.limit span
+    c.args.node there homes policies edit in
     kept-answer c.self.inside new (SetHome c.args.start c.args.length c.args.node) (Ok (tt {0}))
     c.self.invariant c.home_span.ensures.limit refl answer
 
@@ -81,6 +85,9 @@ returns-clause-answer c =
       ap (λ (s : SpaceState). s.bounds.max_commands) c.self.view_is,
     ) in
     let some : (c.args.length == 0) ≡ false = ne_eqb c.args.length 0 c.if-length-eq0.false in
+    let span : bad_policy_span (shown_of c.self.inside).machine.rules c.args.start c.args.length
+    ≡ None = ap (λ (s : SpaceState). bad_policy_span s.machine.rules c.args.start c.args.length)
+    c.self.view_is ∙ c.in_ok-first.ensures.span.0 in
     let new : Inside =
     record c.self.inside {
       pages = c.home_span.new.self;
@@ -103,11 +110,17 @@ returns-clause-answer c =
     let answer : IsAnswer (shown_of c.self.inside) (SetHome c.args.start c.args.length c.args.node)
     (Ok (tt {0})) (shown_of new) = home-answer (shown_of c.self.inside) c.args.start c.args.length
     c.in_ok-first.first c.in_ok-first.pages c.self.inside.pages.limit c.home_span.new.self room
-    c.in_ok-first.ensures.span.0 some c.in_ok-first.ensures.span.1 c.in_ok-first.ensures.span.2
-    c.self.invariant.limit c.args.node there homes policies edit in
+    some c.in_ok-first.ensures.span.1 c.in_ok-first.ensures.span.2 c.self.invariant.limit span
+    c.args.node there homes policies edit in
     let told : Change = Homed c.changed.result c.args.node in
     let Q : SpaceState → Type 0 = λ s. IsAnswer s (SetHome c.args.start c.args.length c.args.node) (Ok told)
     (shown_of new) in
     subst Q c.self.view_is
     (answer-done (shown_of c.self.inside) (shown_of new) (SetHome c.args.start c.args.length c.args.node)
     (tt {0}) told answer)
+
+pub returns-in_err-first-clause-room : goal.returns-in_err-first-clause-room
+returns-in_err-first-clause-room c =
+    let is_err : c.from_residual.result ≡ Err c.in_err-first.field-0.0 = search rules in
+    rw is_err (λ memory. absurd (bad_policy_span-not_memory c.args.self.now.machine.rules
+    c.args.start c.args.length (c.in_err-first.ensures.span ∙ ap Some memory)))

@@ -3,7 +3,8 @@ use Rattle.numa_space.specs.Inside.{shown_of}
 use Rattle.numa_space.specs.Steps.{IsAnswer}
 use Rattle.numa_requests.specs.declared.command.Command.TheVariants.{Unmap}
 use Rattle.numa_space.specs.declared.space.Space.TheInside.{Inside}
-use Rattle.std.proofs.Common.{◌≡◌, ◌<◌, ◌==◌, false, ap, arith}
+use Rattle.std.proofs.Common.{◌≡◌, ◌<◌, ◌==◌, Err, None, Some, false, ap, ◌∙◌, arith}
+use Rattle.numa_space.specs.Refusals.{bad_unmap_span}
 use Rattle.std.proofs.lemmas.Bool.{ne_eqb}
 use Rattle.numa_space.specs.Standing.{SpaceState}
 use Rattle.numa_space.proofs.Changes.{unmap-answer}
@@ -13,6 +14,7 @@ use Rattle.std.proofs.Common.{subst}
 use Rattle.numa_space.proofs.Answers.{answer-done}
 use Rattle.numa_space.proofs.Kept.{kept-answer}
 use Rattle.numa_space.proofs.Telling.{told-unmap}
+use Rattle.numa_space.proofs.Refused.{bad_unmap_span-not_memory}
 use Rattle.numa_space.proofs.space.Space.unmap.Goals as goal
 
 pub invariant_of-self-2 : goal.invariant_of-self-2
@@ -25,6 +27,9 @@ invariant_of-self-2 c =
       ap (λ (s : SpaceState). s.bounds.max_commands) c.self.view_is,
     ) in
     let some : (c.args.length == 0) ≡ false = ne_eqb c.args.length 0 c.if-length-eq0.false in
+    let span : bad_unmap_span (shown_of c.self.inside).machine.rules c.args.start c.args.length
+    ≡ None = ap (λ (s : SpaceState). bad_unmap_span s.machine.rules c.args.start c.args.length)
+    c.self.view_is ∙ c.in_ok-first.ensures.span.0 in
     let new : Inside =
     record c.self.inside {
       pages = c.unmap_span.new.self;
@@ -34,8 +39,8 @@ invariant_of-self-2 c =
     let answer : IsAnswer (shown_of c.self.inside) (Unmap c.args.start c.args.length) (Ok (tt {0}))
     (shown_of new) = unmap-answer (shown_of c.self.inside) c.args.start c.args.length
     c.in_ok-first.first c.in_ok-first.pages c.self.inside.pages.limit c.unmap_span.new.self room
-    c.in_ok-first.ensures.span.0 some c.in_ok-first.ensures.span.1 c.in_ok-first.ensures.span.2
-    c.self.invariant.limit c.in_ok-unmap_span.ensures.edit in
+    some c.in_ok-first.ensures.span.1 c.in_ok-first.ensures.span.2 c.self.invariant.limit span
+    c.in_ok-unmap_span.ensures.edit in
     kept-answer c.self.inside new (Unmap c.args.start c.args.length) (Ok (tt {0})) c.self.invariant
     c.unmap_span.ensures.limit refl answer
 
@@ -63,6 +68,9 @@ returns-clause-answer c =
       ap (λ (s : SpaceState). s.bounds.max_commands) c.self.view_is,
     ) in
     let some : (c.args.length == 0) ≡ false = ne_eqb c.args.length 0 c.if-length-eq0.false in
+    let span : bad_unmap_span (shown_of c.self.inside).machine.rules c.args.start c.args.length
+    ≡ None = ap (λ (s : SpaceState). bad_unmap_span s.machine.rules c.args.start c.args.length)
+    c.self.view_is ∙ c.in_ok-first.ensures.span.0 in
     let new : Inside =
     record c.self.inside {
       pages = c.unmap_span.new.self;
@@ -72,11 +80,17 @@ returns-clause-answer c =
     let answer : IsAnswer (shown_of c.self.inside) (Unmap c.args.start c.args.length) (Ok (tt {0}))
     (shown_of new) = unmap-answer (shown_of c.self.inside) c.args.start c.args.length
     c.in_ok-first.first c.in_ok-first.pages c.self.inside.pages.limit c.unmap_span.new.self room
-    c.in_ok-first.ensures.span.0 some c.in_ok-first.ensures.span.1 c.in_ok-first.ensures.span.2
-    c.self.invariant.limit c.in_ok-unmap_span.ensures.edit in
+    some c.in_ok-first.ensures.span.1 c.in_ok-first.ensures.span.2 c.self.invariant.limit span
+    c.in_ok-unmap_span.ensures.edit in
     let told : Change = Unmapped c.changed.result in
     let Q : SpaceState → Type 0 = λ s. IsAnswer s (Unmap c.args.start c.args.length) (Ok told)
     (shown_of new) in
     subst Q c.self.view_is
     (answer-done (shown_of c.self.inside) (shown_of new) (Unmap c.args.start c.args.length)
     (tt {0}) told answer)
+
+pub returns-in_err-first-clause-room : goal.returns-in_err-first-clause-room
+returns-in_err-first-clause-room c =
+    let is_err : c.from_residual.result ≡ Err c.in_err-first.field-0.0 = search rules in
+    rw is_err (λ memory. absurd (bad_unmap_span-not_memory c.args.self.now.machine.rules
+    c.args.start c.args.length (c.in_err-first.ensures.span ∙ ap Some memory)))
