@@ -1,17 +1,18 @@
 -- What an answer says of its step.
 use Rattle.std.proofs.Common.{◌≡◌, ℕ, ◌==◌, ◌⊎◌, inl, inr, Bool, true, false, Option, Some, None}
 use Rattle.std.proofs.Common.{Result, Ok, Err, is_some, List, [], ◌∷◌, ◌++◌, refl, sym, ap, ◌∙◌}
-use Rattle.std.proofs.Common.{arith, nat_le, not, is_none, unwrap_or, if◌then◌else◌}
+use Rattle.std.proofs.Common.{arith, subst, nat_le, not, is_none, unwrap_or, if◌then◌else◌}
 use Rattle.std.specs.Option.{option_map_or}
 use Rattle.std.proofs.lemmas.Bool.Decides.{nat_tests}
 use Rattle.numa_requests.specs.declared.request.Request.{Request}
 use Rattle.numa_machine.specs.declared.frame.Frame.{Frame}
 use Rattle.numa_requests.specs.declared.placement.Placement.{Placement}
 use Rattle.numa_requests.specs.declared.event.Event.{Event}
-use Rattle.numa_requests.specs.declared.event.Event.TheVariants.{Accept, Publish, Begin, Look, Try}
-use Rattle.numa_requests.specs.declared.event.Event.TheVariants.{Give}
+use Rattle.numa_requests.specs.declared.event.Event.TheVariants.{Accept, Publish, Begin, Seek, Look}
+use Rattle.numa_requests.specs.declared.event.Event.TheVariants.{Try, Give}
 use Rattle.numa_requests.specs.declared.event.CoreReply.{CoreReply}
 use Rattle.numa_requests.specs.declared.event.CoreReply.TheVariants.{Still, Exhausted, Won}
+use Rattle.numa_requests.specs.declared.event.CoreReply.TheVariants.{Found, Full}
 use Rattle.numa_requests.specs.declared.event.CoreRefusal.{CoreRefusal}
 use Rattle.numa_requests.specs.declared.event.CoreRefusal.TheVariants.{Command as Because}
 use Rattle.numa_requests.specs.declared.event.CoreRefusal.TheVariants.{NoSuchWorker, Busy, Idle}
@@ -20,9 +21,9 @@ use Rattle.numa_requests.specs.declared.event.CoreRefusal.TheVariants.{Unmapped}
 use Rattle.numa_requests.specs.declared.refusal.Refusal.TheVariants.{NoMemory as NoRoom}
 use Rattle.numa_core.specs.World.{Setup, FrameSearch, World, frame_search_of, owner_of, is_frame}
 use Rattle.numa_core.specs.World.{list_at, current_rank, frame_search_after_look, frame_search_past}
-use Rattle.numa_core.specs.World.{may_try, new_frame_search}
+use Rattle.numa_core.specs.World.{may_try, new_frame_search, seeking}
 use Rattle.numa_core.specs.Steps.{first_refusal, refusal_of, reply_of, refused_or, goes_on}
-use Rattle.numa_core.specs.Steps.{placement_of, owns, IsAnswer, IsOutOfMemory}
+use Rattle.numa_core.specs.Steps.{placement_of, won_by, owns, IsAnswer, IsOutOfMemory}
 use Rattle.numa_core.specs.Executions.{CoreStep, IsExecution}
 
 -- what came earlier is an execution
@@ -36,6 +37,7 @@ not_ok (Accept command) reply h = let odd : ◌≡◌ {A = Result CoreReply Core
     (Err (Because NoRoom)) = h.0 in cc
 not_ok Publish reply h = cc
 not_ok (Begin w request) reply h = h
+not_ok (Seek w node) reply h = h
 not_ok (Look w word) reply h = h
 not_ok (Try w frame) reply h = h
 not_ok (Give w frame) reply h = h
@@ -77,8 +79,8 @@ four_rows false false false true x y z t h = absurd (cc)
 four_rows false false false false x y z t h = (refl, refl, refl, refl)
 
 -- where three conditions refuse nothing, none of them holds
-three_rows : (a b c : Bool) (x y z : CoreRefusal) → first_refusal ((a, x) ∷ (b, y) ∷ (c, z) ∷ [])
-    ≡ None → (a ≡ false) × (b ≡ false) × (c ≡ false)
+pub three_rows : (a b c : Bool) (x y z : CoreRefusal)
+    → first_refusal ((a, x) ∷ (b, y) ∷ (c, z) ∷ []) ≡ None → (a ≡ false) × (b ≡ false) × (c ≡ false)
 three_rows true b c x y z h = absurd (cc)
 three_rows false true c x y z h = absurd (cc)
 three_rows false false true x y z h = absurd (cc)
@@ -128,52 +130,114 @@ pub one_frame : (frame : Frame) (n k : ℕ) → is_frame frame n k ≡ true → 
     × (k ≡ frame.number)
 one_frame frame n k h = grind (arith, nat_tests)
 
-goes_on-not_won : (s : Setup) (frame_search : FrameSearch) (placement : Placement)
-    → Won placement ≡ goes_on s frame_search → ⊥
-goes_on-not_won s frame_search placement = go (current_rank s frame_search)
-  where
-    go : (o : Option ℕ)
-        → Won placement ≡ (if is_some o then Still else Exhausted frame_search.version) → ⊥
-    go None e = cc
-    go (Some rank) e = cc
+-- a frame search that goes on, or is over, has won nothing
+abbrev pub IsNoWin : CoreReply → Type 0
+IsNoWin reply = (((placement : Placement) → Won placement ≡ reply → ⊥)
+    × ((frame : Frame) → Found frame ≡ reply → ⊥))
 
--- a reply that won
-pub won_means : (s : Setup) (world : World) (w version : ℕ) (frame : Frame) (placement : Placement)
-    → Won placement ≡ reply_of s world version (Try w frame) → (frame_search : FrameSearch)
+goes_on-no_win : (s : Setup) (frame_search : FrameSearch) → IsNoWin (goes_on s frame_search)
+goes_on-no_win s frame_search = go (current_rank s frame_search) frame_search.request
+  where
+    go : (o : Option ℕ) (request : Option Request) → IsNoWin (if is_some o then Still
+        else option_map_or (λ r. Exhausted frame_search.version) request Full)
+    go None None = (λ placement e. cc, λ frame e. cc)
+    go None (Some r) = (λ placement e. cc, λ frame e. cc)
+    go (Some rank) request = (λ placement e. cc, λ frame e. cc)
+
+looked-no_win : (s : Setup) (o : Option FrameSearch) (f : FrameSearch → FrameSearch)
+    → IsNoWin (option_map_or (λ frame_search. goes_on s (f frame_search)) o Still)
+looked-no_win s None f = (λ placement e. cc, λ frame e. cc)
+looked-no_win s (Some frame_search) f = goes_on-no_win s (f frame_search)
+
+-- a reply to a Try that won: what the frame search is answered that won
+pub won_means : (s : Setup) (world : World) (w version : ℕ) (frame : Frame) (reply : CoreReply)
+    → (IsNoWin reply → ⊥) → reply ≡ reply_of s world version (Try w frame)
+    → (frame_search : FrameSearch)
     × (frame_search_of world w ≡ Some frame_search) × (owner_of world frame ≡ None)
-    × (placement ≡ placement_of s frame_search frame)
-won_means s world w version frame placement = go (owner_of world frame) (frame_search_of world w)
+    × (reply ≡ won_by s frame_search frame)
+won_means s world w version frame reply wins = go (owner_of world frame) (frame_search_of world w)
   where
     go : (owner : Option ℕ) (o : Option FrameSearch)
-        → Won placement
+        → reply
         ≡ (if is_some owner then option_map_or
         (λ frame_search. goes_on s (frame_search_past frame frame_search)) o Still
-        else option_map_or (λ frame_search. Won (placement_of s frame_search frame)) o Still)
+        else option_map_or (λ frame_search. won_by s frame_search frame) o Still)
         → (frame_search : FrameSearch) × (o ≡ Some frame_search) × (owner ≡ None)
-        × (placement ≡ placement_of s frame_search frame)
-    go (Some v) None e = absurd (cc)
-    go (Some v) (Some frame_search) e =
-        absurd (goes_on-not_won s (frame_search_past frame frame_search) placement e)
-    go None None e = absurd (cc)
-    go None (Some frame_search) e = (frame_search, refl, refl, cc)
+        × (reply ≡ won_by s frame_search frame)
+    go (Some v) o e = absurd (wins (subst IsNoWin (sym e)
+        (looked-no_win s o (frame_search_past frame))))
+    go None None e = absurd (wins (subst IsNoWin (sym e) (λ placement e. cc, λ frame e. cc)))
+    go None (Some frame_search) e = (frame_search, refl, refl, e)
 
--- only a Try wins, and the frame that it tried
+-- a Won is of a frame search for a page
+pub page_won : (s : Setup) (frame_search : FrameSearch) (frame : Frame) (placement : Placement)
+    → Won placement ≡ won_by s frame_search frame → (request : Request)
+    × (frame_search.request ≡ Some request)
+    × (placement ≡ placement_of s frame_search frame request)
+page_won s frame_search frame placement = go frame_search.request
+  where
+    go : (o : Option Request)
+        → Won placement
+        ≡ option_map_or (λ r. Won (placement_of s frame_search frame r)) o (Found frame)
+        → (request : Request) × (o ≡ Some request)
+        × (placement ≡ placement_of s frame_search frame request)
+    go None e = absurd (cc)
+    go (Some request) e = (request, refl, cc)
+
+-- a Found is of a frame search for a node, and tells its frame
+pub node_won : (s : Setup) (frame_search : FrameSearch) (frame found : Frame)
+    → Found found ≡ won_by s frame_search frame
+    → (frame_search.request ≡ None) × (found ≡ frame)
+node_won s frame_search frame found = go frame_search.request
+  where
+    go : (o : Option Request)
+        → Found found
+        ≡ option_map_or (λ r. Won (placement_of s frame_search frame r)) o (Found frame)
+        → (o ≡ None) × (found ≡ frame)
+    go None e = (refl, cc)
+    go (Some request) e = absurd (cc)
+
+-- only a Try wins
+won_by_some_try : (s : Setup) (world : World) (version : ℕ) (event : Event) (reply : CoreReply)
+    → (IsNoWin reply → ⊥) → reply ≡ reply_of s world version event
+    → (w : ℕ) × (frame : Frame) × (event ≡ Try w frame)
+won_by_some_try s world version (Accept command) reply wins e =
+    absurd (wins (subst IsNoWin (sym e) (λ placement e. cc, λ frame e. cc)))
+won_by_some_try s world version Publish reply wins e =
+    absurd (wins (subst IsNoWin (sym e) (λ placement e. cc, λ frame e. cc)))
+won_by_some_try s world version (Begin w request) reply wins e =
+    absurd (wins (subst IsNoWin (sym e)
+    (goes_on-no_win s (new_frame_search s world version request))))
+won_by_some_try s world version (Seek w node) reply wins e =
+    absurd (wins (subst IsNoWin (sym e) (goes_on-no_win s (seeking version node))))
+won_by_some_try s world version (Look w word) reply wins e =
+    absurd (wins (subst IsNoWin (sym e) (looked-no_win s (frame_search_of world w)
+    (frame_search_after_look s world word))))
+won_by_some_try s world version (Try w frame) reply wins e = (w, frame, refl)
+won_by_some_try s world version (Give w frame) reply wins e =
+    absurd (wins (subst IsNoWin (sym e) (λ placement e. cc, λ frame e. cc)))
+
+pub is_won : (placement : Placement) → IsNoWin (Won placement) → ⊥
+is_won placement none = none.0 placement refl
+
+pub is_found : (frame : Frame) → IsNoWin (Found frame) → ⊥
+is_found frame none = none.1 frame refl
+
+-- and the frame that it tried
 pub won_by_try : (s : Setup) (world : World) (version : ℕ) (event : Event) (placement : Placement)
     → Won placement ≡ reply_of s world version event → (w : ℕ) × (event ≡ Try w placement.frame)
-won_by_try s world version (Accept command) placement e = absurd (cc)
-won_by_try s world version Publish placement e = absurd (cc)
-won_by_try s world version (Begin w request) placement e =
-    absurd (goes_on-not_won s (new_frame_search s world version request) placement e)
-won_by_try s world version (Look w word) placement e = absurd (go (frame_search_of world w) e)
-  where
-    go : (o : Option FrameSearch)
-        → Won placement
-        ≡ option_map_or
-        (λ frame_search. goes_on s (frame_search_after_look s world word frame_search)) o Still → ⊥
-    go None e = cc
-    go (Some frame_search) e = goes_on-not_won s (frame_search_after_look s world word frame_search)
-        placement e
-won_by_try s world version (Try w frame) placement e =
-    let win = won_means s world w version frame placement e in
-    (w, ap (λ f. Try w f) (sym (ap (λ (p : Placement). p.frame) win.3)))
-won_by_try s world version (Give w frame) placement e = absurd (cc)
+won_by_try s world version event placement e =
+    let tried = won_by_some_try s world version event (Won placement) (is_won placement) e in
+    let win = won_means s world tried.0 version tried.1 (Won placement) (is_won placement)
+    (subst (λ x. Won placement ≡ reply_of s world version x) tried.2 e) in
+    let page = page_won s win.0 tried.1 placement win.3 in
+    (tried.0, tried.2 ∙ ap (λ f. Try tried.0 f) (sym (ap (λ (p : Placement). p.frame) page.2)))
+
+pub found_by_try : (s : Setup) (world : World) (version : ℕ) (event : Event) (frame : Frame)
+    → Found frame ≡ reply_of s world version event → (w : ℕ) × (event ≡ Try w frame)
+found_by_try s world version event frame e =
+    let tried = won_by_some_try s world version event (Found frame) (is_found frame) e in
+    let win = won_means s world tried.0 version tried.1 (Found frame) (is_found frame)
+    (subst (λ x. Found frame ≡ reply_of s world version x) tried.2 e) in
+    let node = node_won s win.0 tried.1 frame win.3 in
+    (tried.0, tried.2 ∙ ap (λ f. Try tried.0 f) (sym node.1))

@@ -20,8 +20,8 @@ use Rattle.numa_requests.specs.declared.refusal.Refusal.{Refusal}
 use Rattle.numa_space.proofs.Meant.{meant-list}
 use Rattle.numa_requests.specs.declared.request.Request.{Request}
 use Rattle.numa_requests.specs.declared.event.Event.{Event}
-use Rattle.numa_requests.specs.declared.event.Event.TheVariants.{Accept, Publish, Begin, Look, Try}
-use Rattle.numa_requests.specs.declared.event.Event.TheVariants.{Give}
+use Rattle.numa_requests.specs.declared.event.Event.TheVariants.{Accept, Publish, Begin, Seek, Look}
+use Rattle.numa_requests.specs.declared.event.Event.TheVariants.{Try, Give}
 use Rattle.numa_requests.specs.declared.event.CoreReply.{CoreReply}
 use Rattle.numa_requests.specs.declared.event.CoreRefusal.{CoreRefusal}
 use Rattle.numa_requests.specs.declared.placement.Placement.{Placement}
@@ -41,6 +41,7 @@ abbrev history_after : Event → List Command → List Command
 history_after (Accept command) history = command ∷ history
 history_after Publish history = history
 history_after (Begin w request) history = history
+history_after (Seek w node) history = history
 history_after (Look w word) history = history
 history_after (Try w frame) history = history
 history_after (Give w frame) history = history
@@ -49,6 +50,7 @@ abbrev published_after : Event → World → List ℕ
 published_after (Accept command) world = world.published
 published_after Publish world = length world.history ∷ world.published
 published_after (Begin w request) world = world.published
+published_after (Seek w node) world = world.published
 published_after (Look w word) world = world.published
 published_after (Try w frame) world = world.published
 published_after (Give w frame) world = world.published
@@ -59,6 +61,7 @@ module _ (s : Setup) (world : World) (version : ℕ) where
   effect-history (Accept command) = refl
   effect-history Publish = refl
   effect-history (Begin w request) = refl
+  effect-history (Seek w node) = refl
   effect-history (Look w word) = refl
   effect-history (Try w frame) = go (owner_of world frame) refl
     where
@@ -73,6 +76,7 @@ module _ (s : Setup) (world : World) (version : ℕ) where
   effect-published (Accept command) = refl
   effect-published Publish = refl
   effect-published (Begin w request) = refl
+  effect-published (Seek w node) = refl
   effect-published (Look w word) = refl
   effect-published (Try w frame) = go (owner_of world frame) refl
     where
@@ -95,6 +99,7 @@ module _ (s : Setup) (world : World) (version : ℕ) where
       (because-none (command_refusal s.machine s.bounds world.history command) none, accepted)
   accepted-event Publish none accepted = accepted
   accepted-event (Begin w request) none accepted = accepted
+  accepted-event (Seek w node) none accepted = accepted
   accepted-event (Look w word) none accepted = accepted
   accepted-event (Try w frame) none accepted = accepted
   accepted-event (Give w frame) none accepted = accepted
@@ -114,6 +119,7 @@ module _ (s : Setup) (world : World) (version : ℕ) where
   counted-event (Accept command) = omega arith
   counted-event Publish = omega arith
   counted-event (Begin w request) = omega arith
+  counted-event (Seek w node) = omega arith
   counted-event (Look w word) = omega arith
   counted-event (Try w frame) = omega arith
   counted-event (Give w frame) = omega arith
@@ -134,6 +140,7 @@ module _ (s : Setup) (world : World) (version : ℕ) where
       (first_commands-more v command world.history low, omega arith)
   first-event Publish v low = (refl, low)
   first-event (Begin w request) v low = (refl, low)
+  first-event (Seek w node) v low = (refl, low)
   first-event (Look w word) v low = (refl, low)
   first-event (Try w frame) v low = (refl, low)
   first-event (Give w frame) v low = (refl, low)
@@ -153,6 +160,7 @@ module _ (s : Setup) (world : World) (version : ℕ) where
   rises-event (Accept command) known = omega arith
   rises-event Publish known = known
   rises-event (Begin w request) known = omega arith
+  rises-event (Seek w node) known = omega arith
   rises-event (Look w word) known = omega arith
   rises-event (Try w frame) known = omega arith
   rises-event (Give w frame) known = omega arith

@@ -1,8 +1,8 @@
 -- The executions that lead to a core after a step.
 use Rattle.std.proofs.Common.{◌≡◌, List, ◌∷◌, Result, sym, subst}
 use Rattle.numa_requests.specs.declared.event.Event.{Event}
-use Rattle.numa_requests.specs.declared.event.Event.TheVariants.{Accept, Publish, Begin, Look, Try}
-use Rattle.numa_requests.specs.declared.event.Event.TheVariants.{Give}
+use Rattle.numa_requests.specs.declared.event.Event.TheVariants.{Accept, Publish, Begin, Seek, Look}
+use Rattle.numa_requests.specs.declared.event.Event.TheVariants.{Try, Give}
 use Rattle.numa_requests.specs.declared.event.CoreReply.{CoreReply}
 use Rattle.numa_requests.specs.declared.event.CoreRefusal.{CoreRefusal}
 use Rattle.numa_core.specs.World.{Setup, World, newest_published}
@@ -18,6 +18,7 @@ pub may_take : (core : CoreState) (world : World) (event : Event) → CoreStands
 may_take core world (Accept command) stands = tt
 may_take core world Publish stands = tt
 may_take core world (Begin w request) stands = (stands.published, stands.not_newer w)
+may_take core world (Seek w node) stands = (stands.published, stands.not_newer w)
 may_take core world (Look w word) stands = tt
 may_take core world (Try w frame) stands = tt
 may_take core world (Give w frame) stands = tt

@@ -19,14 +19,15 @@ use Rattle.numa_machine.specs.Machine.{Hardware}
 use Rattle.numa_requests.specs.declared.request.Request.{Request}
 use Rattle.numa_machine.specs.declared.frame.Frame.{Frame}
 use Rattle.numa_requests.specs.declared.event.Event.{Event}
-use Rattle.numa_requests.specs.declared.event.Event.TheVariants.{Accept, Publish, Begin, Look, Try}
-use Rattle.numa_requests.specs.declared.event.Event.TheVariants.{Give}
+use Rattle.numa_requests.specs.declared.event.Event.TheVariants.{Accept, Publish, Begin, Seek, Look}
+use Rattle.numa_requests.specs.declared.event.Event.TheVariants.{Try, Give}
 use Rattle.numa_requests.specs.declared.event.CoreReply.{CoreReply}
 use Rattle.numa_requests.specs.declared.event.CoreReply.TheVariants.{Accepted, Published, Given}
 use Rattle.numa_requests.specs.declared.event.CoreRefusal.{CoreRefusal}
 use Rattle.numa_requests.specs.declared.event.CoreRefusal.TheVariants.{Idle, BadTry}
 use Rattle.numa_core.specs.World.{Setup, FrameSearch, Worker, World, opening, newest_published}
 use Rattle.numa_core.specs.World.{first_commands, frame_search_of, last_of, owner_of, is_frame}
+use Rattle.numa_core.specs.World.{fresh, seeking}
 use Rattle.numa_core.specs.Steps.{because, goes_on, going_on, with_worker, with_owner}
 use Rattle.numa_core.specs.Steps.{IsAnswer, world_after}
 use Rattle.numa_core.specs.Standing.{Busy, CoreState, CoreStandsFor, place_in, place_of}
@@ -36,11 +37,11 @@ use Rattle.numa_core.specs.declared.seat.OngoingSearch.{OngoingSearch}
 use Rattle.numa_core.specs.declared.seat.WorkerSeat.{WorkerSeat}
 use Rattle.numa_core.specs.Judging.{IsJudged, IsListed}
 use Rattle.numa_core.specs.Kept.{Follows}
-use Rattle.numa_core.specs.Seats.{core_of, busy_by, busy_of, seat_frame_search, fresh, SeatLooks}
+use Rattle.numa_core.specs.Seats.{core_of, busy_by, busy_of, seat_frame_search, SeatLooks}
 use Rattle.numa_core.specs.Seats.{SeatTries}
 use Rattle.numa_core.proofs.Elements.{slice_get-set, set_back}
 use Rattle.numa_core.proofs.EventAnswers.{answered, look_answer, try_answer, give_answer}
-use Rattle.numa_core.proofs.EventAnswers.{begin_answer, begin_frame_search}
+use Rattle.numa_core.proofs.EventAnswers.{begin_answer, begin_frame_search, seek_answer}
 use Rattle.numa_core.proofs.Seating.{tries-nowhere}
 use Rattle.numa_core.proofs.InARow.{is_at, same_place, place-some}
 use Rattle.numa_core.proofs.Versions.{by_itself}
@@ -261,9 +262,10 @@ module _ (space : SpaceState) (plan : PlanData) (places : List ℕ) (seats : Lis
     pub begin-follows : (request : Request) (row : List ℕ) (version : ℕ) (new : WorkerSeat)
         (reply : CoreReply) → version ≡ plan.version → IsJudged core w request None
         → IsListed core request row
-        → ((s : Setup) → places ≡ s.machine.frames → reply ≡ goes_on s (fresh request version row))
         → ((s : Setup) → places ≡ s.machine.frames
-        → seat_frame_search places new ≡ going_on s (fresh request version row))
+        → reply ≡ goes_on s (fresh (Some request) version row))
+        → ((s : Setup) → places ≡ s.machine.frames
+        → seat_frame_search places new ≡ going_on s (fresh (Some request) version row))
         → StepsTo core world (Begin w request) (Ok reply)
         (core_of space plan (set seats w new) owners)
     begin-follows request row version new reply is allowed listed answer search =
@@ -271,12 +273,30 @@ module _ (space : SpaceState) (plan : PlanData) (places : List ℕ) (seats : Lis
         let newest : version ≡ newest_published world = is ∙ version-newest core world stands in (
           begin_answer s world (newest_published world) w request row (listed world stands) reply
               (allowed world stands)
-              (answer s same ∙ ap (λ v. goes_on s (fresh request v row)) newest),
+              (answer s same ∙ ap (λ v. goes_on s (fresh (Some request) v row)) newest),
           moved new owners _
               (with_new new (newest_published world) _
-              (search s same ∙ ap (λ v. going_on s (fresh request v row)) newest
+              (search s same ∙ ap (λ v. going_on s (fresh (Some request) v row)) newest
               ∙ begin_frame_search s world (newest_published world) w request row
               (listed world stands)) (omega arith)),
+        )
+
+    pub seek-follows : (node version : ℕ) (new : WorkerSeat) (reply : CoreReply)
+        → version ≡ plan.version → old.job ≡ None → slice_index places node == 0 ≡ false
+        → ((s : Setup) → places ≡ s.machine.frames → reply ≡ goes_on s (seeking version node))
+        → ((s : Setup) → places ≡ s.machine.frames
+        → seat_frame_search places new ≡ going_on s (seeking version node))
+        → StepsTo core world (Seek w node) (Ok reply)
+        (core_of space plan (set seats w new) owners)
+    seek-follows node version new reply is idle some answer search =
+        let s : Setup = setup_of core in
+        let newest : version ≡ newest_published world = is ∙ version-newest core world stands in (
+          seek_answer s world (newest_published world) w node reply few (idle_frame_search idle)
+              (subst (λ (fs : List ℕ). (slice_index fs node == 0) ≡ false) same some)
+              (answer s same ∙ ap (λ v. goes_on s (seeking v node)) newest),
+          moved new owners _
+              (with_new new (newest_published world) _
+              (search s same ∙ ap (λ v. going_on s (seeking v node)) newest) (omega arith)),
         )
 
     -- the frame's owner is that of its place

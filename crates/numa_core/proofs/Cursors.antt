@@ -3,9 +3,9 @@ use Rattle.std.proofs.Common.{zero, suc, ◌≡◌, ◌≢◌, ℕ, ◌+◌, ◌
 use Rattle.std.proofs.Common.{Bool, true, false, not, Option, Some, None, List, [], ◌∷◌, length}
 use Rattle.std.proofs.Common.{refl, sym, ap, subst, arith, slice_index}
 use Rattle.std.proofs.lemmas.Bool.Decides.{eqb_tells}
-use Rattle.numa_requests.specs.declared.event.CoreReply.TheVariants.{Still, Exhausted}
+use Rattle.numa_requests.specs.declared.event.CoreReply.TheVariants.{Still}
 use Rattle.numa_core.specs.World.{Setup, FrameSearch, any_below, first_place, current_rank}
-use Rattle.numa_core.specs.Steps.{goes_on, going_on}
+use Rattle.numa_core.specs.Steps.{goes_on, going_on, over_by}
 use Rattle.numa_core.specs.Standing.{Busy, met_at, frame_search_in}
 use Rattle.numa_core.specs.Seats.{IsPassed, IsCursor, IsAllMet}
 
@@ -149,6 +149,6 @@ settled s frames busy rank next same cursor = rw (rank-at s frames busy rank nex
 -- a frame search that is over
 pub ended : (s : Setup) (frames : List ℕ) (busy : Busy) → frames ≡ s.machine.frames
     → IsAllMet frames busy.nodes busy.met
-    → (Exhausted busy.version ≡ goes_on s (frame_search_in frames busy))
+    → (over_by (frame_search_in frames busy) ≡ goes_on s (frame_search_in frames busy))
     × (let none : Option FrameSearch = None in none ≡ going_on s (frame_search_in frames busy))
 ended s frames busy same all = rw (rank-none s frames busy same all) (refl, refl)

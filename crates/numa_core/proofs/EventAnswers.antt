@@ -1,23 +1,23 @@
 -- What an event of a worker is answered, by what the worker's frame search allows.
-use Rattle.std.proofs.Common.{◌≡◌, ℕ, ◌<◌, Bool, true, false, not, Option, Some, None, Result, Ok}
-use Rattle.std.proofs.Common.{Err, is_some, is_none, is_ok, List, [], refl, sym, ap, ◌∙◌, inl}
-use Rattle.std.proofs.Common.{if◌then◌else◌, MatchBool, MatchOption, unwrap_or}
+use Rattle.std.proofs.Common.{◌≡◌, ◌==◌, ℕ, ◌<◌, Bool, true, false, not, Option, Some, None}
+use Rattle.std.proofs.Common.{Result, Ok, Err, is_some, is_none, is_ok, List, [], refl, sym, ap}
+use Rattle.std.proofs.Common.{◌∙◌, inl, if◌then◌else◌, MatchBool, MatchOption, unwrap_or}
 use Rattle.std.specs.Option.{option_map_or}
 use Rattle.std.proofs.lemmas.Bool.{eq-eqb}
 use Rattle.numa_requests.specs.declared.request.Request.{Request}
+use Rattle.numa_machine.specs.Machine.{frames_of}
 use Rattle.numa_machine.specs.declared.frame.Frame.{Frame}
 use Rattle.numa_requests.specs.declared.event.Event.{Event}
-use Rattle.numa_requests.specs.declared.event.Event.TheVariants.{Begin, Look, Try, Give}
+use Rattle.numa_requests.specs.declared.event.Event.TheVariants.{Begin, Seek, Look, Try, Give}
 use Rattle.numa_requests.specs.declared.event.CoreReply.{CoreReply}
-use Rattle.numa_requests.specs.declared.event.CoreReply.TheVariants.{Still, Won, Given}
+use Rattle.numa_requests.specs.declared.event.CoreReply.TheVariants.{Still, Given}
 use Rattle.numa_requests.specs.declared.event.CoreRefusal.{CoreRefusal}
 use Rattle.numa_requests.specs.declared.event.CoreRefusal.TheVariants.{Idle, BadTry}
 use Rattle.numa_core.specs.World.{Setup, FrameSearch, World, frame_search_of, owner_of, list_at}
 use Rattle.numa_core.specs.World.{may_look, may_try, frame_search_after_look, frame_search_past}
-use Rattle.numa_core.specs.World.{new_frame_search}
-use Rattle.numa_core.specs.Steps.{refusal_of, reply_of, goes_on, going_on, placement_of}
+use Rattle.numa_core.specs.World.{new_frame_search, fresh, seeking}
+use Rattle.numa_core.specs.Steps.{refusal_of, reply_of, goes_on, going_on, won_by}
 use Rattle.numa_core.specs.Steps.{refused_or, IsAnswer}
-use Rattle.numa_core.specs.Seats.{fresh}
 use Rattle.numa_core.proofs.InARow.{not_le}
 
 pub answered : (s : Setup) (world : World) (version : ℕ) (event : Event) (o : Option CoreRefusal)
@@ -83,7 +83,7 @@ module _ (s : Setup) (world : World) (version w : ℕ) (result : Result CoreRepl
   TryAnswers search frame owned = MatchBool owned
       ((result ≡ Ok (goes_on s (frame_search_past frame search)))
       × (new ≡ going_on s (frame_search_past frame search)))
-      ((result ≡ Ok (Won (placement_of s search frame))) × (new ≡ None))
+      ((result ≡ Ok (won_by s search frame)) × (new ≡ None))
 
   abbrev TryIs : Frame → Bool → Type 0
   TryIs frame owned = IsAnswer s world version (Try w frame) result × (is_ok result ≡ true → new
@@ -98,7 +98,7 @@ module _ (s : Setup) (world : World) (version w : ℕ) (result : Result CoreRepl
   abbrev try_reply : Frame → Option FrameSearch → Bool → CoreReply
   try_reply frame o owned = if owned
       then option_map_or (λ search. goes_on s (frame_search_past frame search)) o Still
-      else option_map_or (λ search. Won (placement_of s search frame)) o Still
+      else option_map_or (λ search. won_by s search frame) o Still
 
   try_some : (frame : Frame) (search : FrameSearch) → frame_search_of world w ≡ Some search
       → (may owned : Bool) → may_try s search frame ≡ may
@@ -143,15 +143,24 @@ pub give_answer : (s : Setup) (world : World) (version w : ℕ) (frame : Frame) 
 give_answer s world version w frame low idle owner = answered s world version (Give w frame) None
     (Ok Given) (rw (not_le s.workers w low, idle, owner, eq-eqb w w refl) refl) refl
 
+pub seek_answer : (s : Setup) (world : World) (version w node : ℕ) (reply : CoreReply)
+    → w < s.workers → frame_search_of world w ≡ None → frames_of s.machine node == 0 ≡ false
+    → reply ≡ goes_on s (seeking version node)
+    → IsAnswer s world version (Seek w node) (Ok reply)
+seek_answer s world version w node reply low idle some is =
+    answered s world version (Seek w node) None (Ok reply)
+    (rw (not_le s.workers w low, idle, some) refl) (ap Ok is)
+
 module _ (s : Setup) (world : World) (version w : ℕ) (request : Request) (row : List ℕ)
     (listed : list_at s.machine world.history version request ≡ Some row) where
   pub begin_answer : (reply : CoreReply) → refusal_of s world version (Begin w request) ≡ None
-      → reply ≡ goes_on s (fresh request version row)
+      → reply ≡ goes_on s (fresh (Some request) version row)
       → IsAnswer s world version (Begin w request) (Ok reply)
   begin_answer reply allowed is = answered s world version (Begin w request) None (Ok reply) allowed
-      (ap Ok (is ∙ ap (λ o. goes_on s (fresh request version (unwrap_or o []))) (sym listed)))
+      (ap Ok (is
+      ∙ ap (λ o. goes_on s (fresh (Some request) version (unwrap_or o []))) (sym listed)))
 
-  pub begin_frame_search : going_on s (fresh request version row)
+  pub begin_frame_search : going_on s (fresh (Some request) version row)
       ≡ going_on s (new_frame_search s world version request)
   begin_frame_search =
-      ap (λ o. going_on s (fresh request version (unwrap_or o []))) (sym listed)
+      ap (λ o. going_on s (fresh (Some request) version (unwrap_or o []))) (sym listed)

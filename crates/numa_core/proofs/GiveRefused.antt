@@ -1,6 +1,6 @@
 -- Why a Give is refused, and that nothing changes then.
 use Rattle.std.proofs.Common.{◌≡◌, ℕ, ◌<◌, ◌≤◌, ◌==◌, true, false, Option, Some, None, Err, is_some}
-use Rattle.std.proofs.Common.{List, length, map, refl, sym, ap, ◌∙◌, arith, slice_get, vec_len}
+use Rattle.std.proofs.Common.{List, length, map, refl, ap, ◌∙◌, arith, slice_get}
 use Rattle.std.specs.Option.{option_map_or}
 use Rattle.std.proofs.lemmas.List.{length-map}
 use Rattle.numa_machine.specs.declared.frame.Frame.{Frame}

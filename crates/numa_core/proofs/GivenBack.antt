@@ -7,16 +7,17 @@ use Rattle.std.proofs.lemmas.Bool.{eq-eqb}
 use Rattle.std.proofs.lemmas.Bool.Decides.{nat_tests}
 use Rattle.numa_machine.specs.declared.frame.Frame.{Frame}
 use Rattle.numa_requests.specs.declared.event.Event.{Event}
-use Rattle.numa_requests.specs.declared.event.Event.TheVariants.{Accept, Publish, Begin, Look, Try}
-use Rattle.numa_requests.specs.declared.event.Event.TheVariants.{Give}
+use Rattle.numa_requests.specs.declared.event.Event.TheVariants.{Accept, Publish, Begin, Seek, Look}
+use Rattle.numa_requests.specs.declared.event.Event.TheVariants.{Try, Give}
 use Rattle.numa_requests.specs.declared.event.CoreReply.{CoreReply}
-use Rattle.numa_requests.specs.declared.event.CoreReply.TheVariants.{Won}
+use Rattle.numa_requests.specs.declared.event.CoreReply.TheVariants.{Won, Found}
 use Rattle.numa_requests.specs.declared.event.CoreRefusal.{CoreRefusal}
 use Rattle.numa_core.specs.World.{Setup, World, owner_of, is_frame}
 use Rattle.numa_core.specs.Steps.{refusal_of, reply_of, effect_of, IsAnswer}
 use Rattle.numa_core.specs.Executions.{CoreStep, world_of, IsExecution, IsWin, worker_of}
-use Rattle.numa_core.specs.Executions.{gives_back, gives_event}
-use Rattle.numa_core.proofs.Answered.{replied, give_means, one_frame, won_means, won_by_try}
+use Rattle.numa_core.specs.Executions.{WinsFrame, gives_back, gives_event}
+use Rattle.numa_core.proofs.Answered.{IsNoWin, replied, give_means, one_frame, won_means, is_won}
+use Rattle.numa_core.proofs.Answered.{won_by_try, is_found, found_by_try}
 
 -- a frame that the worker has stays with it, but for a Give by the worker
 keeps : (s : Setup) (world : World) (w version : ℕ) (frame : Frame) (event : Event)
@@ -25,6 +26,7 @@ keeps : (s : Setup) (world : World) (w version : ℕ) (frame : Frame) (event : E
 keeps s world w version frame (Accept command) ok e g = e
 keeps s world w version frame Publish ok e g = e
 keeps s world w version frame (Begin v request) ok e g = e
+keeps s world w version frame (Seek v node) ok e g = e
 keeps s world w version frame (Look v word) ok e g = e
 keeps s world w version frame (Try v tried) ok e g = go (owner_of world tried) refl
   where
@@ -65,19 +67,35 @@ same_number a b e = cc
 pub win_means : (s : Setup) (past : List CoreStep) (w : ℕ) (frame : Frame) (m : CoreStep)
     → IsExecution s (m ∷ past) → IsWin w frame m → (m.event ≡ Try w frame)
     × (owner_of (world_of s past) frame ≡ None)
-win_means s past w frame m legal win =
-    let answer = replied s (world_of s past) m.version m.event (Won win.placement)
-    (subst (λ a. IsAnswer s (world_of s past) m.version m.event a) win.answer legal.2) in
-    let attempt = won_by_try s (world_of s past) m.version m.event win.placement answer.1 in
-    let same : attempt.0 ≡ w =
-    same_number attempt.0 w (sym (ap worker_of attempt.1) ∙ win.worker) in
-    let event : m.event ≡ Try w frame = attempt.1 ∙ ap (λ u. Try u win.placement.frame) same
-    ∙ ap (λ f. Try w f) win.its_frame in (
+win_means s past w frame m legal win = go win.wins
+  where
+    -- a Try of a frame that this reply says was won
+    means : (reply : CoreReply) → (IsNoWin reply → ⊥)
+        → reply ≡ reply_of s (world_of s past) m.version m.event → m.event ≡ Try w frame
+        → (m.event ≡ Try w frame) × (owner_of (world_of s past) frame ≡ None)
+    means reply wins is event = (
       event,
-      (won_means s (world_of s past) w m.version frame win.placement
-          (subst (λ x. Won win.placement ≡ reply_of s (world_of s past) m.version x) event
-          answer.1)).2,
+      (won_means s (world_of s past) w m.version frame reply wins
+          (subst (λ x. reply ≡ reply_of s (world_of s past) m.version x) event is)).2,
     )
+
+    mine : (v : ℕ) (tried : Frame) → m.event ≡ Try v tried → tried ≡ frame → m.event ≡ Try w frame
+    mine v tried is same =
+        let own : v ≡ w = same_number v w (sym (ap worker_of is) ∙ win.worker) in
+        is ∙ ap (λ u. Try u tried) own ∙ ap (λ f. Try w f) same
+
+    go : WinsFrame frame m.answer → (m.event ≡ Try w frame)
+        × (owner_of (world_of s past) frame ≡ None)
+    go (inl found) =
+        let answer = replied s (world_of s past) m.version m.event (Found frame)
+        (subst (λ a. IsAnswer s (world_of s past) m.version m.event a) found legal.2) in
+        let attempt = found_by_try s (world_of s past) m.version m.event frame answer.1 in
+        means (Found frame) (is_found frame) answer.1 (mine attempt.0 frame attempt.1 refl)
+    go (inr won) =
+        let answer = replied s (world_of s past) m.version m.event (Won won.0)
+        (subst (λ a. IsAnswer s (world_of s past) m.version m.event a) won.1 legal.2) in
+        let attempt = won_by_try s (world_of s past) m.version m.event won.0 answer.1 in
+        means (Won won.0) (is_won won.0) answer.1 (mine attempt.0 won.0.frame attempt.1 won.2)
 
 -- a Try of a free frame makes it the worker's
 takes : (s : Setup) (world : World) (w version : ℕ) (frame : Frame) → owner_of world frame ≡ None
@@ -85,14 +103,19 @@ takes : (s : Setup) (world : World) (w version : ℕ) (frame : Frame) → owner_
 takes s world w version frame free =
     rw free (rw (eq-eqb frame.node frame.node refl, eq-eqb frame.number frame.number refl) refl)
 
+win_is_ok : (frame : Frame) (answer : Result CoreReply CoreRefusal) → WinsFrame frame answer
+    → is_ok answer ≡ true
+win_is_ok frame answer (inl found) = ap is_ok found
+win_is_ok frame answer (inr won) = ap is_ok won.1
+
 -- after a win the frame is the worker's
 pub has_won : (s : Setup) (past : List CoreStep) (w : ℕ) (frame : Frame) (m : CoreStep)
     → IsExecution s (m ∷ past) → IsWin w frame m → owner_of (world_of s (m ∷ past)) frame ≡ Some w
 has_won s past w frame m legal win =
     let means = win_means s past w frame m legal win in
-    subst (λ a.
-    owner_of (if is_ok a then effect_of s (world_of s past) m.version m.event else world_of s
-    past) frame ≡ Some w) (sym win.answer)
+    subst (λ b.
+    owner_of (if b then effect_of s (world_of s past) m.version m.event else world_of s
+    past) frame ≡ Some w) (sym (win_is_ok frame m.answer win.wins))
     (subst (λ x. owner_of (effect_of s (world_of s past) m.version x) frame ≡ Some w) (sym means.0)
     (takes s (world_of s past) w m.version frame means.1))
 

@@ -5,8 +5,8 @@ use Rattle.std.proofs.Common.{Result, Ok, Err, is_ok, List, [], ◌∷◌, lengt
 use Rattle.std.proofs.Common.{if◌then◌else◌}
 use Rattle.std.proofs.lemmas.Bool.{eq-eqb, eqb-true}
 use Rattle.numa_requests.specs.declared.event.Event.{Event}
-use Rattle.numa_requests.specs.declared.event.Event.TheVariants.{Accept, Publish, Begin, Look, Try}
-use Rattle.numa_requests.specs.declared.event.Event.TheVariants.{Give}
+use Rattle.numa_requests.specs.declared.event.Event.TheVariants.{Accept, Publish, Begin, Seek, Look}
+use Rattle.numa_requests.specs.declared.event.Event.TheVariants.{Try, Give}
 use Rattle.numa_requests.specs.declared.event.CoreReply.{CoreReply}
 use Rattle.numa_requests.specs.declared.event.CoreRefusal.{CoreRefusal}
 use Rattle.numa_core.specs.World.{Setup, Worker, World, is_published, newest_published, last_of}
@@ -36,6 +36,12 @@ newest-step s world version Publish may sound newest = record {
     go v true e h = omega (arith, eqb-true (length world.history) v e)
     go v false e h = sound.published v h
 newest-step s world version (Begin v request) may sound newest = record {
+  there = newest.there;
+  greatest = newest.greatest;
+  lasts = λ w. by_itself (λ (worker : Worker). worker.last ≤ newest_published world) v w _
+      (world.worker w) (λ e. newest.greatest version may.0) (newest.lasts w);
+}
+newest-step s world version (Seek v node) may sound newest = record {
   there = newest.there;
   greatest = newest.greatest;
   lasts = λ w. by_itself (λ (worker : Worker). worker.last ≤ newest_published world) v w _
@@ -91,6 +97,7 @@ newest s (m ∷ past) legal = go m.answer (newest s past legal.0)
 pub may_take-newest : (world : World) (event : Event) → HasNewest world
     → MayTake world (newest_published world) event
 may_take-newest world (Begin w request) newest = (newest.there, newest.lasts w)
+may_take-newest world (Seek w node) newest = (newest.there, newest.lasts w)
 may_take-newest world (Accept command) newest = tt
 may_take-newest world Publish newest = tt
 may_take-newest world (Look w word) newest = tt

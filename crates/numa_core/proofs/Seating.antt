@@ -10,7 +10,7 @@ use Rattle.numa_requests.specs.declared.request.Request.{Request}
 use Rattle.numa_machine.specs.declared.frame.Frame.{Frame}
 use Rattle.numa_requests.specs.declared.placement.Placement.{Placement}
 use Rattle.numa_requests.specs.declared.event.CoreReply.{CoreReply}
-use Rattle.numa_requests.specs.declared.event.CoreReply.TheVariants.{Won}
+use Rattle.numa_requests.specs.declared.event.CoreReply.TheVariants.{Won, Found}
 use Rattle.numa_requests.specs.declared.event.CoreRefusal.{CoreRefusal}
 use Rattle.numa_requests.specs.declared.event.CoreRefusal.TheVariants.{BadTry, Idle}
 use Rattle.numa_core.specs.declared.seat.Cursor.{Cursor}
@@ -18,9 +18,10 @@ use Rattle.numa_core.specs.declared.seat.OngoingSearch.{OngoingSearch}
 use Rattle.numa_core.specs.declared.seat.WorkerSeat.{WorkerSeat}
 use Rattle.numa_core.specs.World.{Setup, FrameSearch, World, current_rank, may_try}
 use Rattle.numa_core.specs.World.{frame_search_after_look, frame_search_past, is_frame}
-use Rattle.numa_core.specs.Steps.{goes_on, going_on, placement_of}
+use Rattle.numa_core.specs.Steps.{goes_on, going_on, placement_of, won_by}
 use Rattle.numa_core.specs.Standing.{place_in, is_met, owner_at, met_at, frame_search_in}
-use Rattle.numa_core.specs.Seats.{busy_at, seat_frame_search, fresh, JobStands, IsPassed, IsCursor}
+use Rattle.numa_core.specs.World.{fresh}
+use Rattle.numa_core.specs.Seats.{busy_at, seat_frame_search, JobStands, IsPassed, IsCursor}
 use Rattle.numa_core.specs.Seats.{SeatLooks, SeatTries}
 use Rattle.numa_core.proofs.Cursors.{rank-at}
 use Rattle.numa_core.proofs.InARow.{is_lt, not_lt, place-not}
@@ -44,7 +45,7 @@ pub or_met : (a b c : Bool) → a ≡ (b || c) → c ≡ true → a ≡ true
 or_met a true c e h = e
 or_met a false c e h = e ∙ h
 
-same_frame_search : (request : Request) (version : ℕ) (nodes : List ℕ) (f g : ℕ → ℕ → Bool)
+same_frame_search : (request : Option Request) (version : ℕ) (nodes : List ℕ) (f g : ℕ → ℕ → Bool)
     → ((n k : ℕ) → f n k ≡ g n k)
     → ◌≡◌ {A = FrameSearch} record { request = request; version = version; nodes = nodes; met = f }
     record { request = request; version = version; nodes = nodes; met = g }
@@ -53,7 +54,7 @@ same_frame_search request version nodes f g each =
     record { request = request; version = version; nodes = nodes; met = met } in h)
     (λ i n k. each n k i)
 
-pub fresh-is : (frames : List ℕ) (request : Request) (version : ℕ) (at : Cursor)
+pub fresh-is : (frames : List ℕ) (request : Option Request) (version : ℕ) (at : Cursor)
     (nodes row words : List ℕ) → nodes ≡ row → ((p : ℕ) → is_met words (Some p) ≡ false)
     → frame_search_in frames (busy_at (record { request = request; version = version; at = at })
     nodes words) ≡ fresh request version row
@@ -201,8 +202,8 @@ module _ (s : Setup) (frames : List ℕ) (owned : Bool) (frame : Frame) (old new
       (frame_search_past frame
       (frame_search_in frames (busy_at job old.nodes.items old.met.items)))))
       ((result ≡ Ok
-      (Won (placement_of s (frame_search_in frames (busy_at job old.nodes.items old.met.items))
-      frame))) × (seat_frame_search frames new ≡ None))) (result ≡ Err BadTry)
+      (won_by s (frame_search_in frames (busy_at job old.nodes.items old.met.items))
+      frame)) × (seat_frame_search frames new ≡ None))) (result ≡ Err BadTry)
       → SeatTries frames s owned frame old result new
   tries result b test h = rw busy (matched _ b _ _
       (ap (λ o. option_map_or (λ r. (slice_index old.nodes.items r == frame.node)
@@ -243,53 +244,39 @@ module _ (s : Setup) (frames : List ℕ) (owned : Bool) (frame : Frame) (old new
       missed-is = same_frame_search job.request job.version old.nodes.items (met_at frames words)
           (λ n k. is_frame frame n k || met_at frames old.met.items n k) met
 
-  pub tries-free : is_next frames old.met.items node frame ≡ true → owned ≡ false
-      → node ≡ frame.node → seat_frame_search frames new ≡ None
-      → SeatTries frames s owned frame old
-      (Ok (Won
-      (record {
+  pub tries-free : (reply : CoreReply) → is_next frames old.met.items node frame ≡ true
+      → owned ≡ false → seat_frame_search frames new ≡ None
+      → reply ≡ option_map_or (λ request. Won (record {
         version = job.version;
-        task = job.request.task;
-        page = job.request.page;
-        node =
-            node;
+        task = request.task;
+        page = request.page;
+        node = frame.node;
         frame = frame;
         rank = job.at.rank;
-      }))) new
-  tries-free test is node_is idle =
-      tries _ true test (matched owned false _ _ is (ap Ok (ap Won placement), idle))
+      })) job.request (Found frame) → SeatTries frames s owned frame old (Ok reply) new
+  tries-free reply test is idle won =
+      tries _ true test (matched owned false _ _ is (ap Ok (won ∙ won_so job.request), idle))
     where
-      placement : ◌≡◌ {A = Placement} record {
+      won_so : (o : Option Request) → option_map_or (λ request. Won (record {
         version = job.version;
-        task = job.request.task;
-        page = job.request.page;
-        node = node;
+        task = request.task;
+        page = request.page;
+        node = frame.node;
         frame = frame;
         rank = job.at.rank;
-      }
-          (placement_of s (frame_search_in frames (busy_at job old.nodes.items old.met.items))
-          frame)
-      placement =
-          ap (λ (n : ℕ). let p : Placement =
+      })) o (Found frame) ≡ option_map_or (λ request. Won (placement_of s
+          (frame_search_in frames (busy_at job old.nodes.items old.met.items)) frame request)) o
+          (Found frame)
+      won_so None = refl
+      won_so (Some request) = ap (λ (r : Option ℕ). let p : Placement =
           record {
             version = job.version;
-            task = job.request.task;
-            page = job.request.page;
-            node =
-                n;
+            task = request.task;
+            page = request.page;
+            node = frame.node;
             frame = frame;
-            rank = job.at.rank;
-          } in p) node_is
-          ∙ ap (λ (o : Option ℕ). let p : Placement =
-          record {
-            version = job.version;
-            task = job.request.task;
-            page = job.request.page;
-            node =
-                frame.node;
-            frame = frame;
-            rank = unwrap_or o 0;
-          } in p) (sym current')
+            rank = unwrap_or r 0;
+          } in Won p) (sym current')
 
 -- a frame that the machine lacks
 pub tries-nowhere : (s : Setup) (frames : List ℕ) (owned : Bool) (frame : Frame)

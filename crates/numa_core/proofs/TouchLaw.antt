@@ -53,7 +53,7 @@ module _ (s : Setup) (world : World) (w : ℕ) (request : Request) (nodes : List
   -- the frame search of the touch, once it met these frames
   abbrev searching : (ℕ → ℕ → Bool) → FrameSearch
   searching met = record {
-    request = request;
+    request = Some request;
     version = newest_published world;
     nodes = nodes;
     met =

@@ -6,10 +6,9 @@ use Rattle.std.proofs.Common.{if◌then◌else◌, slice_index}
 use Rattle.std.proofs.lemmas.Bool.{eq-eqb}
 use Rattle.numa_machine.specs.declared.frame.Frame.{Frame}
 use Rattle.numa_requests.specs.declared.event.Event.TheVariants.{Try}
-use Rattle.numa_requests.specs.declared.event.CoreReply.TheVariants.{Won}
 use Rattle.numa_core.specs.World.{Setup, FrameSearch, Worker, World, newest_published}
 use Rattle.numa_core.specs.World.{frame_search_of, last_of, owner_of, may_try, frame_search_past}
-use Rattle.numa_core.specs.Steps.{refusal_of, goes_on, going_on, placement_of, with_worker}
+use Rattle.numa_core.specs.Steps.{refusal_of, goes_on, going_on, won_by, with_worker}
 use Rattle.numa_core.specs.Steps.{with_owner, put}
 use Rattle.numa_core.specs.Touching.{answered_with, lowest_free, first_free}
 
@@ -68,7 +67,7 @@ module _ (s : Setup) (world : World) (w : ℕ) (frame : Frame) (frame_search : F
   -- the frame is free
   pub try-free : owner_of world frame ≡ None → answered_with s world (Try w frame)
       ≡ record {
-        answer = Ok (Won (placement_of s frame_search frame));
+        answer = Ok (won_by s frame_search frame);
         world =
             with_worker (with_owner world frame (Some w)) w (last_of world w) None;
       }

@@ -7,16 +7,18 @@ use Rattle.std.specs.Option.{option_map_or}
 use Rattle.std.proofs.lemmas.Bool.{eq-eqb, eqb-true}
 use Rattle.numa_machine.specs.declared.frame.Frame.{Frame}
 use Rattle.numa_requests.specs.declared.event.Event.{Event}
-use Rattle.numa_requests.specs.declared.event.Event.TheVariants.{Accept, Publish, Begin, Look, Try}
-use Rattle.numa_requests.specs.declared.event.Event.TheVariants.{Give}
+use Rattle.numa_requests.specs.declared.event.Event.TheVariants.{Accept, Publish, Begin, Seek, Look}
+use Rattle.numa_requests.specs.declared.event.Event.TheVariants.{Try, Give}
 use Rattle.numa_requests.specs.declared.event.CoreReply.{CoreReply}
 use Rattle.numa_requests.specs.declared.event.CoreReply.TheVariants.{Still, Exhausted, Won}
+use Rattle.numa_requests.specs.declared.event.CoreReply.TheVariants.{Found, Full}
+use Rattle.numa_requests.specs.declared.request.Request.{Request}
 use Rattle.numa_requests.specs.declared.event.CoreRefusal.{CoreRefusal}
 use Rattle.numa_core.specs.World.{Setup, FrameSearch, Worker, World, is_published, last_of}
 use Rattle.numa_core.specs.World.{frame_search_of, owner_of, current_rank, new_frame_search}
-use Rattle.numa_core.specs.World.{frame_search_after_look, frame_search_past}
+use Rattle.numa_core.specs.World.{frame_search_after_look, frame_search_past, seeking}
 use Rattle.numa_core.specs.Steps.{reply_of, effect_of, goes_on, going_on, placement_of, IsAnswer}
-use Rattle.numa_core.specs.Steps.{MayTake}
+use Rattle.numa_core.specs.Steps.{MayTake, won_by}
 use Rattle.numa_core.specs.Executions.{CoreStep, world_of, IsExecution, version_told, worker_of}
 use Rattle.numa_core.proofs.Answered.{legal_before, replied}
 
@@ -82,6 +84,17 @@ sound-step s world version (Begin v request) may sound = record {
       → frame_search.version ≡ worker.last) v w _ (world.worker w)
       (λ e is. ap (λ (h : FrameSearch). h.version)
       (going_on-is s (new_frame_search s world version request) frame_search is))
+      (sound.frame_searches w frame_search);
+}
+sound-step s world version (Seek v node) may sound = record {
+  published = sound.published;
+  lasts = λ w. by_itself (λ (worker : Worker). worker.last ≤ length world.history) v w _
+      (world.worker w) (λ e. sound.published version may.0) (sound.lasts w);
+  frame_searches = λ w frame_search.
+      by_itself (λ (worker : Worker). worker.frame_search ≡ Some frame_search
+      → frame_search.version ≡ worker.last) v w _ (world.worker w)
+      (λ e is. ap (λ (h : FrameSearch). h.version)
+      (going_on-is s (seeking version node) frame_search is))
       (sound.frame_searches w frame_search);
 }
 sound-step s world version (Look v word) may sound = record {
@@ -158,6 +171,9 @@ rises-step s world version w Publish may = omega arith
 rises-step s world version w (Begin v request) may =
     by_itself (λ (worker : Worker). last_of world w ≤ worker.last) v w _ (world.worker w)
     (λ e. subst (λ u. last_of world u ≤ version) e may.1) (omega arith)
+rises-step s world version w (Seek v node) may =
+    by_itself (λ (worker : Worker). last_of world w ≤ worker.last) v w _ (world.worker w)
+    (λ e. subst (λ u. last_of world u ≤ version) e may.1) (omega arith)
 rises-step s world version w (Look v word) may =
     by_itself (λ (worker : Worker). last_of world w ≤ worker.last) v w _ (world.worker w)
     (λ e. subst (λ u. last_of world u ≤ last_of world v) e (omega arith)) (omega arith)
@@ -197,13 +213,15 @@ own v w e = eq-eqb v w (same_number v w e)
 
 told-goes_on : (s : Setup) (frame_search : FrameSearch) (a : ℕ)
     → version_told (Ok (goes_on s frame_search)) ≡ Some a → frame_search.version ≡ a
-told-goes_on s frame_search a = go (current_rank s frame_search)
+told-goes_on s frame_search a = go (current_rank s frame_search) frame_search.request
   where
-    go : (o : Option ℕ)
-        → version_told (Ok (if is_some o then Still else Exhausted frame_search.version)) ≡ Some a
+    go : (o : Option ℕ) (request : Option Request)
+        → version_told (Ok (if is_some o then Still
+        else option_map_or (λ r. Exhausted frame_search.version) request Full)) ≡ Some a
         → frame_search.version ≡ a
-    go None e = cc
-    go (Some rank) e = absurd (cc)
+    go None (Some r) e = cc
+    go None None e = absurd (cc)
+    go (Some rank) request e = absurd (cc)
 
 told-frame_search : (s : Setup) (o : Option FrameSearch) (f : FrameSearch → FrameSearch) (a : ℕ)
     → version_told (Ok (option_map_or (λ frame_search. goes_on s (f frame_search)) o Still))
@@ -214,11 +232,17 @@ told-frame_search s (Some frame_search) f a e =
     (frame_search, refl, told-goes_on s (f frame_search) a e)
 
 told-won : (s : Setup) (o : Option FrameSearch) (frame : Frame) (a : ℕ)
-    → version_told
-    (Ok (option_map_or (λ frame_search. Won (placement_of s frame_search frame)) o Still)) ≡ Some a
+    → version_told (Ok (option_map_or (λ frame_search. won_by s frame_search frame) o Still))
+    ≡ Some a
     → (frame_search : FrameSearch) × (o ≡ Some frame_search) × (frame_search.version ≡ a)
 told-won s None frame a e = absurd (cc)
-told-won s (Some frame_search) frame a e = (frame_search, refl, cc)
+told-won s (Some frame_search) frame a e = (frame_search, refl, go frame_search.request e)
+  where
+    go : (o : Option Request)
+        → version_told (Ok (option_map_or (λ r. Won (placement_of s frame_search frame r)) o
+        (Found frame))) ≡ Some a → frame_search.version ≡ a
+    go None e = absurd (cc)
+    go (Some r) e = cc
 
 by_true : (P : Worker → Type 0) (b : Bool) (x y : Worker) → b ≡ true → P x → P (if b then x else y)
 by_true P true x y e h = h
@@ -232,6 +256,9 @@ told-step s world version Publish w a sound own_step e = absurd (cc)
 told-step s world version (Begin v request) w a sound own_step e =
     by_true (λ worker. worker.last ≡ a) (v == w) _ (world.worker w) (own v w own_step)
     (told-goes_on s (new_frame_search s world version request) a e)
+told-step s world version (Seek v node) w a sound own_step e =
+    by_true (λ worker. worker.last ≡ a) (v == w) _ (world.worker w) (own v w own_step)
+    (told-goes_on s (seeking version node) a e)
 told-step s world version (Look v word) w a sound own_step e =
     let frame_search = told-frame_search s (frame_search_of world v)
     (frame_search_after_look s world word) a e in
@@ -243,7 +270,7 @@ told-step s world version (Try v frame) w a sound own_step e = go (owner_of worl
         → version_told
         (Ok (if is_some owner then option_map_or
         (λ frame_search. goes_on s (frame_search_past frame frame_search)) (frame_search_of world v)
-        Still else option_map_or (λ frame_search. Won (placement_of s frame_search frame))
+        Still else option_map_or (λ frame_search. won_by s frame_search frame)
         (frame_search_of world v) Still)) ≡ Some a
         → last_of (effect_of s world version (Try v frame)) w ≡ a
     go (Some u) is e = let frame_search = told-frame_search s (frame_search_of world v)

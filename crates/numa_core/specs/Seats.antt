@@ -3,16 +3,14 @@ use Rattle.std.specs.Prelude.{◌≡◌, ℕ, ◌*◌, ◌<◌, ◌≤◌, Bool,
 use Rattle.std.specs.Prelude.{Some, None, Result, Ok, Err, List, length, vec_len}
 use Rattle.std.specs.Prelude.{slice_index, MatchOption, MatchBool, map}
 use Rattle.numa_machine.specs.declared.frame.Frame.{Frame}
-use Rattle.numa_requests.specs.declared.request.Request.{Request}
 use Rattle.numa_requests.specs.declared.event.CoreReply.{CoreReply}
-use Rattle.numa_requests.specs.declared.event.CoreReply.TheVariants.{Won}
 use Rattle.numa_requests.specs.declared.event.CoreRefusal.{CoreRefusal}
 use Rattle.numa_requests.specs.declared.event.CoreRefusal.TheVariants.{Idle, BadTry}
 use Rattle.numa_core.specs.declared.seat.OngoingSearch.{OngoingSearch}
 use Rattle.numa_core.specs.declared.seat.WorkerSeat.{WorkerSeat}
 use Rattle.numa_core.specs.World.{Setup, FrameSearch, World, may_look, may_try}
 use Rattle.numa_core.specs.World.{frame_search_after_look, frame_search_past}
-use Rattle.numa_core.specs.Steps.{goes_on, going_on, placement_of}
+use Rattle.numa_core.specs.Steps.{goes_on, going_on, won_by}
 use Rattle.numa_space.specs.Standing.{SpaceState}
 use Rattle.numa_plan.specs.Meaning.{PlanData}
 use Rattle.numa_core.specs.Standing.{Busy, CoreState, frames_before, met_at, frame_search_of_busy}
@@ -91,15 +89,6 @@ pub record IsSeatCopy (seat copy : WorkerSeat) : Type 0 where
   pub busy : busy_of copy ≡ busy_of seat
   pub fits : (frames : List ℕ) → SeatFits frames seat → SeatFits frames copy
 
--- a frame search with no frame met
-abbrev pub fresh : Request → ℕ → List ℕ → FrameSearch
-fresh request version nodes = record {
-  request = request;
-  version = version;
-  nodes = nodes;
-  met = λ n k. false;
-}
-
 -- what the seat answers to a Look, and its frame search afterwards
 abbrev pub SeatLooks : List ℕ → Setup → World → ℕ → WorkerSeat →
     Result CoreReply CoreRefusal → WorkerSeat → Type 0
@@ -120,6 +109,6 @@ SeatTries frames s owned frame old result new =
     (MatchBool owned
     ((result ≡ Ok (goes_on s (frame_search_past frame frame_search)))
     × (seat_frame_search frames new ≡ going_on s (frame_search_past frame frame_search)))
-    ((result ≡ Ok (Won (placement_of s frame_search frame)))
+    ((result ≡ Ok (won_by s frame_search frame))
     × (seat_frame_search frames new ≡ None)))
     (result ≡ Err BadTry))

@@ -33,10 +33,11 @@ place_of machine n k = place_in machine.frames n k
 
 -- ---- what a core shows
 
--- what a busy worker is about: its request, the version and the fallback list that it took, and the
--- frames that it met, one bit for each frame's place in words of 64
+-- what a busy worker is about: its request, or none where it seeks a frame of one node, the version
+-- that it took, the nodes in which it looks, and the frames that it met, one bit for each frame's
+-- place in words of 64
 pub record Busy : Type 0 where
-  pub request : Request
+  pub request : Option Request
   pub version : ℕ
   pub nodes : List ℕ
   pub met : List ℕ

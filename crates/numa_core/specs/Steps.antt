@@ -8,31 +8,37 @@ use Rattle.numa_space.specs.Refusals.{refusal_of as command_refusal}
 use Rattle.numa_space.specs.Steps.{MayNeedRoom}
 use Rattle.numa_requests.specs.declared.refusal.Refusal.{Refusal}
 use Rattle.numa_requests.specs.declared.refusal.Refusal.TheVariants.{NoMemory as NoRoom}
+use Rattle.numa_machine.specs.Machine.{frames_of}
 use Rattle.numa_machine.specs.declared.frame.Frame.{Frame}
 use Rattle.numa_requests.specs.declared.placement.Placement.{Placement}
+use Rattle.numa_requests.specs.declared.request.Request.{Request}
 use Rattle.numa_requests.specs.declared.event.Event.{Event}
-use Rattle.numa_requests.specs.declared.event.Event.TheVariants.{Accept, Publish, Begin}
+use Rattle.numa_requests.specs.declared.event.Event.TheVariants.{Accept, Publish, Begin, Seek}
 use Rattle.numa_requests.specs.declared.event.Event.TheVariants.{Look, Try, Give}
 use Rattle.numa_requests.specs.declared.event.CoreReply.{CoreReply}
 use Rattle.numa_requests.specs.declared.event.CoreReply.TheVariants.{Accepted, Published, Still}
-use Rattle.numa_requests.specs.declared.event.CoreReply.TheVariants.{Exhausted, Won, Given}
+use Rattle.numa_requests.specs.declared.event.CoreReply.TheVariants.{Exhausted, Won, Found, Full}
+use Rattle.numa_requests.specs.declared.event.CoreReply.TheVariants.{Given}
 use Rattle.numa_requests.specs.declared.event.CoreRefusal.{CoreRefusal}
 use Rattle.numa_requests.specs.declared.event.CoreRefusal.TheVariants.{Command as Because}
 use Rattle.numa_requests.specs.declared.event.CoreRefusal.TheVariants.{NoSuchWorker, Busy, Idle}
 use Rattle.numa_requests.specs.declared.event.CoreRefusal.TheVariants.{BadTry, NotOwned, BadCpu}
-use Rattle.numa_requests.specs.declared.event.CoreRefusal.TheVariants.{Unmapped, NoMemory}
+use Rattle.numa_requests.specs.declared.event.CoreRefusal.TheVariants.{Unmapped, NoSuchNode}
+use Rattle.numa_requests.specs.declared.event.CoreRefusal.TheVariants.{NoMemory}
 use Rattle.numa_core.specs.declared.acceptance.Acceptance.{Acceptance}
 use Rattle.numa_core.specs.World.{Setup, FrameSearch, World, is_published, last_of, frame_search_of}
 use Rattle.numa_core.specs.World.{owner_of, is_frame, list_at, current_rank, may_look}
 use Rattle.numa_core.specs.World.{may_try, new_frame_search, frame_search_after_look}
-use Rattle.numa_core.specs.World.{frame_search_past}
+use Rattle.numa_core.specs.World.{frame_search_past, seeking}
 
 -- ---- which versions a worker may take
 
--- a Begin takes any published version that isn't below the worker's last one; the other events take
--- none
+-- a Begin or a Seek takes any published version that isn't below the worker's last one; the other
+-- events take none
 abbrev pub MayTake : World → ℕ → Event → Type 0
 MayTake world version (Begin w request) = (is_published world version ≡ true)
+    × (last_of world w ≤ version)
+MayTake world version (Seek w node) = (is_published world version ≡ true)
     × (last_of world w ≤ version)
 MayTake world version (Accept command) = Unit {0}
 MayTake world version Publish = Unit {0}
@@ -80,9 +86,14 @@ with_owner world frame o = record {
   owner = put_frame world.owner frame o;
 }
 
+-- what ends a frame search that wins no frame: for a page its list is exhausted, a node is full
+abbrev pub over_by : FrameSearch → CoreReply
+over_by frame_search =
+    option_map_or (λ request. Exhausted frame_search.version) frame_search.request Full
+
 module _ (s : Setup) where
   -- why the event is refused, if it is, other than for memory. The version is the one that a Begin
-  -- takes
+  -- or a Seek takes
   abbrev pub refusal_of : World → ℕ → Event → Option CoreRefusal
   refusal_of world version (Accept command) =
       because (command_refusal s.machine s.bounds world.history command)
@@ -92,6 +103,11 @@ module _ (s : Setup) where
       ∷ (is_some (frame_search_of world w), Busy)
       ∷ (nat_le s.machine.nodes request.cpu, BadCpu)
       ∷ (is_none (list_at s.machine world.history version request), Unmapped version)
+      ∷ [])
+  refusal_of world version (Seek w node) = first_refusal (
+      (nat_le s.workers w, NoSuchWorker)
+      ∷ (is_some (frame_search_of world w), Busy)
+      ∷ (frames_of s.machine node == 0, NoSuchNode)
       ∷ [])
   refusal_of world version (Look w word) = first_refusal (
       (nat_le s.workers w, NoSuchWorker)
@@ -119,28 +135,34 @@ module _ (s : Setup) where
 
   -- a frame search goes on while there is a current node; then it is over, and the worker is idle
   abbrev pub goes_on : FrameSearch → CoreReply
-  goes_on frame_search = if is_some (current_rank s frame_search) then Still else Exhausted
-      frame_search.version
+  goes_on frame_search =
+      if is_some (current_rank s frame_search) then Still else over_by frame_search
 
   abbrev pub going_on : FrameSearch → Option FrameSearch
   going_on frame_search = if is_some (current_rank s frame_search) then Some frame_search else None
 
-  -- the placement of the frame search's page in the frame
-  abbrev pub placement_of : FrameSearch → Frame → Placement
-  placement_of frame_search frame = record {
+  -- the placement of the request's page in the frame, by the frame search
+  abbrev pub placement_of : FrameSearch → Frame → Request → Placement
+  placement_of frame_search frame request = record {
     version = frame_search.version;
-    task = frame_search.request.task;
-    page = frame_search.request.page;
+    task = request.task;
+    page = request.page;
     node = frame.node;
     frame = frame;
     rank = unwrap_or (current_rank s frame_search) 0;
   }
+
+  -- what a frame search is answered that wins the frame
+  abbrev pub won_by : FrameSearch → Frame → CoreReply
+  won_by frame_search frame = option_map_or
+      (λ request. Won (placement_of frame_search frame request)) frame_search.request (Found frame)
 
   -- what an event answers that isn't refused
   abbrev pub reply_of : World → ℕ → Event → CoreReply
   reply_of world version (Accept command) = Accepted (length world.history + 1)
   reply_of world version Publish = Published (length world.history)
   reply_of world version (Begin w request) = goes_on (new_frame_search s world version request)
+  reply_of world version (Seek w node) = goes_on (seeking version node)
   reply_of world version (Look w word) =
       option_map_or (λ frame_search. goes_on (frame_search_after_look s world word frame_search))
       (frame_search_of world w) Still
@@ -148,8 +170,7 @@ module _ (s : Setup) where
       if is_some (owner_of world frame)
       then option_map_or (λ frame_search. goes_on (frame_search_past frame frame_search))
       (frame_search_of world w) Still
-      else option_map_or (λ frame_search. Won (placement_of frame_search frame))
-      (frame_search_of world w) Still
+      else option_map_or (λ frame_search. won_by frame_search frame) (frame_search_of world w) Still
   reply_of world version (Give w frame) = Given
 
   -- what an event does that isn't refused
@@ -170,6 +191,8 @@ module _ (s : Setup) where
       }
   effect_of world version (Begin w request) =
       with_worker world w version (going_on (new_frame_search s world version request))
+  effect_of world version (Seek w node) =
+      with_worker world w version (going_on (seeking version node))
   effect_of world version (Look w word) =
       with_worker world w (last_of world w)
       (option_map_or (λ frame_search. going_on (frame_search_after_look s world word frame_search))
@@ -209,6 +232,7 @@ abbrev pub IsOutOfMemory : Event → Result CoreReply CoreRefusal → Type 0
 IsOutOfMemory (Accept command) answer = (answer ≡ Err (Because NoRoom)) × MayNeedRoom command
 IsOutOfMemory Publish answer = answer ≡ Err NoMemory
 IsOutOfMemory (Begin w request) answer = ⊥
+IsOutOfMemory (Seek w node) answer = ⊥
 IsOutOfMemory (Look w word) answer = ⊥
 IsOutOfMemory (Try w frame) answer = ⊥
 IsOutOfMemory (Give w frame) answer = ⊥

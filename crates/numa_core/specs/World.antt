@@ -18,10 +18,11 @@ pub record Setup : Type 0 where
   pub bounds : Bounds
   pub workers : ℕ
 
--- a worker's frame search: its request, the version and the fallback list that it took, and the
--- frames that it met, by node and number
+-- a worker's frame search: its request, or none where it seeks a frame of one node; the version
+-- that it took; the nodes in which it looks, in this order; and the frames that it met, by node and
+-- number
 pub record FrameSearch : Type 0 where
-  pub request : Request
+  pub request : Option Request
   pub version : ℕ
   pub nodes : List ℕ
   pub met : ℕ → ℕ → Bool
@@ -83,6 +84,21 @@ list_at machine history version request =
     request.task request.page request.cpu)
     else None
 
+-- ---- frame searches that begin
+
+-- a frame search with no frame met
+abbrev pub fresh : Option Request → ℕ → List ℕ → FrameSearch
+fresh request version nodes = record {
+  request = request;
+  version = version;
+  nodes = nodes;
+  met = λ n k. false;
+}
+
+-- one that seeks a frame of this node
+abbrev pub seeking : ℕ → ℕ → FrameSearch
+seeking version node = fresh None version (node ∷ [])
+
 -- ---- the current node
 
 -- some number below the count passes the test
@@ -127,12 +143,7 @@ module _ (s : Setup) where
   -- a frame search that begins: it has the list of its version, and has met no frame
   abbrev pub new_frame_search : World → ℕ → Request → FrameSearch
   new_frame_search world version request =
-      record {
-        request = request;
-        version = version;
-        nodes = unwrap_or (list_at s.machine world.history version request) [];
-        met = λ n k. false;
-      }
+      fresh (Some request) version (unwrap_or (list_at s.machine world.history version request) [])
 
   -- a look at this word of the frame search's current node finds the frame owned
   abbrev pub look_finds : World → ℕ → FrameSearch → ℕ → ℕ → Bool

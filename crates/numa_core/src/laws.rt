@@ -11,7 +11,8 @@ ghost use Rattle.numa_core.specs.Standing.{CoreState, CoreStandsFor, ShowsWorld,
 ghost use Rattle.numa_requests.specs.declared.request.Request.{Request};
 ghost use Rattle.numa_core.specs.Executions.{CoreStep, accepts, world_of, next_core_step};
 ghost use Rattle.numa_core.specs.Executions.{IsExecution};
-ghost use Rattle.numa_core.specs.Executions.{IsRightPlacement, IsExhausted, IsWin, worker_of};
+ghost use Rattle.numa_core.specs.Executions.{IsRightPlacement, IsExhausted, IsRightFrame, IsFull};
+ghost use Rattle.numa_core.specs.Executions.{IsWin, worker_of};
 ghost use Rattle.numa_core.specs.Executions.{gives_back, version_told};
 ghost use Rattle.numa_requests.specs.declared.event.Event.{Event};
 ghost use Rattle.numa_requests.specs.declared.event.CoreReply.{CoreReply};
@@ -20,8 +21,10 @@ ghost use Rattle.numa_requests.specs.declared.placement.Placement.{Placement};
 
 /// In every execution, for any machine, limits and number of workers: each Won replies to a Try of
 /// its frame, and its placement is right; at each Exhausted the worker has found every frame of its
-/// list with an owner; between two Won of one frame the first winner gives the frame back; and the
-/// versions in the Won and Exhausted of one worker never decrease.
+/// list with an owner; each Found replies to a Try of its frame, which belongs to the node that the
+/// worker seeks; at each Full the worker has found every frame of that node with an owner; between
+/// two Won or Found of one frame the first winner gives the frame back; and the versions in the Won
+/// and Exhausted of one worker never decrease.
 pub fn every_execution()
     ensures right { (s : Setup) (later earlier : List CoreStep) (m : CoreStep)
         (placement : Placement) →
@@ -30,6 +33,12 @@ pub fn every_execution()
     ensures exhausted { (s : Setup) (later earlier : List CoreStep) (m : CoreStep) (version : ℕ) →
         IsExecution s (later ++ m ∷ earlier) → m.answer ≡ Ok (CoreReply.Exhausted version) →
         (w : ℕ) × (worker_of m.event ≡ Some w) × IsExhausted s w version (m ∷ earlier) }
+    ensures found { (s : Setup) (later earlier : List CoreStep) (m : CoreStep) (frame : Frame) →
+        IsExecution s (later ++ m ∷ earlier) → m.answer ≡ Ok (CoreReply.Found frame) →
+        (w : ℕ) × (m.event ≡ Event.Try w frame) × IsRightFrame s w frame earlier }
+    ensures full { (s : Setup) (later earlier : List CoreStep) (m : CoreStep) →
+        IsExecution s (later ++ m ∷ earlier) → m.answer ≡ Ok CoreReply.Full →
+        (w : ℕ) × (worker_of m.event ≡ Some w) × IsFull s w (m ∷ earlier) }
     ensures given_back { (s : Setup) (later between earlier : List CoreStep)
         (first second : CoreStep) (v w : ℕ) (frame : Frame) →
         IsExecution s (later ++ second ∷ (between ++ first ∷ earlier)) → IsWin v frame first →
@@ -43,7 +52,7 @@ pub fn every_execution()
 {}
 
 /// No execution comes to a standstill: with ample memory it can continue with any event, where a
-/// Begin takes the newest published version. No published version is above that one.
+/// Begin or a Seek takes the newest published version. No published version is above that one.
 pub fn every_execution_goes_on()
     ensures goes_on { (s : Setup) (past : List CoreStep) (event : Event) → IsExecution s past →
         IsExecution s (next_core_step s past event ∷ past) }

@@ -56,8 +56,8 @@ impl Core {
     /// A core of this machine, with these limits and `workers` workers, numbered from 0. Nothing is
     /// accepted, version 0 is published, each worker is idle and no frame is owned.
     ///
-    /// It allocates all memory that Begin, Look, Try and Give ever use: two bytes and a bit for
-    /// each frame of the machine, and for each worker 256 bytes and one bit for each frame.
+    /// It allocates all memory that Begin, Seek, Look, Try and Give ever use: two bytes and a bit
+    /// for each frame of the machine, and for each worker 256 bytes and one bit for each frame.
     ///
     /// # Errors
     /// `NoMemory`: out of memory.
@@ -101,14 +101,16 @@ impl Core {
         Ok(Core { state })
     }
 
-    /// Carries out an event and returns its reply. A Begin takes the newest published version. A
-    /// refused event changes nothing.
+    /// Carries out an event and returns its reply. A Begin or a Seek takes the newest published
+    /// version. A refused event changes nothing.
     ///
     /// # Errors
     /// - Accept: `Command`, with the cause.
     /// - Publish: `NoMemory`.
     /// - Begin: the first that applies of `NoSuchWorker`; `Busy`; `BadCpu`, the machine lacks the
     ///   faulting node; `Unmapped`, with the version in which the page isn't mapped.
+    /// - Seek: the first that applies of `NoSuchWorker`; `Busy`; `NoSuchNode`, the machine lacks
+    ///   the node, or the node has no frames.
     /// - Look and Try: the first that applies of `NoSuchWorker`; `Idle`; `BadTry`, the current node
     ///   lacks the word, or the frame isn't one of its unmet frames.
     /// - Give: the first that applies of `NoSuchWorker`; `Busy`; `NotOwned`, the frame isn't the
@@ -130,6 +132,7 @@ impl Core {
             },
             Event::Publish => self.state.publish(),
             Event::Begin(worker, request) => self.state.begin(worker, request),
+            Event::Seek(worker, node) => self.state.seek(worker, node),
             Event::Look(worker, word) => self.state.look(worker, word),
             Event::Try(worker, frame) => self.state.attempt(worker, frame),
             Event::Give(worker, frame) => self.state.give(worker, frame),

@@ -3,11 +3,13 @@ ghost use Rattle.std.specs.Prelude.{◌≡◌, ℕ, ◌*◌, ◌<◌, ◌≤◌,
 ghost use Rattle.std.specs.Prelude.{IfErr, IfSome, OnOk, OnErr, MatchOption, is_some, length};
 ghost use Rattle.std.specs.Prelude.{vec_len};
 ghost use Rattle.std.specs.Prelude.{slice_index};
-ghost use Rattle.numa_core.specs.World.{Setup, World};
+ghost use Rattle.std.specs.Option.{option_map_or};
+ghost use Rattle.numa_core.specs.World.{Setup, World, fresh};
 ghost use Rattle.numa_core.specs.Steps.{goes_on, going_on};
 ghost use Rattle.numa_core.specs.Standing.{frames_before, owner_at, place_in, is_met, met_at};
 ghost use Rattle.numa_core.specs.Standing.{frame_search_in};
-ghost use Rattle.numa_core.specs.Seats.{busy_at, busy_of, seat_frame_search, fresh, HasRoom};
+ghost use Rattle.numa_core.specs.Seats.{busy_at, busy_of, seat_frame_search, HasRoom};
+ghost use Rattle.numa_requests.specs.declared.event.CoreReply.{CoreReply};
 ghost use Rattle.numa_core.specs.Seats.{IsPassed};
 ghost use Rattle.numa_core.specs.Seats.{IsCursor, IsAllMet, IsSeatCopy};
 ghost use Rattle.numa_core.specs.Seats.{SeatFits, SeatLooks, SeatTries};
@@ -27,11 +29,11 @@ pub(crate) struct Cursor {
     pub next: u32,
 }
 
-/// The search of a busy worker: its request, the version that it took, and its cursor, the lowest
-/// unmet frame of its current node.
+/// The search of a busy worker: its request, or none where it seeks a frame of one node, the
+/// version that it took, and its cursor, the lowest unmet frame of its current node.
 #[derive(Clone, Copy)]
 pub(crate) struct OngoingSearch {
-    pub request: Request,
+    pub request: Option<Request>,
     pub version: u64,
     pub at: Cursor,
 }
@@ -96,6 +98,41 @@ fn take_row(nodes: &mut ArrayVec<u8, 256>, row: &[u8])
     };
 }
 
+/// What ends a search that wins no frame.
+fn over_by(job: OngoingSearch) -> CoreReply
+    ensures { result ≡ option_map_or (λ request. CoreReply.Exhausted job.version) job.request
+        CoreReply.Full }
+{
+    match job.request {
+        Some(_) => CoreReply::Exhausted(job.version),
+        None => CoreReply::Full,
+    }
+}
+
+/// What a search is answered that wins the frame.
+fn won_by(job: OngoingSearch, frame: Frame) -> CoreReply
+    ensures { result ≡ option_map_or (λ request. CoreReply.Won (record {
+      version = job.version;
+      task = request.task;
+      page = request.page;
+      node = frame.node;
+      frame = frame;
+      rank = job.at.rank;
+    })) job.request (CoreReply.Found frame) }
+{
+    match job.request {
+        Some(request) => CoreReply::Won(Placement {
+            version: job.version,
+            task: request.task,
+            page: request.page,
+            node: frame.node,
+            frame,
+            rank: job.at.rank,
+        }),
+        None => CoreReply::Found(frame),
+    }
+}
+
 impl WorkerSeat {
     /// An idle worker, with room for these frames.
     pub(crate) fn new(alloc: Global, places: &Places) -> Result<WorkerSeat, AllocError>
@@ -141,7 +178,7 @@ impl WorkerSeat {
     {
         let Some(at) = first_from(places, self.nodes.as_slice(), &self.met, job.at) else {
             self.job = None;
-            return CoreReply::Exhausted(job.version);
+            return over_by(job);
         };
         self.job = Some(OngoingSearch {
             request: job.request,
@@ -151,11 +188,11 @@ impl WorkerSeat {
         CoreReply::Still
     }
 
-    /// Takes a request with the version and the list for it.
+    /// Takes the version and the list for a request, or for none the node that is sought.
     pub(crate) fn begin(
         &mut self,
         places: &Places,
-        request: Request,
+        request: Option<Request>,
         version: u64,
         row: &[u8],
     ) -> CoreReply
@@ -264,13 +301,6 @@ impl WorkerSeat {
             return Ok(self.settle(places, job));
         }
         self.job = None;
-        Ok(CoreReply::Won(Placement {
-            version: job.version,
-            task: job.request.task,
-            page: job.request.page,
-            node,
-            frame,
-            rank: job.at.rank,
-        }))
+        Ok(won_by(job, frame))
     }
 }

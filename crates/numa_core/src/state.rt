@@ -213,7 +213,24 @@ impl State {
     {
         let row = row_for(&self.plan, &self.seats, worker, request)?;
         let version = self.plan.version();
-        Ok(self.seats[worker as usize].begin(&self.places, request, version, row))
+        Ok(self.seats[worker as usize].begin(&self.places, Some(request), version, row))
+    }
+
+    /// A worker takes the newest published version, and looks for a frame of a node.
+    pub(crate) fn seek(&mut self, worker: u32, node: u8) -> Result<CoreReply, CoreRefusal>
+        requires kept { IsKept self.old }
+        ensures { Performs self.old (Event.Seek worker node) result self.new }
+    {
+        seated(&self.seats, worker)?;
+        let seat = &self.seats[worker as usize];
+        if seat.job.is_some() {
+            return Err(CoreRefusal::Busy);
+        }
+        if self.places.frames(node) == 0 {
+            return Err(CoreRefusal::NoSuchNode);
+        }
+        let newest = self.plan.version();
+        Ok(self.seats[worker as usize].begin(&self.places, None, newest, &[node]))
     }
 
     /// A worker looks at a word of its current node.

@@ -7,10 +7,10 @@ use Rattle.std.proofs.lemmas.Bool.Decides.{nat_tests}
 use Rattle.numa_machine.specs.declared.frame.Frame.{Frame}
 use Rattle.numa_core.specs.World.{Setup, World, FrameSearch, frame_search_of, owner_of, last_of}
 use Rattle.numa_core.specs.World.{may_look, may_try, frame_search_after_look, frame_search_past}
-use Rattle.numa_core.specs.Steps.{answer_of, effect_of, goes_on, going_on, placement_of, with_owner}
+use Rattle.numa_core.specs.Steps.{answer_of, effect_of, goes_on, going_on, won_by, with_owner}
 use Rattle.numa_core.specs.Steps.{with_worker}
 use Rattle.numa_requests.specs.declared.event.Event.TheVariants.{Look, Try, Give}
-use Rattle.numa_requests.specs.declared.event.CoreReply.TheVariants.{Won, Given}
+use Rattle.numa_requests.specs.declared.event.CoreReply.TheVariants.{Given}
 
 pub no_less : (a b : ℕ) → b < a → nat_le a b ≡ false
 no_less a b l = grind (arith, nat_tests)
@@ -29,7 +29,7 @@ module _ (s : Setup) (world : World) (version id : ℕ) (there : nat_le s.worker
         (option_map_or (λ h. going_on s (frame_search_after_look s world w h)) o None)) busy
 
     pub won-answer : (f : Frame) → may_try s frame_search f ≡ true → owner_of world f ≡ None
-        → answer_of s world version (Try id f) ≡ Ok (Won (placement_of s frame_search f))
+        → answer_of s world version (Try id f) ≡ Ok (won_by s frame_search f)
     won-answer f may free = rw (there, busy, may, free) refl
 
     pub lost-answer : (f : Frame) (j : ℕ) → may_try s frame_search f ≡ true

@@ -1,4 +1,4 @@
--- The turns of a seat in an interleaving, since its worker's Begin.
+-- The turns of a seat in an interleaving, since its worker's Begin or Seek.
 use Rattle.std.proofs.Common.{◌≡◌, ℕ, ◌<◌, ◌≤◌, Bool, true, Some, is_ok, List, [], ◌∷◌, ◌++◌}
 use Rattle.std.proofs.Common.{length, refl, sym, ap, subst, ◌∙◌, arith, eq-eqb, ne_eqb}
 use Rattle.std.proofs.Common.{if◌then◌else◌}
@@ -9,19 +9,22 @@ use Rattle.numa_requests.specs.declared.request.Request.{Request}
 use Rattle.numa_core.specs.World.{Setup, Worker, World}
 use Rattle.numa_core.specs.Steps.{answer_of, effect_of}
 use Rattle.numa_core.specs.Executions.{worker_of, world_of}
-use Rattle.numa_requests.specs.declared.event.Event.TheVariants.{Accept, Publish, Begin, Look, Try}
-use Rattle.numa_requests.specs.declared.event.Event.TheVariants.{Give}
+use Rattle.numa_requests.specs.declared.event.Event.TheVariants.{Accept, Publish, Begin, Seek}
+use Rattle.numa_requests.specs.declared.event.Event.TheVariants.{Look, Try, Give}
 use Rattle.numa_pool.specs.Seats.{SeatView}
 use Rattle.numa_pool.specs.declared.view.Entry.{Entry}
 use Rattle.numa_pool.specs.declared.view.Entry.TheVariants.{Load, Won, Lost, Gave}
 use Rattle.numa_refinement.specs.FrameSearches.{TakesTurns, Turn, steps_of, world_left}
-use Rattle.numa_refinement.specs.WalkSteps.{event_of}
+use Rattle.numa_refinement.specs.WalkSteps.{MaySeek, event_of}
 use Rattle.numa_refinement.specs.Moves.{Makes, PoolState}
 use Rattle.numa_refinement.specs.Plays.{Deed, makes_step, splits, has_event, Done, Fits, IsPlay}
 use Rattle.numa_refinement.specs.Plays.{pools_of, execution_of, since_of}
 use Rattle.numa_refinement.proofs.Playing.{plays}
 use Rattle.numa_refinement.specs.Faults.{Falls, IsReady, LeavesLast, begun_world}
-use Rattle.numa_refinement.specs.Interleaved.{HaveNoBegin, IsNoBegin, begins, turns_in, with_turn}
+use Rattle.numa_refinement.specs.Interleaved.{HaveNoBegin, IsNoBegin, begins, seeks, turns_in}
+use Rattle.numa_refinement.specs.Interleaved.{with_turn}
+use Rattle.numa_refinement.specs.Migrations.{FallsOn, sought_world}
+use Rattle.numa_refinement.proofs.Migrating.{may-seek}
 use Rattle.numa_refinement.proofs.Beside.{desk, workers}
 
 pub its-worker : (id : ℕ) (e : Entry) → worker_of (event_of id e) ≡ Some id
@@ -68,6 +71,14 @@ module _ (s : Setup) (w : ℕ) (few : (n : ℕ) → slice_index s.machine.frames
       last = h.last;
       worker = workers s world version (Begin v request)
           (answer_of s world version (Begin v request)) v w refl no_begin ∙ h.worker;
+      since = ap (λ (b : Bool). if b then [] else since_of s rest w) (ne_eqb v w no_begin)
+          ∙ h.since;
+    }
+    one-more (has_event version (Seek v node)) pools fits no_begin = record {
+      taken = h.taken;
+      last = h.last;
+      worker = workers s world version (Seek v node)
+          (answer_of s world version (Seek v node)) v w refl no_begin ∙ h.worker;
       since = ap (λ (b : Bool). if b then [] else since_of s rest w) (ne_eqb v w no_begin)
           ∙ h.since;
     }
@@ -171,3 +182,52 @@ module _ (s : Setup) (w : ℕ) (few : (n : ℕ) → slice_index s.machine.frames
   pub leaves-last : LeavesLast s w (begun_world s w history request start)
       (turns_in s w first later base)
   leaves-last = stands.last
+
+-- the same since a Seek
+module _ (s : Setup) (w : ℕ) (few : (n : ℕ) → slice_index s.machine.frames n ≤ 4096)
+    (first pools : PoolState) (done later : List Done) (version node : ℕ)
+    (play : IsPlay s first (later ++ seeks w version node pools ∷ done))
+    (none : HaveNoBegin w later) where
+  abbrev seek_base : List Done
+  seek_base = seeks w version node pools ∷ done
+
+  abbrev seek_start : World
+  seek_start = world_of s (execution_of s done)
+
+  seek-play : (later : List Done) → IsPlay s first (later ++ seek_base) → IsPlay s first seek_base
+  seek-play [] play = play
+  seek-play (d ∷ later) play = seek-play later play.0
+
+  may : MaySeek s seek_start w version node
+  may = let step = (seek-play later play).1.2 in
+      may-seek s w version node seek_start step.0 step.1
+
+  some-worker : 0 < s.workers
+  some-worker = let inside : w < s.workers = may.there in omega arith
+
+  sought-first : Stand s w few some-worker first (sought_world s w version node seek_start)
+      seek_base []
+  sought-first =
+      let answered : is_ok (answer_of s seek_start version (Seek w node)) ≡ true =
+      (plays s few some-worker first seek_base (seek-play later play)).granted.0 in
+      record {
+        taken = tt;
+        last = tt;
+        worker =
+            ap (λ (b : Bool).
+            (if b then effect_of s seek_start version (Seek w node) else seek_start).worker w)
+            answered;
+        since = ap (λ (b : Bool). if b then [] else since_of s done w) (eq-eqb w w refl);
+      }
+
+  pub falls-on : (before after : SeatView)
+      → after.log ≡ since_of s (later ++ seek_base) w ++ before.log
+      → FallsOn s w version node seek_start before after (turns_in s w first later seek_base)
+  falls-on before after gained =
+      let all = stand s w few some-worker first (sought_world s w version node seek_start)
+      seek_base later sought-first play none in
+      record {
+        may = may;
+        gained = gained ∙ ap (λ (es : List Entry). es ++ before.log) all.since;
+        taken = all.taken;
+      }

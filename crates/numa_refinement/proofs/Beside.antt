@@ -6,8 +6,8 @@ use Rattle.numa_core.specs.Steps.{effect_of, with_owner, with_worker, world_afte
 use Rattle.numa_core.specs.Executions.{worker_of}
 use Rattle.numa_requests.specs.declared.event.CoreRefusal.{CoreRefusal}
 use Rattle.numa_requests.specs.declared.event.Event.{Event}
-use Rattle.numa_requests.specs.declared.event.Event.TheVariants.{Accept, Publish, Begin, Look, Try}
-use Rattle.numa_requests.specs.declared.event.Event.TheVariants.{Give}
+use Rattle.numa_requests.specs.declared.event.Event.TheVariants.{Accept, Publish, Begin, Seek}
+use Rattle.numa_requests.specs.declared.event.Event.TheVariants.{Look, Try, Give}
 use Rattle.numa_requests.specs.declared.event.CoreReply.{CoreReply}
 use Rattle.numa_refinement.specs.Moves.{PoolState}
 use Rattle.numa_refinement.specs.Tie.{IsTied}
@@ -19,6 +19,7 @@ desk s world version event (Err refusal) w none = refl
 desk s world version (Accept command) (Ok reply) w none = refl
 desk s world version Publish (Ok reply) w none = refl
 desk s world version (Begin v request) (Ok reply) w none = absurd (cc)
+desk s world version (Seek v node) (Ok reply) w none = absurd (cc)
 desk s world version (Look v word) (Ok reply) w none = absurd (cc)
 desk s world version (Try v frame) (Ok reply) w none = absurd (cc)
 desk s world version (Give v frame) (Ok reply) w none = absurd (cc)
@@ -40,6 +41,8 @@ workers s world version event (Err refusal) v w of apart = refl
 workers s world version (Accept command) (Ok reply) v w of apart = refl
 workers s world version Publish (Ok reply) v w of apart = refl
 workers s world version (Begin a request) (Ok reply) v w of apart =
+    other world a w version _ (same-worker a v w of apart)
+workers s world version (Seek a node) (Ok reply) v w of apart =
     other world a w version _ (same-worker a v w of apart)
 workers s world version (Look a word) (Ok reply) v w of apart =
     other world a w (world.worker a).last _ (same-worker a v w of apart)
@@ -63,6 +66,7 @@ tied s world version (Accept command) (Ok reply) state none tie =
 tied s world version Publish (Ok reply) state none tie =
     record { few = tie.few; rule = tie.rule; owners = tie.owners; workers = tie.workers }
 tied s world version (Begin v request) (Ok reply) state none tie = absurd (cc)
+tied s world version (Seek v node) (Ok reply) state none tie = absurd (cc)
 tied s world version (Look v word) (Ok reply) state none tie = absurd (cc)
 tied s world version (Try v frame) (Ok reply) state none tie = absurd (cc)
 tied s world version (Give v frame) (Ok reply) state none tie = absurd (cc)

@@ -7,8 +7,8 @@ use Rattle.numa_publish.specs.Shown.{DeskState}
 use Rattle.numa_core.specs.World.{Setup}
 use Rattle.numa_core.specs.Steps.{answer_of, effect_of}
 use Rattle.numa_core.specs.Executions.{world_of}
-use Rattle.numa_requests.specs.declared.event.Event.TheVariants.{Accept, Publish, Begin, Look, Try}
-use Rattle.numa_requests.specs.declared.event.Event.TheVariants.{Give}
+use Rattle.numa_requests.specs.declared.event.Event.TheVariants.{Accept, Publish, Begin, Seek}
+use Rattle.numa_requests.specs.declared.event.Event.TheVariants.{Look, Try, Give}
 use Rattle.numa_refinement.specs.WalkSteps.{event_of}
 use Rattle.numa_refinement.specs.Moves.{PoolState}
 use Rattle.numa_refinement.specs.Plays.{Deed, makes_step, splits, has_event, Done, IsPlay}
@@ -53,6 +53,10 @@ module _ (s : Setup) (few : (n : ℕ) → slice_index s.machine.frames n ≤ 409
   one-call (has_event version (Begin v request)) pools rest desk play before calls =
       let world = world_of s (execution_of s rest) in
       workers s world desk version v (Begin v request) (answer_of s world version (Begin v request))
+      (before desk calls) refl
+  one-call (has_event version (Seek v node)) pools rest desk play before calls =
+      let world = world_of s (execution_of s rest) in
+      workers s world desk version v (Seek v node) (answer_of s world version (Seek v node))
       (before desk calls) refl
   one-call (has_event version (Look v word)) pools rest desk play before calls = absurd play.1.0
   one-call (has_event version (Try v frame)) pools rest desk play before calls = absurd play.1.0

@@ -12,8 +12,8 @@ use native.Mathlib.Decide.{ℕ_discrete, dec_le}
 use Rattle.numa_requests.specs.declared.command.Command.{Command}
 use Rattle.numa_requests.specs.declared.placement.Placement.{Placement}
 use Rattle.numa_requests.specs.declared.request.Request.{Request}
-use Rattle.numa_requests.specs.declared.event.Event.TheVariants.{Accept, Publish, Begin, Look, Try}
-use Rattle.numa_requests.specs.declared.event.Event.TheVariants.{Give}
+use Rattle.numa_requests.specs.declared.event.Event.TheVariants.{Accept, Publish, Begin, Seek}
+use Rattle.numa_requests.specs.declared.event.Event.TheVariants.{Look, Try, Give}
 use Rattle.numa_core.specs.World.{Setup, World, Worker, opening}
 use Rattle.numa_core.specs.Steps.{answer_of}
 use Rattle.numa_core.specs.Executions.{CoreStep, IsExecution, world_of}
@@ -73,6 +73,7 @@ early_workers s (d ∷ done) early j = by (early_workers s done early.0 j) d.dee
         desk s (world_of s (execution_of s done)) version Publish
         (answer_of s (world_of s (execution_of s done)) version Publish) j refl ∙ rest
     by rest (has_event version (Begin w request)) is = absurd is
+    by rest (has_event version (Seek w node)) is = absurd is
     by rest (has_event version (Look w word)) is = absurd is
     by rest (has_event version (Try w frame)) is = absurd is
     by rest (has_event version (Give w frame)) is = absurd is

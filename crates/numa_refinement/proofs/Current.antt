@@ -5,8 +5,8 @@ use Rattle.std.specs.Prelude.{slice_index, slice_get, nat_lt, ◌==◌, ◌&&◌
 use Rattle.std.specs.Option.{option_map_or}
 use Rattle.numa_core.specs.World.{Setup, FrameSearch, first_place, one_further, has_unmet}
 use Rattle.numa_core.specs.World.{at_current, may_look, may_try}
-use Rattle.numa_core.specs.Steps.{goes_on, going_on}
-use Rattle.numa_requests.specs.declared.event.CoreReply.TheVariants.{Still, Exhausted}
+use Rattle.numa_core.specs.Steps.{goes_on, going_on, over_by}
+use Rattle.numa_requests.specs.declared.event.CoreReply.TheVariants.{Still}
 use Rattle.numa_core.proofs.Cursors.{any_below-true, any_below-false}
 use Rattle.numa_core.proofs.InARow.{is_lt}
 use Rattle.numa_machine.specs.declared.frame.Frame.{Frame}
@@ -87,7 +87,7 @@ module _ (s : Setup) (frame_search : FrameSearch) (es : List Entry) (same : HasM
     pub still : (n : ℕ) → IsCurrent s.machine.frames es frame_search.nodes n
         → (goes_on s frame_search ≡ Still) × (going_on s frame_search ≡ Some frame_search)
     still n h = let at = is-at n h in (
-      ap (λ o. if is_some o then Still else Exhausted frame_search.version) at.1,
+      ap (λ o. if is_some o then Still else over_by frame_search) at.1,
       ap (λ o. if is_some o then Some frame_search else None) at.1,
     )
 
@@ -99,10 +99,10 @@ module _ (s : Setup) (frame_search : FrameSearch) (es : List Entry) (same : HasM
         (unmet-false n h.0) ∙ ap one_further (no-place ns h.1)
 
     pub over : AllFull s.machine.frames es frame_search.nodes
-        → (goes_on s frame_search ≡ Exhausted frame_search.version)
+        → (goes_on s frame_search ≡ over_by frame_search)
         × (going_on s frame_search ≡ None)
     over h = let at = no-place frame_search.nodes h in (
-      ap (λ o. if is_some o then Still else Exhausted frame_search.version) at,
+      ap (λ o. if is_some o then Still else over_by frame_search) at,
       ap (λ o. if is_some o then Some frame_search else None) at,
     )
 

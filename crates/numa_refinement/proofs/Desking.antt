@@ -17,8 +17,8 @@ use Rattle.numa_core.specs.Steps.{because, refused_or, effect_of, world_after}
 use Rattle.numa_core.specs.Executions.{worker_of}
 use Rattle.numa_requests.specs.declared.event.CoreRefusal.{CoreRefusal}
 use Rattle.numa_requests.specs.declared.event.Event.{Event}
-use Rattle.numa_requests.specs.declared.event.Event.TheVariants.{Accept, Publish, Begin, Look, Try}
-use Rattle.numa_requests.specs.declared.event.Event.TheVariants.{Give}
+use Rattle.numa_requests.specs.declared.event.Event.TheVariants.{Accept, Publish, Begin, Seek}
+use Rattle.numa_requests.specs.declared.event.Event.TheVariants.{Look, Try, Give}
 use Rattle.numa_requests.specs.declared.event.CoreReply.{CoreReply}
 use Rattle.numa_requests.specs.declared.event.CoreReply.TheVariants.{Accepted, Published}
 use Rattle.numa_core.proofs.Tracking.{first_commands-more}
@@ -137,6 +137,14 @@ workers s world desk version w event (Err refusal) is of = is
 workers s world desk version w (Accept command) (Ok reply) is of = absurd (cc)
 workers s world desk version w Publish (Ok reply) is of = absurd (cc)
 workers s world desk version w (Begin v request) (Ok reply) is of =
+    record {
+      machine = is.machine;
+      bounds = is.bounds;
+      history = is.history;
+      versions = is.versions;
+      newest = is.newest;
+    }
+workers s world desk version w (Seek v node) (Ok reply) is of =
     record {
       machine = is.machine;
       bounds = is.bounds;
@@ -275,6 +283,8 @@ stays s world version Publish (Ok reply) history is = record {
 }
 stays s world version (Begin v request) (Ok reply) history is =
     record { published = is.published; commands = is.commands }
+stays s world version (Seek v node) (Ok reply) history is =
+    record { published = is.published; commands = is.commands }
 stays s world version (Look v word) (Ok reply) history is =
     record { published = is.published; commands = is.commands }
 stays s world version (Give v frame) (Ok reply) history is =
@@ -352,6 +362,8 @@ lasts s world version Publish (Ok reply) history versions has = record {
   );
 }
 lasts s world version (Begin v request) (Ok reply) history versions has =
+    record { commands = has.commands; numbers = has.numbers }
+lasts s world version (Seek v node) (Ok reply) history versions has =
     record { commands = has.commands; numbers = has.numbers }
 lasts s world version (Look v word) (Ok reply) history versions has =
     record { commands = has.commands; numbers = has.numbers }

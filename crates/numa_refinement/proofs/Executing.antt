@@ -10,7 +10,7 @@ use native.Mathlib.Decide.{ℕ_discrete}
 use Rattle.numa_requests.specs.declared.command.Command.{Command}
 use Rattle.numa_requests.specs.declared.event.Event.TheVariants.{Begin}
 use Rattle.numa_requests.specs.declared.event.CoreReply.{CoreReply}
-use Rattle.numa_core.specs.Seats.{fresh}
+use Rattle.numa_core.specs.World.{fresh}
 use Rattle.numa_core.specs.World.{Setup, World, Worker, FrameSearch, frame_search_of, last_of}
 use Rattle.numa_core.specs.World.{list_at}
 use Rattle.numa_core.specs.Steps.{answer_of, effect_of, going_on, goes_on}
@@ -157,7 +157,7 @@ module _ (s : Setup) (few : (n : ℕ) → slice_index s.machine.frames n ≤ 409
         }
 
         fresh_x : FrameSearch
-        fresh_x = fresh x.request x.version x.nodes
+        fresh_x = fresh (Some x.request) x.version x.nodes
 
         then_done : List Done
         then_done = record {
@@ -189,7 +189,7 @@ module _ (s : Setup) (few : (n : ℕ) → slice_index s.machine.frames n ≤ 409
 
         new_search : FrameSearch
         new_search = record {
-          request = x.request;
+          request = Some x.request;
           version = x.version;
           nodes = unwrap_or (list_at s.machine world.history x.version x.request) [];
           met = λ n k. false;

@@ -15,8 +15,8 @@ use Rattle.numa_core.specs.World.{Setup, World, opening, frame_search_of, last_o
 use Rattle.numa_core.specs.World.{frame_search_past, is_frame}
 use Rattle.numa_core.specs.Steps.{effect_of, going_on, with_owner, with_worker}
 use Rattle.numa_requests.specs.declared.event.Event.{Event}
-use Rattle.numa_requests.specs.declared.event.Event.TheVariants.{Accept, Publish, Begin, Look, Try}
-use Rattle.numa_requests.specs.declared.event.Event.TheVariants.{Give}
+use Rattle.numa_requests.specs.declared.event.Event.TheVariants.{Accept, Publish, Begin, Seek}
+use Rattle.numa_requests.specs.declared.event.Event.TheVariants.{Look, Try, Give}
 use Rattle.numa_pool.specs.declared.view.View.{View}
 use Rattle.numa_pool.specs.Frames.{times}
 use Rattle.numa_pool.specs.Rule.{Counted, holdings}
@@ -236,6 +236,8 @@ no-passing s world version (Accept command) n k id other e f =
     apart-owner (world.owner n k) id other e f
 no-passing s world version Publish n k id other e f = apart-owner (world.owner n k) id other e f
 no-passing s world version (Begin w request) n k id other e f =
+    apart-owner (world.owner n k) id other e f
+no-passing s world version (Seek w node) n k id other e f =
     apart-owner (world.owner n k) id other e f
 no-passing s world version (Look w word) n k id other e f = apart-owner (world.owner n k) id other e
     f

@@ -11,9 +11,9 @@ use Rattle.atomic_table.proofs.Lists.{at_set, set_here, set_else}
 use Rattle.numa_machine.specs.declared.frame.Frame.{Frame}
 use Rattle.numa_core.specs.World.{Setup, World, FrameSearch, frame_search_of, owner_of, last_of}
 use Rattle.numa_core.specs.World.{current_rank, frame_search_after_look, frame_search_past}
-use Rattle.numa_core.specs.Steps.{effect_of, goes_on, going_on, placement_of, put, with_owner}
+use Rattle.numa_core.specs.Steps.{effect_of, goes_on, going_on, won_by, put, with_owner}
 use Rattle.numa_core.specs.Steps.{with_worker}
-use Rattle.numa_requests.specs.declared.event.CoreReply.TheVariants.{Won as replied_won, Given}
+use Rattle.numa_requests.specs.declared.event.CoreReply.TheVariants.{Given}
 use Rattle.numa_requests.specs.declared.event.Event.TheVariants.{Look, Try, Give}
 use Rattle.numa_pool.specs.declared.view.Entry.{Entry}
 use Rattle.numa_pool.specs.declared.view.Entry.TheVariants.{Load, Won, Lost, Gave}
@@ -239,7 +239,7 @@ module _ (s : Setup) (world : World) (id version : ℕ) (frame_search : FrameSea
 
   pub won-core_step : (f : Frame) → Makes (Won f) id old new
       → IsNext s.machine.frames es frame_search.nodes f
-      → IsCoreStep s world version (Try id f) (replied_won (placement_of s frame_search f))
+      → IsCoreStep s world version (Try id f) (won_by s frame_search f)
   won-core_step f m next = (
     tt,
     won-answer s world version id (there-of s world old new id tied m.1.before m.1.shown)

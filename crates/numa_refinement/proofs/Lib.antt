@@ -12,9 +12,9 @@ pub mod Desking
 pub mod Begins
 pub mod Falling
 pub mod Beside
+pub mod Migrating
 pub mod Among
 pub mod Calling
-pub mod Migrating
 pub mod Making
 pub mod Todo
 pub mod Stepping
@@ -23,9 +23,5 @@ pub mod Working
 pub mod Crewing
 pub mod Answering
 pub mod Preceding
-pub mod WholePlaying
-pub mod MigratingAnywhere
-pub mod WholeAmong
-pub mod WholeDesks
 pub mod Published
 pub mod Opening

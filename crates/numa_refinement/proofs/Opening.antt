@@ -4,8 +4,8 @@ use Rattle.std.specs.Prelude.{slice_index, None}
 use Rattle.numa_requests.specs.declared.event.CoreReply.{CoreReply}
 use Rattle.numa_requests.specs.declared.event.CoreReply.TheVariants.{Accepted, Published}
 use Rattle.numa_requests.specs.declared.event.Event.{Event}
-use Rattle.numa_requests.specs.declared.event.Event.TheVariants.{Accept, Publish, Begin, Look, Try}
-use Rattle.numa_requests.specs.declared.event.Event.TheVariants.{Give}
+use Rattle.numa_requests.specs.declared.event.Event.TheVariants.{Accept, Publish, Begin, Seek}
+use Rattle.numa_requests.specs.declared.event.Event.TheVariants.{Look, Try, Give}
 use Rattle.numa_core.specs.World.{Setup, World}
 use Rattle.numa_core.specs.Steps.{IsAnswer, IsOutOfMemory, answer_of, refusal_of}
 use Rattle.numa_core.specs.Executions.{world_of}
@@ -82,6 +82,7 @@ module _ (s : Setup) (few : (n : ℕ) → slice_index s.machine.frames n ≤ 409
           ),
         )
     calls_play (Begin w request ∷ events) desk desks calls = absurd desks.1
+    calls_play (Seek w node ∷ events) desk desks calls = absurd desks.1
     calls_play (Look w word ∷ events) desk desks calls = absurd desks.1
     calls_play (Try w frame ∷ events) desk desks calls = absurd desks.1
     calls_play (Give w frame ∷ events) desk desks calls = absurd desks.1

@@ -2,15 +2,16 @@
 use Rattle.std.proofs.Common.{◌≡◌, ℕ, ◌<◌, ◌≤◌, List, [], ◌∷◌, Some, is_ok, refl, sym, ap, subst}
 use Rattle.std.proofs.Common.{inl}
 use Rattle.std.specs.Prelude.{slice_index}
-use Rattle.numa_core.specs.World.{Setup, World, FrameSearch, new_frame_search, frame_search_of}
+use Rattle.numa_core.specs.World.{Setup, World, FrameSearch, new_frame_search, seeking}
+use Rattle.numa_core.specs.World.{frame_search_of}
 use Rattle.numa_core.specs.Steps.{answer_of, effect_of, going_on, world_after}
 use Rattle.numa_core.specs.Executions.{CoreStep, IsExecution, world_of}
 use Rattle.numa_requests.specs.declared.event.Event.{Event}
-use Rattle.numa_requests.specs.declared.event.Event.TheVariants.{Accept, Publish, Begin, Look, Try}
-use Rattle.numa_requests.specs.declared.event.Event.TheVariants.{Give}
+use Rattle.numa_requests.specs.declared.event.Event.TheVariants.{Accept, Publish, Begin, Seek}
+use Rattle.numa_requests.specs.declared.event.Event.TheVariants.{Look, Try, Give}
 use Rattle.numa_requests.specs.declared.event.CoreReply.{CoreReply}
-use Rattle.numa_requests.specs.declared.event.CoreReply.TheVariants.{Won as replied_won, Given}
-use Rattle.numa_core.specs.Steps.{goes_on, placement_of}
+use Rattle.numa_requests.specs.declared.event.CoreReply.TheVariants.{Given}
+use Rattle.numa_core.specs.Steps.{goes_on, won_by}
 use Rattle.numa_core.specs.World.{frame_search_after_look, frame_search_past}
 use Rattle.numa_pool.specs.declared.view.Entry.{Entry}
 use Rattle.numa_pool.specs.declared.view.Entry.TheVariants.{Load, Won, Lost, Gave}
@@ -62,6 +63,8 @@ module _ (s : Setup) where
       record { few = t.few; rule = t.rule; owners = t.owners; workers = t.workers }
   apart-ties world state version (Begin w request) h t =
       record { few = t.few; rule = t.rule; owners = t.owners; workers = t.workers }
+  apart-ties world state version (Seek w node) h t =
+      record { few = t.few; rule = t.rule; owners = t.owners; workers = t.workers }
   apart-ties world state version (Look w word) h t = absurd h
   apart-ties world state version (Try w frame) h t = absurd h
   apart-ties world state version (Give w frame) h t = absurd h
@@ -74,6 +77,10 @@ module _ (s : Setup) where
   apart-meets world since version (Begin w request) h met =
       met-put world since met w version (going_on s (new_frame_search s world version request)) []
       (λ frame_search e. goes-on-as s (new_frame_search s world version request) frame_search []
+      (λ n k. refl) e)
+  apart-meets world since version (Seek w node) h met =
+      met-put world since met w version (going_on s (seeking version node)) []
+      (λ frame_search e. goes-on-as s (seeking version node) frame_search []
       (λ n k. refl) e)
   apart-meets world since version (Look w word) h met = absurd h
   apart-meets world since version (Try w frame) h met = absurd h
@@ -105,7 +112,7 @@ module _ (s : Setup) where
         (look-core_step s world id 0 may.0 (since id) old new h.tied may.1 met n w x m may.2)
     steps id (Won f) may m =
         let met = h.met id may.0 may.1 in
-        walks id (Won f) may.0 (replied_won (placement_of s may.0 f)) may.1 may.2 m
+        walks id (Won f) may.0 (won_by s may.0 f) may.1 may.2 m
         (won-core_step s world id 0 may.0 (since id) old new h.tied may.1 met f m may.2)
     steps id (Lost f) may m =
         let met = h.met id may.0 may.1 in

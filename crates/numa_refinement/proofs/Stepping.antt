@@ -141,7 +141,7 @@ module _ (s : Setup) (few : (n : ℕ) → slice_index s.machine.frames n ≤ 409
         let two = walk_at s.machine.frames g.x.nodes (found_by g.x) r d (e ∷ part)
         (subst (λ (es : List Entry). IsWalk s.machine.frames g.x.nodes (found_by g.x) es)
         (ap (λ es. es ++ e ∷ part) is ∙ append_assoc r (d ∷ []) (e ∷ part)) walk) in
-        let next = goes s id g.x.version g.x.request g.x.nodes world old new e part g.seen
+        let next = goes s id g.x.version (Some g.x.request) g.x.nodes world old new e part g.seen
         stands.tied makes met_now g.busy two.0 in
         let at = current_of s.machine.frames g.x.nodes d (e ∷ part) two.1 in
         let on = still s (searching_for g.x next.0) (e ∷ part) next.1.0 at.0 at.1 in
@@ -188,7 +188,7 @@ module _ (s : Setup) (few : (n : ℕ) → slice_index s.machine.frames n ≤ 409
       exhausted : g.x.placement ≡ None → After
       exhausted is =
           let all = ended None is in
-          let next = goes s id g.x.version g.x.request g.x.nodes world old new e part g.seen
+          let next = goes s id g.x.version (Some g.x.request) g.x.nodes world old new e part g.seen
           stands.tied makes met_now g.busy all.0 in
           let end = over s (searching_for g.x next.0) whole next.1.0 all.1 in
           record {
@@ -216,7 +216,8 @@ module _ (s : Setup) (few : (n : ℕ) → slice_index s.machine.frames n ≤ 409
           let at = is-at s search_now part met_now h.node next_h.0 in
           let step_h = won-core_step s world id 0 search_now part old new stands.tied g.busy met_now
           h makes_h next_h in
-          let placed : IsPlaced g.x.version g.x.request g.x.nodes h (placement_of s search_now h) =
+          let placed : IsPlaced g.x.version g.x.request g.x.nodes h
+          (placement_of s search_now h g.x.request) =
           record {
             version_is = refl;
             task = refl;
@@ -227,15 +228,16 @@ module _ (s : Setup) (few : (n : ℕ) → slice_index s.machine.frames n ≤ 409
           } in
           let its_placed = subst (λ (k : Frame). IsPlaced g.x.version g.x.request g.x.nodes k p)
           (sym frames_same) (g.due.placed p is) in
-          let one = one-placement g.x.version g.x.request g.x.nodes h (placement_of s search_now h)
+          let one = one-placement g.x.version g.x.request g.x.nodes h
+          (placement_of s search_now h g.x.request)
           p g.due.distinct placed its_placed in
           let over_h : frame_search_of (effect_of s world 0 (Try id h)) id ≡ None =
           ap (λ v. frame_search_of v id) (won-effect s world 0 id there h free)
           ∙ own-frame_search (with_owner world h (Some id)) id (last_of world id) None in
           record {
-            reply = replied_won (placement_of s search_now h);
+            reply = replied_won (placement_of s search_now h g.x.request);
             is_step = subst (λ (d : Entry). IsCoreStep s world 0 (event_of id d)
-                (replied_won (placement_of s search_now h))) (sym same) step_h;
+                (replied_won (placement_of s search_now h g.x.request))) (sym same) step_h;
             left = g.todo;
             stage = inl (idle_then (subst (λ (d : Entry).
                 frame_search_of (effect_of s world 0 (event_of id d)) id ≡ None) (sym same)

@@ -74,7 +74,7 @@ put_else f w v x apart = ap (λ (b : Bool). if b then x else f v) (ne_eqb w v ap
 
 abbrev pub searching_for : Errand → (ℕ → ℕ → Bool) → FrameSearch
 searching_for x seen =
-    record { request = x.request; version = x.version; nodes = x.nodes; met = seen }
+    record { request = Some x.request; version = x.version; nodes = x.nodes; met = seen }
 
 later_end : (past : List CoreStep) (m : CoreStep) (j version : ℕ) (o : Option Placement)
     → Ends past j version o → Ends (m ∷ past) j version o

@@ -2,7 +2,7 @@
 use Rattle.std.specs.Prelude.{◌≡◌, ◌⊎◌, ℕ, ◌<◌, ◌%◌, true, List, [], ◌∷◌, length, Some}
 use Rattle.std.specs.Prelude.{slice_get, slice_index, slice_index_or}
 use Rattle.numa_requests.specs.declared.event.Event.{Event}
-use Rattle.numa_requests.specs.declared.event.Event.TheVariants.{Accept, Publish, Begin}
+use Rattle.numa_requests.specs.declared.event.Event.TheVariants.{Accept, Publish, Begin, Seek}
 use Rattle.numa_requests.specs.declared.event.Event.TheVariants.{Look, Try, Give}
 use Rattle.numa_requests.specs.declared.placement.Placement.{Placement}
 use Rattle.numa_requests.specs.declared.request.Request.{Request}
@@ -65,6 +65,7 @@ abbrev pub IsDesks : Event → Type 0
 IsDesks (Accept command) = Unit {0}
 IsDesks Publish = Unit {0}
 IsDesks (Begin w request) = ⊥
+IsDesks (Seek w node) = ⊥
 IsDesks (Look w word) = ⊥
 IsDesks (Try w frame) = ⊥
 IsDesks (Give w frame) = ⊥

@@ -5,9 +5,10 @@ use Rattle.numa_requests.specs.declared.placement.Placement.{Placement}
 use Rattle.numa_requests.specs.declared.request.Request.{Request}
 use Rattle.numa_core.specs.World.{Setup, World, frame_search_of}
 use Rattle.numa_core.specs.Steps.{effect_of}
-use Rattle.numa_requests.specs.declared.event.Event.TheVariants.{Begin}
+use Rattle.numa_requests.specs.declared.event.Event.TheVariants.{Begin, Seek}
 use Rattle.numa_requests.specs.declared.event.CoreReply.{CoreReply}
 use Rattle.numa_requests.specs.declared.event.CoreReply.TheVariants.{Still, Exhausted, Won}
+use Rattle.numa_requests.specs.declared.event.CoreReply.TheVariants.{Found, Full}
 use Rattle.numa_pool.specs.declared.view.Entry.{Entry}
 use Rattle.numa_refinement.specs.WalkSteps.{IsCoreStep, event_of}
 use Rattle.numa_refinement.specs.Moves.{PoolState, Makes}
@@ -52,6 +53,11 @@ module _ (s : Setup) (id : ℕ) where
   IsFrameSearch first version request reply turns =
       IsSearch (λ answer. IsCoreStep s first version (Begin id request) answer) reply turns
 
+  -- a search of one node: in this world the worker seeks a frame of it
+  abbrev pub IsNodeSearch : World → ℕ → ℕ → CoreReply → List Turn → Type 0
+  IsNodeSearch first version node reply turns =
+      IsSearch (λ answer. IsCoreStep s first version (Seek id node) answer) reply turns
+
 module _ (version : ℕ) (request : Request) (nodes : List ℕ) where
   -- the placement is of this frame, for this request, at the version; its node stands at its rank
   -- in this list
@@ -65,7 +71,17 @@ module _ (version : ℕ) (request : Request) (nodes : List ℕ) where
 
   -- the reply tells what the walk found: a placement in the frame that it won, or that the list is
   -- exhausted
-  abbrev pub Tells : Option Frame → CoreReply → Type 0
-  Tells None reply = reply ≡ Exhausted version
-  Tells (Some frame) reply =
+  abbrev pub TellsOfPage : Option Frame → CoreReply → Type 0
+  TellsOfPage None reply = reply ≡ Exhausted version
+  TellsOfPage (Some frame) reply =
       (placement : Placement) × (reply ≡ Won placement) × IsPlaced frame placement
+
+-- of a search for a frame of one node it tells the frame, or that the node is full
+abbrev pub TellsOfNode : Option Frame → CoreReply → Type 0
+TellsOfNode None reply = reply ≡ Full
+TellsOfNode (Some frame) reply = reply ≡ Found frame
+
+-- what a search with this request, or with none, is answered at its end
+abbrev pub Tells : ℕ → Option Request → List ℕ → Option Frame → CoreReply → Type 0
+Tells version None nodes found reply = TellsOfNode found reply
+Tells version (Some request) nodes found reply = TellsOfPage version request nodes found reply

@@ -4,7 +4,7 @@ use Rattle.numa_requests.specs.declared.request.Request.{Request}
 use Rattle.numa_core.specs.World.{Setup, World}
 use Rattle.numa_core.specs.Executions.{world_of}
 use Rattle.numa_requests.specs.declared.event.Event.{Event}
-use Rattle.numa_requests.specs.declared.event.Event.TheVariants.{Accept, Publish, Begin}
+use Rattle.numa_requests.specs.declared.event.Event.TheVariants.{Accept, Publish, Begin, Seek}
 use Rattle.numa_requests.specs.declared.event.Event.TheVariants.{Look, Try, Give}
 use Rattle.numa_publish.specs.Shown.{DeskState}
 use Rattle.numa_refinement.specs.FrameSearches.{Turn}
@@ -13,11 +13,12 @@ use Rattle.numa_refinement.specs.Plays.{Deed, makes_step, splits, has_event, Don
 use Rattle.numa_refinement.specs.Plays.{execution_of}
 use Rattle.numa_refinement.specs.Desks.{Accepts, IsNew, Publishes}
 
--- the event is no Begin of worker w
+-- the event is no Begin and no Seek of worker w
 abbrev pub IsOther : ℕ → Event → Type 0
 IsOther w (Accept command) = Unit {0}
 IsOther w Publish = Unit {0}
 IsOther w (Begin v request) = v ≢ w
+IsOther w (Seek v node) = v ≢ w
 IsOther w (Look v word) = Unit {0}
 IsOther w (Try v frame) = Unit {0}
 IsOther w (Give v frame) = Unit {0}
@@ -37,6 +38,13 @@ HaveNoBegin w (d ∷ done) = HaveNoBegin w done × IsNoBegin w d.deed
 abbrev pub begins : ℕ → ℕ → Request → PoolState → Done
 begins w version request pools = record {
   deed = has_event version (Begin w request);
+  pools = pools;
+}
+
+-- worker w seeks a frame of the node, by no step of the pools
+abbrev pub seeks : ℕ → ℕ → ℕ → PoolState → Done
+seeks w version node pools = record {
+  deed = has_event version (Seek w node);
   pools = pools;
 }
 
@@ -64,6 +72,7 @@ module _ (s : Setup) where
   CallsFor Publish Earlier desk =
       (before : DeskState) × Earlier before × (before.pending ≢ []) × Publishes before desk
   CallsFor (Begin v request) Earlier desk = Earlier desk
+  CallsFor (Seek v node) Earlier desk = Earlier desk
   CallsFor (Look v word) Earlier desk = Earlier desk
   CallsFor (Try v frame) Earlier desk = Earlier desk
   CallsFor (Give v frame) Earlier desk = Earlier desk

@@ -10,4 +10,3 @@ pub mod Faults
 pub mod Migrations
 pub mod Interleaved
 pub mod Crews
-pub mod Moving

@@ -4,7 +4,7 @@ use Rattle.numa_core.specs.World.{Setup, World, FrameSearch, frame_search_of}
 use Rattle.numa_core.specs.Steps.{answer_of, put}
 use Rattle.numa_core.specs.Executions.{CoreStep, world_of}
 use Rattle.numa_requests.specs.declared.event.Event.{Event}
-use Rattle.numa_requests.specs.declared.event.Event.TheVariants.{Accept, Publish, Begin}
+use Rattle.numa_requests.specs.declared.event.Event.TheVariants.{Accept, Publish, Begin, Seek}
 use Rattle.numa_requests.specs.declared.event.Event.TheVariants.{Look, Try, Give}
 use Rattle.numa_requests.specs.declared.event.CoreReply.{CoreReply}
 use Rattle.numa_pool.specs.declared.view.Entry.{Entry}
@@ -14,7 +14,7 @@ use Rattle.numa_refinement.specs.Moves.{PoolState, IsOpening, Makes, Splits}
 use Rattle.numa_refinement.specs.Tie.{noted}
 
 -- What is done: a seat makes a step, a seat splits, or the core has an event that takes no step of
--- the pools, a command, a publication or a Begin of some version
+-- the pools, a command, a publication, or a Begin or a Seek of some version
 pub data Deed : Type 0 where
   makes_step : ℕ → Entry → Deed
   splits : ℕ → Deed
@@ -34,13 +34,15 @@ abbrev pub IsApart : Event → Type 0
 IsApart (Accept command) = Unit {0}
 IsApart Publish = Unit {0}
 IsApart (Begin w request) = Unit {0}
+IsApart (Seek w node) = Unit {0}
 IsApart (Look w word) = ⊥
 IsApart (Try w frame) = ⊥
 IsApart (Give w frame) = ⊥
 
--- a walk starts anew at a Begin
+-- a walk starts anew at a Begin or a Seek
 abbrev pub since_event : Event → (ℕ → List Entry) → ℕ → List Entry
 since_event (Begin w request) since = put since w []
+since_event (Seek w node) since = put since w []
 since_event (Accept command) since = since
 since_event Publish since = since
 since_event (Look w word) since = since

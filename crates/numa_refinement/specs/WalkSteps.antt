@@ -20,7 +20,7 @@ abbrev pub IsCoreStep : Setup → World → ℕ → Event → CoreReply → Type
 IsCoreStep s world version event reply =
     MayTake world version event × (answer_of s world version event ≡ Ok reply)
 
--- the step of an event that is answered so; the version counts for a Begin alone
+-- the step of an event that is answered so; the version counts for a Begin or a Seek alone
 abbrev pub told : ℕ → Event → CoreReply → CoreStep
 told version event reply = record { event = event; version = version; answer = Ok reply }
 
@@ -34,6 +34,15 @@ module _ (s : Setup) (world : World) where
     pub published : is_published world version ≡ true
     pub not_older : last_of world id ≤ version
     pub listed : list_at s.machine world.history version request ≡ Some nodes
+
+  -- worker id is there and idle; the node is there, and has frames; and the version is published
+  -- and not older than the worker's last one
+  pub record MaySeek (id version node : ℕ) : Type 0 where
+    pub there : id < s.workers
+    pub idle : frame_search_of world id ≡ None
+    pub some : 0 < slice_index s.machine.frames node
+    pub published : is_published world version ≡ true
+    pub not_older : last_of world id ≤ version
 
 -- what a step of a seat is to the core: its worker looks, tries or gives
 abbrev pub event_of : ℕ → Entry → Event

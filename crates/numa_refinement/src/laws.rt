@@ -4,7 +4,8 @@ ghost use Rattle.std.specs.Prelude.{◌≡◌, ◌≢◌, ℕ, ◌<◌, ◌≤�
 ghost use Rattle.std.specs.Prelude.{[], ◌∷◌, ◌++◌, length, slice_get, slice_index, Result};
 ghost use Rattle.numa_core.specs.Executions.{CoreStep, IsExecution, worker_of, world_of};
 ghost use Rattle.numa_core.specs.Steps.{answer_of};
-ghost use Rattle.numa_core.specs.World.{Setup, World, is_published, opening, owner_of};
+ghost use Rattle.numa_core.specs.World.{Setup, World, frame_search_of, is_published};
+ghost use Rattle.numa_core.specs.World.{newest_published, opening, owner_of};
 ghost use Rattle.numa_requests.specs.declared.event.CoreRefusal.{CoreRefusal};
 ghost use Rattle.numa_requests.specs.declared.event.Event.{Event};
 ghost use Rattle.numa_requests.specs.declared.event.CoreReply.{CoreReply};
@@ -28,22 +29,18 @@ ghost use Rattle.numa_requests.specs.declared.command.Command.{Command};
 ghost use Rattle.numa_requests.specs.declared.placement.Placement.{Placement};
 ghost use Rattle.numa_requests.specs.declared.refusal.Refusal.{Refusal};
 ghost use Rattle.numa_requests.specs.declared.request.Request.{Request};
-ghost use Rattle.numa_refinement.specs.FrameSearches.{IsFrameSearch, IsSearch, Turn};
-ghost use Rattle.numa_refinement.specs.WalkSteps.{MayBegin};
+ghost use Rattle.numa_refinement.specs.FrameSearches.{IsFrameSearch, IsNodeSearch, Turn};
+ghost use Rattle.numa_refinement.specs.WalkSteps.{MayBegin, MaySeek};
 ghost use Rattle.numa_refinement.specs.Moves.{PoolState};
 ghost use Rattle.numa_refinement.specs.Plays.{Done, IsPlay, execution_of, since_of};
-ghost use Rattle.numa_refinement.specs.Tie.{HaveMet, IsTied};
-ghost use Rattle.numa_refinement.specs.Moving.{Acted, CallsOf, IsWholePlay, acts_of, pools_after};
-ghost use Rattle.numa_refinement.specs.Moving.{since_acts};
-ghost use Rattle.numa_refinement.specs.Moving.{FallsAnywhere, SearchesAnywhere, Starts};
-ghost use Rattle.numa_refinement.specs.Moving.{HaveNoSearch, begins_in, seeks_in, turns_within};
-ghost use Rattle.numa_refinement.specs.Moving.{world_after_acts};
 ghost use Rattle.numa_refinement.specs.Desks.{Accepts, IsDeskOf, IsNew, LeadsTo, Publishes};
 ghost use Rattle.numa_refinement.specs.Faults.{Falls, IsReady, LeavesLast, begun_world, last_world};
-ghost use Rattle.numa_refinement.specs.Interleaved.{Calls, HaveNoBegin, begins, turns_in};
+ghost use Rattle.numa_refinement.specs.Interleaved.{Calls, HaveNoBegin, begins, seeks};
+ghost use Rattle.numa_refinement.specs.Interleaved.{turns_in};
 ghost use Rattle.numa_refinement.specs.Migrations.{FallsOn, SearchesAndGives};
 ghost use Rattle.numa_refinement.specs.LegalSteps.{HasPublished, IsPublishedIn};
 ghost use Rattle.numa_refinement.specs.LegalSteps.{after_core_step, core_step_of};
+ghost use Rattle.numa_refinement.specs.Tie.{IsTied};
 
 /// A new desk is that of the opening world. A command that it accepts is the world's Accept, and a
 /// publish of something pending is the world's Publish, each a legal step with the same number as
@@ -219,110 +216,37 @@ pub fn a_fault_leaves_its_worker_ready()
         → IsPublishedIn next longer → length history ≤ length longer → IsReady s w longer next }
 {}
 
-/// A migration to a node is a frame search and a Give of the core, if its worker begins with a
-/// request whose fallback list is this node alone. If it answers `Exhausted`, the steps that its
-/// seat gained are a frame search that is answered Exhausted. If it moves the page, all of them but
-/// the newest are a frame search that is answered Won with a placement in the new frame, which is
-/// the worker's then; and the newest is a Give of the old frame, which is answered Given. What
-/// falls so in every interleaving is told by the next law, since the Give is a step like the
-/// others.
-pub fn a_migration_is_a_frame_search_and_a_give()
-    ensures exhausted { (s : Setup) (w : ℕ) (history : List Command) (request : Request) (node : ℕ)
-        (first : World) (before after : SeatView) (turns : List Turn) (placement back : Placement)
-        → FallsOn s w history request node first before after turns
-        → Migrates s.machine.frames node placement before after
-        (Err (MigrateRefusal.Exhausted back))
-        → IsFrameSearch s w first (length history) request (CoreReply.Exhausted (length history))
-        turns }
-    ensures moved { (s : Setup) (w : ℕ) (history : List Command) (request : Request) (node : ℕ)
-        (first : World) (before after : SeatView) (turns : List Turn)
-        (placement moved : Placement) → FallsOn s w history request node first before after turns
-        → Migrates s.machine.frames node placement before after (Ok moved)
-        → SearchesAndGives s w history request node first placement.frame moved.frame turns }
-{}
-
-/// So is a migration to any node, whatever lists requests have, if its search begins by a step
-/// beside those of the core: each of its loads and tries is a Look or a Try of the core's world
-/// that isn't refused, and its return a Give.
-pub fn a_migration_to_any_node_is_a_search_and_a_give()
-    ensures exhausted { (s : Setup) (w node version : ℕ) (request : Request) (first : World)
+/// A migration to a node is a search and a Give of the core, whatever lists requests have. Its
+/// worker seeks the node by a Seek. If it answers `Exhausted`, the steps that its seat gained are a
+/// search of that node that is answered Full. If it moves the page, all of them but the newest are
+/// a search that is answered Found with the new frame, which is the worker's then; and the newest
+/// is a Give of the old frame, which is answered Given. If it answers `NoSuchNode`, the Seek is
+/// refused for that.
+pub fn a_migration_is_a_search_and_a_give()
+    ensures exhausted { (s : Setup) (w version node : ℕ) (first : World)
         (before after : SeatView) (turns : List Turn) (placement back : Placement)
-        → FallsAnywhere s w node version request first before after turns
+        → FallsOn s w version node first before after turns
         → Migrates s.machine.frames node placement before after
         (Err (MigrateRefusal.Exhausted back))
-        → IsSearch s w (Starts s w node version request first) (CoreReply.Exhausted version)
-        turns }
-    ensures moved { (s : Setup) (w node version : ℕ) (request : Request) (first : World)
+        → IsNodeSearch s w first version node CoreReply.Full turns }
+    ensures moved { (s : Setup) (w version node : ℕ) (first : World)
         (before after : SeatView) (turns : List Turn) (placement moved : Placement)
-        → FallsAnywhere s w node version request first before after turns
+        → FallsOn s w version node first before after turns
         → Migrates s.machine.frames node placement before after (Ok moved)
-        → SearchesAnywhere s w node version request first placement.frame moved.frame turns }
-{}
-
-/// Migrations to any node don't end the tie: if the search of a migration, whose list is its node
-/// alone, begins by a step beside those of the core, then after every act of every interleaving
-/// each frame's owner is the seat that holds it, and each search has met what its seat's steps found
-/// taken. An interleaving without such migrations is one, and leads to the same world.
-pub fn migrations_keep_the_tie()
-    ensures tied { (s : Setup) → ((n : ℕ) → slice_index s.machine.frames n ≤ 4096) → 0 < s.workers
-        → (first : PoolState) (acts : List Acted) → IsWholePlay s first acts
-        → IsTied s (world_after_acts s acts) (pools_after s first acts)
-        × HaveMet (world_after_acts s acts) (since_acts acts) }
-    ensures alone { (s : Setup) → ((n : ℕ) → slice_index s.machine.frames n ≤ 4096)
-        → 0 < s.workers → (first : PoolState) (done : List Done) → IsPlay s first done
-        → IsWholePlay s first (acts_of done)
-        × (world_after_acts s (acts_of done) ≡ world_of s (execution_of s done)) }
-{}
-
-/// So faults fall in every interleaving with migrations to any node as in one without, and each
-/// migration falls as `a_migration_to_any_node_is_a_search_and_a_give` asks, if its worker begins
-/// no other search before it is over. A worker was ready, if the history with which it began is
-/// published in a later world; and there is a desk in each such interleaving.
-pub fn acts_of_an_interleaving_fall()
-    ensures faults { (s : Setup) → ((n : ℕ) → slice_index s.machine.frames n ≤ 4096)
-        → 0 < s.workers → (first : PoolState) (w : ℕ) (pools : PoolState)
-        (done later : List Acted) → HaveNoSearch w later
-        → (history : List Command) (request : Request)
-        → IsWholePlay s first (later ++ begins_in w (length history) request pools ∷ done)
-        → IsReady s w history (world_after_acts s done) → (before after : SeatView)
-        → after.log ≡ since_acts (later ++ begins_in w (length history) request pools ∷ done) w
-        ++ before.log
-        → Falls s w history request (world_after_acts s done) before after
-        (turns_within s w first later (begins_in w (length history) request pools ∷ done)) }
-    ensures last { (s : Setup) → ((n : ℕ) → slice_index s.machine.frames n ≤ 4096)
-        → 0 < s.workers → (first : PoolState) (w : ℕ) (pools : PoolState)
-        (done later : List Acted) → HaveNoSearch w later
-        → (history : List Command) (request : Request)
-        → IsWholePlay s first (later ++ begins_in w (length history) request pools ∷ done)
-        → IsReady s w history (world_after_acts s done)
-        → LeavesLast s w (begun_world s w history request (world_after_acts s done))
-        (turns_within s w first later (begins_in w (length history) request pools ∷ done)) }
-    ensures migrations { (s : Setup) → ((n : ℕ) → slice_index s.machine.frames n ≤ 4096)
-        → 0 < s.workers → (first : PoolState) (w : ℕ) (pools : PoolState)
-        (done later : List Acted) → HaveNoSearch w later
-        → (node version : ℕ) (request : Request)
-        → IsWholePlay s first (later ++ seeks_in w node version request pools ∷ done)
-        → (before after : SeatView)
-        → after.log ≡ since_acts (later ++ seeks_in w node version request pools ∷ done) w
-        ++ before.log
-        → FallsAnywhere s w node version request (world_after_acts s done) before after
-        (turns_within s w first later (seeks_in w node version request pools ∷ done)) }
-    ensures ready { (s : Setup) → ((n : ℕ) → slice_index s.machine.frames n ≤ 4096)
-        → 0 < s.workers → (first : PoolState) (w : ℕ) (pools : PoolState)
-        (done later : List Acted) (history : List Command) (request : Request)
-        → IsWholePlay s first (later ++ begins_in w (length history) request pools ∷ done)
-        → IsPublishedIn (world_after_acts s
-        (later ++ begins_in w (length history) request pools ∷ done)) history
-        → IsReady s w history (world_after_acts s done) }
-    ensures desk { (s : Setup) (acts : List Acted) (desk : DeskState) → CallsOf s acts desk
-        → IsDeskOf s (world_after_acts s acts) desk }
+        → SearchesAndGives s w version node first placement.frame moved.frame turns }
+    ensures refused { (s : Setup) (w version node : ℕ) (first : World)
+        (before after : SeatView) (placement back : Placement)
+        → w < s.workers → frame_search_of first w ≡ None
+        → Migrates s.machine.frames node placement before after
+        (Err (MigrateRefusal.NoSuchNode back))
+        → answer_of s first version (Event.Seek w node) ≡ Err CoreRefusal.NoSuchNode }
 {}
 
 /// This holds in every interleaving: if worker w was ready and began with the history that a fault
-/// saw, and didn't begin again, the steps of its seat since then, each in the world and the pools
-/// that it found, are a fault as it falls. No other step changed the worker's version. And it was
-/// ready, if the history is published in a later world of the interleaving, as `desk::compare` and
-/// `desk::compare_worker` tell afterwards.
+/// saw, and neither began nor sought anything since, the steps of its seat since then, each in the
+/// world and the pools that it found, are a fault as it falls. No other step changed the worker's
+/// version. And it was ready, if the history is published in a later world of the interleaving, as
+/// `desk::compare` and `desk::compare_worker` tell afterwards.
 pub fn faults_of_an_interleaving_fall()
     ensures falls { (s : Setup) (w : ℕ) → ((n : ℕ) → slice_index s.machine.frames n ≤ 4096)
         → (first pools : PoolState) (done later : List Done) (history : List Command)
@@ -348,6 +272,23 @@ pub fn faults_of_an_interleaving_fall()
         → IsPublishedIn (world_of s
         (execution_of s (later ++ begins w (length history) request pools ∷ done))) history
         → IsReady s w history (world_of s (execution_of s done)) }
+{}
+
+/// A migration falls so in every interleaving, if its worker seeks the node there, and begins or
+/// seeks nothing else before it is over. A worker that isn't busy may always seek a node that has
+/// frames, at the newest published version.
+pub fn migrations_of_an_interleaving_fall()
+    ensures falls { (s : Setup) (w : ℕ) → ((n : ℕ) → slice_index s.machine.frames n ≤ 4096)
+        → (first pools : PoolState) (done later : List Done) (version node : ℕ)
+        → IsPlay s first (later ++ seeks w version node pools ∷ done)
+        → HaveNoBegin w later → (before after : SeatView)
+        → after.log ≡ since_of s (later ++ seeks w version node pools ∷ done) w ++ before.log
+        → FallsOn s w version node (world_of s (execution_of s done)) before after
+        (turns_in s w first later (seeks w version node pools ∷ done)) }
+    ensures may { (s : Setup) (past : List CoreStep) (w node : ℕ) → IsExecution s past
+        → w < s.workers → frame_search_of (world_of s past) w ≡ None
+        → 0 < slice_index s.machine.frames node
+        → MaySeek s (world_of s past) w (newest_published (world_of s past)) node }
 {}
 
 /// And there is a desk in every interleaving: a new one, after calls that are its commands and

@@ -4,9 +4,10 @@ ghost use Rattle.std.specs.Prelude.{◌≡◌, ℕ, ◌+◌, ◌*◌, ◌<◌, �
 ghost use Rattle.std.specs.Prelude.{slice_index, slice_set, Option, Some, None};
 ghost use mathlib.Core.Option.{some};
 ghost use lib.ListN.{get_elem?};
-ghost use Rattle.numa_core.specs.Executions.{CoreStep, IsExhausted, IsExecution};
+ghost use Rattle.numa_core.specs.Executions.{CoreStep, IsExhausted, IsExecution, IsFull};
+ghost use Rattle.numa_core.specs.Executions.{IsRightFrame};
 ghost use Rattle.numa_core.specs.Executions.{IsRightPlacement, world_of};
-ghost use Rattle.numa_core.specs.Steps.{effect_of, goes_on, going_on, placement_of};
+ghost use Rattle.numa_core.specs.Steps.{effect_of, goes_on, going_on, over_by, won_by};
 ghost use Rattle.numa_core.specs.Steps.{put, with_owner};
 ghost use Rattle.numa_core.specs.World.{Setup, World, FrameSearch, opening, frame_search_of};
 ghost use Rattle.numa_core.specs.World.{frame_search_after_look};
@@ -22,8 +23,8 @@ ghost use Rattle.numa_pool.specs.declared.view.Entry.{Entry};
 ghost use Rattle.numa_pool.specs.declared.view.View.{View};
 ghost use Rattle.numa_requests.specs.declared.placement.Placement.{Placement};
 ghost use Rattle.numa_requests.specs.declared.request.Request.{Request};
-ghost use Rattle.numa_core.specs.Seats.{fresh};
-ghost use Rattle.numa_refinement.specs.FrameSearches.{IsFrameSearch, TakesTurns, Tells, Turn};
+ghost use Rattle.numa_core.specs.World.{fresh};
+ghost use Rattle.numa_refinement.specs.FrameSearches.{IsFrameSearch, TakesTurns, TellsOfPage, Turn};
 ghost use Rattle.numa_refinement.specs.FrameSearches.{steps_of, world_left};
 ghost use Rattle.numa_refinement.specs.WalkSteps.{IsCoreStep, MayBegin, WalksOn, event_of, told};
 ghost use Rattle.numa_refinement.specs.WalkSteps.{world_after_handover};
@@ -35,7 +36,7 @@ ghost use Rattle.numa_refinement.specs.Tie.{HasMet, HaveMet, IsAt, IsTied, OwnsW
 
 /// If a frame search has met what a walk's steps found taken, the walk's current node is the frame
 /// search's, and what the walk may do next the frame search may do. A frame search with a current
-/// node goes on; if each listed node is full it is over, and the reply is Exhausted.
+/// node goes on; if each listed node is full it is over.
 pub fn walks_are_frame_searches()
     ensures current { (s : Setup) (frame_search : FrameSearch) (es : List Entry) (n : ℕ)
         → HasMet frame_search es
@@ -48,7 +49,7 @@ pub fn walks_are_frame_searches()
     ensures ended { (s : Setup) (frame_search : FrameSearch) (es : List Entry)
         → HasMet frame_search es
         → AllFull s.machine.frames es frame_search.nodes
-        → (goes_on s frame_search ≡ CoreReply.Exhausted frame_search.version)
+        → (goes_on s frame_search ≡ over_by frame_search)
         × (going_on s frame_search ≡ None) }
     ensures may_look { (s : Setup) (frame_search : FrameSearch) (es : List Entry) (n w : ℕ)
         → HasMet frame_search es
@@ -114,7 +115,7 @@ pub fn try_is_a_try()
         (id version : ℕ) (f : Frame) (frame_search : FrameSearch)
         → WalksOn s world since id frame_search (Entry.Won f) old new
         → IsCoreStep s world version (Event.Try id f)
-        (CoreReply.Won (placement_of s frame_search f)) }
+        (won_by s frame_search f) }
     ensures lost { (s : Setup) (world : World) (since : ℕ → List Entry) (old new : PoolState)
         (id version : ℕ) (f : Frame) (frame_search : FrameSearch)
         → WalksOn s world since id frame_search (Entry.Lost f) old new
@@ -155,12 +156,12 @@ pub fn begin_starts_a_walk()
     ensures core_step { (s : Setup) (world : World) (id version : ℕ) (request : Request)
         (nodes : List ℕ) → MayBegin s world id version request nodes
         → IsCoreStep s world version (Event.Begin id request)
-        (goes_on s (fresh request version nodes)) }
+        (goes_on s (fresh (Some request) version nodes)) }
     ensures frame_search { (s : Setup) (world : World) (id version : ℕ) (request : Request)
         (nodes : List ℕ)
         → MayBegin s world id version request nodes
         → frame_search_of (effect_of s world version (Event.Begin id request)) id
-        ≡ going_on s (fresh request version nodes) }
+        ≡ going_on s (fresh (Some request) version nodes) }
     ensures tied { (s : Setup) (world : World) (state : PoolState) (id version : ℕ)
         (request : Request) → IsTied s world state
         → IsTied s (effect_of s world version (Event.Begin id request)) state }
@@ -198,7 +199,7 @@ pub fn a_walk_is_a_frame_search()
         (found : Option Frame) (turns : List Turn) → MayBegin s first id version request nodes
         → TakesTurns s id (effect_of s first version (Event.Begin id request)) turns
         → IsWalk s.machine.frames nodes found (steps_of turns)
-        → (reply : CoreReply) × Tells version request nodes found reply
+        → (reply : CoreReply) × TellsOfPage version request nodes found reply
         × IsFrameSearch s id first version request reply turns }
     ensures idle { (s : Setup) (first : World) (id version : ℕ) (request : Request) (nodes : List ℕ)
         (found : Option Frame) (turns : List Turn) → MayBegin s first id version request nodes
@@ -223,17 +224,39 @@ pub fn interleavings_are_executions()
 /// In every such interleaving each frame that a seat wins is placed right for the core, and a walk
 /// that leaves each listed node full is exhausted there: the frame lies on the node at its rank of
 /// the list of the version that the worker took, and each frame of each earlier node, or of each
-/// node, was found with an owner since that Begin.
+/// node, was found with an owner since that Begin. Where the worker seeks a node, for no request,
+/// the frame is right for that. Whoever wins a frame is searching, for a request or for a node.
 pub fn interleavings_place_right()
+    ensures searches { (s : Setup) (first pools : PoolState) (done : List Done) (id : ℕ) (f : Frame)
+        → IsPlay s first (by_seat id (Entry.Won f) pools ∷ done)
+        → (frame_search : FrameSearch)
+        × (frame_search_of (world_of s (execution_of s done)) id ≡ Some frame_search) }
     ensures won { (s : Setup) (first pools : PoolState) (done : List Done) (id : ℕ) (f : Frame)
         → ((n : ℕ) → slice_index s.machine.frames n ≤ 4096) → 0 < s.workers
         → IsPlay s first (by_seat id (Entry.Won f) pools ∷ done)
+        → (frame_search : FrameSearch)
+        → frame_search_of (world_of s (execution_of s done)) id ≡ Some frame_search
+        → (request : Request) → frame_search.request ≡ Some request
         → (placement : Placement) × (placement.frame ≡ f)
         × IsRightPlacement s id placement (execution_of s done) }
+    ensures found { (s : Setup) (first pools : PoolState) (done : List Done) (id : ℕ) (f : Frame)
+        → ((n : ℕ) → slice_index s.machine.frames n ≤ 4096) → 0 < s.workers
+        → IsPlay s first (by_seat id (Entry.Won f) pools ∷ done)
+        → (frame_search : FrameSearch)
+        → frame_search_of (world_of s (execution_of s done)) id ≡ Some frame_search
+        → frame_search.request ≡ None → IsRightFrame s id f (execution_of s done) }
     ensures exhausted { (s : Setup) (first pools : PoolState) (done : List Done) (id : ℕ)
         (e : Entry) (frame_search : FrameSearch) → ((n : ℕ) → slice_index s.machine.frames n ≤ 4096)
         → 0 < s.workers → IsPlay s first (by_seat id e pools ∷ done)
         → frame_search_of (world_of s (execution_of s done)) id ≡ Some frame_search
+        → (request : Request) → frame_search.request ≡ Some request
         → AllFull s.machine.frames (e ∷ since_of s done id) frame_search.nodes
         → IsExhausted s id frame_search.version (execution_of s (by_seat id e pools ∷ done)) }
+    ensures full { (s : Setup) (first pools : PoolState) (done : List Done) (id : ℕ)
+        (e : Entry) (frame_search : FrameSearch) → ((n : ℕ) → slice_index s.machine.frames n ≤ 4096)
+        → 0 < s.workers → IsPlay s first (by_seat id e pools ∷ done)
+        → frame_search_of (world_of s (execution_of s done)) id ≡ Some frame_search
+        → frame_search.request ≡ None
+        → AllFull s.machine.frames (e ∷ since_of s done id) frame_search.nodes
+        → IsFull s id (execution_of s (by_seat id e pools ∷ done)) }
 {}

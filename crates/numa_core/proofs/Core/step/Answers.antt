@@ -1,6 +1,6 @@
 use Rattle.std.proofs.Common.{Ok, Err}
-use Rattle.numa_requests.specs.declared.event.Event.TheVariants.{Accept, Publish, Begin, Look}
-use Rattle.numa_requests.specs.declared.event.Event.TheVariants.{Try, Give}
+use Rattle.numa_requests.specs.declared.event.Event.TheVariants.{Accept, Publish, Begin, Seek}
+use Rattle.numa_requests.specs.declared.event.Event.TheVariants.{Look, Try, Give}
 use Rattle.numa_requests.specs.declared.event.CoreReply.TheVariants.{Accepted}
 use Rattle.numa_requests.specs.declared.event.CoreRefusal.TheVariants.{Command}
 use Rattle.numa_core.specs.Kept.{core_state}
@@ -22,6 +22,14 @@ invariant_of-self-in-Begin c = (
   past_more (core_state c.self-in-Begin.inside.state) (core_state c.begin.new.self)
       (Begin c.in-Begin.worker c.in-Begin.request) c.begin.result c.begin.ensures.setup
       c.begin.ensures.follows c.self-in-Begin.invariant.1,
+)
+
+pub invariant_of-self-in-Seek : goal.invariant_of-self-in-Seek
+invariant_of-self-in-Seek c = (
+  c.seek.ensures.kept,
+  past_more (core_state c.self-in-Seek.inside.state) (core_state c.seek.new.self)
+      (Seek c.in-Seek.worker c.in-Seek.node) c.seek.result c.seek.ensures.setup
+      c.seek.ensures.follows c.self-in-Seek.invariant.1,
 )
 
 pub invariant_of-self-in-Look : goal.invariant_of-self-in-Look
@@ -65,6 +73,18 @@ returns-in-Begin c =
     let told = told-by c.args.self.now c.self-in-Begin.inside.state c.begin.new.self c.args.event
     (Begin c.in-Begin.worker c.in-Begin.request) c.begin.result c.self-in-Begin.view_is
     c.in-Begin.is c.begin.ensures in
+    record {
+      answer = told.answers;
+      executions = told.executions;
+      unchanged = told.unchanged;
+      setup = told.setup;
+    }
+
+pub returns-in-Seek : goal.returns-in-Seek
+returns-in-Seek c =
+    let told = told-by c.args.self.now c.self-in-Seek.inside.state c.seek.new.self c.args.event
+    (Seek c.in-Seek.worker c.in-Seek.node) c.seek.result c.self-in-Seek.view_is
+    c.in-Seek.is c.seek.ensures in
     record {
       answer = told.answers;
       executions = told.executions;

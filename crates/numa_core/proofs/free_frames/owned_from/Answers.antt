@@ -1,5 +1,5 @@
 use Rattle.std.proofs.Common.{◌≡◌, ℕ, Option, Some, None, is_some, ap, ◌∙◌, arith, not}
-use Rattle.std.proofs.Common.{length, ◌<◌, true, false, refl}
+use Rattle.std.proofs.Common.{length, ◌<◌, false, refl}
 use Rattle.numa_core.specs.Standing.{owner_at}
 use Rattle.numa_core.proofs.InARow.{owner_read}
 use Rattle.numa_core.proofs.free_frames.owned_from.Goals as goal

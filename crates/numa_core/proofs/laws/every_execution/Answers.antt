@@ -1,8 +1,8 @@
 use Rattle.numa_core.proofs.Answered.{legal_before}
 use Rattle.numa_core.proofs.GivenBack.{given_back}
 use Rattle.numa_core.proofs.Versions.{never_falls}
-use Rattle.numa_core.proofs.Placing.{right}
-use Rattle.numa_core.proofs.Exhausting.{exhausted}
+use Rattle.numa_core.proofs.Placing.{right, found}
+use Rattle.numa_core.proofs.Exhausting.{exhausted, full}
 use Rattle.numa_core.proofs.laws.every_execution.Goals as goal
 
 pub returns-clause-right : goal.returns-clause-right
@@ -12,6 +12,14 @@ returns-clause-right c s later earlier m placement legal e =
 pub returns-clause-exhausted : goal.returns-clause-exhausted
 returns-clause-exhausted c s later earlier m version legal e =
     exhausted s earlier m version (legal_before s later _ legal) e
+
+pub returns-clause-found : goal.returns-clause-found
+returns-clause-found c s later earlier m frame legal e =
+    found s earlier m frame (legal_before s later _ legal) e
+
+pub returns-clause-full : goal.returns-clause-full
+returns-clause-full c s later earlier m legal e =
+    full s earlier m (legal_before s later _ legal) e
 
 pub returns-clause-given_back : goal.returns-clause-given_back
 returns-clause-given_back c s later between earlier first second v w frame legal old new =

@@ -1,5 +1,5 @@
 -- Each number so far fails the test.
-use Rattle.std.proofs.Common.{◌≡◌, ◌+◌, ◌<◌, true, false, inl, inr, sym, subst, arith}
+use Rattle.std.proofs.Common.{◌≡◌, ◌+◌, true, false, inl, inr, subst, arith}
 use Rattle.std.proofs.lemmas.Bool.{cases_lt}
 use Rattle.numa_core.specs.Standing.{frames_before}
 use Rattle.numa_core.proofs.InARow.{index_within}

@@ -64,9 +64,9 @@ returns-clause-tries c s same =
     c.in_ok-job.job c.in_ok-job.node same c.in_ok-job.ensures.busy.0
     (cursor-of c.args.places.now c.args.self.now.job c.in_ok-job.job c.args.self.now.nodes.items
     c.args.self.now.met.items c.in_ok-job.ensures.busy.0 c.requires.fits.cursor)
-    c.in_ok-job.ensures.busy.1
+    c.in_ok-job.ensures.busy.1 c.won_by.result
     (next-true c.args.places.now c.args.self.now.met.items c.in_ok-job.node c.args.frame
-    c.if-node-frame.false there.0 unmet) c.if-owned.false c.if-node-frame.false refl
+    c.if-node-frame.false there.0 unmet) c.if-owned.false refl c.won_by.ensures
 
 pub current-requires : goal.current-requires
 current-requires c =

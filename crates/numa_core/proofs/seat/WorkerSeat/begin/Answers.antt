@@ -1,7 +1,8 @@
 use Rattle.std.proofs.Common.{◌≡◌, ap, ◌∙◌}
 use Rattle.numa_core.specs.Steps.{goes_on, going_on}
 use Rattle.numa_core.specs.Standing.{frame_search_in}
-use Rattle.numa_core.specs.Seats.{busy_at, fresh}
+use Rattle.numa_core.specs.World.{fresh}
+use Rattle.numa_core.specs.Seats.{busy_at}
 use Rattle.numa_core.proofs.Seating.{fresh-is}
 use Rattle.numa_core.proofs.seat.WorkerSeat.begin.Goals as goal
 

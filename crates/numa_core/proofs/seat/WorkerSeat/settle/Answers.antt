@@ -1,10 +1,10 @@
-use Rattle.std.proofs.Common.{subst}
+use Rattle.std.proofs.Common.{◌∙◌, subst}
 use Rattle.numa_core.specs.Seats.{busy_at, IsCursor, IsAllMet}
 use Rattle.numa_core.proofs.Cursors.{settled, ended}
 use Rattle.numa_core.proofs.seat.WorkerSeat.settle.Goals as goal
 
 pub returns-in_default-clause-reply : goal.returns-in_default-clause-reply
-returns-in_default-clause-reply c s same =
+returns-in_default-clause-reply c s same = c.over_by.ensures ∙
     (ended s c.args.places.now
     (busy_at c.args.job c.args.self.now.nodes.items c.args.self.now.met.items) same
     (subst (λ ns. IsAllMet c.args.places.now ns c.args.self.now.met.items) c.as_slice.ensures.value

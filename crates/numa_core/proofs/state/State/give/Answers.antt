@@ -1,5 +1,5 @@
-use Rattle.std.proofs.Common.{◌≡◌, ◌==◌, ◌<◌, Some, None, length, slice_get, arith, refl, sym, ap}
-use Rattle.std.proofs.Common.{◌∙◌, rules, subst, Err}
+use Rattle.std.proofs.Common.{◌<◌, Some, None, length, arith, refl, sym, ap}
+use Rattle.std.proofs.Common.{◌∙◌, rules}
 use Rattle.std.proofs.lemmas.Bool.{ne_eqb}
 use Rattle.std.proofs.lemmas.Result.{err_from_is_err_and}
 use Rattle.numa_core.specs.Standing.{owner_at}
