@@ -20,11 +20,13 @@ use Rattle.numa_requests.specs.declared.command.Command.TheVariants as own
 use Rattle.numa_requests.specs.declared.refusal.Refusal.{Refusal}
 use Rattle.numa_requests.specs.declared.refusal.Refusal.TheVariants as refused
 use Rattle.numa_space.proofs.Refused.{first_of-none}
-use Rattle.numa_host.specs.declared.command.HostCommand.{HostCommand}
-use Rattle.numa_host.specs.declared.command.HostCommand.TheVariants.{NewGroup, SetGroupMems}
-use Rattle.numa_host.specs.declared.command.HostCommand.TheVariants.{NewProcess, Exit, Attach}
-use Rattle.numa_host.specs.declared.command.HostCommand.TheVariants.{Fork, In, SetWeight}
-use Rattle.numa_host.specs.declared.refusal.HostRefusal.TheVariants as cause
+use Rattle.numa_requests.specs.declared.host_command.HostCommand.{HostCommand}
+use Rattle.numa_requests.specs.declared.host_command.HostCommand.TheVariants.{NewGroup}
+use Rattle.numa_requests.specs.declared.host_command.HostCommand.TheVariants.{SetGroupMems}
+use Rattle.numa_requests.specs.declared.host_command.HostCommand.TheVariants.{NewProcess, Exit}
+use Rattle.numa_requests.specs.declared.host_command.HostCommand.TheVariants.{Attach}
+use Rattle.numa_requests.specs.declared.host_command.HostCommand.TheVariants.{Fork, In, SetWeight}
+use Rattle.numa_requests.specs.declared.host_refusal.HostRefusal.TheVariants as cause
 use Rattle.numa_host.specs.Causes.{cause_of, cause_in, host_refusal_of, is_the_host_s}
 use Rattle.numa_host.specs.Causes.{when}
 use Rattle.numa_host.specs.Groups.{effective_mems, groups_of}

@@ -8,14 +8,15 @@ use Rattle.numa_requests.specs.declared.command.Command.{Command}
 use Rattle.numa_requests.specs.declared.refusal.Refusal.{Refusal}
 use Rattle.numa_requests.specs.declared.refusal.Refusal.TheVariants as own
 use Rattle.numa_space.proofs.Refused.{refusal-not_memory}
-use Rattle.numa_host.specs.declared.refusal.HostRefusal.TheVariants.{OfSpace, NoMemory}
-use Rattle.numa_host.specs.Answers.{of_space}
+use Rattle.numa_requests.specs.declared.host_refusal.HostRefusal.TheVariants.{OfSpace, NoMemory}
+use Rattle.numa_requests.specs.HostErrors.{of_space}
 
 of_space-other : (refusal : Refusal) → (refusal ≡ own.NoMemory → ⊥)
     → of_space refusal ≡ OfSpace refusal
 of_space-other own.CommandsSpent other = refl
 of_space-other own.Unaligned other = refl
 of_space-other own.OutOfSpace other = refl
+of_space-other own.BadSpan other = refl
 of_space-other own.EmptyLength other = refl
 of_space-other own.BadOffset other = refl
 of_space-other own.Overlap other = refl
@@ -23,6 +24,7 @@ of_space-other own.Hole other = refl
 of_space-other own.NoSuchNode other = refl
 of_space-other own.BadWeight other = refl
 of_space-other own.NodesNotAllowed other = refl
+of_space-other own.NoNodes other = refl
 of_space-other own.NotSupported other = refl
 of_space-other own.NoPolicy other = refl
 of_space-other own.TooManyTasks other = refl

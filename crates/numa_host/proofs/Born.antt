@@ -9,8 +9,8 @@ use Rattle.std.proofs.lemmas.List.Quantifiers.{all_pairs_push}
 use Rattle.std.specs.List.{list_any}
 use Rattle.numa_space.specs.Standing.{StandsFor}
 use Rattle.numa_requests.specs.declared.command.Command.{Command}
-use Rattle.numa_host.specs.declared.command.HostCommand.{HostCommand}
-use Rattle.numa_host.specs.declared.command.HostCommand.TheVariants.{NewProcess}
+use Rattle.numa_requests.specs.declared.host_command.HostCommand.{HostCommand}
+use Rattle.numa_requests.specs.declared.host_command.HostCommand.TheVariants.{NewProcess}
 use Rattle.numa_host.specs.declared.process.Process.{Process}
 use Rattle.numa_host.specs.Causes.{host_refusal_of}
 use Rattle.numa_host.specs.Following.{IsBorn}

@@ -15,10 +15,10 @@ use Rattle.numa_requests.specs.declared.command.Command.TheVariants.{Inherit}
 use Rattle.numa_requests.specs.declared.refusal.Refusal.{Refusal}
 use Rattle.numa_requests.specs.declared.refusal.Refusal.TheVariants.{TooManyTasks}
 use Rattle.numa_space.proofs.Refused.{refusal-same}
-use Rattle.numa_host.specs.declared.command.HostCommand.{HostCommand}
-use Rattle.numa_host.specs.declared.command.HostCommand.TheVariants.{Fork}
+use Rattle.numa_requests.specs.declared.host_command.HostCommand.{HostCommand}
+use Rattle.numa_requests.specs.declared.host_command.HostCommand.TheVariants.{Fork}
 use Rattle.numa_host.specs.declared.process.Process.{Process}
-use Rattle.numa_host.specs.declared.refusal.HostRefusal.TheVariants.{OfSpace}
+use Rattle.numa_requests.specs.declared.host_refusal.HostRefusal.TheVariants.{OfSpace}
 use Rattle.numa_host.specs.Causes.{host_refusal_of}
 use Rattle.numa_host.specs.Following.{IsChildOf, lacks_place}
 use Rattle.numa_host.specs.Groups.{effective_mems, is_group}

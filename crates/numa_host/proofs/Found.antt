@@ -7,7 +7,7 @@ use Rattle.std.specs.List.{find}
 use Rattle.std.proofs.lemmas.List.Elements.{All-head, All-tail}
 use Rattle.numa_host.specs.declared.process.Process.{Process}
 use Rattle.numa_space.specs.Standing.{StandsFor}
-use Rattle.numa_host.specs.declared.command.HostCommand.{HostCommand}
+use Rattle.numa_requests.specs.declared.host_command.HostCommand.{HostCommand}
 use Rattle.numa_host.specs.Processes.{is_there, members_of, commands_of}
 use Rattle.numa_host.specs.Standing.{member_of, HostState, HostStandsFor, IsSpaceOf}
 

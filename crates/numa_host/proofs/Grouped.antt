@@ -13,11 +13,11 @@ use Rattle.numa_host.specs.Causes.{host_refusal_of, is_populated}
 use Rattle.numa_host.proofs.Lengths.{commands-few}
 use Rattle.numa_machine.specs.Machine.{Hardware}
 use Rattle.numa_space.specs.Standing.{StandsFor}
-use Rattle.numa_host.specs.declared.command.HostCommand.{HostCommand}
-use Rattle.numa_host.specs.declared.command.HostCommand.TheVariants.{SetGroupMems}
+use Rattle.numa_requests.specs.declared.host_command.HostCommand.{HostCommand}
+use Rattle.numa_requests.specs.declared.host_command.HostCommand.TheVariants.{SetGroupMems}
 use Rattle.numa_host.specs.declared.group.ControlGroup.{ControlGroup}
 use Rattle.numa_host.specs.declared.process.Process.{Process}
-use Rattle.numa_host.specs.declared.refusal.HostRefusal.TheVariants.{Populated}
+use Rattle.numa_requests.specs.declared.host_refusal.HostRefusal.TheVariants.{Populated}
 use Rattle.numa_host.specs.Groups.{effective_mems, groups_of, has_own_mems, is_group, is_within}
 use Rattle.numa_host.specs.Groups.{with_mems}
 use Rattle.numa_host.specs.Processes.{Member, has_process, group_in, members_of, nodes_of}

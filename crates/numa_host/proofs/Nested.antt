@@ -10,13 +10,15 @@ use Rattle.numa_machine.specs.Machine.{Hardware}
 use Rattle.numa_mode.proofs.Subsets.{both-within}
 use Rattle.numa_space.specs.Limited.{Bounds}
 use Rattle.numa_space.proofs.NodeLists.{within-both}
-use Rattle.numa_host.specs.declared.command.HostCommand.{HostCommand}
-use Rattle.numa_host.specs.declared.command.HostCommand.TheVariants.{NewGroup, SetGroupMems}
-use Rattle.numa_host.specs.declared.command.HostCommand.TheVariants.{NewProcess, Exit, Attach}
-use Rattle.numa_host.specs.declared.command.HostCommand.TheVariants.{Fork, In, SetWeight}
+use Rattle.numa_requests.specs.declared.host_command.HostCommand.{HostCommand}
+use Rattle.numa_requests.specs.declared.host_command.HostCommand.TheVariants.{NewGroup}
+use Rattle.numa_requests.specs.declared.host_command.HostCommand.TheVariants.{SetGroupMems}
+use Rattle.numa_requests.specs.declared.host_command.HostCommand.TheVariants.{NewProcess, Exit}
+use Rattle.numa_requests.specs.declared.host_command.HostCommand.TheVariants.{Attach}
+use Rattle.numa_requests.specs.declared.host_command.HostCommand.TheVariants.{Fork, In, SetWeight}
 use Rattle.numa_host.specs.declared.group.ControlGroup.{ControlGroup}
-use Rattle.numa_host.specs.declared.refusal.HostRefusal.{HostRefusal}
-use Rattle.numa_host.specs.declared.refusal.HostRefusal.TheVariants as cause
+use Rattle.numa_requests.specs.declared.host_refusal.HostRefusal.{HostRefusal}
+use Rattle.numa_requests.specs.declared.host_refusal.HostRefusal.TheVariants as cause
 use Rattle.numa_host.specs.Causes.{cause_of, first_of, when}
 use Rattle.numa_host.specs.Groups.{effective_mems, groups_of, is_group, narrowed, with_mems}
 use Rattle.numa_host.specs.Standing.{IsHostAccepted}

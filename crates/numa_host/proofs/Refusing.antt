@@ -3,10 +3,11 @@ use Rattle.std.proofs.Common.{◌≡◌, ◌<◌, ◌≤◌, ℕ, true, false, L
 use Rattle.std.proofs.Common.{None, Err, leb, refl, sym, ap, ◌∙◌, arith}
 use Rattle.std.proofs.lemmas.Bool.{le-leb}
 use Rattle.std.specs.List.{list_any, position}
-use Rattle.numa_host.specs.declared.command.HostCommand.{HostCommand}
-use Rattle.numa_host.specs.declared.command.HostCommand.TheVariants.{NewGroup, NewProcess, Exit}
-use Rattle.numa_host.specs.declared.command.HostCommand.TheVariants.{Attach, Fork}
-use Rattle.numa_host.specs.declared.refusal.HostRefusal.TheVariants as cause
+use Rattle.numa_requests.specs.declared.host_command.HostCommand.{HostCommand}
+use Rattle.numa_requests.specs.declared.host_command.HostCommand.TheVariants.{NewGroup, NewProcess}
+use Rattle.numa_requests.specs.declared.host_command.HostCommand.TheVariants.{Exit}
+use Rattle.numa_requests.specs.declared.host_command.HostCommand.TheVariants.{Attach, Fork}
+use Rattle.numa_requests.specs.declared.host_refusal.HostRefusal.TheVariants as cause
 use Rattle.numa_host.specs.Groups.{groups_of, is_group}
 use Rattle.numa_host.specs.Processes.{Member, is_there, members_of}
 use Rattle.numa_host.specs.Standing.{HostState, HostStandsFor, IsHostApplied, IsHostSound}

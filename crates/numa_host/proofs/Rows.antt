@@ -5,13 +5,15 @@ use Rattle.numa_machine.specs.Machine.{Hardware}
 use Rattle.numa_machine.specs.declared.fallback.Fallback.TheVariants.{Nearest}
 use Rattle.numa_machine.specs.declared.rules.Rules.TheVariants.{Document}
 use Rattle.numa_requests.specs.declared.command.Command.TheVariants as own
-use Rattle.numa_host.specs.declared.command.HostCommand.{HostCommand}
+use Rattle.numa_requests.specs.declared.host_command.HostCommand.{HostCommand}
 use Rattle.numa_space.specs.Limited.{Bounds}
-use Rattle.numa_host.specs.declared.command.HostCommand.TheVariants.{NewGroup, SetGroupMems}
-use Rattle.numa_host.specs.declared.command.HostCommand.TheVariants.{NewProcess, Exit, Attach}
-use Rattle.numa_host.specs.declared.command.HostCommand.TheVariants.{Fork, In, SetWeight}
-use Rattle.numa_host.specs.declared.refusal.HostRefusal.{HostRefusal}
-use Rattle.numa_host.specs.declared.refusal.HostRefusal.TheVariants as cause
+use Rattle.numa_requests.specs.declared.host_command.HostCommand.TheVariants.{NewGroup}
+use Rattle.numa_requests.specs.declared.host_command.HostCommand.TheVariants.{SetGroupMems}
+use Rattle.numa_requests.specs.declared.host_command.HostCommand.TheVariants.{NewProcess, Exit}
+use Rattle.numa_requests.specs.declared.host_command.HostCommand.TheVariants.{Attach}
+use Rattle.numa_requests.specs.declared.host_command.HostCommand.TheVariants.{Fork, In, SetWeight}
+use Rattle.numa_requests.specs.declared.host_refusal.HostRefusal.{HostRefusal}
+use Rattle.numa_requests.specs.declared.host_refusal.HostRefusal.TheVariants as cause
 use Rattle.numa_host.specs.Causes.{host_refusal_of}
 use Rattle.numa_host.specs.Processes.{commands_of, nodes_of}
 

@@ -5,10 +5,10 @@ use Rattle.std.proofs.lemmas.Bool.{lt-leb}
 use Rattle.std.proofs.lemmas.List.{length-map}
 use Rattle.numa_machine.specs.Machine.{Hardware}
 use Rattle.numa_space.specs.Limited.{Bounds}
-use Rattle.numa_host.specs.declared.command.HostCommand.{HostCommand}
+use Rattle.numa_requests.specs.declared.host_command.HostCommand.{HostCommand}
 use Rattle.numa_host.specs.declared.group.ControlGroup.{ControlGroup}
-use Rattle.numa_host.specs.declared.refusal.HostRefusal.{HostRefusal}
-use Rattle.numa_host.specs.declared.refusal.HostRefusal.TheVariants.{NoMemory}
+use Rattle.numa_requests.specs.declared.host_refusal.HostRefusal.{HostRefusal}
+use Rattle.numa_requests.specs.declared.host_refusal.HostRefusal.TheVariants.{NoMemory}
 use Rattle.numa_host.specs.Causes.{host_refusal_of}
 use Rattle.numa_host.specs.Groups.{groups_of, is_group}
 use Rattle.numa_host.specs.Inside.{IsKept, shown_of}

@@ -8,10 +8,12 @@ use Rattle.std.specs.Prelude.{unwrap_or}
 use Rattle.numa_machine.specs.Machine.{Hardware}
 use Rattle.numa_requests.specs.declared.command.Command.{Command}
 use Rattle.numa_requests.specs.declared.command.Command.TheVariants as own
-use Rattle.numa_host.specs.declared.command.HostCommand.{HostCommand}
-use Rattle.numa_host.specs.declared.command.HostCommand.TheVariants.{NewGroup, SetGroupMems}
-use Rattle.numa_host.specs.declared.command.HostCommand.TheVariants.{NewProcess, Exit, Attach}
-use Rattle.numa_host.specs.declared.command.HostCommand.TheVariants.{Fork, In, SetWeight}
+use Rattle.numa_requests.specs.declared.host_command.HostCommand.{HostCommand}
+use Rattle.numa_requests.specs.declared.host_command.HostCommand.TheVariants.{NewGroup}
+use Rattle.numa_requests.specs.declared.host_command.HostCommand.TheVariants.{SetGroupMems}
+use Rattle.numa_requests.specs.declared.host_command.HostCommand.TheVariants.{NewProcess, Exit}
+use Rattle.numa_requests.specs.declared.host_command.HostCommand.TheVariants.{Attach}
+use Rattle.numa_requests.specs.declared.host_command.HostCommand.TheVariants.{Fork, In, SetWeight}
 use Rattle.numa_host.specs.declared.group.ControlGroup.{ControlGroup}
 use Rattle.numa_host.specs.Groups.{effective_mems, groups_of, with_mems}
 use Rattle.numa_host.specs.Processes.{Member, commands_of, group_in, members_of, moved_member}

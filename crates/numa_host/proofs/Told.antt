@@ -15,11 +15,12 @@ use Rattle.numa_requests.specs.declared.command.Command.{Command}
 use Rattle.numa_requests.specs.declared.command.Command.TheVariants as own
 use Rattle.numa_requests.specs.declared.refusal.Refusal.{Refusal}
 use Rattle.numa_requests.specs.declared.refusal.Refusal.TheVariants as cause
-use Rattle.numa_host.specs.declared.command.HostCommand.{HostCommand}
-use Rattle.numa_host.specs.declared.command.HostCommand.TheVariants.{In}
+use Rattle.numa_requests.specs.declared.host_command.HostCommand.{HostCommand}
+use Rattle.numa_requests.specs.declared.host_command.HostCommand.TheVariants.{In}
 use Rattle.numa_host.specs.declared.process.Process.{Process}
-use Rattle.numa_host.specs.declared.refusal.HostRefusal.TheVariants.{NoSuchProcess, GroupMems}
-use Rattle.numa_host.specs.Answers.{of_space}
+use Rattle.numa_requests.specs.declared.host_refusal.HostRefusal.TheVariants.{NoSuchProcess}
+use Rattle.numa_requests.specs.declared.host_refusal.HostRefusal.TheVariants.{GroupMems}
+use Rattle.numa_requests.specs.HostErrors.{of_space}
 use Rattle.numa_host.specs.Causes.{host_refusal_of, is_the_host_s}
 use Rattle.numa_host.specs.Following.{AreFollowed, HasAnswered, IsTold}
 use Rattle.numa_host.specs.Groups.{effective_mems, is_group}

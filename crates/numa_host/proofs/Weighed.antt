@@ -16,8 +16,8 @@ use Rattle.numa_host.proofs.Lengths.{commands-few}
 use Rattle.numa_space.specs.Standing.{SpaceState, StandsFor}
 use Rattle.numa_requests.specs.declared.command.Command.{Command}
 use Rattle.numa_requests.specs.declared.command.Command.TheVariants as own
-use Rattle.numa_host.specs.declared.command.HostCommand.{HostCommand}
-use Rattle.numa_host.specs.declared.command.HostCommand.TheVariants.{SetWeight}
+use Rattle.numa_requests.specs.declared.host_command.HostCommand.{HostCommand}
+use Rattle.numa_requests.specs.declared.host_command.HostCommand.TheVariants.{SetWeight}
 use Rattle.numa_host.specs.declared.process.Process.{Process}
 use Rattle.numa_host.specs.Groups.{effective_mems, is_group}
 use Rattle.numa_host.specs.Processes.{commands_of, weights_of}

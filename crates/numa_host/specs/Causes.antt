@@ -10,20 +10,25 @@ use Rattle.numa_space.specs.Limited.{Bounds}
 use Rattle.numa_space.specs.Refusals.{refusal_of}
 use Rattle.numa_requests.specs.declared.command.Command.{Command}
 use Rattle.numa_requests.specs.declared.command.Command.TheVariants as own
-use Rattle.numa_host.specs.declared.command.HostCommand.{HostCommand}
-use Rattle.numa_host.specs.declared.command.HostCommand.TheVariants.{NewGroup, SetGroupMems}
-use Rattle.numa_host.specs.declared.command.HostCommand.TheVariants.{NewProcess, Exit, Attach}
-use Rattle.numa_host.specs.declared.command.HostCommand.TheVariants.{Fork}
-use Rattle.numa_host.specs.declared.command.HostCommand.TheVariants.{In, SetWeight}
-use Rattle.numa_host.specs.declared.refusal.HostRefusal.{HostRefusal}
-use Rattle.numa_host.specs.declared.refusal.HostRefusal.TheVariants.{CommandsSpent, NoSuchGroup}
-use Rattle.numa_host.specs.declared.refusal.HostRefusal.TheVariants.{RootGroup, NoSuchNode}
-use Rattle.numa_host.specs.declared.refusal.HostRefusal.TheVariants.{Populated}
-use Rattle.numa_host.specs.declared.refusal.HostRefusal.TheVariants.{GroupExists}
-use Rattle.numa_host.specs.declared.refusal.HostRefusal.TheVariants.{NoSuchProcess}
-use Rattle.numa_host.specs.declared.refusal.HostRefusal.TheVariants.{ProcessExists}
-use Rattle.numa_host.specs.declared.refusal.HostRefusal.TheVariants.{GroupMems, TooManyGroups}
-use Rattle.numa_host.specs.declared.refusal.HostRefusal.TheVariants.{TooManyProcesses, OfSpace}
+use Rattle.numa_requests.specs.declared.host_command.HostCommand.{HostCommand}
+use Rattle.numa_requests.specs.declared.host_command.HostCommand.TheVariants.{NewGroup}
+use Rattle.numa_requests.specs.declared.host_command.HostCommand.TheVariants.{SetGroupMems}
+use Rattle.numa_requests.specs.declared.host_command.HostCommand.TheVariants.{NewProcess, Exit}
+use Rattle.numa_requests.specs.declared.host_command.HostCommand.TheVariants.{Attach}
+use Rattle.numa_requests.specs.declared.host_command.HostCommand.TheVariants.{Fork}
+use Rattle.numa_requests.specs.declared.host_command.HostCommand.TheVariants.{In, SetWeight}
+use Rattle.numa_requests.specs.declared.host_refusal.HostRefusal.{HostRefusal}
+use Rattle.numa_requests.specs.declared.host_refusal.HostRefusal.TheVariants.{CommandsSpent}
+use Rattle.numa_requests.specs.declared.host_refusal.HostRefusal.TheVariants.{NoSuchGroup}
+use Rattle.numa_requests.specs.declared.host_refusal.HostRefusal.TheVariants.{RootGroup, NoSuchNode}
+use Rattle.numa_requests.specs.declared.host_refusal.HostRefusal.TheVariants.{Populated}
+use Rattle.numa_requests.specs.declared.host_refusal.HostRefusal.TheVariants.{GroupExists}
+use Rattle.numa_requests.specs.declared.host_refusal.HostRefusal.TheVariants.{NoSuchProcess}
+use Rattle.numa_requests.specs.declared.host_refusal.HostRefusal.TheVariants.{ProcessExists}
+use Rattle.numa_requests.specs.declared.host_refusal.HostRefusal.TheVariants.{GroupMems}
+use Rattle.numa_requests.specs.declared.host_refusal.HostRefusal.TheVariants.{TooManyGroups}
+use Rattle.numa_requests.specs.declared.host_refusal.HostRefusal.TheVariants.{TooManyProcesses}
+use Rattle.numa_requests.specs.declared.host_refusal.HostRefusal.TheVariants.{OfSpace}
 use Rattle.numa_host.specs.Groups.{groups_of, is_group, has_own_mems}
 use Rattle.numa_host.specs.Processes.{members_of, is_there, has_process, commands_of}
 use Rattle.numa_host.specs.Processes.{weights_of}

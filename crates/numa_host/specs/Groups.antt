@@ -5,8 +5,9 @@ use Rattle.std.specs.Prelude.{is_some}
 use Rattle.std.specs.Prelude.{if◌then◌else◌}
 use Rattle.std.specs.List.{list_any}
 use Rattle.numa_mask.specs.NodeSet.{both}
-use Rattle.numa_host.specs.declared.command.HostCommand.{HostCommand}
-use Rattle.numa_host.specs.declared.command.HostCommand.TheVariants.{NewGroup, SetGroupMems}
+use Rattle.numa_requests.specs.declared.host_command.HostCommand.{HostCommand}
+use Rattle.numa_requests.specs.declared.host_command.HostCommand.TheVariants.{NewGroup}
+use Rattle.numa_requests.specs.declared.host_command.HostCommand.TheVariants.{SetGroupMems}
 use Rattle.numa_host.specs.declared.group.ControlGroup.{ControlGroup}
 
 -- the group with a list of its own, or with none, where it has this name

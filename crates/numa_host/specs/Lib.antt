@@ -4,5 +4,4 @@ pub mod Causes
 pub mod Standing
 pub mod Inside
 pub mod Following
-pub mod Answers
 pub mod Strangers

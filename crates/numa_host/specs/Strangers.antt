@@ -1,9 +1,10 @@
 -- Processes that have nothing to do with others.
 use Rattle.std.specs.Prelude.{◌≡◌, ℕ, Bool, false, not, List, [], ◌∷◌, filter}
-use Rattle.numa_host.specs.declared.command.HostCommand.{HostCommand}
-use Rattle.numa_host.specs.declared.command.HostCommand.TheVariants.{NewProcess, Exit, Attach}
-use Rattle.numa_host.specs.declared.command.HostCommand.TheVariants.{Fork}
-use Rattle.numa_host.specs.declared.command.HostCommand.TheVariants.{In}
+use Rattle.numa_requests.specs.declared.host_command.HostCommand.{HostCommand}
+use Rattle.numa_requests.specs.declared.host_command.HostCommand.TheVariants.{NewProcess, Exit}
+use Rattle.numa_requests.specs.declared.host_command.HostCommand.TheVariants.{Attach}
+use Rattle.numa_requests.specs.declared.host_command.HostCommand.TheVariants.{Fork}
+use Rattle.numa_requests.specs.declared.host_command.HostCommand.TheVariants.{In}
 
 -- whether a command makes, ends, moves or changes one of these processes
 abbrev pub is_of : (ℕ → Bool) → HostCommand → Bool

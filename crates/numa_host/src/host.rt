@@ -1,23 +1,22 @@
 //! A host of processes in control groups.
-ghost use Rattle.std.specs.Prelude.{◌≡◌, ◌≢◌, ◌<◌, ℕ, Option, List, [], map, MatchOption, IfSome};
-ghost use Rattle.std.specs.Prelude.{IfOk, false, true, All, AllPairs, length};
+ghost use Rattle.std.specs.Prelude.{◌≡◌, ◌≢◌, ◌<◌, ℕ, Option, List, [], map, MatchOption};
+ghost use Rattle.std.specs.Prelude.{IfOk, MatchResult, None, Some, false, true, All, AllPairs};
+ghost use Rattle.std.specs.Prelude.{length};
 ghost use Rattle.numa_space.specs.Lists.{node_list};
-ghost use Rattle.numa_space.specs.Standing.{StandsFor};
-ghost use Rattle.numa_host.specs.declared.command.HostCommand.{HostCommand};
+ghost use Rattle.numa_space.specs.Standing.{StandsFor, place_refusal_of};
+ghost use Rattle.numa_requests.specs.declared.host_command.HostCommand.{HostCommand};
 ghost use Rattle.numa_host.specs.declared.process.Process.{Process};
 ghost use Rattle.numa_host.specs.Groups.{effective_mems, groups_of, is_group};
 ghost use Rattle.numa_host.specs.Processes.{commands_of, is_there, members_of};
 ghost use Rattle.numa_host.specs.Standing.{HasHostHistory, HostState, HostStandsFor, IsHostApplied};
 ghost use Rattle.numa_host.specs.Standing.{IsHostSound, IsSpaceOf, member_of};
 
-use crate::command::HostCommand;
 use crate::group::{ControlGroup, effective, is_group};
 use crate::process::{Process, copies_of, find};
-use crate::refusal::HostRefusal;
 use arrayvec::ArrayVec;
 use numa_machine::{Machine, NoMemory, PlaceRefusal};
 use numa_mask::NodeMask;
-use numa_requests::Limits;
+use numa_requests::{HostCommand, HostRefusal, Limits};
 use numa_space::Space;
 use std::alloc::Global;
 use std::marker::Model;
@@ -179,7 +178,10 @@ impl Host {
     }
 
     /// The nodes on which memory for a page of a process is looked for, in this order; None where
-    /// the process isn't there. A refusal is that of its space.
+    /// the process isn't there.
+    ///
+    /// # Errors
+    /// Those of its space, as [`Space::list_at`].
     pub fn list_at(
         &self,
         process: u32,
@@ -188,12 +190,18 @@ impl Host {
         cpu: u32,
     ) -> Option<Result<ArrayVec<u8, 256>, PlaceRefusal>>
         ensures { (history : List HostCommand) → HostStandsFor self.now history
-            → IfSome result (λ answer. IfOk answer (λ list. list.items
-            ≡ node_list self.now.blank.machine (commands_of self.now.blank.machine history process)
-            task page cpu)) }
+            → MatchOption result (is_there (members_of history) process ≡ false)
+            (λ answer. (is_there (members_of history) process ≡ true) × MatchResult answer
+            (λ list. (place_refusal_of self.now.blank.machine
+            (commands_of self.now.blank.machine history process) page cpu ≡ None)
+            × (list.items ≡ node_list self.now.blank.machine
+            (commands_of self.now.blank.machine history process) task page cpu))
+            (λ refusal. place_refusal_of self.now.blank.machine
+            (commands_of self.now.blank.machine history process) page cpu ≡ Some refusal)) }
     {
-        let space = self.process(process)?;
-        let answer = space.list_at(task, page, cpu);
-        Some(answer)
+        match self.process(process) {
+            Some(space) => Some(space.list_at(task, page, cpu)),
+            None => None,
+        }
     }
 }

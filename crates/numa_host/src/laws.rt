@@ -5,7 +5,7 @@ ghost use Rattle.numa_mask.specs.NodeSet.{both, members};
 ghost use Rattle.numa_machine.specs.Machine.{Hardware};
 ghost use Rattle.numa_space.specs.Limited.{Bounds};
 ghost use Rattle.numa_space.specs.Standing.{IsAccepted};
-ghost use Rattle.numa_host.specs.declared.command.HostCommand.{HostCommand};
+ghost use Rattle.numa_requests.specs.declared.host_command.HostCommand.{HostCommand};
 ghost use Rattle.numa_host.specs.declared.group.ControlGroup.{ControlGroup};
 ghost use Rattle.numa_host.specs.Groups.{effective_mems, groups_of};
 ghost use Rattle.numa_host.specs.Processes.{commands_of};

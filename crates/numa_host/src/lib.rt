@@ -7,15 +7,12 @@
 //! its group have changed. So each law about spaces is one about every process.
 #![tactic(auto)]
 
-pub mod command;
 pub mod group;
 pub mod host;
 pub mod laws;
 pub mod process;
-pub mod refusal;
+mod refusal;
 
-pub use command::HostCommand;
 pub use group::ControlGroup;
 pub use host::Host;
 pub use process::Process;
-pub use refusal::{HostErrno, HostRefusal};

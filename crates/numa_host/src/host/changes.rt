@@ -1,18 +1,17 @@
 //! What each command does.
 ghost use Rattle.std.specs.Prelude.{◌≡◌, ◌<◌};
-ghost use Rattle.numa_host.specs.declared.command.HostCommand.{HostCommand};
+ghost use Rattle.numa_requests.specs.declared.host_command.HostCommand.{HostCommand};
 ghost use Rattle.numa_host.specs.Standing.{IsHostApplied};
 
-use crate::command::HostCommand;
 use crate::group::{ControlGroup, is_group, names_beyond, set_mems};
 use crate::host::Host;
 use crate::process::{
     allow_all, born, child_of, has_no_place, is_the_host_s, is_there, move_to, place_of, remove,
     tell, unsets_populated, weigh_all,
 };
-use crate::refusal::{HostRefusal, of_space};
+use crate::refusal::of_space;
 use numa_mask::NodeMask;
-use numa_requests::{Command, Refusal};
+use numa_requests::{Command, HostCommand, HostRefusal, Refusal};
 
 /// The most groups below the root.
 const MAX_GROUPS: usize = 1_024;

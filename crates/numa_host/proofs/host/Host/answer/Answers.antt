@@ -1,5 +1,5 @@
 use Rattle.std.proofs.Common.{sym, subst}
-use Rattle.numa_host.specs.declared.command.HostCommand.{HostCommand}
+use Rattle.numa_requests.specs.declared.host_command.HostCommand.{HostCommand}
 use Rattle.numa_host.specs.Standing.{IsHostApplied}
 use Rattle.numa_host.proofs.host.Host.answer.Goals as goal
 

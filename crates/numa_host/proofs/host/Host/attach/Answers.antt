@@ -3,10 +3,10 @@ use Rattle.std.proofs.Common.{None, Err, refl, sym, ap}
 use Rattle.std.proofs.Common.{◌∙◌, subst}
 use Rattle.std.specs.List.{position}
 use Rattle.numa_machine.specs.Machine.{Hardware}
-use Rattle.numa_host.specs.declared.command.HostCommand.TheVariants.{Attach}
+use Rattle.numa_requests.specs.declared.host_command.HostCommand.TheVariants.{Attach}
 use Rattle.numa_host.specs.declared.group.ControlGroup.{ControlGroup}
 use Rattle.numa_host.specs.declared.process.Process.{Process}
-use Rattle.numa_host.specs.declared.refusal.HostRefusal.TheVariants as cause
+use Rattle.numa_requests.specs.declared.host_refusal.HostRefusal.TheVariants as cause
 use Rattle.numa_host.specs.Following.{IsMoved}
 use Rattle.numa_host.specs.Groups.{effective_mems, is_group}
 use Rattle.numa_host.specs.Inside.{shown_of}

@@ -2,9 +2,9 @@ use Rattle.std.proofs.Common.{◌≡◌, ◌<◌, ◌+◌, true, false, List}
 use Rattle.std.proofs.Common.{Err, sym, ap}
 use Rattle.std.proofs.Common.{◌∙◌, subst}
 use Rattle.std.specs.List.{list_any}
-use Rattle.numa_host.specs.declared.command.HostCommand.TheVariants.{Exit}
+use Rattle.numa_requests.specs.declared.host_command.HostCommand.TheVariants.{Exit}
 use Rattle.numa_host.specs.declared.process.Process.{Process}
-use Rattle.numa_host.specs.declared.refusal.HostRefusal.TheVariants as cause
+use Rattle.numa_requests.specs.declared.host_refusal.HostRefusal.TheVariants as cause
 use Rattle.numa_host.specs.Inside.{shown_of}
 use Rattle.numa_host.specs.Standing.{HostState, IsHostApplied}
 use Rattle.numa_host.proofs.Found.{has_id}

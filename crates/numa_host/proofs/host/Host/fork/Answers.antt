@@ -2,9 +2,9 @@ use Rattle.std.proofs.Common.{◌≡◌, ◌<◌, ℕ, ◌+◌, true, false, Lis
 use Rattle.std.proofs.Common.{get_or, None, Err, sym, ap}
 use Rattle.std.proofs.Common.{◌∙◌, subst, arith}
 use Rattle.std.specs.List.{list_any, position}
-use Rattle.numa_host.specs.declared.command.HostCommand.TheVariants.{Fork}
+use Rattle.numa_requests.specs.declared.host_command.HostCommand.TheVariants.{Fork}
 use Rattle.numa_host.specs.declared.process.Process.{Process}
-use Rattle.numa_host.specs.declared.refusal.HostRefusal.TheVariants as cause
+use Rattle.numa_requests.specs.declared.host_refusal.HostRefusal.TheVariants as cause
 use Rattle.numa_host.specs.Following.{IsChildOf, lacks_place}
 use Rattle.numa_host.specs.Inside.{shown_of}
 use Rattle.numa_host.specs.Standing.{HostState, IsHostApplied}

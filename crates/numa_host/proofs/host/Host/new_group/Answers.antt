@@ -1,9 +1,9 @@
 use Rattle.std.proofs.Common.{◌≡◌, ◌<◌, ◌+◌, true, false, List, length}
 use Rattle.std.proofs.Common.{Err, sym, ap}
 use Rattle.std.proofs.Common.{◌∙◌, subst, arith}
-use Rattle.numa_host.specs.declared.command.HostCommand.TheVariants.{NewGroup}
+use Rattle.numa_requests.specs.declared.host_command.HostCommand.TheVariants.{NewGroup}
 use Rattle.numa_host.specs.declared.group.ControlGroup.{ControlGroup}
-use Rattle.numa_host.specs.declared.refusal.HostRefusal.TheVariants as cause
+use Rattle.numa_requests.specs.declared.host_refusal.HostRefusal.TheVariants as cause
 use Rattle.numa_host.specs.Groups.{is_group}
 use Rattle.numa_host.specs.Inside.{shown_of}
 use Rattle.numa_host.specs.Standing.{HostState, IsHostApplied}

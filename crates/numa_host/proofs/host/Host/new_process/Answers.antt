@@ -2,10 +2,10 @@ use Rattle.std.proofs.Common.{◌≡◌, ◌<◌, ◌+◌, true, false, List, []
 use Rattle.std.proofs.Common.{Err, sym, ap}
 use Rattle.std.proofs.Common.{◌∙◌, subst, arith}
 use Rattle.std.specs.List.{list_any}
-use Rattle.numa_host.specs.declared.command.HostCommand.TheVariants.{NewProcess}
+use Rattle.numa_requests.specs.declared.host_command.HostCommand.TheVariants.{NewProcess}
 use Rattle.numa_host.specs.declared.group.ControlGroup.{ControlGroup}
 use Rattle.numa_host.specs.declared.process.Process.{Process}
-use Rattle.numa_host.specs.declared.refusal.HostRefusal.TheVariants as cause
+use Rattle.numa_requests.specs.declared.host_refusal.HostRefusal.TheVariants as cause
 use Rattle.numa_host.specs.Following.{IsBorn}
 use Rattle.numa_host.specs.Groups.{effective_mems, is_group}
 use Rattle.numa_host.specs.Inside.{shown_of}

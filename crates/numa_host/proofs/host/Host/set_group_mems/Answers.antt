@@ -9,10 +9,10 @@ use Rattle.std.specs.Option.{option_map_or}
 use Rattle.std.specs.Prelude.{nat_le}
 use Rattle.numa_mask.specs.NodeSet.{members}
 use Rattle.numa_machine.specs.Machine.{Hardware}
-use Rattle.numa_host.specs.declared.command.HostCommand.TheVariants.{SetGroupMems}
+use Rattle.numa_requests.specs.declared.host_command.HostCommand.TheVariants.{SetGroupMems}
 use Rattle.numa_host.specs.declared.group.ControlGroup.{ControlGroup}
 use Rattle.numa_host.specs.declared.process.Process.{Process}
-use Rattle.numa_host.specs.declared.refusal.HostRefusal.TheVariants.{Populated}
+use Rattle.numa_requests.specs.declared.host_refusal.HostRefusal.TheVariants.{Populated}
 use Rattle.numa_space.specs.Limited.{Bounds}
 use Rattle.numa_host.specs.Groups.{effective_mems, has_own_mems, is_group, is_within, with_mems}
 use Rattle.numa_host.specs.Processes.{when_moved}
