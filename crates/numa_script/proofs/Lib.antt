@@ -10,3 +10,7 @@ pub mod Seeing
 pub mod Spaces
 pub mod Worked
 pub mod WorkedCauses
+pub mod Together
+pub mod Bounding
+pub mod Telling
+pub mod Hosting

@@ -6,7 +6,6 @@ use Rattle.std.proofs.Common.{sym, ◌∙◌, arith}
 use Rattle.std.proofs.lemmas.Bool.Decides.{nat_tests}
 use Rattle.numa_script.specs.Causes.{number_misfit, unless_readable}
 use Rattle.numa_script.specs.Numbers.{below, number_of, small_of, page_of, node_of, frame_number_of}
-use Rattle.numa_script.specs.Numbers.{span_pages_of}
 use Rattle.numa_script.specs.declared.parameter.Misfit.TheVariants.{TooGreat}
 use Rattle.numa_script.proofs.Numerals.{number_found}
 
@@ -36,7 +35,7 @@ known_number (Some n) fits =
     rw no refl
 
 pub span_pages : (word : List ℕ) → is_some (number_misfit 65536 (number_of word))
-    ≡ is_none (span_pages_of word)
+    ≡ is_none (below 65537 (number_of word))
 span_pages word = below_number 65536 (number_of word)
 
 pub node_number : (word : List ℕ) → is_some (number_misfit 255 (number_of word))

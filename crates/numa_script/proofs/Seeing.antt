@@ -5,7 +5,7 @@ use Prim.Native.Nat.{suc}
 use Rattle.std.proofs.Common.{sym, ◌∙◌, ap, arith}
 use Rattle.std.proofs.lemmas.List.{take_all, length-take-le}
 use Rattle.std.proofs.lemmas.Bool.Decides.{nat_tests}
-use Rattle.numa_script.specs.Lines.{line_of, is_silent}
+use Rattle.numa_script.specs.Lines.{alone, is_silent, line_of}
 use Rattle.numa_script.specs.declared.line.Line.TheVariants.{Silent, Malformed}
 use Rattle.numa_lines.specs.Lines.{given_part}
 
@@ -25,8 +25,8 @@ seen_long : (line : List ℕ) → 4097 ≤ length line → length (given_part li
 unfolding given_part
 seen_long line h = length-take-le 4097 line h
 
-line_of_long : (line : List ℕ) → 4096 < length line → line_of line ≡ cond (is_silent line) Silent
-    Malformed
+line_of_long : (line : List ℕ) → 4096 < length line → line_of line
+    ≡ cond (is_silent line) (alone Silent) (alone Malformed)
 unfolding line_of
 line_of_long line h =
     let e : nat_lt 4096 (length line) ≡ true = grind (arith, nat_tests) in
@@ -42,6 +42,6 @@ line_of_seen line =
       | false ↦ λ t.
           (let many : 4097 < length line = grind (arith, nat_tests, t) in
           line_of_long (given_part line) (omega (arith, seen_long line (omega arith)))
-          ∙ ap (λ s. cond s Silent Malformed) (seen_silent line)
+          ∙ ap (λ s. cond s (alone Silent) (alone Malformed)) (seen_silent line)
           ∙ sym (line_of_long line (omega arith)))
     ] refl

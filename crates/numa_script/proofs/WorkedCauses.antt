@@ -101,3 +101,42 @@ comment = refl
 policy : fault_of (codes "mbind 0 1 nothing") ≡ None
 unfolding fault_of keyword_of number_of numeral_of in_64_bits
 policy = refl
+
+-- ---- words behind a policy
+
+move-lacks_words : fault_of (codes "mbind 0 1 default move 7")
+    ≡ Some (record { cause = cause.TooFewWords keyword.Mbind; column = 26 })
+unfolding fault_of keyword_of
+move-lacks_words = refl
+
+too_many-behind_strict : fault_of (codes "mbind 0 1 default strict 7")
+    ≡ Some (record { cause = cause.TooManyWords keyword.Mbind; column = 26 })
+unfolding fault_of keyword_of
+too_many-behind_strict = refl
+
+-- ---- what a process is told
+
+nobody_is_told : fault_of (codes "in 3")
+    ≡ Some (record { cause = cause.TooFewWords keyword.In; column = 6 })
+unfolding fault_of keyword_of
+nobody_is_told = refl
+
+no_process-is_told : fault_of (codes "in x maps 1")
+    ≡ Some (record { cause = cause.BadWord keyword.In parameter.Process Unreadable; column = 4 })
+unfolding fault_of keyword_of number_of numeral_of in_64_bits
+no_process-is_told = refl
+
+told_an_unknown_word : fault_of (codes "in 3 mops 1")
+    ≡ Some (record { cause = cause.UnknownWord; column = 6 })
+unfolding fault_of keyword_of number_of numeral_of in_64_bits
+told_an_unknown_word = refl
+
+told_what_is_the_hosts : fault_of (codes "in 3 weight 0 1")
+    ≡ Some (record { cause = cause.NotTold keyword.Weight; column = 6 })
+unfolding fault_of keyword_of number_of numeral_of in_64_bits
+told_what_is_the_hosts = refl
+
+told_too_few_words : fault_of (codes "in 3 maps")
+    ≡ Some (record { cause = cause.TooFewWords keyword.Maps; column = 11 })
+unfolding fault_of keyword_of number_of numeral_of in_64_bits
+told_too_few_words = refl

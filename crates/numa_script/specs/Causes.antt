@@ -1,11 +1,14 @@
 -- Why a line is malformed, and where.
 use Rattle.std.specs.Prelude.{ℕ, ◌+◌, ◌==◌, ◌||◌, Bool, true, false, List, [], ◌∷◌, length, take}
+use Rattle.std.specs.Prelude.{codes, drop}
 use Rattle.std.specs.Prelude.{position, slice_index, nat_lt, is_some, if◌then◌else◌, Option, Some}
 use Rattle.std.specs.Prelude.{None}
 use Rattle.std.specs.Option.{option_map}
-use Rattle.numa_script.specs.Lines.{keyword_of, is_silent}
+use Rattle.std.specs.Str.{bytes_eq}
+use Rattle.numa_script.specs.Lines.{keyword_of, is_in, is_silent, is_told}
 use Rattle.numa_script.specs.Machines.{frames_of, distances_of, rules_of}
 use Rattle.numa_script.specs.Numbers.{number_of}
+use Rattle.numa_script.specs.PageLines.{switch_of}
 use Rattle.numa_script.specs.Parts.{words_of}
 use Rattle.numa_script.specs.declared.keyword.Keyword.{Keyword}
 use Rattle.numa_script.specs.declared.keyword.Keyword.TheVariants as keyword
@@ -54,6 +57,42 @@ parameters_of keyword.Give = parameter.Worker ∷ parameter.FrameNode ∷ parame
 parameters_of keyword.Touch =
     parameter.Worker ∷ parameter.Task ∷ parameter.Address ∷ parameter.Cpu ∷ []
 parameters_of keyword.Release = parameter.Worker ∷ parameter.Address ∷ []
+parameters_of keyword.At = parameter.Start ∷ parameter.Length ∷ parameter.Node ∷ []
+parameters_of keyword.Room = parameter.Node ∷ parameter.RoomPages ∷ []
+parameters_of keyword.MemoryMigrate = parameter.Switch ∷ []
+parameters_of keyword.Migrate = parameter.FromList ∷ parameter.ToList ∷ []
+parameters_of keyword.Move = parameter.Address ∷ parameter.Node ∷ []
+parameters_of keyword.Moved = []
+parameters_of keyword.Host = []
+parameters_of keyword.Group = parameter.Group ∷ parameter.Parent ∷ []
+parameters_of keyword.GroupMems = parameter.Group ∷ parameter.List ∷ []
+parameters_of keyword.Process = parameter.Process ∷ parameter.Group ∷ []
+parameters_of keyword.Exit = parameter.Process ∷ []
+parameters_of keyword.Attach = parameter.Process ∷ parameter.Group ∷ []
+parameters_of keyword.Fork =
+    parameter.Process ∷ parameter.Child ∷ parameter.Task ∷ parameter.ChildTask ∷ []
+parameters_of keyword.In = parameter.Process ∷ parameter.Line ∷ []
+
+-- behind the policy of an mbind: `strict`, `move TASK CPU`, or both
+abbrev pub moving_words : List Parameter
+moving_words = parameter.Move ∷ parameter.Task ∷ parameter.Cpu ∷ []
+
+abbrev pub behind_strict : List (List ℕ) → List Parameter
+behind_strict [] = []
+behind_strict (word ∷ words) = if bytes_eq word (codes "move") then moving_words else []
+
+abbrev pub behind_policy : List (List ℕ) → List Parameter
+behind_policy [] = []
+behind_policy (word ∷ words) =
+    if bytes_eq word (codes "strict") then parameter.Strict ∷ behind_strict words
+    else if bytes_eq word (codes "move") then moving_words
+    else []
+
+-- the words that there should be, of which these are
+abbrev pub wanted_of : Keyword → List (List ℕ) → List Parameter
+wanted_of keyword.Mbind words = parameter.Start ∷ parameter.Length ∷ parameter.Policy
+    ∷ behind_policy (drop 3 words)
+wanted_of k words = parameters_of k
 
 -- what each has to be: a number has a greatest, and for lists and policies anything may stand there
 abbrev pub form_of : Parameter → Form
@@ -62,6 +101,7 @@ form_of parameter.Length = form.Number 18446744073709551615
 form_of parameter.Offset = form.Number 18446744073709551615
 form_of parameter.Address = form.Number 18446744073709551615
 form_of parameter.Pages = form.Number 18446744073709551615
+form_of parameter.RoomPages = form.Number 18446744073709551615
 form_of parameter.Ranges = form.Number 4294967295
 form_of parameter.Tasks = form.Number 4294967295
 form_of parameter.From = form.Number 4294967295
@@ -73,6 +113,11 @@ form_of parameter.Task = form.Number 4294967295
 form_of parameter.Cpu = form.Number 4294967295
 form_of parameter.Worker = form.Number 4294967295
 form_of parameter.Word = form.Number 4294967295
+form_of parameter.Process = form.Number 4294967295
+form_of parameter.Child = form.Number 4294967295
+form_of parameter.ChildTask = form.Number 4294967295
+form_of parameter.Group = form.Number 4294967295
+form_of parameter.Parent = form.Number 4294967295
 form_of parameter.SpanPages = form.Number 65536
 form_of parameter.FrameNode = form.Number 255
 form_of parameter.Frame = form.Number 65535
@@ -82,6 +127,12 @@ form_of parameter.Distances = form.Distances
 form_of parameter.Memory = form.Any
 form_of parameter.List = form.Any
 form_of parameter.Policy = form.Any
+form_of parameter.Switch = form.Switch
+form_of parameter.FromList = form.Any
+form_of parameter.ToList = form.Any
+form_of parameter.Strict = form.Any
+form_of parameter.Move = form.Any
+form_of parameter.Line = form.Any
 
 -- how a number isn't one of at most `greatest`
 abbrev pub number_misfit : ℕ → Option ℕ → Option Misfit
@@ -98,6 +149,7 @@ misfit_of (form.Number greatest) word = number_misfit greatest (number_of word)
 misfit_of form.Rules word = unless_readable (is_some (rules_of word))
 misfit_of form.Frames word = unless_readable (is_some (frames_of word))
 misfit_of form.Distances word = unless_readable (is_some (distances_of word))
+misfit_of form.Switch word = unless_readable (is_some (switch_of word))
 misfit_of form.Any word = None
 
 -- the words in turn, the first of them at this column: the first that isn't of its form, and where
@@ -124,7 +176,7 @@ width_of (word ∷ words) = length word + 1 + width_of words
 -- many where the first of these begins.
 abbrev pub fault_behind : Keyword → ℕ → List (List ℕ) → Option Malformed
 fault_behind k column words =
-    let wanted = length (parameters_of k) in
+    let wanted = length (wanted_of k words) in
     if nat_lt (length words) wanted
     then Some (record { cause = cause.TooFewWords k; column = column + width_of words })
     else if nat_lt wanted (length words)
@@ -132,13 +184,38 @@ fault_behind k column words =
       cause = cause.TooManyWords k;
       column = column + width_of (take wanted words);
     })
-    else first_misfit k (parameters_of k) column words
+    else first_misfit k (wanted_of k words) column words
+
+-- ---- what a process is told
+
+-- how many words stand before those of a line, or of one that a process is told
+abbrev pub skipped : Bool → ℕ
+skipped false = 1
+skipped true = 3
+
+-- the line that a process is told, from its first word on, which stands at this column
+abbrev pub told_fault : Option Keyword → ℕ → List ℕ → List (List ℕ) → Option Malformed
+told_fault None column first words = Some (record { cause = cause.UnknownWord; column = column })
+told_fault (Some k) column first words =
+    if is_told k then fault_behind k (column + length first + 1) words
+    else Some (record { cause = cause.NotTold k; column = column })
+
+-- in P LINE, from the word after `in` on
+abbrev pub in_fault : ℕ → List (List ℕ) → Option Malformed
+in_fault column (process ∷ first ∷ words) =
+    misfit_else keyword.In parameter.Process column (misfit_of (form_of parameter.Process) process)
+    (told_fault (keyword_of first) (column + length process + 1) first words)
+in_fault column words =
+    Some (record { cause = cause.TooFewWords keyword.In; column = column + width_of words })
 
 -- ---- the line
 
+abbrev pub after_fault : Keyword → ℕ → List (List ℕ) → Option Malformed
+after_fault k column words = if is_in k then in_fault column words else fault_behind k column words
+
 abbrev pub keyword_fault : Option Keyword → ℕ → List (List ℕ) → Option Malformed
 keyword_fault None column words = Some (record { cause = cause.UnknownWord; column = 1 })
-keyword_fault (Some k) column words = fault_behind k column words
+keyword_fault (Some k) column words = after_fault k column words
 
 -- the words of a line, none of them empty: the second begins after the first and its space
 abbrev pub words_fault : List (List ℕ) → Option Malformed
@@ -195,3 +272,7 @@ is_malformed (line.EmptyBind start fault) = false
 is_malformed (line.Question said) = false
 is_malformed (line.Maps task) = false
 is_malformed (line.Work said) = false
+is_malformed (line.Pages said) = false
+is_malformed (line.Bind start bytes policy pages) = false
+is_malformed line.Host = false
+is_malformed (line.HostCommand said) = false

@@ -1,5 +1,10 @@
 pub mod Causes
+pub mod HostLines
+pub mod HostTexts
 pub mod Lines
+pub mod Names
+pub mod PageLines
+pub mod PageTexts
 pub mod Machines
 pub mod Numbers
 pub mod Parts

@@ -21,6 +21,10 @@ use Rattle.numa_script.specs.Machines.{frames_of, distances_of, rules_of, has_ke
 use Rattle.numa_script.specs.Policies.{policy_of, waits_for_pages}
 use Rattle.numa_script.specs.Workers.{publish_work, begin_work, look_work, try_work, give_work}
 use Rattle.numa_script.specs.Workers.{touch_work, release_work}
+use Rattle.numa_script.specs.HostLines.{attach_line, exit_line, fork_line, group_line, host_line}
+use Rattle.numa_script.specs.HostLines.{group_mems_line, process_line}
+use Rattle.numa_script.specs.PageLines.{at_line, memory_migrate_line, migrate_line, move_line}
+use Rattle.numa_script.specs.PageLines.{moved_line, room_line}
 use Rattle.numa_script.specs.declared.policy.WordError.{WordError}
 use Rattle.numa_script.specs.declared.policy.WordError.TheVariants as fault
 use Rattle.numa_script.specs.declared.keyword.Keyword.{Keyword}
@@ -28,6 +32,9 @@ use Rattle.numa_script.specs.declared.keyword.Keyword.TheVariants as keyword
 use Rattle.numa_script.specs.declared.line.Line.{Line}
 use Rattle.numa_script.specs.declared.line.Line.TheVariants as line
 use Rattle.numa_script.specs.declared.line.Question.TheVariants as question
+use Rattle.numa_script.specs.declared.line.ScriptLine.{ScriptLine}
+use Rattle.numa_script.specs.declared.page_line.BoundPages.{BoundPages}
+use Rattle.numa_script.specs.declared.page_line.BoundPages.TheVariants as bound
 
 -- ---- first words
 
@@ -57,21 +64,45 @@ first_word_of keyword.Try = codes "try"
 first_word_of keyword.Give = codes "give"
 first_word_of keyword.Touch = codes "touch"
 first_word_of keyword.Release = codes "release"
+first_word_of keyword.At = codes "at"
+first_word_of keyword.Room = codes "room"
+first_word_of keyword.MemoryMigrate = codes "memory-migrate"
+first_word_of keyword.Migrate = codes "migrate"
+first_word_of keyword.Move = codes "move"
+first_word_of keyword.Moved = codes "moved"
+first_word_of keyword.Host = codes "host"
+first_word_of keyword.Group = codes "cgroup"
+first_word_of keyword.GroupMems = codes "cgroup-mems"
+first_word_of keyword.Process = codes "process"
+first_word_of keyword.Exit = codes "exit"
+first_word_of keyword.Attach = codes "attach"
+first_word_of keyword.Fork = codes "fork"
+first_word_of keyword.In = codes "in"
+
+-- those of four letters that come less often
+abbrev pub later_of_four : List Keyword
+later_of_four =
+    keyword.Exit ∷ keyword.Fork ∷ keyword.Move ∷ keyword.Room ∷ keyword.Host ∷ []
 
 -- the keywords whose names have this many letters
 abbrev pub keywords_of : ℕ → List Keyword
 keywords_of letters =
-    if letters == 3 then keyword.Try ∷ keyword.Map ∷ []
+    if letters == 2 then keyword.In ∷ keyword.At ∷ []
+    else if letters == 3 then keyword.Try ∷ keyword.Map ∷ []
     else if letters == 4 then
     keyword.Span ∷ keyword.Look ∷ keyword.Give ∷ keyword.Maps ∷ keyword.Home ∷ keyword.Task
-    ∷ keyword.Mems ∷ keyword.Cpus ∷ []
+    ∷ keyword.Mems ∷ keyword.Cpus ∷ later_of_four
     else if letters == 5 then
     keyword.Place ∷ keyword.Begin ∷ keyword.Touch ∷ keyword.Mbind ∷ keyword.Unmap
-    ∷ keyword.Rules ∷ []
+    ∷ keyword.Rules ∷ keyword.Moved ∷ []
     else if letters == 6 then
-    keyword.Counts ∷ keyword.Ranges ∷ keyword.Weight ∷ keyword.Limits ∷ []
+    keyword.Counts ∷ keyword.Ranges ∷ keyword.Weight ∷ keyword.Limits ∷ keyword.Attach
+    ∷ keyword.Group ∷ []
     else if letters == 7 then
-    keyword.Publish ∷ keyword.Release ∷ keyword.Machine ∷ keyword.Inherit ∷ []
+    keyword.Publish ∷ keyword.Release ∷ keyword.Machine ∷ keyword.Inherit ∷ keyword.Process
+    ∷ keyword.Migrate ∷ []
+    else if letters == 11 then keyword.GroupMems ∷ []
+    else if letters == 14 then keyword.MemoryMigrate ∷ []
     else []
 
 -- the first of the keywords whose first word this is
@@ -145,11 +176,40 @@ bind_line start bytes (Err wrong) =
     if bytes == 0 && waits_for_pages wrong then line.EmptyBind start wrong
     else line.Command (Err wrong)
 
--- mbind START LENGTH POLICY
+-- what follows the policy of an mbind
+abbrev pub bound_line : Option BoundPages → ℕ → ℕ → Result Specification WordError → Line
+bound_line None start bytes policy = bind_line start bytes policy
+bound_line (Some pages) start bytes policy = line.Bind start bytes policy pages
+
+-- strict, move TASK CPU, strict move TASK CPU, or nothing
+abbrev pub move_pages : Bool → List (List ℕ) → Option BoundPages
+move_pages strict (word ∷ words) = if bytes_eq word (codes "move")
+    then option_map (λ v. bound.Move (record { strict = strict; task = v.0; cpu = v.1 }))
+    (two_of small_of small_of words)
+    else None
+move_pages strict [] = None
+
+abbrev pub pages_behind_strict : List (List ℕ) → Option BoundPages
+pages_behind_strict [] = Some bound.Strict
+pages_behind_strict (word ∷ words) = move_pages true (word ∷ words)
+
+abbrev pub bound_pages : List (List ℕ) → Option BoundPages
+bound_pages [] = None
+bound_pages (word ∷ words) = if bytes_eq word (codes "strict") then pages_behind_strict words
+    else move_pages false (word ∷ words)
+
+-- the words behind the policy have to say something
+abbrev pub pages_said : List (List ℕ) → Option (Option BoundPages)
+pages_said [] = Some None
+pages_said (word ∷ words) = option_map Some (bound_pages (word ∷ words))
+
+-- mbind START LENGTH POLICY, mbind START LENGTH POLICY strict, mbind START LENGTH POLICY move
+-- TASK CPU, mbind START LENGTH POLICY strict move TASK CPU
 abbrev pub mbind_line : List (List ℕ) → Option Line
-mbind_line words =
-    option_and_then (λ v. with_two (λ s l. bind_line s l (policy_of v.2))
-    (number_of v.0) (number_of v.1)) (three_words words)
+mbind_line (start ∷ bytes ∷ policy ∷ words) =
+    with_three (λ s l pages. bound_line pages s l (policy_of policy)) (number_of start)
+    (number_of bytes) (pages_said words)
+mbind_line _ = None
 
 -- home START LENGTH NODE
 abbrev pub home_line : List (List ℕ) → Option Line
@@ -231,6 +291,20 @@ line_after keyword.Try words = option_map line.Work (try_work words)
 line_after keyword.Give words = option_map line.Work (give_work words)
 line_after keyword.Touch words = option_map line.Work (touch_work words)
 line_after keyword.Release words = option_map line.Work (release_work words)
+line_after keyword.At words = at_line words
+line_after keyword.Room words = room_line words
+line_after keyword.MemoryMigrate words = memory_migrate_line words
+line_after keyword.Migrate words = migrate_line words
+line_after keyword.Move words = move_line words
+line_after keyword.Moved words = moved_line words
+line_after keyword.Host words = host_line words
+line_after keyword.Group words = group_line words
+line_after keyword.GroupMems words = group_mems_line words
+line_after keyword.Process words = process_line words
+line_after keyword.Exit words = exit_line words
+line_after keyword.Attach words = attach_line words
+line_after keyword.Fork words = fork_line words
+line_after keyword.In words = None
 
 -- ---- lines
 
@@ -242,6 +316,10 @@ takes_texts keyword.Machine = true
 takes_texts keyword.Mbind = true
 takes_texts keyword.Task = true
 takes_texts keyword.Mems = true
+takes_texts keyword.MemoryMigrate = true
+takes_texts keyword.Migrate = true
+takes_texts keyword.GroupMems = true
+takes_texts keyword.In = true
 takes_texts _ = false
 
 -- what a line begins with, and the words behind it
@@ -249,10 +327,51 @@ abbrev pub begun : List (List ℕ) → Option (Keyword × List (List ℕ))
 begun [] = None
 begun (first ∷ words) = option_map (λ k. (k, words)) (keyword_of first)
 
+abbrev pub is_in : Keyword → Bool
+is_in keyword.In = true
+is_in _ = false
+
+-- lines that a process of a host may be told; the others are the host's, or come before a machine
+abbrev pub is_told : Keyword → Bool
+is_told keyword.Limits = false
+is_told keyword.Rules = false
+is_told keyword.Cpus = false
+is_told keyword.Machine = false
+is_told keyword.Weight = false
+is_told keyword.Room = false
+is_told keyword.MemoryMigrate = false
+is_told keyword.Host = false
+is_told keyword.Group = false
+is_told keyword.GroupMems = false
+is_told keyword.Process = false
+is_told keyword.Exit = false
+is_told keyword.Attach = false
+is_told keyword.Fork = false
+is_told keyword.In = false
+is_told _ = true
+
+-- a line that names no process
+abbrev pub alone : Line → ScriptLine
+alone said = record { process = None; line = said }
+
+-- what a process is told
+abbrev pub told_line : Option Keyword → List (List ℕ) → Option Line
+told_line None words = None
+told_line (Some k) words = if is_told k then line_after k words else None
+
+-- in P LINE
+abbrev pub in_line : List (List ℕ) → Option ScriptLine
+in_line (process ∷ first ∷ words) = with_two (λ p said. record { process = Some p; line = said })
+    (small_of process) (told_line (keyword_of first) words)
+in_line _ = None
+
+abbrev pub script_after : Keyword → List (List ℕ) → Option ScriptLine
+script_after k words = if is_in k then in_line words else option_map alone (line_after k words)
+
 -- the line that the words write, where they write one
-abbrev pub words_line : List (List ℕ) → Option Line
+abbrev pub words_line : List (List ℕ) → Option ScriptLine
 words_line [] = None
-words_line (first ∷ words) = option_and_then (λ k. line_after k words) (keyword_of first)
+words_line (first ∷ words) = option_and_then (λ k. script_after k words) (keyword_of first)
 
 -- a line that gives no answer: it is empty, or a comment
 abbrev pub is_silent : List ℕ → Bool
@@ -265,9 +384,9 @@ has_empty_word bytes = list_any (λ word. length word == 0) (words_of bytes)
 
 -- what a line says, whatever its length: more than 4,096 bytes say nothing that is understood, and
 -- neither do words of which one is empty
-unfoldable pub line_of : List ℕ → Line
+unfoldable pub line_of : List ℕ → ScriptLine
 line_of bytes =
-    if is_silent bytes then line.Silent
-    else if nat_lt 4096 (length bytes) then line.Malformed
-    else if has_empty_word bytes then line.Malformed
-    else unwrap_or (words_line (words_of bytes)) line.Malformed
+    if is_silent bytes then alone line.Silent
+    else if nat_lt 4096 (length bytes) then alone line.Malformed
+    else if has_empty_word bytes then alone line.Malformed
+    else unwrap_or (words_line (words_of bytes)) (alone line.Malformed)

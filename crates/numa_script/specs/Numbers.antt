@@ -68,7 +68,3 @@ frame_number_of word = below 65536 (number_of word)
 -- a number of pages, if it is at most 65,536
 abbrev pub few_of : ℕ → Option ℕ
 few_of n = below 65537 (Some n)
-
--- how many pages a span has: at most 65,536
-abbrev pub span_pages_of : List ℕ → Option ℕ
-span_pages_of word = below 65537 (number_of word)

@@ -1,7 +1,8 @@
 //! Keywords: the first words of lines.
 ghost use Rattle.std.specs.Prelude.{◌≡◌, ℕ, Option, Some, List, length};
 ghost use Rattle.std.specs.Str.{bytes_eq};
-ghost use Rattle.numa_script.specs.Lines.{first_word_of, keywords_of, keyword_among, keyword_of};
+ghost use Rattle.numa_script.specs.Lines.{first_word_of, is_in, keyword_among, keyword_of};
+ghost use Rattle.numa_script.specs.Lines.{keywords_of, later_of_four};
 
 use Keyword::*;
 
@@ -56,13 +57,76 @@ pub enum Keyword {
     Touch,
     /// `release`
     Release,
+    /// `at`
+    At,
+    /// `room`
+    Room,
+    /// `memory-migrate`
+    MemoryMigrate,
+    /// `migrate`
+    Migrate,
+    /// `move`
+    Move,
+    /// `moved`
+    Moved,
+    /// `host`
+    Host,
+    /// `cgroup`
+    Group,
+    /// `cgroup-mems`
+    GroupMems,
+    /// `process`
+    Process,
+    /// `exit`
+    Exit,
+    /// `attach`
+    Attach,
+    /// `fork`
+    Fork,
+    /// `in`
+    In,
 }
 
 /// The names of the keywords, in their order.
-static NAMES: [&str; 24] = [
-    "limits", "rules", "cpus", "machine", "map", "unmap", "mbind", "home", "task", "inherit",
-    "weight", "mems", "place", "span", "counts", "ranges", "maps", "publish", "begin", "look",
-    "try", "give", "touch", "release",
+static NAMES: [&str; 38] = [
+    "limits",
+    "rules",
+    "cpus",
+    "machine",
+    "map",
+    "unmap",
+    "mbind",
+    "home",
+    "task",
+    "inherit",
+    "weight",
+    "mems",
+    "place",
+    "span",
+    "counts",
+    "ranges",
+    "maps",
+    "publish",
+    "begin",
+    "look",
+    "try",
+    "give",
+    "touch",
+    "release",
+    "at",
+    "room",
+    "memory-migrate",
+    "migrate",
+    "move",
+    "moved",
+    "host",
+    "cgroup",
+    "cgroup-mems",
+    "process",
+    "exit",
+    "attach",
+    "fork",
+    "in",
 ];
 
 impl Keyword {
@@ -73,6 +137,14 @@ impl Keyword {
         ensures read { keyword_of result.now ≡ Some self }
     {
         NAMES[self as usize]
+    }
+
+    /// Whether it is `in`: a line of a process of a host stands behind its number.
+    #[inline(always)]
+    pub fn is_in(self) -> bool
+        ensures { result ≡ is_in self }
+    {
+        matches!(self, Keyword::In)
     }
 }
 
@@ -89,6 +161,20 @@ fn is(word: &[u8], name: &[u8]) -> bool
         }
     }
     true
+}
+
+/// The keyword of two letters with this name.
+fn of_two(first: &[u8]) -> Option<Keyword>
+    requires { length first.now ≡ 2 }
+    ensures { result ≡ keyword_among (keywords_of 2) first.now }
+{
+    if is(first, b"in") {
+        return Some(Keyword::In);
+    }
+    if is(first, b"at") {
+        return Some(Keyword::At);
+    }
+    None
 }
 
 /// The keyword of three letters with this name.
@@ -134,6 +220,29 @@ fn of_four(first: &[u8]) -> Option<Keyword>
     if is(first, b"cpus") {
         return Some(Keyword::Cpus);
     }
+    of_four_later(first)
+}
+
+/// The same, of those that come less often.
+fn of_four_later(first: &[u8]) -> Option<Keyword>
+    requires { length first.now ≡ 4 }
+    ensures { result ≡ keyword_among later_of_four first.now }
+{
+    if is(first, b"exit") {
+        return Some(Keyword::Exit);
+    }
+    if is(first, b"fork") {
+        return Some(Keyword::Fork);
+    }
+    if is(first, b"move") {
+        return Some(Keyword::Move);
+    }
+    if is(first, b"room") {
+        return Some(Keyword::Room);
+    }
+    if is(first, b"host") {
+        return Some(Keyword::Host);
+    }
     None
 }
 
@@ -160,6 +269,9 @@ fn of_five(first: &[u8]) -> Option<Keyword>
     if is(first, b"rules") {
         return Some(Keyword::Rules);
     }
+    if is(first, b"moved") {
+        return Some(Keyword::Moved);
+    }
     None
 }
 
@@ -179,6 +291,12 @@ fn of_six(first: &[u8]) -> Option<Keyword>
     }
     if is(first, b"limits") {
         return Some(Keyword::Limits);
+    }
+    if is(first, b"attach") {
+        return Some(Keyword::Attach);
+    }
+    if is(first, b"cgroup") {
+        return Some(Keyword::Group);
     }
     None
 }
@@ -200,6 +318,34 @@ fn of_seven(first: &[u8]) -> Option<Keyword>
     if is(first, b"inherit") {
         return Some(Keyword::Inherit);
     }
+    if is(first, b"process") {
+        return Some(Keyword::Process);
+    }
+    if is(first, b"migrate") {
+        return Some(Keyword::Migrate);
+    }
+    None
+}
+
+/// The keyword of eleven letters with this name.
+fn of_eleven(first: &[u8]) -> Option<Keyword>
+    requires { length first.now ≡ 11 }
+    ensures { result ≡ keyword_among (keywords_of 11) first.now }
+{
+    if is(first, b"cgroup-mems") {
+        return Some(Keyword::GroupMems);
+    }
+    None
+}
+
+/// The keyword of fourteen letters with this name.
+fn of_fourteen(first: &[u8]) -> Option<Keyword>
+    requires { length first.now ≡ 14 }
+    ensures { result ≡ keyword_among (keywords_of 14) first.now }
+{
+    if is(first, b"memory-migrate") {
+        return Some(Keyword::MemoryMigrate);
+    }
     None
 }
 
@@ -209,11 +355,14 @@ pub fn read_keyword(first: &[u8]) -> Option<Keyword>
     ensures { result ≡ keyword_of first.now }
 {
     match first.len() {
+        2 => of_two(first),
         3 => of_three(first),
         4 => of_four(first),
         5 => of_five(first),
         6 => of_six(first),
         7 => of_seven(first),
+        11 => of_eleven(first),
+        14 => of_fourteen(first),
         _ => None,
     }
 }

@@ -2,27 +2,31 @@
 ghost use Rattle.std.specs.Prelude.{◌≡◌, ◌==◌, ◌+◌, ◌≤◌, ◌<◌, ℕ, List, length, Option, Ok, Err};
 ghost use Rattle.std.specs.Prelude.{◌&&◌, if◌then◌else◌, unwrap_or};
 ghost use Rattle.std.specs.Option.{option_map};
-ghost use Rattle.numa_script.specs.Lines.{limits_line, machine_line, mbind_line, task_line};
-ghost use Rattle.numa_script.specs.Lines.{mems_line, place_line, span_line, counts_line};
+ghost use Rattle.numa_script.specs.Lines.{limits_line, machine_line};
+ghost use Rattle.numa_script.specs.Lines.{place_line, span_line, counts_line};
 ghost use Rattle.numa_script.specs.Lines.{ranges_line, maps_line, line_after, words_line};
-ghost use Rattle.numa_script.specs.Lines.{rules_line, cpus_line, bind_line, empty_bind};
+ghost use Rattle.numa_script.specs.Lines.{rules_line, cpus_line};
+ghost use Rattle.numa_script.specs.Lines.{alone, in_line, is_told, keyword_of};
+ghost use Rattle.numa_script.specs.Lines.{script_after, told_line};
 ghost use Rattle.numa_script.specs.Lines.{is_silent, has_empty_word, line_of, takes_texts, begun};
 ghost use Rattle.numa_script.specs.Parts.{words_of};
 
+use crate::commands::{mbind, mems, task};
+use crate::host_line::{attach, exit, fork, group, group_mems, host, process};
 use crate::keyword::{Keyword, read_keyword};
 use crate::machine::{Distances, Frames, has_kernel_orders};
-use crate::number::{few_pages, number, small};
-use crate::policy::{WordError, read_policy, waits_for_pages};
-use crate::reading::{four, four_words, three, three_words, two, two_words};
+use crate::number::{few_pages, small};
+use crate::page_line::{BoundPages, PageLine, at, memory_migrate, migrate, move_page, moved, room};
+use crate::policy::WordError;
+use crate::reading::{four, four_words, three, two};
 use crate::rules::read_rules;
 use crate::words::Words;
 use crate::work::{Work, begin, give, look, publish, release, touch, try_frame};
-use bitflags::Flags;
 use numa_machine::Rules;
 use numa_mask::{ListFault, NodeMask, read_list};
-use numa_mode::{Mode, PolicyFlags, PolicySpec};
-use numa_requests::Command;
+use numa_mode::PolicySpec;
 use numa_requests::Command::{Inherit, Map, SetHome, SetWeight, Unmap};
+use numa_requests::{Command, HostCommand};
 
 /// The most bytes of a line, without its line feed.
 pub const LIMIT: usize = 4096;
@@ -109,6 +113,28 @@ pub enum Line<'a> {
     Maps(u32),
     /// An action of workers.
     Work(Work),
+    /// A line about pages that are there, or what is wrong with a list of nodes.
+    Pages(Result<PageLine, ListFault>),
+    /// An `mbind` that judges or moves pages; or what is wrong with its policy.
+    Bind {
+        start: u64,
+        length: u64,
+        policy: Result<PolicySpec, WordError>,
+        pages: BoundPages,
+    },
+    /// The script is a host's from here on.
+    Host,
+    /// A command of a host that names no command of a process, or what is wrong with its list.
+    HostCommand(Result<HostCommand, WordError>),
+}
+
+/// What a line of a script says, and to whom.
+#[derive(Drop)]
+pub struct ScriptLine<'a> {
+    /// The process of a host that is told it (`in P`), if one is.
+    pub process: Option<u32>,
+    /// What is said.
+    pub line: Line<'a>,
 }
 
 /// Whether the line is empty or a comment.
@@ -159,69 +185,6 @@ fn machine<'a>(words: Words<'a>) -> Option<Line<'a>>
         frames: Frames::read(frames)?,
         distances: Distances::read(distances)?,
     }))
-}
-
-/// The command that a kernel takes an `mbind` of length 0 for, whatever its policy.
-pub fn empty_bind(start: u64) -> Command
-    ensures { result ≡ empty_bind start }
-{
-    let Ok(spec) = PolicySpec::new(Mode::Default, PolicyFlags::empty(), NodeMask::empty()) else {
-        unreachable!()
-    };
-    Command::Mbind {
-        start,
-        length: 0,
-        spec,
-    }
-}
-
-/// What an `mbind` says whose policy is faulty.
-fn faulty_bind<'a>(start: u64, length: u64, fault: WordError) -> Line<'a>
-    ensures { result ≡ bind_line start length (Err fault) }
-{
-    if length == 0 && waits_for_pages(fault) {
-        return Line::EmptyBind { start, fault };
-    }
-    Line::Command(Err(fault))
-}
-
-/// `mbind START LENGTH POLICY`
-fn mbind(words: Words) -> Option<Line>
-    ensures { result ≡ mbind_line words.entry }
-{
-    let (start, length, policy) = three_words(words)?;
-    let start = number(start)?;
-    let length = number(length)?;
-    match read_policy(policy) {
-        Ok(spec) => Some(Line::Command(Ok(Command::Mbind {
-            start,
-            length,
-            spec,
-        }))),
-        Err(fault) => Some(faulty_bind(start, length, fault)),
-    }
-}
-
-/// `task TASK POLICY`
-fn task(words: Words) -> Option<Line>
-    ensures { result ≡ task_line words.entry }
-{
-    let (task, policy) = two_words(words)?;
-    let task = small(task)?;
-    match read_policy(policy) {
-        Ok(spec) => Some(Line::Command(Ok(Command::SetTask { task, spec }))),
-        Err(fault) => Some(Line::Command(Err(fault))),
-    }
-}
-
-/// `mems LIST`
-fn mems(words: Words) -> Option<Line>
-    ensures { result ≡ mems_line words.entry }
-{
-    match read_list(words.only()?) {
-        Ok(mask) => Some(Line::Command(Ok(Command::SetMems { mask }))),
-        Err(fault) => Some(Line::Command(Err(WordError::List(fault)))),
-    }
 }
 
 /// `place TASK ADDR CPU`
@@ -330,7 +293,68 @@ fn line_after(keyword: Keyword, words: Words) -> Option<Line>
         Keyword::Give => work_line(give(words)),
         Keyword::Touch => work_line(touch(words)),
         Keyword::Release => work_line(release(words)),
+        Keyword::At => at(words),
+        Keyword::Room => room(words),
+        Keyword::MemoryMigrate => memory_migrate(words),
+        Keyword::Migrate => migrate(words),
+        Keyword::Move => move_page(words),
+        Keyword::Moved => moved(words),
+        Keyword::Host => host(words),
+        Keyword::Group => group(words),
+        Keyword::GroupMems => group_mems(words),
+        Keyword::Process => process(words),
+        Keyword::Exit => exit(words),
+        Keyword::Attach => attach(words),
+        Keyword::Fork => fork(words),
+        Keyword::In => None,
     }
+}
+
+/// What a process is told.
+fn told_line<'a>(first: &[u8], words: Words<'a>) -> Option<Line<'a>>
+    ensures { result ≡ told_line (keyword_of first.now) words.entry }
+{
+    let keyword = read_keyword(first)?;
+    if !is_told(keyword) {
+        return None;
+    }
+    line_after(keyword, words)
+}
+
+/// `in P LINE`
+fn in_line(mut words: Words) -> Option<ScriptLine>
+    ensures { result ≡ in_line words.entry }
+{
+    let process = words.next()?;
+    let first = words.next()?;
+    let process = small(process)?;
+    let line = told_line(first, words)?;
+    Some(ScriptLine {
+        process: Some(process),
+        line,
+    })
+}
+
+/// A line that names no process.
+#[inline(always)]
+fn alone<'a>(line: Line<'a>) -> ScriptLine<'a>
+    ensures { result ≡ alone line.entry }
+{
+    ScriptLine {
+        process: None,
+        line,
+    }
+}
+
+/// The line of a keyword and the words after it.
+#[inline(always)]
+fn script_after(keyword: Keyword, words: Words) -> Option<ScriptLine>
+    ensures { result ≡ script_after keyword words.entry }
+{
+    if keyword.is_in() {
+        return in_line(words);
+    }
+    Some(alone(line_after(keyword, words)?))
 }
 
 /// Whether a word of the line is empty: there are two spaces in a row, or one at an end.
@@ -362,7 +386,22 @@ fn takes_texts(keyword: Keyword) -> bool
     match keyword {
         Keyword::Rules | Keyword::Cpus | Keyword::Machine => true,
         Keyword::Mbind | Keyword::Task | Keyword::Mems => true,
+        Keyword::MemoryMigrate | Keyword::Migrate | Keyword::GroupMems | Keyword::In => true,
         _ => false,
+    }
+}
+
+/// Whether a process of a host may be told a line of the keyword; the others are the host's, or
+/// come before a machine.
+pub(crate) fn is_told(keyword: Keyword) -> bool
+    ensures { result ≡ is_told keyword }
+{
+    match keyword {
+        Keyword::Limits | Keyword::Rules | Keyword::Cpus | Keyword::Machine => false,
+        Keyword::Weight | Keyword::Room | Keyword::MemoryMigrate | Keyword::Host => false,
+        Keyword::Group | Keyword::GroupMems | Keyword::Process | Keyword::Exit => false,
+        Keyword::Attach | Keyword::Fork | Keyword::In => false,
+        _ => true,
     }
 }
 
@@ -374,9 +413,10 @@ fn has_empty_text(keyword: Keyword, line: &[u8]) -> bool
 }
 
 /// The line that the words of a line write, of which none may be empty.
-fn of_words(line: &[u8]) -> Option<Line<'_>>
-    ensures { unwrap_or result Line.Malformed ≡ (if has_empty_word line.now then Line.Malformed
-        else unwrap_or (words_line (words_of line.now)) Line.Malformed) }
+fn of_words(line: &[u8]) -> Option<ScriptLine<'_>>
+    ensures { unwrap_or result (alone Line.Malformed) ≡ (if has_empty_word line.now
+        then alone Line.Malformed
+        else unwrap_or (words_line (words_of line.now)) (alone Line.Malformed)) }
 {
     let Some(begun) = begun(line) else {
         return None;
@@ -384,19 +424,19 @@ fn of_words(line: &[u8]) -> Option<Line<'_>>
     if has_empty_text(begun.0, line) {
         return None;
     }
-    line_after(begun.0, begun.1)
+    script_after(begun.0, begun.1)
 }
 
 /// Parses a line, which comes without its line feed.
 #[tactic(auto, unfolding(crate::specs::Lines::line_of))]
-pub fn parse(line: &[u8]) -> Line<'_>
+pub fn parse(line: &[u8]) -> ScriptLine<'_>
     ensures { result ≡ line_of line.now }
 {
     if is_silent_line(line) {
-        return Line::Silent;
+        return alone(Line::Silent);
     }
     if line.len() > LIMIT {
-        return Line::Malformed;
+        return alone(Line::Malformed);
     }
-    of_words(line).unwrap_or(Line::Malformed)
+    of_words(line).unwrap_or(alone(Line::Malformed))
 }

@@ -1,20 +1,21 @@
 //! Why a line is malformed.
 ghost use Rattle.std.specs.Prelude.{◌≡◌, ℕ, ◌+◌, ◌<◌, ◌≤◌, ◌^◌, length, drop, is_some, position};
-ghost use Rattle.std.specs.Prelude.{take};
+ghost use Rattle.std.specs.Prelude.{take, Some};
 ghost use Rattle.numa_script.specs.Causes.{empty_else, empty_word, fault_behind, fault_of};
-ghost use Rattle.numa_script.specs.Causes.{first_misfit, is_malformed, is_stray, spare_space};
+ghost use Rattle.numa_script.specs.Causes.{first_misfit, in_fault, is_malformed, is_stray};
+ghost use Rattle.numa_script.specs.Causes.{skipped, spare_space, told_fault};
 ghost use Rattle.numa_script.specs.Causes.{stray_else, width_of, words_fault};
-ghost use Rattle.numa_script.specs.Lines.{line_of};
+ghost use Rattle.numa_script.specs.Lines.{keyword_of, line_of};
 ghost use Rattle.numa_script.specs.Parts.{words_of};
 
 use crate::keyword::{Keyword, read_keyword};
-use crate::line::{LIMIT, is_silent_line};
-use crate::parameter::{Misfit, Parameter, parameters, read_misfit};
+use crate::line::{LIMIT, is_silent_line, is_told};
+use crate::parameter::{Misfit, Parameter, read_misfit, wanted};
 use crate::parts::words;
 use numa_mask::Parts;
 
 /// What is wrong with a malformed line.
-#[derive(Clone, Copy, Debug, PartialEq, Eq)]
+#[derive(Clone, Copy, PartialEq, Eq)]
 pub enum Cause {
     /// It has more than 4,096 bytes.
     TooLong,
@@ -27,8 +28,10 @@ pub enum Cause {
     TrailingSpace,
     /// It has two spaces in a row.
     TwoSpaces,
-    /// Its first word isn't a keyword.
+    /// Its first word, or the first that a process is told, isn't a keyword.
     UnknownWord,
+    /// A process is told no line of this keyword.
+    NotTold(Keyword),
     /// There are too few words after the first.
     TooFewWords(Keyword),
     /// There are too many words after the first.
@@ -38,7 +41,7 @@ pub enum Cause {
 }
 
 /// What is wrong with a line, and the column at which it begins, in bytes from 1.
-#[derive(Clone, Copy, Debug, PartialEq, Eq)]
+#[derive(Clone, Copy, PartialEq, Eq)]
 pub struct Malformed {
     pub cause: Cause,
     pub column: usize,
@@ -94,32 +97,82 @@ fn first_misfit(
     None
 }
 
-/// The words after the first.
-fn words_behind(line: &[u8]) -> Parts<'_>
-    ensures { result ≡ drop 1 (words_of line.now) }
+/// The words after the first, or after the three of which the last is what a process is told.
+fn words_behind(line: &[u8], told: bool) -> Parts<'_>
+    ensures { result ≡ drop (skipped told) (words_of line.now) }
 {
     let mut words = words(line);
     let _ = words.next();
+    if told {
+        let _ = words.next();
+        let _ = words.next();
+    }
     words
 }
 
 /// What is wrong with the words after a keyword; the first of them begins at the column.
-fn fault_behind(keyword: Keyword, column: usize, line: &[u8]) -> Option<Malformed>
-    requires { column + width_of (drop 1 (words_of line.now)) < 2 ^ 32 }
-    ensures { result ≡ fault_behind keyword column (drop 1 (words_of line.now)) }
+fn fault_behind(keyword: Keyword, column: usize, told: bool, line: &[u8]) -> Option<Malformed>
+    requires { column + width_of (drop (skipped told) (words_of line.now)) < 2 ^ 32 }
+    ensures { result ≡ fault_behind keyword column (drop (skipped told) (words_of line.now)) }
 {
-    let wanted = parameters(keyword);
-    let count = count_of(words_behind(line));
+    let wanted = wanted(keyword, words_behind(line, told));
+    let count = count_of(words_behind(line, told));
     if count == wanted.len() {
-        return first_misfit(keyword, wanted, column, words_behind(line));
+        return first_misfit(keyword, wanted, column, words_behind(line, told));
     }
-    let column = column + width_of(words_behind(line), wanted.len());
+    let column = column + width_of(words_behind(line, told), wanted.len());
     if count < wanted.len() {
         let cause = Cause::TooFewWords(keyword);
         return Some(Malformed { cause, column });
     }
     let cause = Cause::TooManyWords(keyword);
     Some(Malformed { cause, column })
+}
+
+/// What is wrong with what a process is told, whose first word begins at the column.
+fn told_fault(first: &[u8], column: usize, line: &[u8]) -> Option<Malformed>
+    requires { column + length first.now + 1 + width_of (drop 3 (words_of line.now)) < 2 ^ 32 }
+    ensures { result ≡ told_fault (keyword_of first.now) column first.now
+        (drop 3 (words_of line.now)) }
+{
+    let Some(keyword) = read_keyword(first) else {
+        return Some(Malformed {
+            cause: Cause::UnknownWord,
+            column,
+        });
+    };
+    if !is_told(keyword) {
+        let cause = Cause::NotTold(keyword);
+        return Some(Malformed { cause, column });
+    }
+    fault_behind(keyword, column + first.len() + 1, true, line)
+}
+
+/// How a line `in P LINE` lacks words, of which the last ends before the column.
+fn too_few_told(column: usize) -> Option<Malformed>
+    ensures { result ≡ Some (record { cause = Cause.TooFewWords Keyword.In; column = column }) }
+{
+    let cause = Cause::TooFewWords(Keyword::In);
+    Some(Malformed { cause, column })
+}
+
+/// What is wrong with the words after `in`, the first of which begins at the column.
+fn in_fault(column: usize, line: &[u8]) -> Option<Malformed>
+    requires { column + width_of (drop 1 (words_of line.now)) < 2 ^ 32 }
+    ensures { result ≡ in_fault column (drop 1 (words_of line.now)) }
+{
+    let mut words = words_behind(line, false);
+    let Some(process) = words.next() else {
+        return too_few_told(column);
+    };
+    let Some(first) = words.next() else {
+        return too_few_told(column + process.len() + 1);
+    };
+    if let Some(misfit) = read_misfit(Parameter::Process.form(), process) {
+        let cause = Cause::BadWord(Keyword::In, Parameter::Process, misfit);
+        return Some(Malformed { cause, column });
+    }
+    told_fault(first, column + process.len() + 1, line)
 }
 
 /// What is wrong with the words of a line that has no empty word.
@@ -136,7 +189,10 @@ fn words_fault(line: &[u8]) -> Option<Malformed>
             column: 1,
         });
     };
-    fault_behind(keyword, first.len() + 2, line)
+    if keyword.is_in() {
+        return in_fault(first.len() + 2, line);
+    }
+    fault_behind(keyword, first.len() + 2, false, line)
 }
 
 /// The position of the first empty word.
@@ -213,7 +269,7 @@ fn with_stray(line: &[u8], fault: Malformed) -> Malformed
 /// more than 4,096 bytes may be cut after the 4,097th.
 pub fn why_malformed(line: &[u8]) -> Option<Malformed>
     ensures fault { result ≡ fault_of line.now }
-    ensures malformed { is_some result ≡ is_malformed (line_of line.now) }
+    ensures malformed { is_some result ≡ is_malformed (line_of line.now).line }
 {
     if is_silent_line(line) {
         return None;

@@ -1,14 +1,16 @@
 //! The names of errors and refusals in answers.
 ghost use Rattle.std.specs.Prelude.{◌≡◌, ◌≤◌, length};
-ghost use Rattle.numa_script.specs.Texts.{name_of};
+ghost use Rattle.numa_script.specs.HostTexts.{host_errno_name, host_refusal_name};
+ghost use Rattle.numa_script.specs.Names.{name_of};
+ghost use Rattle.numa_script.specs.PageTexts.{move_cause, placed_cause};
 
 use numa_machine::{MachineFault, PlaceRefusal};
 use numa_mask::ListFault;
 use numa_mode::SpecError;
-use numa_requests::{Errno, Refusal};
+use numa_requests::{Errno, HostErrno, HostRefusal, MoveRefusal, PlacedRefusal, Refusal};
 
 /// What answers name.
-#[derive(Clone, Copy, Debug, PartialEq, Eq)]
+#[derive(Clone, Copy, PartialEq, Eq)]
 pub enum Named {
     /// An error in a list of nodes.
     List(ListFault),
@@ -46,10 +48,11 @@ static MACHINE_NAMES: [&[u8]; 5] = [
 ];
 
 /// The names of the refusals of commands.
-static REFUSAL_NAMES: [&[u8]; 15] = [
+static REFUSAL_NAMES: [&[u8]; 17] = [
     b"CommandsSpent",
     b"Unaligned",
     b"OutOfSpace",
+    b"BadSpan",
     b"EmptyLength",
     b"BadOffset",
     b"Overlap",
@@ -57,6 +60,7 @@ static REFUSAL_NAMES: [&[u8]; 15] = [
     b"NoSuchNode",
     b"BadWeight",
     b"NodesNotAllowed",
+    b"NoNodes",
     b"NotSupported",
     b"NoPolicy",
     b"TooManyTasks",
@@ -92,5 +96,70 @@ impl Named {
             Named::Errno(errno) => ERRNO_NAMES[errno as usize],
             Named::Place(refusal) => PLACE_NAMES[refusal as usize],
         }
+    }
+}
+
+/// The name of a host's refusal.
+pub fn host_refusal_name(refusal: HostRefusal) -> &'static [u8]
+    ensures { result.now ≡ host_refusal_name refusal }
+{
+    match refusal {
+        HostRefusal::CommandsSpent => b"CommandsSpent",
+        HostRefusal::GroupExists => b"GroupExists",
+        HostRefusal::NoSuchGroup => b"NoSuchGroup",
+        HostRefusal::TooManyGroups => b"TooManyGroups",
+        HostRefusal::RootGroup => b"RootGroup",
+        HostRefusal::NoSuchNode => b"NoSuchNode",
+        HostRefusal::Populated => b"Populated",
+        HostRefusal::ProcessExists => b"ProcessExists",
+        HostRefusal::NoSuchProcess => b"NoSuchProcess",
+        HostRefusal::TooManyProcesses => b"TooManyProcesses",
+        HostRefusal::GroupMems => b"GroupMems",
+        HostRefusal::OfSpace(refusal) => Named::Refusal(refusal).name(),
+        HostRefusal::NoMemory => b"NoMemory",
+    }
+}
+
+/// The name of an error number of a host (errno(3)).
+pub fn host_errno_name(errno: HostErrno) -> &'static [u8]
+    ensures { result.now ≡ host_errno_name errno }
+{
+    match errno {
+        HostErrno::OfSpace(errno) => Named::Errno(errno).name(),
+        HostErrno::ESrch => b"ESRCH",
+        HostErrno::EAcces => b"EACCES",
+        HostErrno::EPerm => b"EPERM",
+        HostErrno::EAgain => b"EAGAIN",
+    }
+}
+
+/// The name of a refusal of a line about pages, with its error number (errno(3)).
+pub fn placed_cause(refusal: PlacedRefusal) -> &'static [u8]
+    ensures { result.now ≡ placed_cause refusal }
+{
+    match refusal {
+        PlacedRefusal::Unaligned => b"Unaligned EINVAL",
+        PlacedRefusal::OutOfSpace => b"OutOfSpace ENOMEM",
+        PlacedRefusal::NoSuchNode => b"NoSuchNode EINVAL",
+        PlacedRefusal::Occupied => b"Occupied EEXIST",
+        PlacedRefusal::NodesNotAllowed => b"NodesNotAllowed EINVAL",
+        PlacedRefusal::Astray => b"Astray EIO",
+        PlacedRefusal::TooManyRuns => b"TooManyRuns ENOMEM",
+        PlacedRefusal::NoMemory => b"NoMemory ENOMEM",
+    }
+}
+
+/// The name of why a page isn't moved, with its error number.
+pub fn move_cause(refusal: MoveRefusal) -> &'static [u8]
+    ensures { result.now ≡ move_cause refusal }
+{
+    match refusal {
+        MoveRefusal::NoSuchNode => b"NoSuchNode ENODEV",
+        MoveRefusal::NodesNotAllowed => b"NodesNotAllowed EACCES",
+        MoveRefusal::Unmapped => b"Unmapped EFAULT",
+        MoveRefusal::NotPlaced => b"NotPlaced ENOENT",
+        MoveRefusal::NoRoom => b"NoRoom ENOMEM",
+        MoveRefusal::TooManyRuns => b"TooManyRuns ENOMEM",
+        MoveRefusal::NoMemory => b"NoMemory ENOMEM",
     }
 }

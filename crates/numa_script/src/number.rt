@@ -3,7 +3,7 @@ ghost use Rattle.std.specs.Prelude.{◌≡◌, ℕ, ◌+◌, ◌*◌, ◌^◌, �
 ghost use Rattle.std.specs.Prelude.{[], ◌∷◌, length};
 ghost use Rattle.numa_script.specs.Numbers.{digit_of, in_64_bits, numeral_of, number_of, small_of};
 ghost use Rattle.numa_script.specs.Numbers.{item_of, page_of, node_of, frame_number_of};
-ghost use Rattle.numa_script.specs.Numbers.{few_of, span_pages_of, below, IsNumber};
+ghost use Rattle.numa_script.specs.Numbers.{few_of, below, IsNumber};
 
 use numa_requests::PAGE_BYTES;
 
@@ -196,11 +196,4 @@ pub(crate) fn few_pages(pages: u64) -> Option<u32>
         return None;
     }
     u32::try_from(pages).ok()
-}
-
-/// Reads the number of pages of a span, at most 65,536.
-pub fn span_pages(word: &[u8]) -> Option<u32>
-    ensures { result ≡ span_pages_of word.now }
-{
-    few_pages(number(word)?)
 }

@@ -1,12 +1,15 @@
 //! The words of a line after its keyword.
-ghost use Rattle.std.specs.Prelude.{◌≡◌, ℕ, List, Option};
-ghost use Rattle.numa_script.specs.Causes.{parameters_of, form_of, misfit_of};
+ghost use Rattle.std.specs.Prelude.{◌≡◌, ◌∷◌, ℕ, List, Option};
+ghost use Rattle.numa_script.specs.Causes.{behind_policy, behind_strict, form_of, misfit_of};
+ghost use Rattle.numa_script.specs.Causes.{parameters_of, wanted_of};
 
 use crate::keyword::Keyword;
 use crate::machine;
 use crate::number::number;
+use crate::page_line::read_switch;
 use crate::rules::read_rules;
 use Parameter::*;
+use numa_mask::Parts;
 
 /// A word after the keyword of a line.
 #[derive(Clone, Copy, Debug, PartialEq, Eq)]
@@ -61,6 +64,30 @@ pub enum Parameter {
     FrameNode,
     /// FRAME, the number of a frame of a node.
     Frame,
+    /// `strict`, behind the policy of `mbind`.
+    Strict,
+    /// `move`, behind the policy of `mbind`.
+    Move,
+    /// `on` or `off`, whether pages follow the allowed nodes.
+    Switch,
+    /// PAGES of `room`.
+    RoomPages,
+    /// FROM, the nodes that pages leave.
+    FromList,
+    /// TO, the nodes to which pages go.
+    ToList,
+    /// P, the number of a process.
+    Process,
+    /// Q, the number of a process that another becomes.
+    Child,
+    /// CHILD, the number of a task of the child.
+    ChildTask,
+    /// G, the number of a group.
+    Group,
+    /// PARENT, the number of the group above.
+    Parent,
+    /// LINE, a line of a process.
+    Line,
 }
 
 /// The form that a word must have for its line not to be malformed.
@@ -75,6 +102,8 @@ pub enum Form {
     /// `flat`, or decimal numbers up to 255, separated by commas and semicolons; either may follow
     /// `kernel:`.
     Distances,
+    /// `on` or `off`.
+    Switch,
     /// Anything: a node list or a policy, whose errors have names of their own.
     Any,
 }
@@ -98,7 +127,8 @@ impl Parameter {
             | Parameter::Length
             | Parameter::Offset
             | Parameter::Address
-            | Parameter::Pages => Form::Number(u64::MAX),
+            | Parameter::Pages
+            | Parameter::RoomPages => Form::Number(u64::MAX),
             Parameter::Ranges
             | Parameter::Tasks
             | Parameter::Commands
@@ -109,14 +139,22 @@ impl Parameter {
             | Parameter::From
             | Parameter::Cpu
             | Parameter::Worker
-            | Parameter::Word => Form::Number(u32::MAX as u64),
+            | Parameter::Word
+            | Parameter::Process
+            | Parameter::Child
+            | Parameter::ChildTask
+            | Parameter::Group
+            | Parameter::Parent => Form::Number(u32::MAX as u64),
             Parameter::SpanPages => Form::Number(65_536),
             Parameter::FrameNode => Form::Number(255),
             Parameter::Frame => Form::Number(65_535),
             Parameter::Rules => Form::Rules,
             Parameter::Frames => Form::Frames,
             Parameter::Distances => Form::Distances,
+            Parameter::Switch => Form::Switch,
             Parameter::Memory | Parameter::List | Parameter::Policy => Form::Any,
+            Parameter::FromList | Parameter::ToList => Form::Any,
+            Parameter::Strict | Parameter::Move | Parameter::Line => Form::Any,
         }
     }
 
@@ -139,13 +177,23 @@ impl Parameter {
             Parameter::Weight => "WEIGHT",
             Parameter::List => "LIST",
             Parameter::Task => "TASK",
-            Parameter::From => "FROM",
+            Parameter::From | Parameter::FromList => "FROM",
             Parameter::Address => "ADDR",
             Parameter::Cpu => "CPU",
-            Parameter::Pages | Parameter::SpanPages => "PAGES",
+            Parameter::Pages | Parameter::SpanPages | Parameter::RoomPages => "PAGES",
             Parameter::Worker => "W",
             Parameter::Word => "WORD",
             Parameter::Frame => "FRAME",
+            Parameter::Strict => "strict",
+            Parameter::Move => "move",
+            Parameter::Switch => "on|off",
+            Parameter::ToList => "TO",
+            Parameter::Process => "P",
+            Parameter::Child => "Q",
+            Parameter::ChildTask => "CHILD",
+            Parameter::Group => "G",
+            Parameter::Parent => "PARENT",
+            Parameter::Line => "LINE",
         }
     }
 }
@@ -170,6 +218,7 @@ pub fn read_misfit(form: Form, word: &[u8]) -> Option<Misfit>
         Form::Rules if read_rules(word).is_none() => Some(Misfit::Unreadable),
         Form::Frames if machine::Frames::read(word).is_none() => Some(Misfit::Unreadable),
         Form::Distances if machine::Distances::read(word).is_none() => Some(Misfit::Unreadable),
+        Form::Switch if read_switch(word).is_none() => Some(Misfit::Unreadable),
         _ => None,
     }
 }
@@ -200,5 +249,58 @@ pub fn parameters(keyword: Keyword) -> &'static [Parameter]
         Keyword::Look => &[Worker, Word],
         Keyword::Try | Keyword::Give => &[Worker, FrameNode, Frame],
         Keyword::Release => &[Worker, Address],
+        Keyword::At => &[Start, Length, Node],
+        Keyword::Room => &[Node, RoomPages],
+        Keyword::MemoryMigrate => &[Switch],
+        Keyword::Migrate => &[FromList, ToList],
+        Keyword::Move => &[Address, Node],
+        Keyword::Moved | Keyword::Host => &[],
+        Keyword::Group => &[Group, Parent],
+        Keyword::GroupMems => &[Group, List],
+        Keyword::Process | Keyword::Attach => &[Process, Group],
+        Keyword::Exit => &[Process],
+        Keyword::Fork => &[Process, Child, Task, ChildTask],
+        Keyword::In => &[Process, Line],
+    }
+}
+
+/// What follows `strict` behind the policy of an `mbind`.
+fn parameters_behind_strict(mut words: Parts) -> &'static [Parameter]
+    ensures { result.now ≡ Parameter.Start ∷ Parameter.Length ∷ Parameter.Policy
+        ∷ Parameter.Strict ∷ behind_strict words.entry }
+{
+    match words.next() {
+        Some(word) if word == b"move".as_slice() => {
+            &[Start, Length, Policy, Strict, Move, Task, Cpu]
+        }
+        _ => &[Start, Length, Policy, Strict],
+    }
+}
+
+/// The words of an `mbind`, of which these follow the policy.
+fn bind_parameters(mut words: Parts) -> &'static [Parameter]
+    ensures { result.now ≡ Parameter.Start ∷ Parameter.Length ∷ Parameter.Policy
+        ∷ behind_policy words.entry }
+{
+    match words.next() {
+        Some(word) if word == b"strict".as_slice() => parameters_behind_strict(words),
+        Some(word) if word == b"move".as_slice() => &[Start, Length, Policy, Move, Task, Cpu],
+        _ => &[Start, Length, Policy],
+    }
+}
+
+/// The words that a line of this keyword should have: those behind the policy of an `mbind` go by
+/// the first of them.
+pub(crate) fn wanted(keyword: Keyword, mut words: Parts) -> &'static [Parameter]
+    ensures { result.now ≡ wanted_of keyword words.entry }
+{
+    match keyword {
+        Keyword::Mbind => {
+            let _ = words.next();
+            let _ = words.next();
+            let _ = words.next();
+            bind_parameters(words)
+        }
+        other => parameters(other),
     }
 }

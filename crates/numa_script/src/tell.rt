@@ -1,22 +1,25 @@
 //! Writing replies and the answers to questions to a watched writer. Once a write has failed,
 //! nothing more is written.
 ghost use Rattle.std.specs.Prelude.{◌≡◌, ℕ, ◌+◌, ◌≤◌, ◌++◌, List, Option, length, decimal, codes};
-ghost use Rattle.std.specs.Prelude.{flat_map, slice_index};
+ghost use Rattle.std.specs.Prelude.{flat_map, slice_index, true};
 ghost use Rattle.numa_lines.specs.Written.{Said};
 ghost use Rattle.numa_requests.specs.Errors.{errno_of};
 ghost use Rattle.numa_requests.specs.NodeCounts.{node_text as count_of_node, nodes_text as counts_text};
-ghost use Rattle.numa_script.specs.Texts.{cause_name, counts_answer, errno_name, frame_text};
-ghost use Rattle.numa_script.specs.Texts.{nodes_answer, place_name, ranges_answer, refusal_name};
+ghost use Rattle.numa_script.specs.HostTexts.{host_cause};
+ghost use Rattle.numa_script.specs.Names.{cause_name, errno_name, place_name, refusal_name};
+ghost use Rattle.numa_script.specs.PageTexts.{late_words, moved_words, sent_text};
+ghost use Rattle.numa_script.specs.Texts.{counts_answer, frame_text, nodes_answer, ranges_answer};
+ghost use Rattle.numa_script.specs.Replies.{is_wider};
 ghost use Rattle.numa_script.specs.Texts.{refused_text, text_of, win_answer, word_text};
 
-use crate::names::Named;
+use crate::names::{Named, host_errno_name, host_refusal_name, move_cause, placed_cause};
 use crate::nodes::{FEW, say_each_node, say_few};
 use crate::policy::WordError;
 use crate::reply::{Reply, Win};
 use crate::short::ShortText;
 use numa_lines::Watched;
 use numa_machine::{Frame, PlaceRefusal};
-use numa_requests::{CoreRefusal, Refusal};
+use numa_requests::{CoreRefusal, HostRefusal, Refusal};
 use std::io::Write;
 
 /// Writes two texts as a line.
@@ -104,6 +107,7 @@ fn say_cause<W: Write>(output: &mut Watched<W>, cause: CoreRefusal)
         CoreRefusal::NotOwned => say_refused(output, b"NotOwned"),
         CoreRefusal::BadCpu => say_refused(output, b"BadCpu"),
         CoreRefusal::Unmapped(_) => say_refused(output, b"Unmapped"),
+        CoreRefusal::NoSuchNode => say_refused(output, b"NoSuchNode"),
         CoreRefusal::NoMemory => say_refused(output, b"NoMemory"),
     }
 }
@@ -144,6 +148,18 @@ fn say_back<W: Write>(output: &mut Watched<W>, frame: Frame)
     line.put(b"\n");
     put_frame(&mut line, frame.node, frame.number);
     line.put(b"back");
+    output.say(line.bytes());
+}
+
+/// Writes a frame that was found on a node.
+fn say_found<W: Write>(output: &mut Watched<W>, frame: Frame)
+    ensures { Said W.contents output.old output.new
+        (codes "found" ++ frame_text frame.node frame.number ++ codes "\n") }
+{
+    let mut line = ShortText::new();
+    line.put(b"\n");
+    put_frame(&mut line, frame.node, frame.number);
+    line.put(b"found");
     output.say(line.bytes());
 }
 
@@ -206,6 +222,79 @@ pub fn say_ranges<W: Write>(output: &mut Watched<W>, count: u64)
     say_count(output, b"ranges ", count);
 }
 
+/// Writes a host's refusal, with its error number.
+fn say_host_refusal<W: Write>(output: &mut Watched<W>, refusal: HostRefusal)
+    ensures { Said W.contents output.old output.new (refused_text (host_cause refusal)) }
+{
+    output.say(b"refused ");
+    output.say(host_refusal_name(refusal));
+    say_line(output, b" ", host_errno_name(refusal.errno()));
+}
+
+/// Writes how many pages moved, and how many stayed.
+pub fn say_moved_words<W: Write>(output: &mut Watched<W>, moved: u64, left: u64)
+    ensures { Said W.contents output.old output.new (moved_words moved left) }
+{
+    say_number(output, b"moved ", moved);
+    say_number(output, b" left ", left);
+}
+
+/// Writes what a move did: `moved 3 left 0`.
+fn say_moved<W: Write>(output: &mut Watched<W>, moved: u64, left: u64)
+    ensures { Said W.contents output.old output.new (moved_words moved left ++ codes "\n") }
+{
+    say_moved_words(output, moved, left);
+    output.say(b"\n");
+}
+
+/// Writes that pages stayed that had to go, if that is told.
+fn say_late<W: Write>(output: &mut Watched<W>, late: bool)
+    ensures { Said W.contents output.old output.new (late_words late) }
+{
+    if late {
+        output.say(b" EIO");
+    }
+}
+
+/// Writes that a policy was set and pages went: `ok 4 moved 5 left 1`.
+fn say_sent<W: Write>(output: &mut Watched<W>, version: u64, moved: u64, left: u64, late: bool)
+    ensures { Said W.contents output.old output.new (sent_text version moved left late) }
+{
+    say_number(output, b"ok ", version);
+    output.say(b" ");
+    say_moved_words(output, moved, left);
+    say_late(output, late);
+    output.say(b"\n");
+}
+
+/// Writes a reply that only scripts of hosts or with lines about pages have.
+#[inline(never)]
+#[tactic(auto, unfolding(crate::specs::Texts::text_of))]
+fn say_wider<W: Write>(output: &mut Watched<W>, reply: &Reply)
+    requires { is_wider reply.now ≡ true }
+    ensures { Said W.contents output.old output.new (text_of reply.now) }
+{
+    match reply {
+        Reply::Placed => say_refused(output, b"Placed"),
+        Reply::HostReady => output.say(b"host ok\n"),
+        Reply::HostRefused(cause) => say_host_refusal(output, *cause),
+        Reply::AtOk => output.say(b"at ok\n"),
+        Reply::RoomOk => output.say(b"room ok\n"),
+        Reply::MemoryMigrateOk => output.say(b"memory-migrate ok\n"),
+        Reply::Moved { moved, left } => say_moved(output, *moved, *left),
+        Reply::MovedTo(node) => say_count(output, b"node ", u64::from(*node)),
+        Reply::Sent {
+            version,
+            moved,
+            left,
+            late,
+        } => say_sent(output, *version, *moved, *left, *late),
+        Reply::PlacedRefused(cause) => say_refused(output, placed_cause(*cause)),
+        Reply::MoveRefused(cause) => say_refused(output, move_cause(*cause)),
+        _ => unreachable!(),
+    }
+}
+
 /// Writes a reply as a line; nothing for `Silent`.
 #[tactic(auto, unfolding(crate::specs::Texts::text_of))]
 pub fn say_reply<W: Write>(output: &mut Watched<W>, reply: &Reply)
@@ -229,8 +318,11 @@ pub fn say_reply<W: Write>(output: &mut Watched<W>, reply: &Reply)
         Reply::Still => output.say(b"still\n"),
         Reply::Exhausted(version) => say_count(output, b"exhausted v", *version),
         Reply::Won(win) => say_win(output, win),
+        Reply::Found(frame) => say_found(output, *frame),
+        Reply::Full => output.say(b"full\n"),
         Reply::Given => output.say(b"given\n"),
         Reply::Back(frame) => say_back(output, *frame),
         Reply::Refused(cause) => say_cause(output, *cause),
+        _ => say_wider(output, reply),
     }
 }

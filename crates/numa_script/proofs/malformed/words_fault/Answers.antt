@@ -13,3 +13,9 @@ fault_behind-requires c =
     let words = sym c.words.ensures ∙ c.in-Some.ensures.steps in
     let behind = ap (λ l. width_of (drop 1 l)) words in
     omega (arith, behind, ap width_of words, width_of_words c.args.line.now, c.requires)
+
+pub in_fault-requires : goal.in_fault-requires
+in_fault-requires c =
+    let words = sym c.words.ensures ∙ c.in-Some.ensures.steps in
+    let behind = ap (λ l. width_of (drop 1 l)) words in
+    omega (arith, behind, ap width_of words, width_of_words c.args.line.now, c.requires)
