@@ -72,6 +72,10 @@ by-machine None refused state (line.EmptyBind start fault) = refl
 by-machine None refused state (line.Question said) = refl
 by-machine None refused state (line.Maps task) = refl
 by-machine None refused state (line.Work said) = refl
+by-machine None refused state (line.Pages said) = refl
+by-machine None refused state (line.Bind start bytes policy pages) = refl
+by-machine None refused state line.Host = refl
+by-machine None refused state (line.HostCommand said) = refl
 by-machine (Some machine) refused state line.Silent = refl
 by-machine (Some machine) refused state line.Malformed = refl
 by-machine (Some machine) refused state (line.Limits ranges tasks commands) = refl
@@ -85,6 +89,10 @@ by-machine (Some machine) refused state (line.EmptyBind start fault) =
 by-machine (Some machine) refused state (line.Question said) = refl
 by-machine (Some machine) refused state (line.Maps task) = refl
 by-machine (Some machine) refused state (line.Work said) = refl
+by-machine (Some machine) refused state (line.Pages said) = refl
+by-machine (Some machine) refused state (line.Bind start bytes policy pages) = refl
+by-machine (Some machine) refused state line.Host = refl
+by-machine (Some machine) refused state (line.HostCommand said) = refl
 
 -- the limits after a line
 pub bounds-after : (refused : Bool) (state : State) (said : Line)

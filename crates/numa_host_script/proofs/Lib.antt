@@ -1,7 +1,7 @@
 mod Worked
-pub mod Begun
 pub mod Bounds
-pub mod Deciding
-pub mod Found
+pub mod Decided
+pub mod Left
 pub mod Obeyed
-pub mod Seen
+pub mod Taken
+pub mod Written

@@ -1,6 +1,4 @@
-pub mod Lines
-pub mod Texts
+pub mod Judged
 pub mod Sessions
 pub mod Standing
-pub mod Judged
-pub mod Lacking
+pub mod Taking

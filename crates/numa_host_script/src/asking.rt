@@ -1,8 +1,9 @@
 //! What a process answers: questions by a plan that is made of its space, and `maps` by the space.
-ghost use Rattle.std.specs.Prelude.{◌≡◌, [], List, false};
+ghost use Rattle.std.specs.Prelude.{◌≡◌, [], Bool, List, false};
 ghost use Rattle.numa_compile.specs.Standing.{PlanStandsFor};
 ghost use Rattle.numa_lines.specs.Written.{Said};
 ghost use Rattle.numa_machine.specs.Machine.{Hardware};
+ghost use Rattle.numa_run.specs.Judged.{question_cause};
 ghost use Rattle.numa_run.specs.Questions.{question_text};
 ghost use Rattle.numa_run.specs.Ranges.{listing_of};
 ghost use Rattle.numa_space.specs.Standing.{StandsFor};
@@ -12,6 +13,8 @@ use numa_compile::compile;
 use numa_lines::Watched;
 use numa_maps::{Resident, write_maps};
 use numa_plan::Plan;
+use numa_requests::CoreRefusal;
+use numa_run::judging::{cause_at, refusal_by_plan};
 use numa_run::questions::{fault_at, say_pages, say_place, say_span};
 use numa_script::Question;
 use numa_script::tell::{say_ranges, say_starved};
@@ -88,4 +91,23 @@ pub fn list<W: Write>(alloc: Global, space: &Space, task: u32, output: &mut Watc
     let _ = space.range_iter();
     let resident = Resident::new(alloc);
     let _ = write_maps(space, task, &resident, output);
+}
+
+/// The first cause that refuses a question about a space.
+pub fn question_cause(alloc: Global, space: &Space, question: Question) -> Option<CoreRefusal>
+    ensures { (history : List Command) → StandsFor space.now history → (refused : Bool)
+        × (result ≡ question_cause refused space.now.machine history question) }
+{
+    if let Question::Ranges = question {
+        return None;
+    }
+    let Ok(plan) = compile(alloc, space) else {
+        return Some(CoreRefusal::NoMemory);
+    };
+    let refusal = refusal_by_plan(&plan, question);
+    drop(plan);
+    match refusal {
+        None => None,
+        Some(why) => Some(cause_at(space.version(), why)),
+    }
 }

@@ -1,29 +1,29 @@
 //! Running scripts that may become a host's.
-ghost use Rattle.std.specs.Prelude.{◌≡◌, ◌↔◌, Bool, true, false, IsTrue, MatchOption, Some};
+ghost use Rattle.std.specs.Prelude.{◌≡◌, ◌↔◌, ℕ, Bool, true, false, IsSomeAnd, IsTrue};
+ghost use Rattle.std.specs.Prelude.{MatchOption, Some};
 ghost use Rattle.numa_lines.specs.Written.{Said};
-ghost use Rattle.numa_host_script.specs.Sessions.{Session, Starves, begins_starved, begun};
+ghost use Rattle.numa_host_script.specs.Sessions.{Session, begun, bounds_after, is_begin, is_fresh};
 ghost use Rattle.numa_host_script.specs.Sessions.{session_after, session_answer, session_by};
-ghost use Rattle.numa_host_script.specs.Sessions.{bounds_after, is_begin, is_fresh};
-ghost use Rattle.numa_host_script.specs.Judged.{IsAlone, IsHost, IsHostIn, IsScriptIn};
-ghost use Rattle.numa_host_script.specs.Judged.{begun_fault, session_fault};
+ghost use Rattle.numa_host_script.specs.Judged.{Starves, session_fault};
+ghost use Rattle.numa_host_script.specs.Standing.{IsAlone, IsHost, IsHostIn, IsScriptIn, StandsIn};
+ghost use Rattle.numa_host_script.specs.Standing.{told};
+ghost use Rattle.numa_host_script.specs.Taking.{IsLeft, answer_left, fault_left, left_in};
+ghost use Rattle.numa_host_script.specs.Taking.{misplaced_reply};
 ghost use Rattle.numa_run.specs.Answers.{State};
+ghost use Rattle.numa_run.specs.Replies.{bytes_of, reply_in};
 ghost use Rattle.numa_run.specs.Scripts.{ScriptStandsFor};
-ghost use Rattle.numa_script.specs.Lines.{line_of};
-ghost use Rattle.numa_host_script.specs.Standing.{StandsIn};
+ghost use Rattle.numa_script.specs.Replies.{LacksMemory};
 
-use crate::fault::LineFault;
-use crate::judging::judge;
-use crate::line::parse_host;
-use crate::serving::serve;
-use crate::tell::say_refusal;
-use numa_host::{Host, HostRefusal};
+use crate::asking::{ask, list, question_cause};
+use crate::taking::{HostTaken, take};
+use numa_host::Host;
 use numa_lines::{Serve, Watched};
 use numa_machine::{Machine, Rules};
-use numa_requests::Limits;
-use numa_run::Script;
+use numa_requests::{HostRefusal, Limits};
+use numa_run::{Script, Taken};
 use numa_script::line::parse;
 use numa_script::tell::say_reply;
-use numa_script::{Line, Reply};
+use numa_script::{Line, Question, Reply, ScriptLine};
 use std::alloc::Global;
 use std::io::Write;
 
@@ -37,10 +37,17 @@ pub struct HostScript {
 }
 
 /// Whether a line is `host`.
-fn is_begin(line: &[u8]) -> bool
-    ensures { result ≡ is_begin line.now }
+#[inline(always)]
+fn is_begin(said: &ScriptLine<'_>) -> bool
+    ensures { result ≡ is_begin said.now }
 {
-    line == b"host".as_slice()
+    if let Some(_) = said.process {
+        return false;
+    }
+    match &said.line {
+        Line::Host => true,
+        _ => false,
+    }
 }
 
 /// The machine of a script, if it is ready and no command is accepted yet.
@@ -78,6 +85,18 @@ fn limits_after(script: &Script, limits: Limits, line: &Line<'_>) -> Limits
     }
 }
 
+/// The reply to what was taken of a line of one process, if it isn't a reply, where there is a
+/// host.
+fn misplaced(taken: Taken) -> Reply
+    ensures { result ≡ misplaced_reply taken }
+{
+    match taken {
+        Taken::Reply(reply) => reply,
+        Taken::Question(_) => Reply::BadState,
+        Taken::Maps(_) => Reply::BadState,
+    }
+}
+
 impl HostScript {
     /// The state before the first line; these rules apply unless a line says otherwise. It doesn't
     /// allocate.
@@ -91,29 +110,202 @@ impl HostScript {
         }
     }
 
-    /// Answers a line `host`. Returns whether memory ran out.
-    fn begin<W: Write>(&mut self, alloc: Global, output: &mut Watched<W>) -> bool
+    /// Carries out a line `host`.
+    fn begin(&mut self, alloc: Global) -> Reply
         ensures { (session : Session) → StandsIn self.old.script self.old.limits self.old.host
             session → (refused : Bool)
             × StandsIn self.new.script self.new.limits self.new.host (begun refused session).session
-            × Said W.contents output.old output.new (begun refused session).text
-            × (result ≡ begins_starved session refused) }
+            × (Some result ≡ reply_in (begun refused session).answer) }
     {
         if let Some(_) = &self.host {
-            say_reply(output, &Reply::BadState);
-            return false;
+            return Reply::BadState;
         }
         let Some(machine) = fresh_machine(&self.script) else {
-            say_reply(output, &Reply::BadState);
-            return false;
+            return Reply::BadState;
         };
         let Ok(copy) = machine.copy(alloc) else {
-            say_refusal(output, HostRefusal::NoMemory);
-            return true;
+            return Reply::HostRefused(HostRefusal::NoMemory);
         };
         drop(self.host.replace(Host::new(alloc, copy, self.limits)));
-        output.say(b"host ok\n");
-        false
+        Reply::HostReady
+    }
+
+    /// Carries out a line. Its answer is still to be written ([`HostScript::write`]) or judged
+    /// ([`HostScript::fault`]).
+    #[inline(always)]
+    pub fn take(&mut self, alloc: Global, said: &ScriptLine<'_>) -> HostTaken
+        ensures { (session : Session) → StandsIn self.old.script self.old.limits self.old.host
+            session → (refused : Bool)
+            × StandsIn self.new.script self.new.limits self.new.host
+            (session_after refused session said.now)
+            × IsLeft refused session said.now (left_in result) }
+    {
+        if is_begin(said) {
+            return HostTaken::Reply(self.begin(alloc));
+        }
+        if let Some(host) = &mut self.host {
+            return take(host, said);
+        }
+        if let Some(_) = said.process {
+            return HostTaken::Reply(Reply::BadWords);
+        }
+        self.limits = limits_after(&self.script, self.limits, &said.line);
+        HostTaken::Own(self.script.take(alloc, &said.line))
+    }
+
+    /// Writes the answer of a line that was taken. Returns whether memory ran out; then the answer
+    /// says so.
+    #[inline(always)]
+    pub fn write<W: Write>(
+        &mut self,
+        alloc: Global,
+        taken: HostTaken,
+        output: &mut Watched<W>,
+    ) -> bool
+        ensures { (session : Session) → StandsIn self.old.script self.old.limits self.old.host
+            session → (refused : Bool)
+            × StandsIn self.new.script self.new.limits self.new.host session
+            × Said W.contents output.old output.new
+            (bytes_of (answer_left refused session (left_in taken)))
+            × (IsTrue result ↔ (IsSomeAnd (fault_left refused session (left_in taken))
+            LacksMemory)) }
+    {
+        match taken {
+            HostTaken::Own(taken) => self.write_own(alloc, taken, output),
+            HostTaken::Reply(reply) => {
+                say_reply(output, &reply);
+                reply.lacks_memory()
+            }
+            HostTaken::Asked { process, question } => {
+                self.answer(alloc, process, question, output)
+            }
+            HostTaken::Listed { process, task } => {
+                self.list(alloc, process, task, output);
+                false
+            }
+        }
+    }
+
+    /// Writes the answer of a line of one process.
+    #[inline(always)]
+    fn write_own<W: Write>(&mut self, alloc: Global, taken: Taken, output: &mut Watched<W>) -> bool
+        ensures { (session : Session) → StandsIn self.old.script self.old.limits self.old.host
+            session → (refused : Bool)
+            × StandsIn self.new.script self.new.limits self.new.host session
+            × Said W.contents output.old output.new
+            (bytes_of (answer_left refused session (left_in (HostTaken.Own taken))))
+            × (IsTrue result ↔ (IsSomeAnd (fault_left refused session
+            (left_in (HostTaken.Own taken))) LacksMemory)) }
+    {
+        if let Some(_) = &self.host {
+            let reply = misplaced(taken);
+            say_reply(output, &reply);
+            return reply.lacks_memory();
+        }
+        self.script.write(alloc, taken, output)
+    }
+
+    /// Answers a question of a process.
+    fn answer<W: Write>(
+        &self,
+        alloc: Global,
+        process: u32,
+        question: Question,
+        output: &mut Watched<W>,
+    ) -> bool
+        ensures { (session : Session) → StandsIn self.now.script self.now.limits self.now.host
+            session → (refused : Bool) × Said W.contents output.old output.new
+            (session_answer refused session (told process (Line.Question question)))
+            × (IsTrue result ↔ (Starves refused session (told process (Line.Question question)))) }
+    {
+        let Some(host) = &self.host else {
+            say_reply(output, &Reply::BadWords);
+            return false;
+        };
+        let Some(space) = host.process(process) else {
+            say_reply(output, &Reply::HostRefused(HostRefusal::NoSuchProcess));
+            return false;
+        };
+        ask(alloc, space, question, output)
+    }
+
+    /// Lists the ranges of a process.
+    fn list<W: Write>(&self, alloc: Global, process: u32, task: u32, output: &mut Watched<W>)
+        ensures { (session : Session) → StandsIn self.now.script self.now.limits self.now.host
+            session → Said W.contents output.old output.new
+            (session_answer false session (told process (Line.Maps task))) }
+    {
+        let Some(host) = &self.host else {
+            say_reply(output, &Reply::BadWords);
+            return;
+        };
+        let Some(space) = host.process(process) else {
+            say_reply(output, &Reply::HostRefused(HostRefusal::NoSuchProcess));
+            return;
+        };
+        list(alloc, space, task, output);
+    }
+
+    /// The error or the refusal of a line that was taken; `None` if its answer is neither. A
+    /// question is judged and not answered.
+    pub fn fault(&mut self, alloc: Global, taken: HostTaken) -> Option<Reply>
+        ensures { (session : Session) → StandsIn self.old.script self.old.limits self.old.host
+            session → (refused : Bool)
+            × StandsIn self.new.script self.new.limits self.new.host session
+            × (result ≡ fault_left refused session (left_in taken)) }
+    {
+        match taken {
+            HostTaken::Own(taken) => self.own_fault(taken),
+            HostTaken::Reply(reply) => reply.fault(),
+            HostTaken::Asked { process, question } => self.asked_fault(alloc, process, question),
+            HostTaken::Listed { process, task: _ } => self.listed_fault(process),
+        }
+    }
+
+    /// The error or the refusal of a line of one process.
+    fn own_fault(&mut self, taken: Taken) -> Option<Reply>
+        ensures { (session : Session) → StandsIn self.old.script self.old.limits self.old.host
+            session → (refused : Bool)
+            × StandsIn self.new.script self.new.limits self.new.host session
+            × (result ≡ fault_left refused session (left_in (HostTaken.Own taken))) }
+    {
+        if let Some(_) = &self.host {
+            return misplaced(taken).fault();
+        }
+        self.script.fault(taken)
+    }
+
+    /// The error or the refusal of a question of a process.
+    fn asked_fault(&self, alloc: Global, process: u32, question: Question) -> Option<Reply>
+        ensures { (session : Session) → StandsIn self.now.script self.now.limits self.now.host
+            session → (refused : Bool)
+            × (result ≡ session_fault refused session (told process (Line.Question question))) }
+    {
+        let Some(host) = &self.host else {
+            return Some(Reply::BadWords);
+        };
+        let Some(space) = host.process(process) else {
+            return Some(Reply::HostRefused(HostRefusal::NoSuchProcess));
+        };
+        match question_cause(alloc, space, question) {
+            None => None,
+            Some(cause) => Some(Reply::Refused(cause)),
+        }
+    }
+
+    /// The error or the refusal of a listing of a process.
+    fn listed_fault(&self, process: u32) -> Option<Reply>
+        ensures { (session : Session) (task : ℕ) → StandsIn self.now.script self.now.limits
+            self.now.host session
+            → result ≡ session_fault false session (told process (Line.Maps task)) }
+    {
+        let Some(host) = &self.host else {
+            return Some(Reply::BadWords);
+        };
+        match host.process(process) {
+            None => Some(Reply::HostRefused(HostRefusal::NoSuchProcess)),
+            Some(_) => None,
+        }
     }
 
     /// Carries out a line, and writes its answer. Returns whether memory ran out; then the answer
@@ -121,44 +313,18 @@ impl HostScript {
     pub fn serve_line<W: Write>(
         &mut self,
         alloc: Global,
-        line: &[u8],
+        said: &ScriptLine<'_>,
         output: &mut Watched<W>,
     ) -> bool
         ensures { (session : Session) → StandsIn self.old.script self.old.limits self.old.host
             session → (refused : Bool)
             × StandsIn self.new.script self.new.limits self.new.host
-            (session_after refused session line.now)
-            × Said W.contents output.old output.new (session_answer refused session line.now)
-            × (IsTrue result ↔ (Starves refused session line.now)) }
+            (session_after refused session said.now)
+            × Said W.contents output.old output.new (session_answer refused session said.now)
+            × (IsTrue result ↔ (Starves refused session said.now)) }
     {
-        self.serve_parsed(alloc, line, &parse(line), output)
-    }
-
-    /// Carries out a line, as `serve_line`, which comes with what it says in a script of one
-    /// process.
-    pub fn serve_parsed<W: Write>(
-        &mut self,
-        alloc: Global,
-        line: &[u8],
-        said: &Line<'_>,
-        output: &mut Watched<W>,
-    ) -> bool
-        requires { said.now ≡ line_of line.now }
-        ensures { (session : Session) → StandsIn self.old.script self.old.limits self.old.host
-            session → (refused : Bool)
-            × StandsIn self.new.script self.new.limits self.new.host
-            (session_after refused session line.now)
-            × Said W.contents output.old output.new (session_answer refused session line.now)
-            × (IsTrue result ↔ (Starves refused session line.now)) }
-    {
-        if is_begin(line) {
-            return self.begin(alloc, output);
-        }
-        if let Some(host) = &mut self.host {
-            return serve(host, alloc, &parse_host(line), output);
-        }
-        self.limits = limits_after(&self.script, self.limits, said);
-        self.script.serve_line(alloc, said, output)
+        let taken = self.take(alloc, said);
+        self.write(alloc, taken, output)
     }
 
     /// The script, while it is one process's.
@@ -181,53 +347,24 @@ impl HostScript {
         self.host.as_ref()
     }
 
-    /// Judges a line `host`.
-    fn judge_begin(&mut self, alloc: Global) -> Option<LineFault>
-        ensures { (session : Session) → StandsIn self.old.script self.old.limits self.old.host
-            session → (refused : Bool)
-            × StandsIn self.new.script self.new.limits self.new.host (begun refused session).session
-            × (result ≡ begun_fault refused session) }
-    {
-        if let Some(_) = &self.host {
-            return Some(LineFault::Reply(Reply::BadState));
-        }
-        let Some(machine) = fresh_machine(&self.script) else {
-            return Some(LineFault::Reply(Reply::BadState));
-        };
-        let Ok(copy) = machine.copy(alloc) else {
-            return Some(LineFault::Refused(HostRefusal::NoMemory));
-        };
-        drop(self.host.replace(Host::new(alloc, copy, self.limits)));
-        None
-    }
-
     /// Carries out a line, as `serve_line`, and returns what is wrong with it: `Some` exactly if
     /// its answer is an error or a refusal, and then that one. A question is judged and not
     /// answered.
-    pub fn judge(&mut self, alloc: Global, line: &[u8]) -> Option<LineFault>
+    pub fn judge(&mut self, alloc: Global, said: &ScriptLine<'_>) -> Option<Reply>
         ensures { (session : Session) → StandsIn self.old.script self.old.limits self.old.host
             session → (refused : Bool)
             × StandsIn self.new.script self.new.limits self.new.host
-            (session_after refused session line.now)
-            × (result ≡ session_fault refused session line.now) }
+            (session_after refused session said.now)
+            × (result ≡ session_fault refused session said.now) }
     {
-        if is_begin(line) {
-            return self.judge_begin(alloc);
-        }
-        if let Some(host) = &mut self.host {
-            return judge(host, alloc, &parse_host(line));
-        }
-        let said = parse(line);
-        self.limits = limits_after(&self.script, self.limits, &said);
-        match self.script.judge(alloc, &said) {
-            Some(reply) => Some(LineFault::Reply(reply)),
-            None => None,
-        }
+        let taken = self.take(alloc, said);
+        self.fault(alloc, taken)
     }
 }
 
 impl Serve for HostScript {
-    ghost use Rattle.numa_host_script.specs.Sessions.{Session, session_after, session_answer};
+    ghost use Rattle.numa_host_script.specs.Sessions.{Session, session_after_bytes};
+    ghost use Rattle.numa_host_script.specs.Sessions.{session_answer_to};
     ghost use Rattle.numa_host_script.specs.Standing.{StandsIn};
 
     ghost State = { Session };
@@ -235,11 +372,11 @@ impl Serve for HostScript {
     ghost stands_for = { λ server session. StandsIn server.script server.limits server.host
         session };
 
-    ghost answer_of = { session_answer };
+    ghost answer_of = { session_answer_to };
 
-    ghost after = { session_after };
+    ghost after = { session_after_bytes };
 
     fn serve<W: Write>(&mut self, alloc: Global, line: &[u8], output: &mut Watched<W>) {
-        let _ = self.serve_line(alloc, line, output);
+        let _ = self.serve_line(alloc, &parse(line), output);
     }
 }

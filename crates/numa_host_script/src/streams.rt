@@ -3,7 +3,8 @@ ghost use Rattle.std.specs.Prelude.{◌≤◌, ◌+◌, OnOk, IsErrOf};
 ghost use Rattle.numa_lines.specs.Runs.{AnswersAll, NeverBegins, StopsAtRead, StopsAtWrite};
 ghost use Rattle.numa_lines.specs.Runs.{most_reads};
 ghost use Rattle.numa_lines.specs.Watching.{read_count};
-ghost use Rattle.numa_host_script.specs.Sessions.{session_after, session_answer, session_by};
+ghost use Rattle.numa_host_script.specs.Sessions.{session_after_bytes, session_answer_to};
+ghost use Rattle.numa_host_script.specs.Sessions.{session_by};
 
 use crate::script::HostScript;
 use numa_lines::{RunFault, Watched, serve_script};
@@ -25,12 +26,14 @@ pub fn run_by<R: Read, W: Write>(
     input: &mut Watched<R>,
     output: &mut Watched<W>,
 ) -> Result<(), RunFault>
-    ensures ok { OnOk result (AnswersAll R.remaining W.contents session_answer session_after
-        (session_by rules) input.old input.new output.old output.new) }
-    ensures read { IsErrOf result RunFault.Read → StopsAtRead R.remaining W.contents session_answer
-        session_after (session_by rules) input.old input.new output.old output.new }
+    ensures ok { OnOk result (AnswersAll R.remaining W.contents session_answer_to
+        session_after_bytes (session_by rules) input.old input.new output.old output.new) }
+    ensures read { IsErrOf result RunFault.Read → StopsAtRead R.remaining W.contents
+        session_answer_to session_after_bytes (session_by rules) input.old input.new output.old
+        output.new }
     ensures write { IsErrOf result RunFault.Write → StopsAtWrite R.remaining W.contents
-        session_answer session_after (session_by rules) input.old input.new output.old output.new }
+        session_answer_to session_after_bytes (session_by rules) input.old input.new output.old
+        output.new }
     ensures memory { IsErrOf result RunFault.Memory →
         NeverBegins R.remaining W.contents input.old input.new output.old output.new }
     ensures reads { read_count input.new ≤ read_count input.old + most_reads }

@@ -1,83 +1,82 @@
 -- What becomes of the pages beside a script that answers a line about them.
-use Rattle.std.proofs.Common.{◌≡◌, ℕ, Bool, true, false, Option, List, refl, sym}
-use Rattle.std.proofs.Common.{subst}
+use Rattle.std.proofs.Common.{◌≡◌, Bool, true, false, refl, sym, ap, subst}
 use Rattle.std.proofs.lemmas.Bool.{both_ways}
-use Rattle.numa_lines.specs.Written.{Said}
-use Rattle.numa_lines.specs.declared.watched.Watched.{Watched}
-use Rattle.numa_placed.specs.declared.refusal.MoveRefusal.{MoveRefusal}
-use Rattle.numa_placed.specs.declared.refusal.MoveRefusal.TheVariants as move
-use Rattle.numa_placed.specs.declared.refusal.PlacedRefusal.{PlacedRefusal}
-use Rattle.numa_placed.specs.declared.refusal.PlacedRefusal.TheVariants as cause
+use Rattle.numa_requests.specs.declared.page_refusal.MoveRefusal.{MoveRefusal}
+use Rattle.numa_requests.specs.declared.page_refusal.MoveRefusal.TheVariants as move
+use Rattle.numa_requests.specs.declared.page_refusal.PlacedRefusal.{PlacedRefusal}
+use Rattle.numa_requests.specs.declared.page_refusal.PlacedRefusal.TheVariants as cause
+use Rattle.numa_run.specs.Replies.{Replied}
+use Rattle.numa_script.specs.declared.reply.Reply.{Reply}
+use Rattle.numa_script.specs.declared.reply.Reply.TheVariants as reply
 use Rattle.numa_placed_script.specs.Lying.{Lying}
-use Rattle.numa_placed_script.specs.Outcomes.{Outcome, is_lack, is_no_memory, refused_with, with_text}
+use Rattle.numa_placed_script.specs.Outcomes.{Outcome, is_lack, is_no_memory, refused_with}
+use Rattle.numa_placed_script.specs.Outcomes.{with_reply}
 use Rattle.numa_placed_script.specs.Standing.{LiesAs}
-use Rattle.numa_placed_script.specs.Texts.{cause_name, move_name, refusal_line}
 use Rattle.numa_placed_script.specs.declared.beside.Beside.{Beside}
 
-module _ {W : Type 0} (contents : W → Option (List ℕ)) (old new : Beside)
-    (output output_then : Watched W) where
-  -- memory lacked: that is answered, and nothing has changed
-  abbrev pub Lacks : Bool → Type 0
-  Lacks starved = starved ≡ true → (new ≡ old)
-      × Said contents output output_then (refusal_line (cause_name cause.NoMemory))
+module _ (old new : Beside) where
+  -- memory lacked: that is replied, and nothing has changed
+  abbrev pub Lacks : Bool → Reply → Reply → Type 0
+  Lacks refused told lack = refused ≡ true → (new ≡ old) × (told ≡ lack)
 
-  -- a line was answered so
-  abbrev pub Answers : Bool → Outcome → Type 0
-  Answers starved outcome = LiesAs new outcome.lying
-      × Said contents output output_then outcome.text × Lacks starved
+  -- a line has this reply
+  abbrev pub Answers : Reply → Reply → (Bool → Outcome) → Type 0
+  Answers told lack outcome = (refused : Bool) × LiesAs new (outcome refused).lying
+      × ((outcome refused).answer ≡ Replied told) × Lacks refused told lack
 
-  pub never-lacks : Lacks false
-  never-lacks t = absurd (both_ways false refl t)
+  pub never-lacks : (told lack : Reply) → Lacks false told lack
+  never-lacks told lack t = absurd (both_ways false refl t)
 
-  pub done : (outcome so : Outcome) → outcome ≡ so → LiesAs new so.lying
-      → Said contents output output_then so.text → Answers false outcome
-  done outcome so is lies said = (
+  pub done : (told lack : Reply) (outcome : Bool → Outcome) (lying : Lying)
+      → outcome false ≡ with_reply told lying → LiesAs new lying → Answers told lack outcome
+  done told lack outcome lying is lies = (
+    false,
     subst (λ (o : Outcome). LiesAs new o.lying) (sym is) lies,
-    subst (λ (o : Outcome). Said contents output output_then o.text) (sym is) said,
-    never-lacks,
+    ap (λ (o : Outcome). o.answer) is,
+    never-lacks told lack,
   )
 
-  lacks-so : (refusal : PlacedRefusal) → new ≡ old
-      → Said contents output output_then (refusal_line (cause_name refusal))
-      → Lacks (is_no_memory refusal)
-  lacks-so cause.NoMemory same said = λ t. (same, said)
-  lacks-so cause.Unaligned same said = never-lacks
-  lacks-so cause.OutOfSpace same said = never-lacks
-  lacks-so cause.NoSuchNode same said = never-lacks
-  lacks-so cause.Occupied same said = never-lacks
-  lacks-so cause.NodesNotAllowed same said = never-lacks
-  lacks-so cause.Astray same said = never-lacks
-  lacks-so cause.TooManyRuns same said = never-lacks
+  lacks-so : (refusal : PlacedRefusal) → new ≡ old → Lacks (is_no_memory refusal)
+      (reply.PlacedRefused refusal) (reply.PlacedRefused cause.NoMemory)
+  lacks-so cause.NoMemory same = λ t. (same, refl)
+  lacks-so cause.Unaligned same = never-lacks _ _
+  lacks-so cause.OutOfSpace same = never-lacks _ _
+  lacks-so cause.NoSuchNode same = never-lacks _ _
+  lacks-so cause.Occupied same = never-lacks _ _
+  lacks-so cause.NodesNotAllowed same = never-lacks _ _
+  lacks-so cause.Astray same = never-lacks _ _
+  lacks-so cause.TooManyRuns same = never-lacks _ _
 
-  pub denied : (refusal : PlacedRefusal) (lying : Lying) (outcome : Outcome)
-      → outcome ≡ refused_with refusal lying → LiesAs old lying → new ≡ old
-      → Said contents output output_then (refusal_line (cause_name refusal))
-      → Answers (is_no_memory refusal) outcome
-  denied refusal lying outcome is lies same said = (
+  pub denied : (refusal : PlacedRefusal) (lying : Lying) (outcome : Bool → Outcome)
+      → outcome (is_no_memory refusal) ≡ refused_with refusal lying → LiesAs old lying
+      → new ≡ old
+      → Answers (reply.PlacedRefused refusal) (reply.PlacedRefused cause.NoMemory) outcome
+  denied refusal lying outcome is lies same = (
+    is_no_memory refusal,
     subst (λ (o : Outcome). LiesAs new o.lying) (sym is)
         (subst (λ (b : Beside). LiesAs b lying) (sym same) lies),
-    subst (λ (o : Outcome). Said contents output output_then o.text) (sym is) said,
-    lacks-so refusal same said,
+    ap (λ (o : Outcome). o.answer) is,
+    lacks-so refusal same,
   )
 
-  move-lacks-so : (refusal : MoveRefusal) → new ≡ old
-      → Said contents output output_then (refusal_line (move_name refusal))
-      → Lacks (is_lack refusal)
-  move-lacks-so move.NoMemory same said = λ t. (same, said)
-  move-lacks-so move.NoSuchNode same said = never-lacks
-  move-lacks-so move.NodesNotAllowed same said = never-lacks
-  move-lacks-so move.Unmapped same said = never-lacks
-  move-lacks-so move.NotPlaced same said = never-lacks
-  move-lacks-so move.NoRoom same said = never-lacks
-  move-lacks-so move.TooManyRuns same said = never-lacks
+  move-lacks-so : (refusal : MoveRefusal) → new ≡ old → Lacks (is_lack refusal)
+      (reply.MoveRefused refusal) (reply.MoveRefused move.NoMemory)
+  move-lacks-so move.NoMemory same = λ t. (same, refl)
+  move-lacks-so move.NoSuchNode same = never-lacks _ _
+  move-lacks-so move.NodesNotAllowed same = never-lacks _ _
+  move-lacks-so move.Unmapped same = never-lacks _ _
+  move-lacks-so move.NotPlaced same = never-lacks _ _
+  move-lacks-so move.NoRoom same = never-lacks _ _
+  move-lacks-so move.TooManyRuns same = never-lacks _ _
 
-  pub move-denied : (refusal : MoveRefusal) (lying : Lying) (outcome : Outcome)
-      → outcome ≡ with_text (refusal_line (move_name refusal)) lying → LiesAs old lying
-      → new ≡ old → Said contents output output_then (refusal_line (move_name refusal))
-      → Answers (is_lack refusal) outcome
-  move-denied refusal lying outcome is lies same said = (
+  pub move-denied : (refusal : MoveRefusal) (lying : Lying) (outcome : Bool → Outcome)
+      → outcome (is_lack refusal) ≡ with_reply (reply.MoveRefused refusal) lying
+      → LiesAs old lying → new ≡ old
+      → Answers (reply.MoveRefused refusal) (reply.MoveRefused move.NoMemory) outcome
+  move-denied refusal lying outcome is lies same = (
+    is_lack refusal,
     subst (λ (o : Outcome). LiesAs new o.lying) (sym is)
         (subst (λ (b : Beside). LiesAs b lying) (sym same) lies),
-    subst (λ (o : Outcome). Said contents output output_then o.text) (sym is) said,
-    move-lacks-so refusal same said,
+    ap (λ (o : Outcome). o.answer) is,
+    move-lacks-so refusal same,
   )

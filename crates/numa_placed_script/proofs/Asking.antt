@@ -1,18 +1,22 @@
 -- What the pages of a span are asked once a policy is set, and where they go.
-use Rattle.std.proofs.Common.{◌≡◌, ℕ, ◌+◌, ◌*◌, ◌%◌, ◌<◌, ◌≤◌, ◌^◌, ◌==◌, Bool, true, false, not}
-use Rattle.std.proofs.Common.{Option, Some, None, List, ◌∷◌, refl, sym, ap, ◌∙◌, subst, arith, inl, inr}
+use Rattle.std.proofs.Common.{◌≡◌, ℕ, ◌+◌, ◌-◌, ◌*◌, ◌%◌, ◌<◌, ◌≤◌, ◌^◌, ◌==◌, Bool, true, false}
+use Rattle.std.proofs.Common.{not}
+use Rattle.std.proofs.Common.{Option, Some, None, List, ◌∷◌, refl, sym, ap, ◌∙◌, subst, arith, inl}
+use Rattle.std.proofs.Common.{inr}
 use Rattle.std.proofs.Common.{is_some}
 use Rattle.std.specs.Prelude.{if◌then◌else◌, ◌&&◌, nat_lt, nat_le, MatchOption, Ok, Err}
-use Rattle.std.proofs.lemmas.Bool.{cases_Bool, both_ways, eqb-true, ltb-false, not-false}
+use Rattle.std.proofs.lemmas.Bool.{cases_Bool, both_ways, eqb-true, le-ltb, leb-false, ltb-false}
+use Rattle.std.proofs.lemmas.Bool.{not-false}
 use Rattle.numa_machine.specs.Machine.{Hardware}
+use Rattle.numa_machine.specs.declared.rules.Rules.{Rules}
+use Rattle.numa_machine.specs.declared.rules.Rules.TheVariants.{Document, Linux}
 use Rattle.numa_ranges.specs.Runs.{page_at}
 use Rattle.numa_ranges.specs.declared.run.Run.{Run}
 use Rattle.numa_space.specs.History.{page_of, page_count}
 use Rattle.numa_space.specs.Limited.{Bounds}
 use Rattle.numa_space.specs.Lists.{node_list}
-use Rattle.numa_space.specs.Pages.{is_mapped}
-use Rattle.numa_space.specs.Refusals.{bad_span, cause_in, first_of as first_refusal, refusal_of}
-use Rattle.numa_space.specs.Refusals.{scene_of}
+use Rattle.numa_space.specs.Refusals.{bad_policy_span, cause_in, ends_above, refusal_of, scene_of}
+use Rattle.numa_space.specs.Refusals.{first_of as first_refusal, unaligned}
 use Rattle.numa_space.specs.Standing.{SpaceState, StandsFor, list_in, place_refusal_in}
 use Rattle.numa_requests.specs.declared.command.Command.{Command}
 use Rattle.numa_requests.specs.declared.refusal.Refusal.{Refusal}
@@ -21,25 +25,25 @@ use Rattle.numa_space.proofs.Lists.{list-same, mapped-same}
 use Rattle.numa_maps.specs.Residents.{Kept}
 use Rattle.numa_placed.specs.Binds.{Asked, IsBound, asked_of as asked_by, bound_spots}
 use Rattle.numa_placed.specs.Binds.{goals as goals_by, list_unless}
-use Rattle.numa_placed.specs.Binds.{is_kept, nodes_in, room_before, strays}
+use Rattle.numa_placed.specs.Binds.{is_kept, nodes_in, room_before, span_below, strays}
 use Rattle.numa_placed.proofs.Shared.{count-le}
 use Rattle.numa_placed.specs.Refusals.{IsRefusal, first_of, span_cause}
 use Rattle.numa_placed.specs.Shifts.{AreRooms, room_of}
 use Rattle.numa_placed.specs.Spots.{spot_at, too_many}
 use Rattle.numa_placed.specs.declared.bound.Bound.{Bound}
-use Rattle.numa_placed.specs.declared.refusal.PlacedRefusal.{PlacedRefusal}
+use Rattle.numa_requests.specs.declared.page_refusal.PlacedRefusal.{PlacedRefusal}
 use Rattle.numa_placed.specs.declared.rooms.Rooms.{Rooms}
 use Rattle.numa_placed.specs.declared.spot.Spot.{Spot}
 use Rattle.numa_placed_script.specs.Lying.{Lying, Process}
 use Rattle.numa_placed_script.specs.Outcomes.{cause_by, is_no_memory, lack_of, rooms_of}
 use Rattle.numa_placed_script.specs.Sending.{asked_of, command_of, goals_in, held_kept, lacks_room}
-use Rattle.numa_placed_script.specs.Sending.{flow_between, nodes_of, rooms_sent, sent_in}
-use Rattle.numa_placed_script.specs.Sending.{sent_spots, with_sent}
+use Rattle.numa_placed_script.specs.Sending.{flow_between, nodes_of, rooms_sent}
+use Rattle.numa_placed_script.specs.Sending.{below_end, sent_spots, with_sent}
 use Rattle.numa_placed_script.specs.Standing.{HasPolicy, HasSent, HaveRoom, Lies, LiesAs, Sends}
 use Rattle.numa_placed_script.specs.Standing.{asked_for}
 use Rattle.numa_placed_script.specs.declared.beside.Beside.{Beside}
 use Rattle.numa_placed_script.specs.declared.last.Last.TheVariants as went
-use Rattle.numa_placed_script.specs.declared.line.MoveWords.{MoveWords}
+use Rattle.numa_script.specs.declared.page_line.MoveWords.{MoveWords}
 use Rattle.numa_placed_script.specs.declared.sending.Rebinding.{Rebinding}
 use Rattle.numa_placed_script.specs.declared.sending.Sending.{Sending}
 use Rattle.numa_placed_script.proofs.Judged.{cause-told}
@@ -63,26 +67,47 @@ second-none None other is = is
 second-none (Some cause) other is =
     let odd : true ≡ false = ap is_some is in absurd (both_ways true odd refl)
 
-bad-none : (start bytes : ℕ) → bad_span start bytes ≡ None → span_cause start bytes ≡ None
-bad-none start bytes is =
-    elim (cases_Bool (not (start % 4096 == 0))) [
-      | inl t ↦
-          let odd : true ≡ false = ap is_some (rw t at is) in absurd (both_ways true odd refl)
-      | inr e ↦ elim (cases_Bool (nat_lt (2 ^ 47) (start + page_count bytes * 4096))) [
-        | inl t ↦
-            let odd : true ≡ false = ap is_some (rw (e, t) at is) in
-            absurd (both_ways true odd refl)
-        | inr o ↦ rw (e, o) refl
+-- what neither rules refuse begins at a page
+aligned-start : (start : ℕ) (other : Option Refusal)
+    → first_refusal (unaligned start) other ≡ None → (start % 4096 == 0) ≡ true
+aligned-start start other is =
+    elim (cases_Bool (start % 4096 == 0)) [
+      | inl t ↦ t
+      | inr e ↦
+          let odd : true ≡ false = ap is_some (rw e at is) in absurd (both_ways true odd refl)
+    ]
+
+aligned-span : (rules : Rules) (start bytes : ℕ) → bad_policy_span rules start bytes ≡ None
+    → (start % 4096 == 0) ≡ true
+unfolding bad_policy_span
+aligned-span Document start bytes is = aligned-start start _ is
+aligned-span Linux start bytes is = aligned-start start _ is
+
+-- and the part of it below address 2^47 is a span
+below-none : (start bytes : ℕ) → (start % 4096 == 0) ≡ true
+    → span_cause (span_below start bytes).0 (span_below start bytes).1 ≡ None
+below-none start bytes page =
+    elim (cases_Bool (ends_above (2 ^ 47) start bytes)) [
+      | inl above ↦ elim (cases_Bool (nat_le (2 ^ 47) start)) [
+        | inl far ↦ rw (above, far) refl
+        | inr near ↦
+            let low : start < 2 ^ 47 = leb-false (2 ^ 47) start near in
+            let ends : nat_lt (2 ^ 47) (start + page_count (2 ^ 47 - start) * 4096) ≡ false =
+            le-ltb (2 ^ 47) (start + page_count (2 ^ 47 - start) * 4096)
+            (omega (arith, low, eqb-true (start % 4096) 0 page)) in
+            rw (above, near, page, ends) refl
       ]
+      | inr within ↦ rw (within, page, within) refl
     ]
 
 pub free-span : (machine : Hardware) (bounds : Bounds) (history : List Command)
     (said : Rebinding) → refusal_of machine bounds history (command_of said) ≡ None
-    → span_cause said.start said.length ≡ None
+    → span_cause (below_end said).start (below_end said).length ≡ None
 free-span machine bounds history said free =
     let cause = cause_in (scene_of machine bounds history (command_of said)) (command_of said) in
     let none : cause ≡ None = second-none _ cause free in
-    bad-none said.start said.length (first-none (bad_span said.start said.length) _ none)
+    below-none said.start said.length (aligned-span machine.rules said.start said.length
+    (first-none (bad_policy_span machine.rules said.start said.length) _ none))
 
 -- ---- what pages are asked
 
@@ -113,7 +138,7 @@ nodes-same space history words page stands =
 -- by the space with the policy, and by the commands
 pub asked-same : (space : SpaceState) (history : List Command) (kept : Kept) (said : Rebinding)
     (words : MoveWords) (after : SpaceState) → HasPolicy space history said after
-    → asked_for after said words ≡ asked_of (record {
+    → asked_for after (below_end said) words ≡ asked_of (record {
       machine = space.machine;
       bounds = space.bounds;
       history = history;
@@ -125,8 +150,8 @@ asked-same space history kept said words after has =
     λ page. nodes-same after (command_of said ∷ history) words page has.stands
     ∙ ap (λ (m : Hardware). nodes_of m (command_of said ∷ history) words page) has.machine in
     λ i. record {
-      first = page_of said.start;
-      pages = page_count said.length;
+      first = page_of (below_end said).start;
+      pages = page_count (below_end said).length;
       list = said.spec.mask;
       nodes = λ page. nodes page i;
     }
@@ -267,26 +292,30 @@ module _ (space : SpaceState) (history : List Command) (kept : Kept) (said : Reb
     kept = kept;
   }
 
-  same-asked : asked_for after said words ≡ asked_of here said words
+  same-asked : asked_for after (below_end said) words ≡ asked_of here said words
   same-asked = asked-same space history kept said words after has
 
-  pub sends-ok : (done : Sending) → HasSent done kept (asked_for after said words) lying
+  pub sends-ok : (done : Sending) (part : Rebinding) → part ≡ below_end said
+      → HasSent done kept (asked_for after part words) lying
       → Sends here said words lying (Ok (Some done))
-  sends-ok done is = (
+  sends-ok done part cut is = (
     has.free,
-    subst (λ (a : Asked). HasSent done kept a lying) same-asked is,
+    subst (λ (a : Asked). HasSent done kept a lying)
+        (ap (λ (r : Rebinding). asked_for after r words) cut ∙ same-asked) is,
   )
 
-  pub sends-err : (why : PlacedRefusal)
-      → (is_no_memory why ≡ false → cause_by false (span_cause said.start said.length)
-      (sent_spots (asked_for after said words) lying) ≡ Some why)
+  pub sends-err : (why : PlacedRefusal) (part : Rebinding) → part ≡ below_end said
+      → (is_no_memory why ≡ false → cause_by false (span_cause part.start part.length)
+      (sent_spots (asked_for after part words) lying) ≡ Some why)
       → Sends here said words lying (Err why)
-  sends-err why is = λ room. (
+  sends-err why part cut is = λ room. (
     has.free,
-    lack-so (span_cause said.start said.length) (sent_spots (asked_of here said words) lying) why
-        (free-span space.machine space.bounds history said has.free)
-        (ap (λ (a : Asked). cause_by false (span_cause said.start said.length)
-        (sent_spots a lying)) (sym same-asked) ∙ is room),
+    lack-so (span_cause part.start part.length) (sent_spots (asked_of here said words) lying) why
+        (ap (λ (r : Rebinding). span_cause r.start r.length) cut
+        ∙ free-span space.machine space.bounds history said has.free)
+        (ap (λ (a : Asked). cause_by false (span_cause part.start part.length)
+        (sent_spots a lying)) (sym (ap (λ (r : Rebinding). asked_for after r words) cut
+        ∙ same-asked)) ∙ is room),
   )
 
 -- the pages lie so from then on

@@ -1,5 +1,6 @@
 -- Where the pages of each node went, said one node after the other.
-use Rattle.std.proofs.Common.{◌≡◌, ℕ, zero, suc, ◌+◌, ◌<◌, List, [], ◌++◌, refl, ap, sym, ◌∙◌, arith}
+use Rattle.std.proofs.Common.{◌≡◌, ℕ, zero, suc, ◌+◌, ◌<◌, List, [], ◌++◌, refl, ap, sym, ◌∙◌}
+use Rattle.std.proofs.Common.{arith}
 use Rattle.std.proofs.Common.{subst}
 use Rattle.std.specs.List.{flat_map, range_with_len}
 use Rattle.numa_machine.proofs.Nodes.{flat_map-range_more}
@@ -8,7 +9,8 @@ use Rattle.numa_placed.specs.declared.moved.Moved.{Moved}
 use Rattle.numa_placed_script.specs.Lying.{LastMove, OfNodes, OfPages, Sent, Told}
 use Rattle.numa_placed_script.specs.Standing.{LastAs, SentAs, TellsOf, sent_by, told_in}
 use Rattle.numa_placed_script.specs.Texts.{all_flows_text, flow_text, flows_text, last_line}
-use Rattle.numa_placed_script.specs.Texts.{moved_line, moved_words, told_line}
+use Rattle.numa_placed_script.specs.Texts.{told_line}
+use Rattle.numa_script.specs.PageTexts.{moved_words}
 use Rattle.numa_placed_script.specs.declared.last.Departures.{Departures}
 use Rattle.numa_placed_script.specs.declared.last.Last.{Last}
 use Rattle.numa_placed_script.specs.declared.last.Last.TheVariants as went
@@ -76,12 +78,6 @@ sent-same version done sent tells =
     let flows : all_flows_text (sent_by done).flow ≡ all_flows_text sent.flow =
     all-alike (sent_by done).flow sent.flow tells.flow in
     λ i. told_line version (tells.moved i) (tells.left i) (flows i)
-
-pub line-same : (moved : Moved) (told : Told) → TellsOf moved told
-    → moved_words moved.moved moved.left ++ codes "\n" ≡ moved_line told
-line-same moved told tells =
-    ap (λ (k : ℕ). moved_words k moved.left ++ codes "\n") tells.moved
-    ∙ ap (λ (k : ℕ). moved_words told.moved k ++ codes "\n") tells.left
 
 -- the last move, said
 pub nodes-told : (version : ℕ) (moved : Moved) (last : Last) (done : LastMove)

@@ -5,7 +5,7 @@ use Rattle.std.proofs.lemmas.Bool.{both_ways}
 use Rattle.numa_ranges.specs.declared.run.Run.{Run}
 use Rattle.numa_placed.specs.Spots.{spot_at}
 use Rattle.numa_placed.specs.declared.moved.Moved.{Moved}
-use Rattle.numa_placed.specs.declared.refusal.PlacedRefusal.{PlacedRefusal}
+use Rattle.numa_requests.specs.declared.page_refusal.PlacedRefusal.{PlacedRefusal}
 use Rattle.numa_placed.specs.declared.rooms.Rooms.{Rooms}
 use Rattle.numa_placed.specs.declared.spot.Spot.{Spot}
 use Rattle.numa_placed_script.specs.Lying.{Lying, OfNodes, motion, still, with_held, with_motion}

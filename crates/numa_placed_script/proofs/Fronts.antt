@@ -1,8 +1,9 @@
 -- How far nodes are filled when a page of a span is reached.
-use Rattle.std.proofs.Common.{◌≡◌, ℕ, zero, suc, ◌+◌, ◌-◌, ◌*◌, ◌/◌, ◌<◌, ◌≤◌, ◌^◌, Bool, false}
-use Rattle.std.proofs.Common.{Option, List, refl, sym, ap, ◌∙◌, arith, subst, inl, inr, true}
+use Rattle.std.proofs.Common.{◌≡◌, ℕ, zero, suc, ◌+◌, ◌-◌, ◌*◌, ◌<◌, ◌≤◌, ◌^◌, Bool, false}
+use Rattle.std.proofs.Common.{List, refl, sym, ap, ◌∙◌, arith, subst, inl, inr, true}
 use Rattle.std.specs.Prelude.{if◌then◌else◌, ◌&&◌, nat_le, nat_lt}
-use Rattle.std.proofs.lemmas.Bool.{and_parts, both_ways, cases_lt, le-ltb, leb-true, lt-ltb, ltb-true}
+use Rattle.std.proofs.lemmas.Bool.{and_parts, both_ways, cases_lt, le-ltb, leb-true, lt-ltb}
+use Rattle.std.proofs.lemmas.Bool.{ltb-true}
 use Rattle.numa_ranges.specs.Runs.{in_pages}
 use Rattle.numa_ranges.specs.declared.run.Run.{Run}
 use Rattle.numa_ranges.proofs.Apart.{in_pages-true, in_pages-below, in_pages-above}
@@ -17,7 +18,7 @@ use Rattle.numa_placed.specs.declared.rooms.Rooms.{Rooms}
 use Rattle.numa_placed.specs.declared.spot.Spot.{Spot}
 use Rattle.numa_placed.proofs.Binding.{before-next, before-none, rooms-same}
 use Rattle.numa_placed_script.specs.Standing.{IsFront, asked_for}
-use Rattle.numa_placed_script.specs.declared.line.MoveWords.{MoveWords}
+use Rattle.numa_script.specs.declared.page_line.MoveWords.{MoveWords}
 use Rattle.numa_placed_script.specs.declared.sending.Rebinding.{Rebinding}
 use Rattle.numa_placed_script.specs.declared.staying.Front.{Front}
 

@@ -3,10 +3,10 @@ use Rattle.std.proofs.Common.{◌≡◌, ℕ, false, Option, Some, None, refl, s
 use Rattle.numa_placed.specs.Refusals.{IsLack, IsRefusal, IsMoveLack, IsMoveRefusal}
 use Rattle.numa_placed.specs.Shifts.{first_of as first_move}
 use Rattle.numa_placed.specs.Spots.{too_many}
-use Rattle.numa_placed.specs.declared.refusal.MoveRefusal.{MoveRefusal}
-use Rattle.numa_placed.specs.declared.refusal.MoveRefusal.TheVariants as move
-use Rattle.numa_placed.specs.declared.refusal.PlacedRefusal.{PlacedRefusal}
-use Rattle.numa_placed.specs.declared.refusal.PlacedRefusal.TheVariants as cause
+use Rattle.numa_requests.specs.declared.page_refusal.MoveRefusal.{MoveRefusal}
+use Rattle.numa_requests.specs.declared.page_refusal.MoveRefusal.TheVariants as move
+use Rattle.numa_requests.specs.declared.page_refusal.PlacedRefusal.{PlacedRefusal}
+use Rattle.numa_requests.specs.declared.page_refusal.PlacedRefusal.TheVariants as cause
 use Rattle.numa_placed.specs.declared.spot.Spot.{Spot}
 use Rattle.numa_placed_script.specs.Outcomes.{cause_by, is_lack, is_no_memory, lack_of}
 use Rattle.numa_placed_script.specs.Outcomes.{move_lack_of}

@@ -1,8 +1,10 @@
 -- Pages that lie on other nodes than those of a list.
 use Rattle.std.proofs.Common.{◌≡◌, ℕ, Bool, true, false, ◌&&◌, ◌||◌, not, Option, Some, None}
-use Rattle.std.proofs.Common.{◌∷◌, List, refl, sym, ap, ◌∙◌}
-use Rattle.std.specs.Prelude.{MatchOption}
+use Rattle.std.proofs.Common.{◌∷◌, List, refl, sym, ap, ◌∙◌, inl, inr}
+use Rattle.std.specs.Prelude.{MatchOption, ◌%◌, ◌==◌}
+use Rattle.std.proofs.lemmas.Bool.{cases_Bool}
 use Rattle.numa_machine.specs.declared.rules.Rules.{Rules}
+use Rattle.numa_machine.specs.declared.rules.Rules.TheVariants.{Document, Linux}
 use Rattle.numa_mask.specs.NodeSet.{has}
 use Rattle.numa_ranges.specs.Runs.{in_pages, page_at}
 use Rattle.numa_ranges.proofs.Pages.{any_page-false}
@@ -15,8 +17,7 @@ use Rattle.numa_requests.specs.declared.placement.Placement.{Placement}
 use Rattle.numa_requests.specs.declared.refusal.Refusal.{Refusal}
 use Rattle.numa_requests.specs.declared.refusal.Refusal.TheVariants.{NoMemory}
 use Rattle.numa_maps.specs.Residents.{Kept}
-use Rattle.numa_placed.specs.Astray.{judged_pages, strict_cause_by}
-use Rattle.numa_placed.specs.Refusals.{span_cause}
+use Rattle.numa_placed.specs.Astray.{judged_pages, strict_cause_by, strict_span_cause}
 use Rattle.numa_placed.specs.Spots.{spot_at}
 use Rattle.numa_placed.specs.declared.spot.Spot.{Spot}
 use Rattle.numa_placed.specs.declared.spot.Spot.TheVariants.{Nowhere}
@@ -46,12 +47,21 @@ held-here first pages list before rest at steps holds =
 
 -- ---- pages that were stated
 
+strict-clear : (rules : Rules) (start bytes : ℕ)
+    → is_astray_cause (strict_span_cause rules start bytes) ≡ false
+strict-clear Document start bytes = span-clear start bytes
+strict-clear Linux start bytes =
+    elim (cases_Bool (start % 4096 == 0)) [
+      | inl t ↦ rw t refl
+      | inr e ↦ rw e refl
+    ]
+
 pub none-astray : (rules : Rules) (map : PageMap) (start bytes list : ℕ)
     → is_astray_cause (strict_cause_by rules map (λ page. Nowhere) start bytes list) ≡ false
 none-astray rules map start bytes list =
     rw (any_page-false (λ page. false) (page_of start)
     (judged_pages rules map (page_of start) (page_count bytes)) (λ page low high. refl))
-    (clear-first (span_cause start bytes) (span-clear start bytes))
+    (clear-first (strict_span_cause rules start bytes) (strict-clear rules start bytes))
 
 pub same-astray : (rules : Rules) (map : PageMap) (beside : Beside) (lying : Lying)
     (start bytes list : ℕ) → LiesAs beside lying

@@ -1,5 +1,6 @@
 -- Pages that keep frames and had to go, counted one after the other.
-use Rattle.std.proofs.Common.{◌≡◌, ℕ, ◌+◌, cond, Bool, true, false, [], ◌∷◌, Option, refl, ap, arith}
+use Rattle.std.proofs.Common.{◌≡◌, ℕ, ◌+◌, cond, Bool, true, false, [], ◌∷◌, Option, refl, ap}
+use Rattle.std.proofs.Common.{arith}
 use Rattle.std.proofs.lemmas.List.Sums.{sum_by-cons}
 use Rattle.numa_requests.specs.declared.placement.Placement.{Placement}
 use Rattle.numa_maps.specs.Residents.{Kept}

@@ -9,6 +9,7 @@ pub mod HeldPages
 pub mod Judged
 pub mod Judging
 pub mod Keeping
+pub mod Left
 pub mod Mapped
 pub mod Migrating
 pub mod Moving
@@ -20,6 +21,8 @@ pub mod Seen
 pub mod Served
 pub mod Singles
 pub mod Strictly
+pub mod Taking
 pub mod Telling
 pub mod There
 pub mod Unmapping
+pub mod Without

@@ -13,7 +13,7 @@ use Rattle.numa_placed.specs.Shifts.{AreRooms, IsShift, shift_of, shifted, state
 use Rattle.numa_placed.specs.Shifts.{sum_below}
 use Rattle.numa_placed.specs.Spots.{pages_where, spot_at, too_many}
 use Rattle.numa_placed.specs.declared.moved.Moved.{Moved}
-use Rattle.numa_placed.specs.declared.refusal.PlacedRefusal.{PlacedRefusal}
+use Rattle.numa_requests.specs.declared.page_refusal.PlacedRefusal.{PlacedRefusal}
 use Rattle.numa_placed.specs.declared.rooms.Rooms.{Rooms}
 use Rattle.numa_placed.specs.declared.spot.Spot.{Spot}
 use Rattle.numa_placed_script.specs.Lying.{filling_motion, free_motion}

@@ -8,8 +8,8 @@ use Rattle.numa_ranges.specs.declared.run.Run.{Run}
 use Rattle.numa_placed.specs.Refusals.{IsMoveRefusal, lacks_node, move_cause}
 use Rattle.numa_placed.specs.Shifts.{AreRooms, first_of, room_cause, room_moved}
 use Rattle.numa_placed.specs.Spots.{spot_at, too_many}
-use Rattle.numa_placed.specs.declared.refusal.MoveRefusal.{MoveRefusal}
-use Rattle.numa_placed.specs.declared.refusal.MoveRefusal.TheVariants as move
+use Rattle.numa_requests.specs.declared.page_refusal.MoveRefusal.{MoveRefusal}
+use Rattle.numa_requests.specs.declared.page_refusal.MoveRefusal.TheVariants as move
 use Rattle.numa_placed.specs.declared.rooms.Rooms.{Rooms}
 use Rattle.numa_placed.specs.declared.spot.Spot.{Spot}
 use Rattle.numa_placed_script.specs.Lying.{Ground}

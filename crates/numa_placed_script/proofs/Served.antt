@@ -1,37 +1,34 @@
 -- What each line about pages makes of them.
 use Rattle.std.proofs.Common.{◌≡◌, ℕ, true, false, Option, Some, None, List, refl, sym}
-use Rattle.std.proofs.Common.{ap, subst, codes, ◌∙◌, ◌++◌}
+use Rattle.std.proofs.Common.{ap, subst, ◌∙◌}
 use Rattle.std.specs.Prelude.{if◌then◌else◌, ◌==◌}
-use Rattle.numa_lines.specs.Written.{Said}
-use Rattle.numa_lines.specs.declared.watched.Watched.{Watched}
 use Rattle.numa_placed.specs.Refusals.{IsRefusal, first_of, lacks_node, state_cause}
 use Rattle.numa_placed.specs.Shifts.{AreRooms}
 use Rattle.numa_placed.specs.Spots.{spot_at, too_many}
 use Rattle.numa_ranges.specs.declared.run.Run.{Run}
 use Rattle.numa_placed.specs.declared.moved.Moved.{Moved}
-use Rattle.numa_placed.specs.declared.refusal.MoveRefusal.{MoveRefusal}
-use Rattle.numa_placed.specs.declared.refusal.PlacedRefusal.{PlacedRefusal}
-use Rattle.numa_placed.specs.declared.refusal.PlacedRefusal.TheVariants as cause
+use Rattle.numa_requests.specs.declared.page_refusal.MoveRefusal.{MoveRefusal}
+use Rattle.numa_requests.specs.declared.page_refusal.MoveRefusal.TheVariants as move
+use Rattle.numa_requests.specs.declared.page_refusal.PlacedRefusal.{PlacedRefusal}
+use Rattle.numa_requests.specs.declared.page_refusal.PlacedRefusal.TheVariants as cause
 use Rattle.numa_placed.specs.declared.rooms.Rooms.{Rooms}
 use Rattle.numa_placed.specs.declared.spot.Spot.{Spot}
 use Rattle.numa_machine.specs.Machine.{Hardware}
 use Rattle.numa_maps.specs.Residents.{Kept}
+use Rattle.numa_script.specs.declared.reply.Reply.{Reply}
+use Rattle.numa_script.specs.declared.reply.Reply.TheVariants as reply
 use Rattle.numa_placed_script.specs.Lying.{Ground, Lying, Motion, OfNodes, still, with_held}
 use Rattle.numa_placed_script.specs.Lying.{with_motion}
 use Rattle.numa_placed_script.specs.Outcomes.{Outcome, at_outcome, at_spots, is_lack}
 use Rattle.numa_placed_script.specs.Outcomes.{is_no_memory, lack_in}
 use Rattle.numa_placed_script.specs.Outcomes.{move_cause_by, move_spots, move_unless}
-use Rattle.numa_placed_script.specs.Outcomes.{moved_outcome, room_moved_in, rooms_of}
-use Rattle.numa_placed_script.specs.Outcomes.{held_move_unless, room_outcome, with_text}
+use Rattle.numa_placed_script.specs.Outcomes.{moved_outcome, moved_reply, room_moved_in, rooms_of}
+use Rattle.numa_placed_script.specs.Outcomes.{held_move_unless, room_outcome, with_reply}
 use Rattle.numa_placed_script.specs.Outcomes.{told_of, unless_refused}
 use Rattle.numa_placed_script.specs.Standing.{HaveRoom, LastAs, LiesAs, Moves, TellsOf}
-use Rattle.numa_placed_script.specs.Texts.{cause_name, move_name, moved_line, moved_words, node_line}
-use Rattle.numa_placed_script.specs.Texts.{refusal_line}
 use Rattle.numa_placed_script.specs.declared.beside.Beside.{Beside}
 use Rattle.numa_placed_script.specs.declared.last.Last.{Last}
 use Rattle.numa_placed_script.specs.declared.last.Last.TheVariants as went
-use Rattle.numa_lines.proofs.Adding.{said_same}
-use Rattle.numa_placed_script.proofs.Flows.{line-same}
 use Rattle.numa_placed_script.proofs.Answered.{Answers, denied, done, move-denied}
 use Rattle.numa_placed_script.proofs.Judged.{cause-none, cause-told}
 
@@ -39,76 +36,80 @@ pub spots-alike : (beside : Beside) (lying : Lying) → LiesAs beside lying
     → spot_at beside.placed ≡ lying.spots
 spots-alike beside lying lies = λ i page. lies.spots page i
 
-module _ {W : Type 0} (contents : W → Option (List ℕ)) (old new : Beside)
-    (output output_then : Watched W) (lying : Lying) (lies : LiesAs old lying) where
+-- what is replied where memory lacks
+abbrev pub placed_lack : Reply
+placed_lack = reply.PlacedRefused cause.NoMemory
+
+abbrev pub move_lack : Reply
+move_lack = reply.MoveRefused move.NoMemory
+
+module _ (old new : Beside) (lying : Lying) (lies : LiesAs old lying) where
   -- ---- at
 
   module _ (basis : Ground) (start bytes node : ℕ) where
+    abbrev at_so : Outcome
+    at_so = with_reply reply.AtOk
+        (record lying { spots = at_spots basis start bytes node lying.spots })
+
     pub at-done : state_cause basis.machine start bytes node ≡ None
         → ((page : ℕ) → spot_at new.placed page
         ≡ at_spots basis start bytes node (spot_at old.placed) page)
         → too_many (spot_at new.placed) ≡ false → new.rooms ≡ old.rooms
         → new.follows ≡ old.follows → new.last ≡ old.last
-        → Said contents output output_then (codes "at ok\n")
-        → Answers contents old new output output_then false
-        (at_outcome false basis start bytes node lying)
-    at-done free spots few rooms follows last said =
+        → Answers old new reply.AtOk placed_lack
+        (λ refused. at_outcome refused basis start bytes node lying)
+    at-done free spots few rooms follows last =
         let alike = spots-alike old lying lies in
         let after : spot_at new.placed ≡ at_spots basis start bytes node lying.spots = λ i page.
         (spots page ∙ ap (λ (s : ℕ → Spot). at_spots basis start bytes node s page) alike) i in
         let none = cause-none (state_cause basis.machine start bytes node)
         (at_spots basis start bytes node lying.spots) free (sym (ap too_many after) ∙ few) in
-        let so : Outcome = record {
-          text = codes "at ok\n";
-          lying = record lying { spots = at_spots basis start bytes node lying.spots };
-        } in
-        done contents old new output output_then
-        (at_outcome false basis start bytes node lying) so
-        (ap (λ (c : Option PlacedRefusal). unless_refused c lying so) none)
+        done old new reply.AtOk placed_lack
+        (λ refused. at_outcome refused basis start bytes node lying)
+        (record lying { spots = at_spots basis start bytes node lying.spots })
+        (ap (λ (c : Option PlacedRefusal). unless_refused c lying at_so) none)
         (record {
           spots = λ page. ap (λ (s : ℕ → Spot). s page) after;
           room = subst (λ (r : Option Rooms). HaveRoom r lying.room) (sym rooms) lies.room;
           follows = follows ∙ lies.follows;
           last = subst (λ (m : Last). LastAs m lying.last) (sym last) lies.last;
-        }) said
+        })
 
     pub at-denied : (refusal : PlacedRefusal)
         → IsRefusal (state_cause basis.machine start bytes node)
         (at_spots basis start bytes node (spot_at old.placed)) refusal → new ≡ old
-        → Said contents output output_then (refusal_line (cause_name refusal))
-        → Answers contents old new output output_then (is_no_memory refusal)
-        (at_outcome (is_no_memory refusal) basis start bytes node lying)
-    at-denied refusal is same said =
+        → Answers old new (reply.PlacedRefused refusal) placed_lack
+        (λ refused. at_outcome refused basis start bytes node lying)
+    at-denied refusal is same =
         let after = at_spots basis start bytes node lying.spots in
-        let so : Outcome = record {
-          text = codes "at ok\n";
-          lying = record lying { spots = after };
-        } in
         let cause = cause-told (state_cause basis.machine start bytes node) after refusal
         (subst (λ (s : ℕ → Spot). IsRefusal (state_cause basis.machine start bytes node)
         (at_spots basis start bytes node s) refusal) (spots-alike old lying lies) is) in
-        denied contents old new output output_then refusal lying
-        (at_outcome (is_no_memory refusal) basis start bytes node lying)
-        (ap (λ (c : Option PlacedRefusal). unless_refused c lying so) cause) lies same said
+        denied old new refusal lying
+        (λ refused. at_outcome refused basis start bytes node lying)
+        (ap (λ (c : Option PlacedRefusal). unless_refused c lying at_so) cause) lies same
 
   -- ---- migrate
 
   module _ (kept : Kept) (motion_here : Motion) (first : Option PlacedRefusal) where
+    abbrev moved_so : Outcome
+    moved_so = with_reply (moved_reply (with_held kept motion_here.told))
+        (with_motion kept lying motion_here)
+
     pub moved-done : (before moved : Moved)
         → first_of first (lack_in lying.room false motion_here.spots) ≡ None
         → Moves new.placed new.rooms before motion_here
         → TellsOf moved (with_held kept motion_here.told) → new.follows ≡ old.follows
         → new.last ≡ went.Nodes moved
-        → Said contents output output_then (moved_words moved.moved moved.left ++ codes "\n")
-        → Answers contents old new output output_then false
-        (moved_outcome false kept motion_here first lying)
-    moved-done before moved none moves tells follows last said =
-        let so : Outcome = record {
-          text = moved_line (with_held kept motion_here.told);
-          lying = with_motion kept lying motion_here;
-        } in
-        done contents old new output output_then (moved_outcome false kept motion_here first lying)
-        so (ap (λ (c : Option PlacedRefusal). unless_refused c lying so) none)
+        → Answers old new (reply.Moved moved.moved moved.left) placed_lack
+        (λ refused. moved_outcome refused kept motion_here first lying)
+    moved-done before moved none moves tells follows last =
+        done old new (reply.Moved moved.moved moved.left) placed_lack
+        (λ refused. moved_outcome refused kept motion_here first lying)
+        (with_motion kept lying motion_here)
+        (ap (λ (c : Option PlacedRefusal). unless_refused c lying moved_so) none
+        ∙ (λ i. with_reply (reply.Moved (sym tells.moved i) (sym tells.left i))
+        (with_motion kept lying motion_here)))
         (record {
           spots = moves.spots;
           room = moves.room;
@@ -116,22 +117,16 @@ module _ {W : Type 0} (contents : W → Option (List ℕ)) (old new : Beside)
           last = subst (λ (m : Last). LastAs m (OfNodes (with_held kept motion_here.told)))
               (sym last) tells;
         })
-        (said_same contents output output_then _ _
-        (line-same moved (with_held kept motion_here.told) tells) said)
 
     pub moved-denied : (refusal : PlacedRefusal)
         → first_of first (lack_in lying.room (is_no_memory refusal) motion_here.spots)
         ≡ Some refusal → new ≡ old
-        → Said contents output output_then (refusal_line (cause_name refusal))
-        → Answers contents old new output output_then (is_no_memory refusal)
-        (moved_outcome (is_no_memory refusal) kept motion_here first lying)
-    moved-denied refusal cause same said =
-        denied contents old new output output_then refusal lying
-        (moved_outcome (is_no_memory refusal) kept motion_here first lying)
-        (ap (λ (c : Option PlacedRefusal). unless_refused c lying (record {
-          text = moved_line (with_held kept motion_here.told);
-          lying = with_motion kept lying motion_here;
-        })) cause) lies same said
+        → Answers old new (reply.PlacedRefused refusal) placed_lack
+        (λ refused. moved_outcome refused kept motion_here first lying)
+    moved-denied refusal cause same =
+        denied old new refusal lying
+        (λ refused. moved_outcome refused kept motion_here first lying)
+        (ap (λ (c : Option PlacedRefusal). unless_refused c lying moved_so) cause) lies same
 
   -- ---- room
 
@@ -140,17 +135,14 @@ module _ {W : Type 0} (contents : W → Option (List ℕ)) (old new : Beside)
         → ((room : Option (ℕ → ℕ)) → HaveRoom old.rooms room
         → AreRooms rooms (λ other. if other == node then pages else rooms_of room other))
         → new.placed ≡ old.placed → new.rooms ≡ Some rooms → new.follows ≡ old.follows
-        → new.last ≡ old.last → Said contents output output_then (codes "room ok\n")
-        → Answers contents old new output output_then false
-        (room_outcome machine node pages lying)
-    room-done rooms there limited placed is follows last said =
-        let so : Outcome = record {
-          text = codes "room ok\n";
-          lying = record lying {
-            room = Some (λ other. if other == node then pages else rooms_of lying.room other);
-          };
-        } in
-        done contents old new output output_then (room_outcome machine node pages lying) so
+        → new.last ≡ old.last
+        → Answers old new reply.RoomOk placed_lack
+        (λ refused. room_outcome machine node pages lying)
+    room-done rooms there limited placed is follows last =
+        done old new reply.RoomOk placed_lack (λ refused. room_outcome machine node pages lying)
+        (record lying {
+          room = Some (λ other. if other == node then pages else rooms_of lying.room other);
+        })
         (rw there refl)
         (record {
           spots = λ page. ap (λ (runs : List (Run Spot)). spot_at runs page) placed
@@ -160,15 +152,14 @@ module _ {W : Type 0} (contents : W → Option (List ℕ)) (old new : Beside)
               (limited lying.room lies.room);
           follows = follows ∙ lies.follows;
           last = subst (λ (m : Last). LastAs m lying.last) (sym last) lies.last;
-        }) said
+        })
 
     pub room-denied : lacks_node machine node ≡ true → new ≡ old
-        → Said contents output output_then (refusal_line (cause_name cause.NoSuchNode))
-        → Answers contents old new output output_then false
-        (room_outcome machine node pages lying)
-    room-denied lacks same said =
-        denied contents old new output output_then cause.NoSuchNode lying
-        (room_outcome machine node pages lying) (rw lacks refl) lies same said
+        → Answers old new (reply.PlacedRefused cause.NoSuchNode) placed_lack
+        (λ refused. room_outcome machine node pages lying)
+    room-denied lacks same =
+        denied old new cause.NoSuchNode lying (λ refused. room_outcome machine node pages lying)
+        (rw lacks refl) lies same
 
   -- ---- move
 
@@ -179,16 +170,15 @@ module _ {W : Type 0} (contents : W → Option (List ℕ)) (old new : Beside)
         → HaveRoom new.rooms (room_moved_in lying.room node (lying.spots page))
         → spot ≡ spot_at old.placed page → TellsOf moved (told_of node spot)
         → new.follows ≡ old.follows → new.last ≡ went.Nodes moved
-        → Said contents output output_then (node_line node)
-        → Answers contents old new output output_then false
-        (move_unless (move_cause_by false basis page node lying) page node lying)
-    move-done spot moved none spots room here told follows last said =
+        → Answers old new (reply.MovedTo node) move_lack
+        (λ refused. move_unless (move_cause_by refused basis page node lying) page node lying)
+    move-done spot moved none spots room here told follows last =
         let there : spot ≡ lying.spots page = here ∙ lies.spots page in
         let tells : TellsOf moved (told_of node (lying.spots page)) =
         subst (λ (s : Spot). TellsOf moved (told_of node s)) there told in
-        done contents old new output output_then
-        (move_unless (move_cause_by false basis page node lying) page node lying)
-        (move_unless None page node lying)
+        done old new (reply.MovedTo node) move_lack
+        (λ refused. move_unless (move_cause_by refused basis page node lying) page node lying)
+        (move_unless None page node lying).lying
         (ap (λ (c : Option MoveRefusal). move_unless c page node lying) none)
         (record {
           spots = spots;
@@ -196,28 +186,27 @@ module _ {W : Type 0} (contents : W → Option (List ℕ)) (old new : Beside)
           follows = follows ∙ lies.follows;
           last = subst (λ (m : Last). LastAs m (OfNodes (told_of node (lying.spots page))))
               (sym last) tells;
-        }) said
+        })
 
     pub move-refused : (refusal : MoveRefusal)
         → move_cause_by (is_lack refusal) basis page node lying ≡ Some refusal → new ≡ old
-        → Said contents output output_then (refusal_line (move_name refusal))
-        → Answers contents old new output output_then (is_lack refusal)
-        (move_unless (move_cause_by (is_lack refusal) basis page node lying) page node lying)
-    move-refused refusal cause same said =
-        move-denied contents old new output output_then refusal lying
-        (move_unless (move_cause_by (is_lack refusal) basis page node lying) page node lying)
-        (ap (λ (c : Option MoveRefusal). move_unless c page node lying) cause) lies same said
+        → Answers old new (reply.MoveRefused refusal) move_lack
+        (λ refused. move_unless (move_cause_by refused basis page node lying) page node lying)
+    move-refused refusal cause same =
+        move-denied old new refusal lying
+        (λ refused. move_unless (move_cause_by refused basis page node lying) page node lying)
+        (ap (λ (c : Option MoveRefusal). move_unless c page node lying) cause) lies same
 
   -- ---- a page that keeps a frame
 
   pub stays-there : (first : Option MoveRefusal) (node : ℕ) (moved : Moved) → first ≡ None
       → new.placed ≡ old.placed → new.rooms ≡ old.rooms → new.follows ≡ old.follows
       → TellsOf moved still → new.last ≡ went.Nodes moved
-      → Said contents output output_then (node_line node)
-      → Answers contents old new output output_then false (held_move_unless first node lying)
-  stays-there first node moved none placed rooms follows tells last said =
-      done contents old new output output_then (held_move_unless first node lying)
-      (held_move_unless None node lying)
+      → Answers old new (reply.MovedTo node) move_lack
+      (λ refused. held_move_unless first node lying)
+  stays-there first node moved none placed rooms follows tells last =
+      done old new (reply.MovedTo node) move_lack (λ refused. held_move_unless first node lying)
+      (record lying { last = OfNodes still })
       (ap (λ (c : Option MoveRefusal). held_move_unless c node lying) none)
       (record {
         spots = λ page. ap (λ (runs : List (Run Spot)). spot_at runs page) placed
@@ -225,14 +214,14 @@ module _ {W : Type 0} (contents : W → Option (List ℕ)) (old new : Beside)
         room = subst (λ (r : Option Rooms). HaveRoom r lying.room) (sym rooms) lies.room;
         follows = follows ∙ lies.follows;
         last = subst (λ (m : Last). LastAs m (OfNodes still)) (sym last) tells;
-      }) said
+      })
 
   pub stays-denied : (first : Option MoveRefusal) (node : ℕ) (refusal : MoveRefusal)
       → first ≡ Some refusal → new ≡ old
-      → Said contents output output_then (refusal_line (move_name refusal))
-      → Answers contents old new output output_then false (held_move_unless first node lying)
-  stays-denied first node refusal cause same said =
-      done contents old new output output_then (held_move_unless first node lying)
-      (with_text (refusal_line (move_name refusal)) lying)
+      → Answers old new (reply.MoveRefused refusal) move_lack
+      (λ refused. held_move_unless first node lying)
+  stays-denied first node refusal cause same =
+      done old new (reply.MoveRefused refusal) move_lack
+      (λ refused. held_move_unless first node lying) lying
       (ap (λ (c : Option MoveRefusal). held_move_unless c node lying) cause)
-      (subst (λ (b : Beside). LiesAs b lying) (sym same) lies) said
+      (subst (λ (b : Beside). LiesAs b lying) (sym same) lies)

@@ -1,12 +1,8 @@
 -- What `unmap` makes of a script and of the pages beside it.
-use Rattle.std.proofs.Common.{◌≡◌, ◌≢◌, ℕ, Bool, true, false, Option, Some, None, List, codes, refl}
+use Rattle.std.proofs.Common.{◌≡◌, ◌≢◌, ℕ, Bool, true, false, Option, Some, None, List, refl}
 use Rattle.std.proofs.Common.{sym, ap, subst, ◌∙◌, inl, inr, ◌&&◌, is_some}
 use Rattle.std.specs.Prelude.{if◌then◌else◌, Ok, Err, not, nat_lt, ◌%◌, ◌*◌, ◌+◌, ◌^◌, ◌==◌}
 use Rattle.std.proofs.lemmas.Bool.{cases_Bool, both_ways, eq-eqb, ne_eqb}
-use Rattle.std.proofs.lemmas.Slice.Eq.{bytes_eq-Decides}
-use Rattle.numa_lines.specs.Written.{Said}
-use Rattle.numa_lines.specs.declared.watched.Watched.{Watched}
-use Rattle.numa_lines.proofs.Adding.{said_same}
 use Rattle.numa_machine.specs.Machine.{Hardware}
 use Rattle.numa_ranges.proofs.Pages.{any_page-false}
 use Rattle.numa_ranges.specs.declared.run.Run.{Run}
@@ -16,19 +12,22 @@ use Rattle.numa_requests.specs.declared.command.Command.TheVariants.{Inherit, Se
 use Rattle.numa_requests.specs.declared.command.Command.TheVariants.{SetMems}
 use Rattle.numa_placed.specs.Refusals.{IsRefusal, first_of, span_cause}
 use Rattle.numa_placed.specs.Spots.{spot_at, too_many}
-use Rattle.numa_placed.specs.declared.refusal.PlacedRefusal.{PlacedRefusal}
-use Rattle.numa_placed.specs.declared.refusal.PlacedRefusal.TheVariants as cause
+use Rattle.numa_requests.specs.declared.page_refusal.PlacedRefusal.{PlacedRefusal}
+use Rattle.numa_requests.specs.declared.page_refusal.PlacedRefusal.TheVariants as cause
 use Rattle.numa_placed.specs.declared.spot.Spot.{Spot}
 use Rattle.numa_placed.specs.declared.spot.Spot.TheVariants.{Nowhere}
-use Rattle.numa_script.specs.Lines.{keyword_of, line_of}
+use Rattle.numa_script.specs.Lines.{alone}
 use Rattle.numa_script.specs.declared.line.Line.{Line}
 use Rattle.numa_script.specs.declared.line.Line.TheVariants as plain
+use Rattle.numa_script.specs.declared.line.ScriptLine.{ScriptLine}
+use Rattle.numa_script.specs.declared.reply.Reply.{Reply}
 use Rattle.numa_script.specs.declared.work.Work.TheVariants as work
 use Rattle.numa_run.specs.Answers.{State}
-use Rattle.numa_host_script.specs.Sessions.{Session, Single, Hosted, is_begin, served_by}
-use Rattle.numa_host_script.specs.Sessions.{session_after, session_answer}
+use Rattle.numa_host_script.specs.Sessions.{Session, Single, Hosted, session_after, session_served}
 use Rattle.numa_host_script.specs.Sessions.{Served as Answered}
+use Rattle.numa_host_script.specs.Taking.{IsLeft, Told, left_in}
 use Rattle.numa_host_script.specs.declared.script.HostScript.{HostScript}
+use Rattle.numa_host_script.specs.declared.taking.HostTaken.{HostTaken}
 use Rattle.numa_host_script.specs.Standing.{StandsIn as IsIn}
 use Rattle.std.specs.Prelude.{length}
 use Rattle.std.specs.Option.{option_map}
@@ -36,15 +35,20 @@ use Rattle.numa_placed_script.specs.Lying.{Ground, Lying, Process, ground_of}
 use Rattle.numa_placed_script.specs.Outcomes.{forgotten, has_stated, is_astray_cause, is_no_memory}
 use Rattle.numa_placed_script.specs.Outcomes.{lack_of}
 use Rattle.numa_placed_script.specs.Processes.{process_of, process_on, version_in}
-use Rattle.numa_placed_script.specs.Scenes.{Scene, Served, concern_of, forget_between, passed}
+use Rattle.numa_placed_script.specs.Scenes.{Scene, Served, command_reply, concern_in, concern_of}
+use Rattle.numa_placed_script.specs.Scenes.{forget_between, passed, replied}
 use Rattle.numa_placed_script.specs.Scenes.{unmap_served, unmap_unless}
 use Rattle.numa_placed_script.specs.Standing.{Forgets, Lies, LiesAs, Replaces, StandsIn}
-use Rattle.numa_placed_script.specs.Texts.{cause_name, refusal_line}
+use Rattle.numa_placed_script.specs.Taking.{left}
 use Rattle.numa_placed_script.specs.declared.beside.Beside.{Beside}
 use Rattle.numa_placed_script.specs.declared.concern.Concern.{Concern}
 use Rattle.numa_placed_script.specs.declared.concern.Concern.TheVariants as concern
-use Rattle.numa_placed_script.proofs.Commands.{served-alike}
+use Rattle.numa_placed_script.specs.declared.taken.PlacedTaken.{PlacedTaken}
+use Rattle.numa_placed_script.specs.declared.taken.PlacedTaken.TheVariants as taken
+use Rattle.numa_placed_script.proofs.Commands.{served-alike, starved_at}
 use Rattle.numa_placed_script.proofs.Judged.{lack-told}
+use Rattle.numa_placed_script.proofs.Left.{Tells, is_open, left-told, passed-told, tells}
+use Rattle.numa_placed_script.proofs.Left.{that-reply}
 
 -- ---- a line `unmap`
 
@@ -53,6 +57,8 @@ is_unmap concern.Mems = false
 is_unmap (concern.Touch page) = false
 is_unmap (concern.Unmap start length) = true
 is_unmap (concern.Maps task) = false
+is_unmap (concern.Pages said) = false
+is_unmap (concern.Bind start length policy pages) = false
 is_unmap concern.Nothing = false
 
 never : {A : Type 0} → false ≡ true → A
@@ -84,22 +90,26 @@ says-unmap (plain.Maps task) t = never t
 says-unmap (plain.Work (work.Event event)) t = never t
 says-unmap (plain.Work (work.Touch w request)) t = never t
 says-unmap (plain.Work (work.Release w page)) t = never t
+says-unmap (plain.Pages said) t = never t
+says-unmap (plain.Bind start bytes policy pages) t = never t
+says-unmap plain.Host t = never t
+says-unmap (plain.HostCommand said) t = never t
 
-host-concern : concern_of (line_of (codes "host")) ≡ concern.Nothing
-unfolding line_of keyword_of
-host-concern = refl
+-- no process is told it
+abbrev OfUnmap : ScriptLine → Type 0
+OfUnmap said = (said.process ≡ None) × IsUnmap said.line
 
-never-begins : (bytes : List ℕ) → is_unmap (concern_of (line_of bytes)) ≡ true
-    → is_begin bytes ≡ false
+of-unmap : (process : Option ℕ) (said : Line)
+    → is_unmap (if is_some process then concern.Nothing else concern_of said) ≡ true
+    → OfUnmap (record { process = process; line = said })
 unfolding is_unmap
-never-begins bytes is =
-    elim (cases_Bool (is_begin bytes)) [
-      | inl t ↦
-          let same = (bytes_eq-Decides bytes (codes "host")).0 t in
-          never (sym (ap (λ (l : List ℕ). is_unmap (concern_of (line_of l))) same
-          ∙ ap is_unmap host-concern) ∙ is)
-      | inr e ↦ e
-    ]
+of-unmap (Some process) said t = never t
+of-unmap None said t = (refl, says-unmap said t)
+
+pub unmap-line : (said : ScriptLine) (start length : ℕ)
+    → concern_in said ≡ concern.Unmap start length → OfUnmap said
+unfolding is_unmap
+unmap-line said start length is = of-unmap said.process said.line (ap is_unmap is)
 
 -- ---- what was stated
 
@@ -221,17 +231,6 @@ replaces-some beside after lying spots lies some are = record {
 abbrev shown : Option Process → Option (Ground × ℕ)
 shown alone = option_map (λ p. (ground_of p, length p.history)) alone
 
--- lack of memory is answered, and all is as it was
-abbrev starved_at : Session → Answered
-starved_at session =
-    record { text = refusal_line (cause_name cause.NoMemory); session = session }
-
-pub unmap-line : (bytes : List ℕ) (start length : ℕ)
-    → concern_of (line_of bytes) ≡ concern.Unmap start length
-    → is_unmap (concern_of (line_of bytes)) ≡ true
-unfolding is_unmap
-unmap-line bytes start length is = ap is_unmap is
-
 -- the pages as they were, where the line was refused, and those without the span, where it wasn't
 pub lies-still : (scene : Scene) (new : Session) (spots : ℕ → Spot) (beside : Option Beside)
     → version_in (process_of scene.session) ≡ version_in (process_of new)
@@ -277,33 +276,35 @@ none-stated scene start length none = by (is_some (process_of scene.session)) no
     by true e = e
     by false e = refl
 
-module _ {W : Type 0} (contents : W → Option (List ℕ)) (script script_then : HostScript)
-    (output output_then : Watched W) (scene : Scene) (bytes : List ℕ) (start length : ℕ) where
-  abbrev pub UnmapsSo : Option Beside → Type 0
-  UnmapsSo beside_then = (refused : Bool)
-      × StandsIn script_then beside_then (unmap_served refused scene bytes start length).scene
-      × Said contents output output_then (unmap_served refused scene bytes start length).text
+module _ (script script_then : HostScript) (scene : Scene) (said : ScriptLine)
+    (start length : ℕ) where
+  abbrev pub UnmapsSo : PlacedTaken → Option Beside → Type 0
+  UnmapsSo found beside_then = (after : Scene) × StandsIn script_then beside_then after
+      × ((again : Bool) → (refused : Bool)
+      × (unmap_served refused scene said start length ≡ left again after found))
 
-  so-served : (beside_then : Option Beside) (refused : Bool) (served : Served)
-      → unmap_served refused scene bytes start length ≡ served
-      → StandsIn script_then beside_then served.scene
-      → Said contents output output_then served.text → UnmapsSo beside_then
-  so-served beside_then refused served is stands told = (
-    refused,
-    subst (λ (s : Served). StandsIn script_then beside_then s.scene) (sym is) stands,
-    said_same contents output output_then _ _ (ap (λ (s : Served). s.text) (sym is)) told,
+  so-told : (beside_then : Option Beside) (refused : Bool) (answer : Reply) (after : Scene)
+      (found : HostTaken) (tell : left_in found ≡ Told answer)
+      → unmap_served refused scene said start length ≡ replied answer after
+      → StandsIn script_then beside_then after → UnmapsSo (taken.Below found) beside_then
+  so-told beside_then refused answer after found tell is stands = (
+    after,
+    stands,
+    λ again. (refused, is ∙ sym (left-told found answer tell again after)),
   )
 
   -- it was passed on
-  pub unmap-passed : (beside_then : Option Beside)
+  pub unmap-passed : (found : PlacedTaken) (beside_then : Option Beside)
       → (is_some (process_of scene.session) && has_stated scene.lying.spots start length) ≡ false
-      → ((refused : Bool) × StandsIn script_then beside_then
-      (passed refused scene bytes scene.lying).scene
-      × Said contents output output_then (passed refused scene bytes scene.lying).text)
-      → UnmapsSo beside_then
-  unmap-passed beside_then none served =
-      so-served beside_then served.0 (passed served.0 scene bytes scene.lying) (rw none refl)
-      served.1 served.2
+      → ((after : Scene) × StandsIn script_then beside_then after
+      × ((again : Bool) → (refused : Bool)
+      × (passed refused scene said scene.lying ≡ left again after found)))
+      → UnmapsSo found beside_then
+  unmap-passed found beside_then none served = (
+    served.0,
+    served.1,
+    λ again. let so = served.2 again in (so.0, rw none refl ∙ so.1),
+  )
 
   module _ (there : is_some (process_of scene.session) ≡ true)
       (some : has_stated scene.lying.spots start length ≡ true) where
@@ -314,26 +315,31 @@ module _ {W : Type 0} (contents : W → Option (List ℕ)) (script script_then :
     after = forgotten start length scene.lying.spots
 
     abbrev within : Bool → Served
-    within refused = passed refused scene bytes (forget_between (process_of scene.session)
-        (process_of (session_after refused scene.session bytes)) after scene.lying)
+    within refused = passed refused scene said (forget_between (process_of scene.session)
+        (process_of (session_after refused scene.session said)) after scene.lying)
 
     -- the pages can't be forgotten
     pub unmap-denied : (beside_then : Option Beside) (why : PlacedRefusal)
         → lack_of (is_no_memory why) after ≡ Some why
         → StandsIn script_then beside_then scene
-        → Said contents output output_then (refusal_line (cause_name why)) → UnmapsSo beside_then
-    unmap-denied beside_then why lack stands told =
-        so-served beside_then (is_no_memory why)
-        (record { text = refusal_line (cause_name why); scene = scene })
-        (rw both (ap (λ (c : Option PlacedRefusal).
-        unmap_unless c scene (within (is_no_memory why))) lack)) stands told
+        → UnmapsSo (taken.Reply (command_reply why)) beside_then
+    unmap-denied beside_then why lack stands = (
+      scene,
+      stands,
+      λ again. (
+        is_no_memory why,
+        rw both (ap (λ (c : Option PlacedRefusal).
+            unmap_unless c scene (within (is_no_memory why))) lack),
+      ),
+    )
 
-    lack-free : lack_of false after ≡ None → unmap_served false scene bytes start length ≡ within false
+    lack-free : lack_of false after ≡ None
+        → unmap_served false scene said start length ≡ within false
     lack-free free = rw both (ap (λ (c : Option PlacedRefusal).
         unmap_unless c scene (within false)) free)
 
-    lack-starved : unmap_served true scene bytes start length
-        ≡ record { text = refusal_line (cause_name cause.NoMemory); scene = scene }
+    lack-starved : unmap_served true scene said start length
+        ≡ replied (command_reply cause.NoMemory) scene
     lack-starved = rw both refl
 
     -- the pages once the line was served
@@ -341,66 +347,77 @@ module _ {W : Type 0} (contents : W → Option (List ℕ)) (script script_then :
     LiesBetween beside_then answered = Lies beside_then (forget_between
         (process_of scene.session) (process_of answered.session) after scene.lying)
 
-    module _ (beside_then : Option Beside) (one : Bool) (free : lack_of false after ≡ None)
-        (is : is_unmap (concern_of (line_of bytes)) ≡ true)
+    module _ (found : HostTaken) (beside_then : Option Beside) (one : Bool)
+        (free : lack_of false after ≡ None) (is : OfUnmap said)
         (stands : IsIn script_then.script script_then.limits script_then.host
-        (session_after one scene.session bytes))
-        (told : Said contents output output_then (session_answer one scene.session bytes))
-        (lies : LiesBetween beside_then (served_by one scene.session bytes)) where
-      by-false : served_by one scene.session bytes ≡ served_by false scene.session bytes
-          → UnmapsSo beside_then
+        (session_after one scene.session said))
+        (is_left : IsLeft one scene.session said (left_in found))
+        (lies : LiesBetween beside_then (session_served one scene.session said)) where
+      tell : Tells found one scene.session said
+      tell = tells found one scene.session said (ap is_open is.1.2) is_left
+
+      by-false : session_served one scene.session said ≡ session_served false scene.session said
+          → UnmapsSo (taken.Below found) beside_then
       by-false same =
-          so-served beside_then false (within false) (lack-free free) (
+          let then_lying : Lying = forget_between (process_of scene.session)
+          (process_of (session_after false scene.session said)) after scene.lying in
+          so-told beside_then false tell.told (record {
+            session = session_after false scene.session said;
+            lying = then_lying;
+          }) found tell.is
+          (lack-free free ∙ passed-told false scene said tell.told then_lying
+          (ap (λ (a : Answered). a.answer) (sym same) ∙ tell.answer)) (
             subst (λ (a : Answered). IsIn script_then.script script_then.limits script_then.host
                 a.session) same stands,
             subst (LiesBetween beside_then) same lies,
-          ) (said_same contents output output_then _ _ (ap (λ (a : Answered). a.text) same) told)
+          )
 
-      by-lack : served_by one scene.session bytes ≡ starved_at scene.session
-          → UnmapsSo beside_then
+      by-lack : session_served one scene.session said ≡ starved_at scene.session
+          → UnmapsSo (taken.Below found) beside_then
       by-lack lacks =
           let still : LiesBetween beside_then (starved_at scene.session) =
           subst (LiesBetween beside_then) lacks lies in
           let same = eq-eqb (version_in (process_of scene.session))
           (version_in (process_of scene.session)) refl in
-          so-served beside_then true
-          (record { text = refusal_line (cause_name cause.NoMemory); scene = scene }) lack-starved (
+          let answer : tell.told ≡ command_reply cause.NoMemory =
+          that-reply tell.told (command_reply cause.NoMemory)
+          (sym tell.answer ∙ ap (λ (a : Answered). a.answer) lacks) in
+          so-told beside_then true tell.told scene found tell.is
+          (lack-starved ∙ ap (λ (r : Reply). replied r scene) (sym answer)) (
             subst (λ (a : Answered). IsIn script_then.script script_then.limits script_then.host
                 a.session) lacks stands,
             subst (λ (b : Bool). Lies beside_then (if b then scene.lying
                 else record scene.lying { spots = after })) same still,
-          ) (said_same contents output output_then _ _ (ap (λ (a : Answered). a.text) lacks) told)
-
-      says : IsUnmap (line_of bytes)
-      says = says-unmap (line_of bytes) is
+          )
 
       by-refused : (state : State) (machine : Hardware) → scene.session ≡ Single state
-          → state.machine ≡ Some machine → (r : Bool) → one ≡ r → UnmapsSo beside_then
+          → state.machine ≡ Some machine → (r : Bool) → one ≡ r
+          → UnmapsSo (taken.Below found) beside_then
       by-refused state machine single ready false e =
-          by-false (ap (λ (r : Bool). served_by r scene.session bytes) e)
+          by-false (ap (λ (r : Bool). session_served r scene.session said) e)
       by-refused state machine single ready true e =
-          elim (served-alike state machine ready (Unmap says.0 says.1) bytes says.2
-          (never-begins bytes is)) [
-            | inl same ↦ by-false (ap (λ (r : Bool). served_by r scene.session bytes) e
-                ∙ ap (λ (s : Session). served_by true s bytes) single ∙ same
-                ∙ sym (ap (λ (s : Session). served_by false s bytes) single))
-            | inr lacks ↦ by-lack (ap (λ (r : Bool). served_by r scene.session bytes) e
-                ∙ ap (λ (s : Session). served_by true s bytes) single ∙ lacks
+          elim (served-alike state machine ready (Unmap is.1.0 is.1.1) said is.0 is.1.2) [
+            | inl same ↦ by-false (ap (λ (r : Bool). session_served r scene.session said) e
+                ∙ ap (λ (s : Session). session_served true s said) single ∙ same
+                ∙ sym (ap (λ (s : Session). session_served false s said) single))
+            | inr lacks ↦ by-lack (ap (λ (r : Bool). session_served r scene.session said) e
+                ∙ ap (λ (s : Session). session_served true s said) single ∙ lacks
                 ∙ ap (λ (s : Session). starved_at s) (sym single))
           ]
 
       by-machine : (state : State) (machine : Option Hardware) → scene.session ≡ Single state
-          → state.machine ≡ machine → UnmapsSo beside_then
+          → state.machine ≡ machine → UnmapsSo (taken.Below found) beside_then
       by-machine state None single none =
           never (sym (ap (λ (s : Session). is_some (process_of s)) single
           ∙ ap (λ (m : Option Hardware). is_some (shown (process_on m state))) none) ∙ there)
       by-machine state (Some machine) single ready =
           by-refused state machine single ready one refl
 
-      by-session : (session : Session) → scene.session ≡ session → UnmapsSo beside_then
+      by-session : (session : Session) → scene.session ≡ session
+          → UnmapsSo (taken.Below found) beside_then
       by-session (Hosted at) hosted =
           never (sym (ap (λ (s : Session). is_some (process_of s)) hosted) ∙ there)
       by-session (Single state) single = by-machine state state.machine single refl
 
-      pub unmap-served : UnmapsSo beside_then
+      pub unmap-served : UnmapsSo (taken.Below found) beside_then
       unmap-served = by-session scene.session refl

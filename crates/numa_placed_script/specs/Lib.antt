@@ -1,4 +1,3 @@
-pub mod Lines
 pub mod Listings
 pub mod Lying
 pub mod Outcomes
@@ -7,4 +6,5 @@ pub mod Scenes
 pub mod Sending
 pub mod Standing
 pub mod Strict
+pub mod Taking
 pub mod Texts

@@ -1,8 +1,10 @@
 -- What each line about pages is answered, and where pages lie after it. `refused` says whether a
 -- growth was refused while the line was served.
-use Rattle.std.specs.Prelude.{ℕ, ◌==◌, Bool, true, false, Option, Some, None, List, codes}
+use Rattle.std.specs.Prelude.{ℕ, ◌==◌, Bool, true, false, Option, Some, None, List, Result}
+use Rattle.std.specs.Prelude.{Ok, Err}
 use Rattle.std.specs.Prelude.{◌&&◌, not, if◌then◌else◌}
 use Rattle.numa_mask.specs.NodeSet.{both}
+use Rattle.numa_mask.specs.declared.list.ListFault.{ListFault}
 use Rattle.numa_space.specs.History.{page_of, page_count}
 use Rattle.numa_placed.specs.Refusals.{first_of, lacks_node, migrate_cause, move_cause, state_cause}
 use Rattle.numa_placed.specs.Shifts.{endless, first_of as first_move, room_cause, room_moved}
@@ -12,29 +14,32 @@ use Rattle.numa_requests.specs.declared.placement.Placement.{Placement}
 use Rattle.numa_placed.specs.Spots.{changed_spots, forgotten_spot, stated_beside, stated_spot}
 use Rattle.numa_placed.specs.Spots.{too_many}
 use Rattle.numa_placed.specs.Astray.{strict_cause}
-use Rattle.numa_placed.specs.declared.refusal.MoveRefusal.{MoveRefusal}
-use Rattle.numa_placed.specs.declared.refusal.MoveRefusal.TheVariants as move
-use Rattle.numa_placed.specs.declared.refusal.PlacedRefusal.{PlacedRefusal}
-use Rattle.numa_placed.specs.declared.refusal.PlacedRefusal.TheVariants as cause
+use Rattle.numa_requests.specs.declared.page_refusal.MoveRefusal.{MoveRefusal}
+use Rattle.numa_requests.specs.declared.page_refusal.MoveRefusal.TheVariants as move
+use Rattle.numa_requests.specs.declared.page_refusal.PlacedRefusal.{PlacedRefusal}
+use Rattle.numa_requests.specs.declared.page_refusal.PlacedRefusal.TheVariants as cause
 use Rattle.numa_placed.specs.declared.spot.Spot.{Spot}
 use Rattle.numa_placed.specs.declared.spot.Spot.TheVariants.{Nowhere, Stated, Held}
 use Rattle.numa_placed_script.specs.Lying.{Ground, Lying, Motion, OfNodes, Told, motion, still}
 use Rattle.numa_placed_script.specs.Lying.{with_held, with_motion}
-use Rattle.numa_placed_script.specs.Texts.{cause_name, last_line, move_name, moved_line, node_line}
-use Rattle.numa_placed_script.specs.Texts.{refusal_line}
-use Rattle.numa_script.specs.Texts.{text_of}
+use Rattle.numa_placed_script.specs.Texts.{last_line}
+use Rattle.numa_run.specs.Replies.{Answer, Replied, Shown}
+use Rattle.numa_script.specs.declared.page_line.PageLine.{PageLine}
+use Rattle.numa_script.specs.declared.page_line.PageLine.TheVariants as line
 use Rattle.numa_script.specs.declared.policy.WordError.TheVariants as fault
+use Rattle.numa_script.specs.declared.reply.Reply.{Reply}
 use Rattle.numa_script.specs.declared.reply.Reply.TheVariants as reply
-use Rattle.numa_placed_script.specs.declared.line.PlacedLine.{PlacedLine}
-use Rattle.numa_placed_script.specs.declared.line.PlacedLine.TheVariants as line
 
 -- the answer, and the pages after it
 pub record Outcome : Type 0 where
-  pub text : List ℕ
+  pub answer : Answer
   pub lying : Lying
 
+abbrev pub with_reply : Reply → Lying → Outcome
+with_reply told at = record { answer = Replied told; lying = at }
+
 abbrev pub with_text : List ℕ → Lying → Outcome
-with_text text at = record { text = text; lying = at }
+with_text text at = record { answer = Shown text; lying = at }
 
 -- ---- refusals
 
@@ -43,7 +48,7 @@ is_no_memory cause.NoMemory = true
 is_no_memory _ = false
 
 abbrev pub refused_with : PlacedRefusal → Lying → Outcome
-refused_with why at = with_text (refusal_line (cause_name why)) at
+refused_with why at = with_reply (reply.PlacedRefused why) at
 
 -- too many runs, or lack of memory, where nothing else stands against a call
 abbrev pub lack_of : Bool → (ℕ → Spot) → Option PlacedRefusal
@@ -66,10 +71,8 @@ at_spots basis start bytes node spots =
 abbrev pub at_outcome : Bool → Ground → ℕ → ℕ → ℕ → Lying → Outcome
 at_outcome refused basis start bytes node at = unless_refused
     (cause_by refused (state_cause basis.machine start bytes node)
-    (at_spots basis start bytes node at.spots)) at (record {
-      text = codes "at ok\n";
-      lying = record at { spots = at_spots basis start bytes node at.spots };
-    })
+    (at_spots basis start bytes node at.spots)) at
+    (with_reply reply.AtOk (record at { spots = at_spots basis start bytes node at.spots }))
 
 -- ---- room NODE PAGES
 
@@ -81,20 +84,15 @@ rooms_of (Some room) node = room node
 abbrev pub room_outcome : Hardware → ℕ → ℕ → Lying → Outcome
 room_outcome machine node pages at =
     if lacks_node machine node then refused_with cause.NoSuchNode at
-    else record {
-      text = codes "room ok\n";
-      lying = record at {
-        room = Some (λ other. if other == node then pages else rooms_of at.room other);
-      };
-    }
+    else with_reply reply.RoomOk (record at {
+      room = Some (λ other. if other == node then pages else rooms_of at.room other);
+    })
 
 -- ---- memory-migrate on|off
 
 abbrev pub memory_migrate_outcome : Bool → Lying → Outcome
-memory_migrate_outcome follows at = record {
-  text = codes "memory-migrate ok\n";
-  lying = record at { follows = follows };
-}
+memory_migrate_outcome follows at =
+    with_reply reply.MemoryMigrateOk (record at { follows = follows })
 
 -- ---- migrate FROM TO
 
@@ -103,12 +101,14 @@ abbrev pub lack_in : Option (ℕ → ℕ) → Bool → (ℕ → Spot) → Option
 lack_in None refused after = None
 lack_in (Some room) refused after = lack_of refused after
 
+-- what a move did
+abbrev pub moved_reply : Told → Reply
+moved_reply told = reply.Moved told.moved told.left
+
 abbrev pub moved_outcome : Bool → Kept → Motion → Option PlacedRefusal → Lying → Outcome
 moved_outcome refused kept done first at = unless_refused
-    (first_of first (lack_in at.room refused done.spots)) at (record {
-      text = moved_line (with_held kept done.told);
-      lying = with_motion kept at done;
-    })
+    (first_of first (lack_in at.room refused done.spots)) at
+    (with_reply (moved_reply (with_held kept done.told)) (with_motion kept at done))
 
 abbrev pub migrate_outcome : Bool → Ground → ℕ → ℕ → Lying → Outcome
 migrate_outcome refused basis from to at = moved_outcome refused basis.kept
@@ -155,21 +155,18 @@ told_of node (Stated from) = if from == node then still
 told_of node (Held from) = still
 
 abbrev pub move_unless : Option MoveRefusal → ℕ → ℕ → Lying → Outcome
-move_unless (Some why) page node at = with_text (refusal_line (move_name why)) at
-move_unless None page node at = record {
-  text = node_line node;
-  lying = record at {
-    spots = move_spots page node at.spots;
-    room = room_moved_in at.room node (at.spots page);
-    last = OfNodes (told_of node (at.spots page));
-  };
-}
+move_unless (Some why) page node at = with_reply (reply.MoveRefused why) at
+move_unless None page node at = with_reply (reply.MovedTo node) (record at {
+  spots = move_spots page node at.spots;
+  room = room_moved_in at.room node (at.spots page);
+  last = OfNodes (told_of node (at.spots page));
+})
 
 -- a page that keeps a frame stays there
 abbrev pub held_move_unless : Option MoveRefusal → ℕ → Lying → Outcome
-held_move_unless (Some why) node at = with_text (refusal_line (move_name why)) at
+held_move_unless (Some why) node at = with_reply (reply.MoveRefused why) at
 held_move_unless None node at =
-    record { text = node_line node; lying = record at { last = OfNodes still } }
+    with_reply (reply.MovedTo node) (record at { last = OfNodes still })
 
 abbrev pub move_where : Option Placement → Bool → Ground → ℕ → ℕ → Lying → Outcome
 move_where None refused basis page node at =
@@ -183,27 +180,34 @@ move_outcome refused basis address node at = move_where
 
 -- ---- every line about pages, once a machine is ready
 
-abbrev pub placed_outcome : Bool → Ground → ℕ → PlacedLine → Lying → Outcome
-placed_outcome refused basis version line.Plain at = with_text (text_of reply.BadState) at
-placed_outcome refused basis version line.Malformed at = with_text (text_of reply.BadWords) at
-placed_outcome refused basis version (line.At start bytes node) at =
+abbrev pub page_outcome : Bool → Ground → ℕ → PageLine → Lying → Outcome
+page_outcome refused basis version (line.At start bytes node) at =
     at_outcome refused basis start bytes node at
-placed_outcome refused basis version (line.Room node pages) at =
+page_outcome refused basis version (line.Room node pages) at =
     room_outcome basis.machine node pages at
-placed_outcome refused basis version (line.MemoryMigrate follows) at =
+page_outcome refused basis version (line.MemoryMigrate follows) at =
     memory_migrate_outcome follows at
-placed_outcome refused basis version (line.Migrate from to) at =
+page_outcome refused basis version (line.Migrate from to) at =
     migrate_outcome refused basis from to at
-placed_outcome refused basis version (line.BadList wrong) at =
-    with_text (text_of (reply.BadWord (fault.List wrong))) at
-placed_outcome refused basis version (line.Move address node) at =
+page_outcome refused basis version (line.Move address node) at =
     move_outcome refused basis address node at
-placed_outcome refused basis version line.Moved at = with_text (last_line version at.last) at
+page_outcome refused basis version line.Moved at = with_text (last_line version at.last) at
+
+-- what is wrong with a list of nodes comes before every refusal
+abbrev pub placed_outcome : Bool → Ground → ℕ → Result PageLine ListFault → Lying → Outcome
+placed_outcome refused basis version (Err wrong) at =
+    with_reply (reply.BadWord (fault.List wrong)) at
+placed_outcome refused basis version (Ok said) at = page_outcome refused basis version said at
+
+-- that memory lacks for a line
+abbrev pub lack_reply : Result PageLine ListFault → Reply
+lack_reply (Ok (line.Move address node)) = reply.MoveRefused move.NoMemory
+lack_reply _ = reply.PlacedRefused cause.NoMemory
 
 -- the first line about pages wants memory, whatever it says
-abbrev pub placed_by : Bool → Ground → ℕ → PlacedLine → Lying → Outcome
+abbrev pub placed_by : Bool → Ground → ℕ → Result PageLine ListFault → Lying → Outcome
 placed_by refused basis version said at =
-    if not at.begun && refused then refused_with cause.NoMemory at
+    if not at.begun && refused then with_reply (lack_reply said) at
     else placed_outcome refused basis version said (record at { begun = true })
 
 -- ---- what commands of the process do to pages

@@ -16,16 +16,16 @@ use Rattle.numa_requests.specs.declared.refusal.Refusal.{Refusal}
 use Rattle.numa_requests.specs.declared.refusal.Refusal.TheVariants.{NoMemory}
 use Rattle.numa_maps.specs.Residents.{Kept}
 use Rattle.numa_placed.specs.Binds.{Asked, astray_pages, bound_spots, goals, is_kept, is_sent}
-use Rattle.numa_placed.specs.Binds.{list_unless, room_before, strays}
+use Rattle.numa_placed.specs.Binds.{list_unless, room_before, span_below, strays}
 use Rattle.numa_placed.specs.Spots.{is_on}
 use Rattle.numa_placed.specs.declared.spot.Spot.{Spot}
 use Rattle.numa_placed.specs.declared.spot.Spot.TheVariants.{Held}
 use Rattle.numa_script.specs.Lines.{empty_bind}
 use Rattle.numa_script.specs.declared.line.Line.{Line}
 use Rattle.numa_script.specs.declared.line.Line.TheVariants as plain
+use Rattle.numa_script.specs.declared.page_line.MoveWords.{MoveWords}
 use Rattle.numa_placed_script.specs.Lying.{Lying, OfPages, Process, Sent}
 use Rattle.numa_placed_script.specs.Outcomes.{rooms_of}
-use Rattle.numa_placed_script.specs.declared.line.MoveWords.{MoveWords}
 use Rattle.numa_placed_script.specs.declared.sending.Rebinding.{Rebinding}
 
 -- ---- the policy
@@ -42,6 +42,14 @@ rebinding_of rules (plain.Command (Ok command)) = rebinding_in command
 rebinding_of rules (plain.EmptyBind start fault) =
     if is_linux rules then rebinding_in (empty_bind start) else None
 rebinding_of rules _ = None
+
+-- the policy for the part of its span that can be mapped
+abbrev pub below_end : Rebinding → Rebinding
+below_end said = record {
+  start = (span_below said.start said.length).0;
+  length = (span_below said.start said.length).1;
+  spec = said.spec;
+}
 
 abbrev pub command_of : Rebinding → Command
 command_of said = Mbind said.start said.length said.spec
@@ -62,8 +70,8 @@ nodes_of machine history words page =
 -- the pages of the span, the list as it is written, and the nodes of each page with the policy
 abbrev pub asked_of : Process → Rebinding → MoveWords → Asked
 asked_of process said words = record {
-  first = page_of said.start;
-  pages = page_count said.length;
+  first = page_of (below_end said).start;
+  pages = page_count (below_end said).length;
   list = said.spec.mask;
   nodes = nodes_of process.machine (command_of said ∷ process.history) words;
 }

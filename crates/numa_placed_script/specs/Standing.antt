@@ -1,9 +1,8 @@
 -- What is kept beside a script, and which pages it stands for.
-use Rattle.std.specs.Prelude.{◌≡◌, ℕ, ◌<◌, ◌^◌, Bool, true, false, List, ◌∷◌, Option, Some, None}
+use Rattle.std.specs.Prelude.{◌≡◌, ℕ, ◌<◌, ◌^◌, Bool, true, false, List, ◌∷◌, Option, Some}
+use Rattle.std.specs.Prelude.{None, MatchOption}
 use Rattle.std.specs.Prelude.{slice_index}
 use Rattle.std.specs.Prelude.{IsSome, MatchResult, Result, Ok, Err, is_some}
-use Rattle.numa_lines.specs.Written.{Said}
-use Rattle.numa_lines.specs.declared.watched.Watched.{Watched}
 use Rattle.numa_maps.specs.Residents.{Kept}
 use Rattle.numa_placed.specs.Binds.{Asked, asked_of as asked_by, room_before}
 use Rattle.numa_placed.specs.Refusals.{first_of}
@@ -11,9 +10,8 @@ use Rattle.numa_placed.specs.Shifts.{AreRooms}
 use Rattle.numa_placed.specs.Spots.{spot_at, too_many}
 use Rattle.numa_placed.specs.declared.moved.Moved.{Moved}
 use Rattle.numa_placed.specs.declared.rooms.Rooms.{Rooms}
-use Rattle.numa_placed.specs.declared.refusal.MoveRefusal.{MoveRefusal}
-use Rattle.numa_placed.specs.declared.refusal.PlacedRefusal.{PlacedRefusal}
-use Rattle.numa_placed.specs.declared.refusal.PlacedRefusal.TheVariants.{NoMemory}
+use Rattle.numa_requests.specs.declared.page_refusal.MoveRefusal.{MoveRefusal}
+use Rattle.numa_requests.specs.declared.page_refusal.PlacedRefusal.{PlacedRefusal}
 use Rattle.numa_placed.specs.declared.spot.Spot.{Spot}
 use Rattle.numa_ranges.specs.declared.run.Run.{Run}
 use Rattle.numa_space.specs.Refusals.{refusal_of}
@@ -23,21 +21,25 @@ use Rattle.numa_placed_script.specs.Lying.{Ground, LastMove, Lying, Motion, OfNo
 use Rattle.numa_placed_script.specs.Lying.{Process, Sent}
 use Rattle.numa_placed_script.specs.Lying.{Told, motion, nothing}
 use Rattle.numa_placed_script.specs.Outcomes.{Outcome, forgotten, has_stated, is_lack}
-use Rattle.numa_placed_script.specs.Outcomes.{is_no_memory, lack_in, lack_of}
+use Rattle.numa_placed_script.specs.Outcomes.{is_no_memory, lack_in, lack_of, lack_reply}
 use Rattle.numa_placed_script.specs.Outcomes.{move_cause_by, move_spots, room_moved_in}
-use Rattle.numa_placed_script.specs.Scenes.{Scene, Served}
+use Rattle.numa_placed_script.specs.Scenes.{Scene}
 use Rattle.numa_placed_script.specs.Sending.{asked_of, command_of, flow_between, rooms_sent}
 use Rattle.numa_placed_script.specs.Sending.{sent_in}
 use Rattle.numa_placed_script.specs.Sending.{sent_spots}
-use Rattle.numa_placed_script.specs.Texts.{cause_name, refusal_line}
 use Rattle.numa_placed_script.specs.declared.beside.Beside.{Beside}
 use Rattle.numa_placed_script.specs.declared.last.Departures.{Departures}
 use Rattle.numa_placed_script.specs.declared.last.Last.{Last}
 use Rattle.numa_placed_script.specs.declared.last.Last.TheVariants as went
-use Rattle.numa_placed_script.specs.declared.line.MoveWords.{MoveWords}
 use Rattle.numa_placed_script.specs.declared.sending.Rebinding.{Rebinding}
 use Rattle.numa_placed_script.specs.declared.sending.Sending.{Sending}
 use Rattle.numa_placed_script.specs.declared.staying.Front.{Front}
+use Rattle.numa_mask.specs.declared.list.ListFault.{ListFault}
+use Rattle.numa_run.specs.Replies.{Replied}
+use Rattle.numa_script.specs.declared.page_line.MoveWords.{MoveWords}
+use Rattle.numa_script.specs.declared.page_line.PageLine.{PageLine}
+use Rattle.numa_script.specs.declared.page_line.PageLine.TheVariants.{Moved as LastMoved}
+use Rattle.numa_script.specs.declared.reply.Reply.{Reply}
 use Rattle.numa_host_script.specs.Standing.{StandsIn as IsIn}
 use Rattle.numa_host_script.specs.declared.script.HostScript.{HostScript}
 
@@ -192,15 +194,20 @@ Replaces old after new = (lying : Lying) (spots : ℕ → Spot) → Lies old lyi
     → ((page : ℕ) → spot_at after page ≡ spots page)
     → Lies new (record lying { spots = spots })
 
--- a line was answered as the outcome says, and the pages lie as it says; where memory lacked, that
--- is answered and nothing has changed
-abbrev pub AnswersAs : {W : Type 0} → (W → Option (List ℕ)) → Beside → Watched W → Bool → Beside
-    → Watched W → (Bool → Lying → Outcome) → Type 0
-AnswersAs contents old output starved new output_then outcome =
-    (lying : Lying) → LiesAs old lying → LiesAs new (outcome starved lying).lying
-    × Said contents output output_then (outcome starved lying).text
-    × (starved ≡ true → (new ≡ old)
-    × Said contents output output_then (refusal_line (cause_name NoMemory)))
+-- a line has the reply that the outcome says, and the pages lie as it says; where memory lacked,
+-- the reply is this, and nothing has changed
+abbrev pub RepliesAs : Beside → Reply → Beside → Reply → (Bool → Lying → Outcome) → Type 0
+RepliesAs old told new lack outcome = (lying : Lying) → LiesAs old lying → (refused : Bool)
+    × LiesAs new (outcome refused lying).lying
+    × ((outcome refused lying).answer ≡ Replied told)
+    × (refused ≡ true → (new ≡ old) × (told ≡ lack))
+
+-- a line about pages was taken: it has a reply, but for `moved`, which changes nothing
+abbrev pub TakesPages : Beside → Option Reply → Beside → Result PageLine ListFault
+    → (Bool → Lying → Outcome) → Type 0
+TakesPages old told new said outcome = MatchOption told
+    ((said ≡ Ok LastMoved) × (new ≡ old))
+    (λ reply. RepliesAs old reply new (lack_reply said) outcome)
 
 -- ---- the script
 
@@ -208,11 +215,3 @@ AnswersAs contents old output starved new output_then outcome =
 abbrev pub StandsIn : HostScript → Option Beside → Scene → Type 0
 StandsIn script beside scene =
     IsIn script.script script.limits script.host scene.session × Lies beside scene.lying
-
--- a line was answered as the definition says
-abbrev pub ServesScene : {W : Type 0} → (W → Option (List ℕ)) → HostScript → Option Beside
-    → Watched W → HostScript → Option Beside → Watched W → (Bool → Scene → Served) → Type 0
-ServesScene contents script beside output script_then beside_then output_then serve =
-    (scene : Scene) → StandsIn script beside scene → (refused : Bool)
-    × StandsIn script_then beside_then (serve refused scene).scene
-    × Said contents output output_then (serve refused scene).text

@@ -1,37 +1,32 @@
 //! Where pages lie, beside a script.
-ghost use Rattle.std.specs.Prelude.{◌≡◌, ◌==◌, ◌<◌, ℕ, Bool, IfOk, None, Option, Some, false};
-ghost use Rattle.std.specs.Prelude.{if◌then◌else◌, is_some, [], MatchOption};
+ghost use Rattle.std.specs.Prelude.{◌≡◌, ◌==◌, ◌<◌, ℕ, Bool, IfOk, None, Ok, Option, Some, false};
+ghost use Rattle.std.specs.Prelude.{if◌then◌else◌, is_some, true, [], IsSomeAnd, MatchOption};
 ghost use Rattle.numa_mask.specs.NodeSet.{both};
 ghost use Rattle.numa_maps.specs.Residents.{Kept};
 ghost use Rattle.numa_placed.specs.Refusals.{migrate_cause, move_cause};
 ghost use Rattle.numa_ranges.specs.Runs.{page_at};
 ghost use Rattle.numa_placed.specs.Shifts.{AreRooms};
+ghost use Rattle.numa_placed.specs.Spots.{is_placed};
 ghost use Rattle.numa_placed_script.specs.Lying.{Lying, ground_in, nothing, still};
-ghost use Rattle.numa_placed_script.specs.Outcomes.{at_outcome, followed, is_lack, is_no_memory};
+ghost use Rattle.numa_placed_script.specs.Outcomes.{at_outcome, followed};
 ghost use Rattle.numa_placed_script.specs.Outcomes.{held_move_unless, memory_migrate_outcome};
 ghost use Rattle.numa_placed_script.specs.Outcomes.{migrate_outcome, move_cause_by, move_outcome};
-ghost use Rattle.numa_placed_script.specs.Outcomes.{move_unless, placed_outcome, room_outcome};
-ghost use Rattle.numa_placed_script.specs.Outcomes.{rooms_of, told_of, with_text};
-ghost use Rattle.numa_placed_script.specs.Standing.{AnswersAs, HaveRoom, LiesAs, Migrates};
-ghost use Rattle.numa_placed_script.specs.Standing.{MovesPage, TellsOf};
-ghost use Rattle.numa_placed_script.specs.Texts.{last_line};
-ghost use Rattle.numa_script.specs.Texts.{text_of};
+ghost use Rattle.numa_placed_script.specs.Outcomes.{move_unless, placed_outcome};
+ghost use Rattle.numa_placed_script.specs.Outcomes.{page_outcome, room_outcome};
+ghost use Rattle.numa_placed_script.specs.Outcomes.{rooms_of, told_of};
+ghost use Rattle.numa_placed_script.specs.Standing.{HaveRoom, Lies, LiesAs, Migrates};
+ghost use Rattle.numa_placed_script.specs.Standing.{MovesPage, RepliesAs, TakesPages, TellsOf};
 
 use crate::frames::with_held;
 use crate::last::{Last, keep};
-use crate::line::PlacedLine;
-use crate::tell::{say_last, say_move_refusal, say_moved, say_node, say_refusal};
-use numa_lines::Watched;
 use numa_machine::NoMemory;
 use numa_maps::Resident;
-use numa_mask::NodeMask;
-use numa_placed::{MoveRefusal, Moved, Placed, PlacedRefusal, Rooms, Spot, judge_move, lacks_node};
-use numa_requests::PAGE_BYTES;
-use numa_script::tell::say_reply;
-use numa_script::{Reply, WordError};
+use numa_mask::{ListFault, NodeMask};
+use numa_placed::{Moved, Placed, Rooms, Spot, judge_move, lacks_node};
+use numa_requests::{MoveRefusal, PAGE_BYTES, PlacedRefusal};
+use numa_script::{PageLine, Reply, WordError};
 use numa_space::Space;
 use std::alloc::Global;
-use std::io::Write;
 
 /// Where pages lie, how many more each node takes, whether pages follow the allowed nodes, and what
 /// the last move did.
@@ -44,7 +39,7 @@ pub(crate) struct Beside {
 }
 
 /// A move of nothing.
-fn still() -> Moved
+pub(crate) fn still() -> Moved
     ensures { TellsOf result still }
 {
     Moved {
@@ -53,20 +48,6 @@ fn still() -> Moved
         from: [0; 256],
         to: [0; 256],
     }
-}
-
-/// Whether a refusal tells that memory ran out.
-pub(crate) fn is_no_memory(refusal: PlacedRefusal) -> bool
-    ensures { result ≡ is_no_memory refusal }
-{
-    matches!(refusal, PlacedRefusal::NoMemory)
-}
-
-/// Whether a refusal of a move tells that memory ran out.
-fn is_lack(refusal: MoveRefusal) -> bool
-    ensures { result ≡ is_lack refusal }
-{
-    matches!(refusal, MoveRefusal::NoMemory)
 }
 
 /// What is told of a page that went from a node to another.
@@ -200,16 +181,15 @@ impl Beside {
     }
 
     /// The mapped pages of a span lie on a node.
-    fn at<W: Write>(
+    fn at(
         &mut self,
         space: &Space,
         resident: &Resident,
         start: u64,
         length: u64,
         node: u32,
-        output: &mut Watched<W>,
-    ) -> bool
-        ensures { AnswersAs W.contents self.old output.old result self.new output.new
+    ) -> Reply
+        ensures { RepliesAs self.old result self.new (Reply.PlacedRefused PlacedRefusal.NoMemory)
             (λ refused at. at_outcome refused (ground_in space.now resident.now) start length node
             at) }
     {
@@ -217,130 +197,87 @@ impl Beside {
             .placed
             .state_beside(space, resident, start, length, node)
         {
-            Ok(()) => {
-                output.say(b"at ok\n");
-                false
-            }
-            Err(refusal) => {
-                say_refusal(output, refusal);
-                is_no_memory(refusal)
-            }
+            Ok(()) => Reply::AtOk,
+            Err(refusal) => Reply::PlacedRefused(refusal),
         }
     }
 
     /// Says how many more pages a node takes.
-    fn room<W: Write>(
-        &mut self,
-        space: &Space,
-        node: u32,
-        pages: u64,
-        output: &mut Watched<W>,
-    ) -> bool
-        ensures { AnswersAs W.contents self.old output.old result self.new output.new
+    fn room(&mut self, space: &Space, node: u32, pages: u64) -> Reply
+        ensures { RepliesAs self.old result self.new (Reply.PlacedRefused PlacedRefusal.NoMemory)
             (λ refused at. room_outcome space.now.machine node pages at) }
     {
         if lacks_node(space.machine(), node) {
-            say_refusal(output, PlacedRefusal::NoSuchNode);
-            return false;
+            return Reply::PlacedRefused(PlacedRefusal::NoSuchNode);
         }
         self.rooms = Some(limited(&self.rooms, node as u8, pages));
-        output.say(b"room ok\n");
-        false
+        Reply::RoomOk
     }
 
     /// Says whether pages follow the allowed nodes.
-    fn memory_migrate<W: Write>(&mut self, follows: bool, output: &mut Watched<W>) -> bool
-        ensures { AnswersAs W.contents self.old output.old result self.new output.new
+    fn memory_migrate(&mut self, follows: bool) -> Reply
+        ensures { RepliesAs self.old result self.new (Reply.PlacedRefused PlacedRefusal.NoMemory)
             (λ refused at. memory_migrate_outcome follows at) }
     {
         self.follows = follows;
-        output.say(b"memory-migrate ok\n");
-        false
+        Reply::MemoryMigrateOk
     }
 
     /// Pages leave the nodes of one set for the allowed nodes of another.
-    fn migrate<W: Write>(
+    fn migrate(
         &mut self,
         space: &Space,
         resident: &Resident,
         from: &NodeMask,
         to: &NodeMask,
-        output: &mut Watched<W>,
-    ) -> bool
-        ensures { AnswersAs W.contents self.old output.old result self.new output.new
+    ) -> Reply
+        ensures { RepliesAs self.old result self.new (Reply.PlacedRefused PlacedRefusal.NoMemory)
             (λ refused at. migrate_outcome refused (ground_in space.now resident.now) from.now
             to.now at) }
     {
         match migrate(&mut self.placed, &mut self.rooms, space, from, to) {
             Ok(moved) => {
-                let moved = with_held(moved, Some(resident));
-                say_moved(output, moved.moved, moved.left);
-                keep(&mut self.last, Last::Nodes(moved));
-                false
+                let done = with_held(moved, Some(resident));
+                let moved = done.moved;
+                let left = done.left;
+                keep(&mut self.last, Last::Nodes(done));
+                Reply::Moved { moved, left }
             }
-            Err(refusal) => {
-                say_refusal(output, refusal);
-                is_no_memory(refusal)
-            }
+            Err(refusal) => Reply::PlacedRefused(refusal),
         }
     }
 
     /// A page that keeps a frame stays there, and has moved if its node is the one asked for.
-    fn stay<W: Write>(
-        &mut self,
-        space: &Space,
-        page: u64,
-        node: u32,
-        from: u8,
-        output: &mut Watched<W>,
-    ) -> bool
-        ensures { AnswersAs W.contents self.old output.old result self.new output.new
+    fn stay(&mut self, space: &Space, page: u64, node: u32, from: u8) -> Reply
+        ensures { RepliesAs self.old result self.new (Reply.MoveRefused MoveRefusal.NoMemory)
             (λ refused at. held_move_unless (move_cause space.now.machine space.now.allowed node
             (is_some (page_at space.now.ranges page)) (Spot.Held from)) node at) }
     {
         match judge_move(space, page, node, Spot::Held(from)) {
             Ok(()) => {
                 keep(&mut self.last, Last::Nodes(still()));
-                say_node(output, node);
-                false
+                Reply::MovedTo(node)
             }
-            Err(refusal) => {
-                say_move_refusal(output, refusal);
-                false
-            }
+            Err(refusal) => Reply::MoveRefused(refusal),
         }
     }
 
     /// A page goes to a node.
-    fn move_page<W: Write>(
-        &mut self,
-        space: &Space,
-        resident: &Resident,
-        address: u64,
-        node: u32,
-        output: &mut Watched<W>,
-    ) -> bool
-        ensures { AnswersAs W.contents self.old output.old result self.new output.new
+    fn move_page(&mut self, space: &Space, resident: &Resident, address: u64, node: u32) -> Reply
+        ensures { RepliesAs self.old result self.new (Reply.MoveRefused MoveRefusal.NoMemory)
             (λ refused at. move_outcome refused (ground_in space.now resident.now) address node
             at) }
     {
         let page = address / PAGE_BYTES;
         match resident.at(page) {
-            Some(placement) => self.stay(space, page, node, placement.node, output),
-            None => self.send(space, resident, page, node, output),
+            Some(placement) => self.stay(space, page, node, placement.node),
+            None => self.send(space, resident, page, node),
         }
     }
 
     /// A page that keeps no frame goes to a node.
-    fn send<W: Write>(
-        &mut self,
-        space: &Space,
-        _resident: &Resident,
-        page: u64,
-        node: u32,
-        output: &mut Watched<W>,
-    ) -> bool
-        ensures { AnswersAs W.contents self.old output.old result self.new output.new
+    fn send(&mut self, space: &Space, _resident: &Resident, page: u64, node: u32) -> Reply
+        ensures { RepliesAs self.old result self.new (Reply.MoveRefused MoveRefusal.NoMemory)
             (λ refused at. move_unless (move_cause_by refused
             (ground_in space.now _resident.now) page node at) page node at) }
     {
@@ -355,64 +292,49 @@ impl Beside {
         ) {
             Ok(()) => {
                 keep(&mut self.last, Last::Nodes(told_of(node, spot)));
-                say_node(output, node);
-                false
+                Reply::MovedTo(node)
             }
-            Err(refusal) => {
-                say_move_refusal(output, refusal);
-                is_lack(refusal)
-            }
+            Err(refusal) => Reply::MoveRefused(refusal),
         }
     }
 
-    /// Writes a reply to a line that changes nothing.
-    fn reply<W: Write>(&mut self, reply: Reply, output: &mut Watched<W>) -> bool
-        ensures { AnswersAs W.contents self.old output.old result self.new output.new
-            (λ refused at. with_text (text_of reply) at) }
-    {
-        say_reply(output, &reply);
-        false
-    }
-
-    /// Tells what the last move did.
-    fn moved<W: Write>(&mut self, version: u64, output: &mut Watched<W>) -> bool
-        ensures { AnswersAs W.contents self.old output.old result self.new output.new
-            (λ refused at. with_text (last_line version at.last) at) }
-    {
-        say_last(output, version, &self.last);
-        false
-    }
-
-    /// Answers a line about pages. Returns whether memory ran out; then the answer says so.
-    pub(crate) fn serve<W: Write>(
-        &mut self,
-        space: &Space,
-        resident: &Resident,
-        line: &PlacedLine,
-        output: &mut Watched<W>,
-    ) -> bool
-        ensures { AnswersAs W.contents self.old output.old result self.new output.new
-            (λ refused at. placed_outcome refused (ground_in space.now resident.now)
+    /// Carries out a line about pages, and returns its reply; `None` for `moved`, whose answer is a
+    /// text.
+    fn take_page(&mut self, space: &Space, resident: &Resident, line: &PageLine) -> Option<Reply>
+        ensures { TakesPages self.old result self.new (Ok line.now)
+            (λ refused at. page_outcome refused (ground_in space.now resident.now)
             space.now.version line.now at) }
     {
         match line {
-            PlacedLine::Plain => self.reply(Reply::BadState, output),
-            PlacedLine::Malformed => self.reply(Reply::BadWords, output),
-            PlacedLine::At {
+            PageLine::At {
                 start,
                 length,
                 node,
-            } => self.at(space, resident, *start, *length, *node, output),
-            PlacedLine::Room { node, pages } => self.room(space, *node, *pages, output),
-            PlacedLine::MemoryMigrate(follows) => self.memory_migrate(*follows, output),
-            PlacedLine::Migrate { from, to } => self.migrate(space, resident, from, to, output),
-            PlacedLine::BadList(fault) => {
-                self.reply(Reply::BadWord(WordError::List(*fault)), output)
+            } => Some(self.at(space, resident, *start, *length, *node)),
+            PageLine::Room { node, pages } => Some(self.room(space, *node, *pages)),
+            PageLine::MemoryMigrate(follows) => Some(self.memory_migrate(*follows)),
+            PageLine::Migrate { from, to } => Some(self.migrate(space, resident, from, to)),
+            PageLine::Move { address, node } => {
+                Some(self.move_page(space, resident, *address, *node))
             }
-            PlacedLine::Move { address, node } => {
-                self.move_page(space, resident, *address, *node, output)
-            }
-            PlacedLine::Moved => self.moved(space.version(), output),
+            PageLine::Moved => None,
+        }
+    }
+
+    /// Carries out a line about pages, as `take_page`, or tells what is wrong with its list.
+    pub(crate) fn take(
+        &mut self,
+        space: &Space,
+        resident: &Resident,
+        said: &Result<PageLine, ListFault>,
+    ) -> Option<Reply>
+        ensures { TakesPages self.old result self.new said.now
+            (λ refused at. placed_outcome refused (ground_in space.now resident.now)
+            space.now.version said.now at) }
+    {
+        match said {
+            Ok(line) => self.take_page(space, resident, line),
+            Err(fault) => Some(Reply::BadWord(WordError::List(*fault))),
         }
     }
 
@@ -434,5 +356,49 @@ impl Beside {
                 keep(&mut self.last, Last::Nodes(still()));
             }
         }
+    }
+}
+
+/// Begins to keep where pages lie, if nothing is kept yet. Returns whether memory ran out.
+pub(crate) fn begins_starved(alloc: Global, beside: &mut Option<Beside>) -> bool
+    ensures starved { result ≡ true → (beside.new ≡ beside.old) × (beside.old ≡ None) }
+    ensures kept { result ≡ false → IsSomeAnd beside.new (λ kept. (lying : Lying)
+        → Lies beside.old lying → LiesAs kept lying) }
+{
+    if let Some(_) = beside {
+        return false;
+    }
+    match Beside::new(alloc) {
+        Ok(begun) => {
+            *beside = Some(begun);
+            false
+        }
+        Err(_) => true,
+    }
+}
+
+/// Whether a page lies somewhere.
+pub(crate) fn is_there(beside: &Option<Beside>, page: u64) -> bool
+    ensures { (lying : Lying) → Lies beside.now lying → result ≡ is_placed (lying.spots page) }
+{
+    let Some(kept) = beside else {
+        return false;
+    };
+    kept.placed.at(page).node().is_some()
+}
+
+/// Pages follow the allowed nodes, where any are kept.
+pub(crate) fn follow_where(
+    beside: &mut Option<Beside>,
+    old: &NodeMask,
+    new: &NodeMask,
+    resident: Option<&Resident>,
+)
+    ensures { (lying : Lying) (kept : Kept) → Lies beside.old lying → MatchOption resident.entry
+        (kept ≡ []) (λ held. held.now ≡ kept)
+        → (refused : Bool) × Lies beside.new (followed refused old.now new.now kept lying) }
+{
+    if let Some(beside) = beside {
+        beside.follow(old, new, resident);
     }
 }

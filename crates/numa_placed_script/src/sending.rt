@@ -4,7 +4,8 @@ ghost use Rattle.std.specs.Prelude.{if◌then◌else◌, is_some};
 ghost use Rattle.numa_placed.specs.Refusals.{span_cause};
 ghost use Rattle.numa_placed_script.specs.Lying.{Lying};
 ghost use Rattle.numa_placed_script.specs.Outcomes.{cause_by, is_no_memory};
-ghost use Rattle.numa_placed_script.specs.Sending.{command_of, lacks_room, rebinding_in};
+ghost use Rattle.numa_placed_script.specs.Sending.{below_end, command_of, lacks_room};
+ghost use Rattle.numa_placed_script.specs.Sending.{rebinding_in};
 ghost use Rattle.numa_placed_script.specs.Sending.{rebinding_of, sent_spots, tells_left};
 ghost use Rattle.numa_placed_script.specs.Standing.{HasPolicy, HasSent, LiesAs, Sends, asked_for};
 ghost use Rattle.numa_space.specs.Refusals.{refusal_of};
@@ -13,15 +14,14 @@ ghost use Rattle.numa_requests.specs.declared.command.Command.{Command};
 
 use crate::beside::{Beside, rooms_of};
 use crate::last::{Departures, Last, keep};
-use crate::line::MoveWords;
 use crate::staying::held_kept;
 use numa_machine::{NoMemory, Rules};
 use numa_maps::Resident;
 use numa_mode::PolicySpec;
-use numa_placed::{Placed, PlacedRefusal, Rooms};
-use numa_requests::{Command, Refusal};
-use numa_script::Line;
-use numa_script::line::empty_bind;
+use numa_placed::{Placed, Rooms, span_below};
+use numa_requests::{Command, PlacedRefusal, Refusal};
+use numa_script::commands::empty_bind;
+use numa_script::{Line, MoveWords};
 use numa_space::Space;
 use std::alloc::Global;
 use std::mem;
@@ -194,6 +194,19 @@ fn sent_in(
     })
 }
 
+/// The policy for the part of its span that can be mapped.
+fn below_end(said: &Rebinding) -> Rebinding
+    ensures { result ≡ below_end said.now }
+{
+    let (start, length) = span_below(said.start, said.length);
+    let spec = said.spec;
+    Rebinding {
+        start,
+        length,
+        spec,
+    }
+}
+
 /// Where pages go once a policy is set; none if something refuses the policy.
 ///
 /// # Errors
@@ -220,7 +233,8 @@ pub(crate) fn sent(
     let Some(after) = found else {
         return Ok(None);
     };
-    let outcome = sent_in(&after, resident, beside, said, words);
+    let part = below_end(said);
+    let outcome = sent_in(&after, resident, beside, &part, words);
     let_go(after);
     match outcome {
         Ok(sent) => Ok(Some(sent)),

@@ -13,12 +13,12 @@ ghost use Rattle.numa_ranges.specs.Runs.{in_pages};
 ghost use Rattle.numa_space.specs.History.{page_count, page_of};
 
 use crate::binding::{is_in, page_count};
-use crate::line::MoveWords;
 use crate::sending::Rebinding;
 use numa_machine::NoMemory;
 use numa_maps::Resident;
 use numa_placed::{Placed, Rooms, node_with_room};
 use numa_requests::PAGE_BYTES;
+use numa_script::MoveWords;
 use numa_space::Space;
 
 /// How many more pages each node takes, once the pages below one went.

@@ -3,7 +3,7 @@ ghost use Rattle.std.specs.Prelude.{◌≤◌, ◌+◌, OnOk, IsErrOf};
 ghost use Rattle.numa_lines.specs.Runs.{AnswersAll, NeverBegins, StopsAtRead, StopsAtWrite};
 ghost use Rattle.numa_lines.specs.Runs.{most_reads};
 ghost use Rattle.numa_lines.specs.Watching.{read_count};
-ghost use Rattle.numa_placed_script.specs.Scenes.{scene_after, scene_answer, scene_by};
+ghost use Rattle.numa_placed_script.specs.Scenes.{scene_after_bytes, scene_answer_to, scene_by};
 
 use crate::script::PlacedScript;
 use numa_lines::{RunFault, Watched, serve_script};
@@ -25,12 +25,14 @@ pub fn run_by<R: Read, W: Write>(
     input: &mut Watched<R>,
     output: &mut Watched<W>,
 ) -> Result<(), RunFault>
-    ensures ok { OnOk result (AnswersAll R.remaining W.contents scene_answer scene_after
+    ensures ok { OnOk result (AnswersAll R.remaining W.contents scene_answer_to scene_after_bytes
         (scene_by rules) input.old input.new output.old output.new) }
-    ensures read { IsErrOf result RunFault.Read → StopsAtRead R.remaining W.contents scene_answer
-        scene_after (scene_by rules) input.old input.new output.old output.new }
+    ensures read { IsErrOf result RunFault.Read → StopsAtRead R.remaining W.contents
+        scene_answer_to scene_after_bytes (scene_by rules) input.old input.new output.old
+        output.new }
     ensures write { IsErrOf result RunFault.Write → StopsAtWrite R.remaining W.contents
-        scene_answer scene_after (scene_by rules) input.old input.new output.old output.new }
+        scene_answer_to scene_after_bytes (scene_by rules) input.old input.new output.old
+        output.new }
     ensures memory { IsErrOf result RunFault.Memory →
         NeverBegins R.remaining W.contents input.old input.new output.old output.new }
     ensures reads { read_count input.new ≤ read_count input.old + most_reads }

@@ -222,6 +222,8 @@ none_won (done.Accepted version) none = refl
 none_won (done.Published version) none = refl
 none_won done.Still none = refl
 none_won (done.Exhausted version) none = refl
+none_won (done.Found frame) none = refl
+none_won done.Full none = refl
 none_won done.Given none = refl
 
 -- the machine after the core's touch

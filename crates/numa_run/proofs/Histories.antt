@@ -13,8 +13,8 @@ use Rattle.numa_core.specs.World.{Setup, World, newest_published}
 use Rattle.numa_core.specs.Steps.{refusal_of, reply_of, refused_or, IsAnswer}
 use Rattle.numa_machine.specs.declared.frame.Frame.{Frame}
 use Rattle.numa_requests.specs.declared.event.Event.{Event}
-use Rattle.numa_requests.specs.declared.event.Event.TheVariants.{Accept, Publish, Begin, Look, Try}
-use Rattle.numa_requests.specs.declared.event.Event.TheVariants.{Give}
+use Rattle.numa_requests.specs.declared.event.Event.TheVariants.{Accept, Publish, Begin, Seek}
+use Rattle.numa_requests.specs.declared.event.Event.TheVariants.{Give, Look, Try}
 use Rattle.numa_requests.specs.declared.event.CoreReply.{CoreReply}
 use Rattle.numa_requests.specs.declared.event.CoreRefusal.{CoreRefusal}
 use Rattle.numa_requests.specs.declared.event.CoreRefusal.TheVariants.{Command as Because}
@@ -51,6 +51,7 @@ answer-told s world (Accept command) answer (inr want) = (
 )
 answer-told s world Publish answer (inr want) = (true, want.1)
 answer-told s world (Begin w request) answer (inr want) = absurd want.1
+answer-told s world (Seek w node) answer (inr want) = absurd want.1
 answer-told s world (Look w word) answer (inr want) = absurd want.1
 answer-told s world (Try w frame) answer (inr want) = absurd want.1
 answer-told s world (Give w frame) answer (inr want) = absurd want.1

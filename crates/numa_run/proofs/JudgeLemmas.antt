@@ -1,6 +1,6 @@
 -- What judging a line of each kind comes to.
 use Rattle.std.proofs.Common.{◌≡◌, ℕ, Bool, true, false, Option, Some, None, List, length, refl}
-use Rattle.std.proofs.Common.{sym, ap, subst, inl, inr, ◌∙◌}
+use Rattle.std.proofs.Common.{sym, ap, subst, ◌∙◌}
 use Rattle.std.specs.Prelude.{◌↔◌, IsSomeAnd, IsTrue, if◌then◌else◌}
 use Rattle.std.specs.Option.{option_map}
 use Rattle.numa_machine.specs.Machine.{Hardware}
@@ -13,39 +13,24 @@ use Rattle.numa_script.specs.declared.line.Line.{Line}
 use Rattle.numa_script.specs.declared.line.Line.TheVariants as line
 use Rattle.numa_script.specs.declared.line.Question.{Question}
 use Rattle.numa_script.specs.declared.line.Question.TheVariants as question
-use Rattle.numa_run.specs.Answers.{State, reply_of, after}
-use Rattle.numa_run.specs.Judged.{is_fault, fault_in, fault_or, fault_of, asked_by, asked_fault}
-use Rattle.numa_run.specs.Judged.{cause_at, question_cause, question_refusal, LacksMemory}
-use Rattle.numa_run.specs.Judged.{IsStarved}
+use Rattle.numa_run.specs.Answers.{State, reply_of}
+use Rattle.numa_script.specs.Replies.{LacksMemory, fault_in, is_fault}
+use Rattle.numa_run.specs.Judged.{fault_or, fault_of, asked_by, asked_fault, cause_at}
+use Rattle.numa_run.specs.Judged.{question_cause, question_refusal, IsStarved}
 use Rattle.numa_run.specs.Questions.{question_text}
 use Rattle.numa_run.specs.Ranges.{listing_of}
 use Rattle.numa_run.specs.Replies.{Served, reply_in, with_text, outcome_of, served_by, served_later}
-use Rattle.numa_run.specs.Standing.{RunsAs, Takes}
+use Rattle.numa_run.specs.Standing.{RunsAs}
 use Rattle.numa_run.specs.declared.running.Running.{Running}
-use Rattle.numa_run.specs.declared.running.Taken.TheVariants as taken
 use Rattle.numa_script.specs.declared.reply.Reply.{Reply}
 use Rattle.numa_script.specs.declared.reply.Reply.TheVariants as reply
-
--- the line was judged as the definition says, and the state that it says is reached
-abbrev pub Judges : Running → Line → Option Reply → Running → Type 0
-Judges old said fault new =
-    (state : State) → RunsAs old state
-    → (refused : Bool) × (fault ≡ fault_of refused state said)
-    × RunsAs new (after refused state said)
 
 -- a reply is told where it is a fault
 pub told-judged : (told : Reply) (refused : Bool) (state : State) (said : Line) →
     Some told ≡ reply_of refused state said → fault_in told ≡ fault_of refused state said
 told-judged told refused state said is = ap (λ o. fault_or o (asked_fault refused state said)) is
 
-pub replied-judged : (old new : Running) (said : Line) (told : Reply)
-    → Takes old said (taken.Reply told) new → Judges old said (fault_in told) new
-replied-judged old new said told takes =
-    λ state stands.
-    let t = takes state stands in
-    (t.0, told-judged told t.0 state said t.1, t.2)
-
-served-is : (running : Running) (said : Line) (refused : Bool) (state : State)
+pub served-is : (running : Running) (said : Line) (refused : Bool) (state : State)
     → RunsAs running state →
     outcome_of refused state said ≡ served_later refused (setup_of running.core).machine state said
 unfolding outcome_of
@@ -53,7 +38,7 @@ served-is running said refused state stands = ap (λ m. served_by m refused stat
     stands.core.machine
 
 -- a question is answered the fault or the refusal that its cause gives
-asked-fault : (running : Running) (asked : Question) (refused : Bool) (state : State)
+pub asked-fault : (running : Running) (asked : Question) (refused : Bool) (state : State)
     → RunsAs running state
     → option_map reply.Refused
     (question_cause refused (setup_of running.core).machine state.world.history asked)
@@ -70,50 +55,14 @@ asked-fault running asked refused state stands =
     sym (ap (λ m. asked_by m refused state.world.history asked) stands.core.machine) in
     asks ∙ ap (λ o. fault_or o (asked_fault refused state (line.Question asked))) none
 
--- a question, by what refuses it
-pub asked-judged : (old mid new : Running) (said : Line) (asked : Question)
-    (cause : Option CoreRefusal) → said ≡ line.Question asked → mid ≡ old
-    → ((state : State) → RunsAs mid state → (refused : Bool) × RunsAs new state
-    × (cause ≡ question_cause refused (setup_of mid.core).machine state.world.history asked))
-    → Judges old said (option_map reply.Refused cause) new
-asked-judged old mid new said asked cause is same h =
-    subst (λ (l : Line). Judges old l (option_map reply.Refused cause) new) (sym is)
-    (subst (λ (r : Running). Judges r (line.Question asked) (option_map reply.Refused cause) new)
-    same
-    (λ state stands.
-    let a = h state stands in
-    let machine = (setup_of mid.core).machine in
-    let is : outcome_of a.0 state (line.Question asked)
-    ≡ with_text (question_text a.0 machine state.world.history asked) state =
-    served-is mid (line.Question asked) a.0 state stands in (
-      a.0,
-      ap (option_map reply.Refused) a.2 ∙ asked-fault mid asked a.0 state stands,
-      subst (λ (r : Served). RunsAs new r.state) (sym is) a.1,
-    )))
-
 -- maps
-listed-fault : (running : Running) (task : ℕ) (state : State) → RunsAs running state
+pub listed-fault : (running : Running) (task : ℕ) (state : State) → RunsAs running state
     → None ≡ fault_of false state (line.Maps task)
 listed-fault running task state stands =
     let is : outcome_of false state (line.Maps task)
     ≡ with_text (listing_of (setup_of running.core).machine state.world.history task
     state.resident) state = served-is running (line.Maps task) false state stands in
     ap (λ o. fault_or o None) (sym (ap (λ r. reply_in r.answer) is))
-
-pub listed-judged : (old new : Running) (said : Line) (task : ℕ) → said ≡ line.Maps task → new ≡ old
-    → Judges old said None new
-listed-judged old new said task is same =
-    subst (λ (l : Line). Judges old l None new) (sym is)
-    (subst (λ (r : Running). Judges r (line.Maps task) None new) same
-    (λ state stands.
-    let is : outcome_of false state (line.Maps task)
-    ≡ with_text (listing_of (setup_of new.core).machine state.world.history task state.resident)
-    state = served-is new (line.Maps task) false state stands in (
-      false,
-      listed-fault new task state stands,
-      subst (λ (r : Served). RunsAs new r.state) (sym is)
-          stands,
-    )))
 
 -- with memory, a question is refused by what refuses it
 pub plain-cause : (machine : Hardware) (history : List Command) (asked : Question) →
@@ -128,47 +77,69 @@ plain-cause machine history question.Ranges = refl
 
 -- a reply that says so is a fault or a refusal
 starved-fault : (told : Reply) → LacksMemory told → is_fault told ≡ true
-starved-fault told (inl e) = ap is_fault e
-starved-fault told (inr (inl e)) = ap is_fault e
-starved-fault told (inr (inr e)) = ap is_fault e
+starved-fault (reply.BadMachine fault) lacks = refl
+starved-fault (reply.Refused cause) lacks = refl
+starved-fault (reply.HostRefused cause) lacks = refl
+starved-fault (reply.PlacedRefused cause) lacks = refl
+starved-fault (reply.MoveRefused cause) lacks = refl
+starved-fault reply.Silent lacks = absurd lacks
+starved-fault reply.BadWords lacks = absurd lacks
+starved-fault reply.BadState lacks = absurd lacks
+starved-fault reply.LimitsOk lacks = absurd lacks
+starved-fault reply.BadLimits lacks = absurd lacks
+starved-fault reply.RulesOk lacks = absurd lacks
+starved-fault reply.CpusOk lacks = absurd lacks
+starved-fault reply.Ready lacks = absurd lacks
+starved-fault (reply.BadWord fault) lacks = absurd lacks
+starved-fault (reply.Accepted version) lacks = absurd lacks
+starved-fault (reply.Published version) lacks = absurd lacks
+starved-fault reply.Still lacks = absurd lacks
+starved-fault (reply.Exhausted version) lacks = absurd lacks
+starved-fault (reply.Won win) lacks = absurd lacks
+starved-fault (reply.Found frame) lacks = absurd lacks
+starved-fault reply.Full lacks = absurd lacks
+starved-fault reply.Given lacks = absurd lacks
+starved-fault (reply.Back frame) lacks = absurd lacks
+starved-fault reply.Placed lacks = absurd lacks
+starved-fault reply.HostReady lacks = absurd lacks
+starved-fault reply.AtOk lacks = absurd lacks
+starved-fault reply.RoomOk lacks = absurd lacks
+starved-fault reply.MemoryMigrateOk lacks = absurd lacks
+starved-fault (reply.Moved moved left) lacks = absurd lacks
+starved-fault (reply.MovedTo node) lacks = absurd lacks
+starved-fault (reply.Sent version moved left late) lacks = absurd lacks
 
 starved-in : (told : Reply) (b : Bool) → IsSomeAnd (if b then Some told else None) LacksMemory
     → LacksMemory told
 starved-in told true s = s
 starved-in told false s = absurd s
 
-pub told-starved : (told : Reply) (lacks : Bool) (refused : Bool) (state : State) (said : Line)
-    → Some told ≡ reply_of refused state said → (IsTrue lacks ↔ LacksMemory told)
-    → IsTrue lacks ↔ IsStarved refused state said
-told-starved told lacks refused state said is h =
-    subst (λ (o : Option Reply). IsTrue lacks ↔ IsSomeAnd o LacksMemory)
-    (told-judged told refused state said is) (
-      λ e. subst (λ (b : Bool). IsSomeAnd (if b then Some told else None) LacksMemory)
-          (sym (starved-fault told (h.0 e))) (h.0 e),
-      λ s. h.1 (starved-in told (is_fault told) s),
-    )
+-- so a reply says it where its fault does
+pub reply-starved : (told : Reply) (lacks : Bool) → (IsTrue lacks ↔ LacksMemory told)
+    → IsTrue lacks ↔ IsSomeAnd (fault_in told) LacksMemory
+reply-starved told lacks h = (
+  λ e. subst (λ (b : Bool). IsSomeAnd (if b then Some told else None) LacksMemory)
+      (sym (starved-fault told (h.0 e))) (h.0 e),
+  λ s. h.1 (starved-in told (is_fault told) s),
+)
 
 -- a page that isn't mapped, or a node that isn't there, is no lack
 unstarved : (version : ℕ) (cause : Option PlaceRefusal)
     → IsSomeAnd (option_map reply.Refused (option_map (cause_at version) cause)) LacksMemory → ⊥
 unstarved version None s = s
-unstarved version (Some place.BadCpu) (inl e) = cc
-unstarved version (Some place.BadCpu) (inr (inl e)) = cc
-unstarved version (Some place.BadCpu) (inr (inr e)) = cc
-unstarved version (Some place.Unmapped) (inl e) = cc
-unstarved version (Some place.Unmapped) (inr (inl e)) = cc
-unstarved version (Some place.Unmapped) (inr (inr e)) = cc
+unstarved version (Some place.BadCpu) s = s
+unstarved version (Some place.Unmapped) s = s
 
-cause-starved : (lacks : Bool) (machine : Hardware) (history : List Command) (asked : Question)
+pub cause-starved : (lacks : Bool) (machine : Hardware) (history : List Command) (asked : Question)
     → (asked ≡ question.Ranges → lacks ≡ false)
     → IsTrue lacks
     ↔ IsSomeAnd (option_map reply.Refused (question_cause lacks machine history asked)) LacksMemory
 cause-starved true machine history (question.Place task address cpu) ranges =
-    (λ e. inr (inr refl), λ s. refl)
+    (λ e. tt, λ s. refl)
 cause-starved true machine history (question.Span task address pages cpu) ranges =
-    (λ e. inr (inr refl), λ s. refl)
+    (λ e. tt, λ s. refl)
 cause-starved true machine history (question.Counts task address pages cpu) ranges =
-    (λ e. inr (inr refl), λ s. refl)
+    (λ e. tt, λ s. refl)
 cause-starved false machine history (question.Place task address cpu) ranges = (
   λ e. cc,
   λ s.

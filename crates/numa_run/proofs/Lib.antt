@@ -7,3 +7,4 @@ pub mod Limiting
 pub mod LineLemmas
 pub mod Listed
 pub mod Spanned
+pub mod Taking

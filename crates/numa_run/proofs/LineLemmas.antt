@@ -1,6 +1,6 @@
 -- What serving a line of each kind comes to.
-use Rattle.std.specs.Prelude.{◌≡◌, ◌↔◌, ℕ, if◌then◌else◌, IsTrue, Bool, true, false, Option, Some}
-use Rattle.std.specs.Prelude.{None, List, [], refl, Result, Ok, Err}
+use Rattle.std.specs.Prelude.{◌≡◌, ℕ, Bool, true, false, Option, Some}
+use Rattle.std.specs.Prelude.{None, List, [], refl, Result, Ok, Err, if◌then◌else◌}
 use Rattle.std.proofs.Common.{sym, ◌∙◌, ap, subst}
 use Rattle.numa_mask.specs.declared.list.ListFault.{ListFault}
 use Rattle.numa_machine.specs.Machine.{Hardware}
@@ -16,22 +16,19 @@ use Rattle.numa_script.specs.declared.policy.WordError.{WordError}
 use Rattle.numa_script.specs.declared.policy.WordError.TheVariants as word_fault
 use Rattle.numa_script.specs.declared.line.MachineLine.{MachineLine}
 use Rattle.numa_script.specs.declared.line.Question.{Question}
-use Rattle.numa_script.specs.declared.line.Question.TheVariants as question
 use Rattle.numa_script.specs.declared.line.Line.{Line}
 use Rattle.numa_script.specs.declared.line.Line.TheVariants as line
-use Rattle.numa_run.specs.Answers.{State, answer_of, reply_of, after}
-use Rattle.numa_run.specs.Judged.{LacksMemory, IsStarved}
+use Rattle.numa_run.specs.Answers.{State, reply_of, after}
 use Rattle.numa_run.specs.Machines.{limits_fit, nodes_with_cpus, hardware_of, has_bad_nodes}
 use Rattle.numa_run.specs.Machines.{first_fault}
 use Rattle.numa_run.specs.Questions.{question_text}
 use Rattle.numa_run.specs.Ranges.{listing_of}
-use Rattle.numa_run.specs.Replies.{Answer, Replied, Shown, bytes_of, reply_in, Served, with_text}
+use Rattle.numa_run.specs.Replies.{reply_in, Served, with_text}
 use Rattle.numa_run.specs.Replies.{with_reply, cpus_outcome, machine_unless, machine_outcome}
 use Rattle.numa_run.specs.Replies.{served_first, served_later, command_outcome, with_outcome}
 use Rattle.numa_run.specs.Replies.{served_by, outcome_of}
 use Rattle.numa_run.specs.Standing.{RunsAs, Stands, Replies, Takes, Does}
 use Rattle.numa_run.specs.States.{setup_with}
-use Rattle.numa_script.specs.Texts.{text_of}
 use Rattle.numa_run.specs.Work.{Outcome, event_outcome}
 use Rattle.numa_requests.specs.declared.event.Event.TheVariants.{Accept}
 use Rattle.numa_run.specs.declared.running.Running.{Running}
@@ -39,11 +36,11 @@ use Rattle.numa_run.specs.declared.settings.Settings.{Settings}
 use Rattle.numa_run.specs.declared.running.Taken.TheVariants as taken
 use Rattle.numa_script.specs.declared.reply.Reply.{Reply}
 use Rattle.numa_script.specs.declared.reply.Reply.TheVariants as reply
-use Rattle.numa_run.proofs.JudgeLemmas.{told-starved, asked-starved, listed-starved}
+use Rattle.numa_run.proofs.JudgeLemmas.{served-is}
 
 -- ---- before a machine is ready
 
-first_is : (settings : Settings) (said : Line) (refused : Bool) (state : State)
+pub first_is : (settings : Settings) (said : Line) (refused : Bool) (state : State)
     → Stands settings None state → outcome_of refused state said ≡ served_first refused state said
 unfolding outcome_of
 first_is settings said refused state stands = ap (λ m. served_by m refused state said) stands.3
@@ -270,13 +267,6 @@ core-starved cpus hardware sound = by_nodes (has_bad_nodes hardware.nodes cpus) 
 
 -- ---- with a machine
 
-later_is : (running : Running) (said : Line) (refused : Bool) (state : State) → RunsAs running state
-    → outcome_of refused state said ≡ served_later refused (setup_of running.core).machine state
-    said
-unfolding outcome_of
-later_is running said refused state stands = ap (λ m. served_by m refused state said)
-    stands.core.machine
-
 setup_is : (running : Running) (state : State) → RunsAs running state
     → setup_with (setup_of running.core).machine state.bounds ≡ setup_of running.core
 setup_is running state stands = λ i. record {
@@ -294,7 +284,7 @@ pub same_here : (running : Running) (said : Line) (answer : Reply)
 same_here running said answer right =
     λ state stands.
     let is : outcome_of false state said ≡ with_reply answer state =
-    later_is running said false state stands ∙ right state in (
+    served-is running said false state stands ∙ right state in (
       false,
       sym (ap (λ r. reply_in r.answer) is),
       subst (λ (r : Served). RunsAs running r.state)
@@ -322,7 +312,7 @@ done_here old new said answer outcome does right =
     let d = does state stands in
     let is : outcome_of d.0 state said ≡ with_outcome state
     (outcome d.0 (setup_of old.core) state) =
-    later_is old said d.0 state stands ∙ right d.0 state
+    served-is old said d.0 state stands ∙ right d.0 state
     ∙ ap (λ s. with_outcome state (outcome d.0 s state)) (setup_is old state stands) in (
       d.0,
       ap Some d.1 ∙ sym (ap (λ r. reply_in r.answer) is),
@@ -365,89 +355,6 @@ bound_by_documents running start fault documents =
     ap (λ (b : Bool). command_outcome false (setup_of running.core).machine state
     (if b then Ok (empty_bind start) else Err fault)) documents)
 
--- ---- answers as bytes
-
--- the bytes of a reply are those of the answer
-text-of_reply : (answer : Answer) (told : Reply) → Some told ≡ reply_in answer
-    → text_of told ≡ bytes_of answer
-text-of_reply (Replied other) told e = cc
-text-of_reply (Shown text) told e = cc
-
--- the line was served, and its answer was said, of which P tells; and whether there was no memory
-abbrev pub IsServed : Running → Running → Line → (List ℕ → Type 0) → Bool → Type 0
-IsServed old new said P lacks =
-    (state : State) → RunsAs old state → (refused : Bool) × RunsAs new (after refused state said)
-    × P (answer_of refused state said) × (IsTrue lacks ↔ IsStarved refused state said)
-
--- a reply that was said
-pub told_later : (old new : Running) (said : Line) (answer : Reply) (P : List ℕ → Type 0)
-    (lacks : Bool) → Takes old said (taken.Reply answer) new → P (text_of answer)
-    → (IsTrue lacks ↔ LacksMemory answer) → IsServed old new said P lacks
-told_later old new said answer P lacks takes told starved =
-    λ state stands.
-    let t = takes state stands in (
-      t.0,
-      t.2,
-      subst P (text-of_reply (outcome_of t.0 state said).answer answer t.1) told,
-      told-starved answer lacks t.0 state said t.1 starved,
-    )
-
-pub told_first : (settings settings_then : Settings) (running_then : Option Running) (said : Line)
-    (answer : Reply) (P : List ℕ → Type 0) (lacks : Bool)
-    → Replies settings None said (Some answer) settings_then running_then → P (text_of answer)
-    → (IsTrue lacks ↔ LacksMemory answer)
-    → (state : State) → Stands settings None state → (refused : Bool)
-    × Stands settings_then running_then (after refused state said)
-    × P (answer_of refused state said) × (IsTrue lacks ↔ IsStarved refused state said)
-told_first settings settings_then running_then said answer P lacks replies told starved =
-    λ state stands.
-    let t = replies state stands in (
-      t.0,
-      t.2,
-      subst P (text-of_reply (outcome_of t.0 state said).answer answer t.1) told,
-      told-starved answer lacks t.0 state said t.1 starved,
-    )
-
--- a question
-pub asked_later : (old mid new : Running) (said : Line) (asked : Question) (P : List ℕ → Type 0)
-    (lacks : Bool) → said ≡ line.Question asked → mid ≡ old
-    → ((state : State) → RunsAs mid state → RunsAs new state
-    × P (question_text lacks (setup_of mid.core).machine state.world.history asked))
-    → (asked ≡ question.Ranges → lacks ≡ false)
-    → IsServed old new said P lacks
-asked_later old mid new said asked P lacks is same h ranges =
-    subst (λ (l : Line). IsServed old new l P lacks) (sym is)
-    (subst (λ (r : Running). IsServed r new (line.Question asked) P lacks) same
-    (λ state stands.
-    let a = h state stands in
-    let is : outcome_of lacks state (line.Question asked)
-    ≡ with_text (question_text lacks (setup_of mid.core).machine state.world.history asked)
-    state = later_is mid (line.Question asked) lacks state stands in (
-      lacks,
-      subst (λ (r : Served). RunsAs new r.state) (sym is) a.0,
-      subst (λ (r : Served). P (bytes_of r.answer)) (sym is) a.1,
-      asked-starved mid asked lacks state stands ranges,
-    )))
-
--- maps
-pub listed_later : (old mid : Running) (said : Line) (task : ℕ) (P : List ℕ → Type 0)
-    → said ≡ line.Maps task → mid ≡ old
-    → ((state : State) → RunsAs mid state
-    → P (listing_of (setup_of mid.core).machine state.world.history task state.resident))
-    → IsServed old mid said P false
-listed_later old mid said task P is same h =
-    subst (λ (l : Line). IsServed old mid l P false) (sym is)
-    (subst (λ (r : Running). IsServed r mid (line.Maps task) P false) same
-    (λ state stands.
-    let is : outcome_of false state (line.Maps task)
-    ≡ with_text (listing_of (setup_of mid.core).machine state.world.history task state.resident)
-    state = later_is mid (line.Maps task) false state stands in (
-      false,
-      subst (λ (r : Served). RunsAs mid r.state) (sym is) stands,
-      subst (λ (r : Served). P (bytes_of r.answer)) (sym is) (h state stands),
-      listed-starved mid task state stands,
-    )))
-
 -- ---- a question and `maps` have no reply
 
 abbrev pub HasNone : Running → Running → Line → Type 0
@@ -462,7 +369,7 @@ question_has_none old new said asked is same =
     (λ state stands.
     let is : outcome_of false state (line.Question asked)
     ≡ with_text (question_text false (setup_of new.core).machine state.world.history asked)
-    state = later_is new (line.Question asked) false state stands in (
+    state = served-is new (line.Question asked) false state stands in (
       false,
       sym (ap (λ r. reply_in r.answer) is),
       subst (λ (r : Served). RunsAs new r.state)
@@ -477,7 +384,7 @@ maps_have_none old new said task is same =
     (λ state stands.
     let is : outcome_of false state (line.Maps task)
     ≡ with_text (listing_of (setup_of new.core).machine state.world.history task state.resident)
-    state = later_is new (line.Maps task) false state stands in (
+    state = served-is new (line.Maps task) false state stands in (
       false,
       sym (ap (λ r. reply_in r.answer) is),
       subst (λ (r : Served). RunsAs new r.state)

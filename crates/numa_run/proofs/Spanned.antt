@@ -23,8 +23,8 @@ use Rattle.numa_compile.proofs.Replies.{span-meant, run-mapped}
 use Rattle.numa_maps.specs.Listing.{node_text, nodes_text as counts_text}
 use Rattle.numa_run.specs.Questions.{unless_refused, span_refusal_of, place_text, span_text}
 use Rattle.numa_run.specs.Questions.{count_text}
-use Rattle.numa_script.specs.Texts.{nodes_answer, counts_answer}
-use Rattle.numa_script.specs.Texts.{refused_text, place_name}
+use Rattle.numa_script.specs.Names.{place_name}
+use Rattle.numa_script.specs.Texts.{nodes_answer, counts_answer, refused_text}
 
 -- ---- lists
 

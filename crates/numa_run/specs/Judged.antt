@@ -1,18 +1,17 @@
 -- Which lines are answered by a fault or a refusal. `refused` says whether a growth was refused
 -- while the line was served.
-use Rattle.std.specs.Prelude.{◌≡◌, ◌⊎◌, ℕ, Bool, true, false, Option, Some, None, List, length}
+use Rattle.std.specs.Prelude.{ℕ, Bool, Option, Some, None, List, length}
 use Rattle.std.specs.Prelude.{IsSomeAnd, if◌then◌else◌}
 use Rattle.std.specs.Option.{option_map}
 use Rattle.numa_machine.specs.Machine.{Hardware}
-use Rattle.numa_machine.specs.declared.fault.MachineFault.TheVariants as machine_fault
 use Rattle.numa_space.specs.History.{page_of}
 use Rattle.numa_space.specs.Standing.{place_refusal_of}
 use Rattle.numa_requests.specs.declared.command.Command.{Command}
 use Rattle.numa_machine.specs.declared.refusal.PlaceRefusal.{PlaceRefusal}
 use Rattle.numa_machine.specs.declared.refusal.PlaceRefusal.TheVariants as place
-use Rattle.numa_requests.specs.declared.refusal.Refusal.TheVariants as command
 use Rattle.numa_requests.specs.declared.event.CoreRefusal.{CoreRefusal}
 use Rattle.numa_requests.specs.declared.event.CoreRefusal.TheVariants as core
+use Rattle.numa_script.specs.Replies.{LacksMemory, fault_in}
 use Rattle.numa_script.specs.declared.line.Line.{Line}
 use Rattle.numa_script.specs.declared.line.Line.TheVariants as line
 use Rattle.numa_script.specs.declared.line.Question.{Question}
@@ -21,31 +20,6 @@ use Rattle.numa_run.specs.Answers.{State, reply_of}
 use Rattle.numa_run.specs.Questions.{span_refusal_of}
 use Rattle.numa_script.specs.declared.reply.Reply.{Reply}
 use Rattle.numa_script.specs.declared.reply.Reply.TheVariants as reply
-
--- the reply tells a fault or a refusal
-abbrev pub is_fault : Reply → Bool
-is_fault reply.Silent = false
-is_fault reply.BadWords = true
-is_fault reply.BadState = true
-is_fault reply.LimitsOk = false
-is_fault reply.BadLimits = true
-is_fault reply.RulesOk = false
-is_fault reply.CpusOk = false
-is_fault reply.Ready = false
-is_fault (reply.BadMachine fault) = true
-is_fault (reply.BadWord fault) = true
-is_fault (reply.Accepted version) = false
-is_fault (reply.Published version) = false
-is_fault reply.Still = false
-is_fault (reply.Exhausted version) = false
-is_fault (reply.Won win) = false
-is_fault reply.Given = false
-is_fault (reply.Back frame) = false
-is_fault (reply.Refused cause) = true
-
--- the reply, where it is a fault or a refusal
-abbrev pub fault_in : Reply → Option Reply
-fault_in told = if is_fault told then Some told else None
 
 -- ---- questions
 
@@ -104,6 +78,10 @@ asked_fault refused state (line.Command said) = None
 asked_fault refused state (line.EmptyBind start fault) = None
 asked_fault refused state (line.Maps task) = None
 asked_fault refused state (line.Work said) = None
+asked_fault refused state (line.Pages said) = None
+asked_fault refused state (line.Bind start bytes policy pages) = None
+asked_fault refused state line.Host = None
+asked_fault refused state (line.HostCommand said) = None
 
 abbrev pub fault_or : Option Reply → Option Reply → Option Reply
 fault_or (Some told) asked = fault_in told
@@ -116,14 +94,6 @@ fault_of refused state said =
 
 -- ---- lack of memory
 
--- the reply says that there was no memory for the line: for its machine, for a command, or for a
--- worker's step or an answer
-abbrev pub LacksMemory : Reply → Type 0
-LacksMemory said =
-    (said ≡ reply.BadMachine machine_fault.NoMemory)
-    ⊎ (said ≡ reply.Refused (core.Command command.NoMemory))
-    ⊎ (said ≡ reply.Refused core.NoMemory)
-
--- a line is answered so
+-- a line is answered that there was no memory for it
 abbrev pub IsStarved : Bool → State → Line → Type 0
 IsStarved refused state said = IsSomeAnd (fault_of refused state said) LacksMemory

@@ -16,8 +16,8 @@ use Rattle.numa_machine.specs.declared.refusal.PlaceRefusal.{PlaceRefusal}
 use Rattle.numa_compile.specs.Spans.{first_node, meant_count}
 use Rattle.numa_script.specs.declared.line.Question.{Question}
 use Rattle.numa_script.specs.declared.line.Question.TheVariants.{Place, Span, Counts, Ranges}
-use Rattle.numa_script.specs.Texts.{counts_answer, nodes_answer, place_name, ranges_answer}
-use Rattle.numa_script.specs.Texts.{refused_text}
+use Rattle.numa_script.specs.Names.{place_name}
+use Rattle.numa_script.specs.Texts.{counts_answer, nodes_answer, ranges_answer, refused_text}
 
 -- ---- refusals
 

@@ -103,6 +103,10 @@ served_first refused state (line.EmptyBind start fault) = with_reply reply.BadSt
 served_first refused state (line.Question said) = with_reply reply.BadState state
 served_first refused state (line.Maps task) = with_reply reply.BadState state
 served_first refused state (line.Work said) = with_reply reply.BadState state
+served_first refused state (line.Pages said) = with_reply reply.BadWords state
+served_first refused state (line.Bind start bytes policy pages) = with_reply reply.BadWords state
+served_first refused state line.Host = with_reply reply.BadWords state
+served_first refused state (line.HostCommand said) = with_reply reply.BadWords state
 
 -- ---- with a machine
 
@@ -141,6 +145,11 @@ served_later refused machine state (line.Maps task) =
 served_later refused machine state (line.Work said) =
     with_outcome state (work_outcome refused (setup_with machine state.bounds) state.world
     state.resident said)
+served_later refused machine state (line.Pages said) = with_reply reply.BadWords state
+served_later refused machine state (line.Bind start bytes policy pages) =
+    with_reply reply.BadWords state
+served_later refused machine state line.Host = with_reply reply.BadWords state
+served_later refused machine state (line.HostCommand said) = with_reply reply.BadWords state
 
 -- ---- every line
 

@@ -1,13 +1,21 @@
 -- Which states a running script stands for, and what it replies.
-use Rattle.std.specs.Prelude.{◌≡◌, Bool, Option, IsSome}
+use Rattle.std.specs.Prelude.{◌≡◌, ◌↔◌, ℕ, Bool, List, Option, Some, None, IsSome, IsSomeAnd}
+use Rattle.std.specs.Prelude.{IsTrue}
+use Rattle.numa_lines.specs.Written.{Said}
+use Rattle.numa_lines.specs.declared.watched.Watched.{Watched}
 use Rattle.numa_maps.specs.Residents.{Kept}
+use Rattle.numa_script.specs.Replies.{LacksMemory, fault_in}
 use Rattle.numa_script.specs.declared.line.Line.{Line}
+use Rattle.numa_script.specs.declared.line.Line.TheVariants as line
 use Rattle.numa_run.specs.Judged.{fault_of}
+use Rattle.numa_run.specs.Replies.{Answer, Replied, bytes_of, outcome_of}
 pub use Rattle.numa_run.specs.Standing.{IsCoreIn}
 use Rattle.numa_run.specs.Answers.{reply_of, after}
 use Rattle.numa_run.specs.Standing.{Stands}
 use Rattle.numa_run.specs.States.{State}
 use Rattle.numa_script.specs.declared.reply.Reply.{Reply}
+use Rattle.numa_run.specs.declared.running.Taken.{Taken}
+use Rattle.numa_run.specs.declared.running.Taken.TheVariants as taken
 use Rattle.numa_run.specs.declared.script.Script.{Script}
 
 -- the script stands for the state that its lines so far have led to: its machine is ready where the
@@ -34,3 +42,46 @@ ScriptJudges old said fault new =
     (state : State) → ScriptStandsFor old state
     → (refused : Bool) × (fault ≡ fault_of refused state said)
     × ScriptStandsFor new (after refused state said)
+
+-- ---- a line that is taken, and then answered or judged
+
+-- what was taken is the reply that the definition says, or, where it says none, the line itself
+abbrev pub IsTaken : Bool → State → Line → Taken → Type 0
+IsTaken refused state said (taken.Reply answer) = Some answer ≡ reply_of refused state said
+IsTaken refused state said (taken.Question asked) =
+    (None ≡ reply_of refused state said) × (said ≡ line.Question asked)
+IsTaken refused state said (taken.Maps task) =
+    (None ≡ reply_of refused state said) × (said ≡ line.Maps task)
+
+-- the line was carried out, and the state that the definition says is reached
+abbrev pub ScriptTakes : Script → Line → Taken → Script → Type 0
+ScriptTakes old said found new =
+    (state : State) → ScriptStandsFor old state
+    → (refused : Bool) × IsTaken refused state said found
+    × ScriptStandsFor new (after refused state said)
+
+-- the answer of what was taken, and its fault or refusal
+abbrev pub answer_left : Bool → State → Taken → Answer
+answer_left refused state (taken.Reply answer) = Replied answer
+answer_left refused state (taken.Question asked) =
+    (outcome_of refused state (line.Question asked)).answer
+answer_left refused state (taken.Maps task) = (outcome_of refused state (line.Maps task)).answer
+
+abbrev pub fault_left : Bool → State → Taken → Option Reply
+fault_left refused state (taken.Reply answer) = fault_in answer
+fault_left refused state (taken.Question asked) = fault_of refused state (line.Question asked)
+fault_left refused state (taken.Maps task) = fault_of refused state (line.Maps task)
+
+-- the answer was said, and nothing else changed; and whether it tells lack of memory
+abbrev pub ScriptWrites : {W : Type 0} → (W → Option (List ℕ)) → Script → Watched W → Taken → Bool
+    → Script → Watched W → Type 0
+ScriptWrites contents old output found starved new output_then =
+    (state : State) → ScriptStandsFor old state → (refused : Bool) × ScriptStandsFor new state
+    × Said contents output output_then (bytes_of (answer_left refused state found))
+    × (IsTrue starved ↔ IsSomeAnd (fault_left refused state found) LacksMemory)
+
+-- the fault or the refusal was told, and nothing changed
+abbrev pub ScriptTells : Script → Taken → Option Reply → Script → Type 0
+ScriptTells old found fault new =
+    (state : State) → ScriptStandsFor old state
+    → (refused : Bool) × (fault ≡ fault_left refused state found) × ScriptStandsFor new state

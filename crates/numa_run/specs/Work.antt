@@ -14,8 +14,8 @@ use Rattle.numa_core.specs.Touching.{result_of_touch}
 use Rattle.numa_requests.specs.declared.placement.Placement.{Placement}
 use Rattle.numa_requests.specs.declared.request.Request.{Request}
 use Rattle.numa_requests.specs.declared.event.Event.{Event}
-use Rattle.numa_requests.specs.declared.event.Event.TheVariants.{Accept, Publish, Begin, Look, Try}
-use Rattle.numa_requests.specs.declared.event.Event.TheVariants.{Give}
+use Rattle.numa_requests.specs.declared.event.Event.TheVariants.{Accept, Publish, Begin, Seek}
+use Rattle.numa_requests.specs.declared.event.Event.TheVariants.{Give, Look, Try}
 use Rattle.numa_requests.specs.declared.event.CoreReply.{CoreReply}
 use Rattle.numa_requests.specs.declared.event.CoreReply.TheVariants as done
 use Rattle.numa_requests.specs.declared.event.CoreRefusal.{CoreRefusal}
@@ -44,6 +44,8 @@ won_by (Ok (done.Accepted version)) = None
 won_by (Ok (done.Published version)) = None
 won_by (Ok done.Still) = None
 won_by (Ok (done.Exhausted version)) = None
+won_by (Ok (done.Found frame)) = None
+won_by (Ok done.Full) = None
 won_by (Ok done.Given) = None
 won_by (Err cause) = None
 
@@ -65,6 +67,7 @@ abbrev pub want_of : Event → Option CoreRefusal
 want_of (Accept command) = if needs_room command then Some (Because NoRoom) else None
 want_of Publish = Some NoMemory
 want_of (Begin w request) = None
+want_of (Seek w node) = None
 want_of (Look w word) = None
 want_of (Try w frame) = None
 want_of (Give w frame) = None

@@ -1,39 +1,15 @@
-//! Judging replies and questions without answering them.
-ghost use Rattle.std.specs.Prelude.{◌≡◌, ◌↔◌, List, IsTrue};
+//! Judging questions without answering them.
+ghost use Rattle.std.specs.Prelude.{◌≡◌, List};
 ghost use Rattle.numa_compile.specs.Standing.{PlanStandsFor};
 ghost use Rattle.numa_machine.specs.Machine.{Hardware};
 ghost use Rattle.numa_requests.specs.declared.command.Command.{Command};
-ghost use Rattle.numa_run.specs.Judged.{LacksMemory, fault_in, question_refusal};
+ghost use Rattle.numa_run.specs.Judged.{cause_at, question_refusal};
 ghost use Rattle.numa_run.specs.Questions.{span_refusal_of};
 
-use numa_machine::{MachineFault, PlaceRefusal};
+use numa_machine::PlaceRefusal;
 use numa_plan::Plan;
-use numa_requests::{CoreRefusal, PAGE_BYTES, Refusal};
-use numa_script::{Question, Reply};
-
-/// The reply, if it is an error or a refusal.
-pub(crate) fn fault_in(reply: Reply) -> Option<Reply>
-    ensures { result ≡ fault_in reply }
-{
-    match reply {
-        Reply::BadWords
-        | Reply::BadState
-        | Reply::BadLimits
-        | Reply::BadMachine(_)
-        | Reply::BadWord(_)
-        | Reply::Refused(_) => Some(reply),
-        _ => None,
-    }
-}
-
-/// Returns whether the reply says that there was no memory for the line.
-pub fn lacks_memory(reply: Reply) -> bool
-    ensures { IsTrue result ↔ (LacksMemory reply) }
-{
-    reply == Reply::BadMachine(MachineFault::NoMemory)
-        || reply == Reply::Refused(CoreRefusal::Command(Refusal::NoMemory))
-        || reply == Reply::Refused(CoreRefusal::NoMemory)
-}
+use numa_requests::{CoreRefusal, PAGE_BYTES};
+use numa_script::Question;
 
 /// The first cause that refuses a question about a span of pages.
 fn span_refusal(plan: &Plan, task: u32, first: u64, pages: u64, cpu: u32) -> Option<PlaceRefusal>
@@ -47,7 +23,7 @@ fn span_refusal(plan: &Plan, task: u32, first: u64, pages: u64, cpu: u32) -> Opt
 }
 
 /// The first cause that refuses a question about pages.
-pub(crate) fn refusal_by_plan(plan: &Plan, question: Question) -> Option<PlaceRefusal>
+pub fn refusal_by_plan(plan: &Plan, question: Question) -> Option<PlaceRefusal>
     ensures { (machine : Hardware) (history : List Command) → PlanStandsFor machine plan.now history
         → result ≡ question_refusal machine history question }
 {
@@ -71,5 +47,15 @@ pub(crate) fn refusal_by_plan(plan: &Plan, question: Question) -> Option<PlaceRe
             cpu,
         } => span_refusal(plan, task, address / PAGE_BYTES, pages, cpu),
         Question::Ranges => None,
+    }
+}
+
+/// A refusal by a plan of this version, as a cause of a script.
+pub fn cause_at(version: u64, refusal: PlaceRefusal) -> CoreRefusal
+    ensures { result ≡ cause_at version refusal }
+{
+    match refusal {
+        PlaceRefusal::BadCpu => CoreRefusal::BadCpu,
+        PlaceRefusal::Unmapped => CoreRefusal::Unmapped(version),
     }
 }

@@ -2,13 +2,13 @@
 #![tactic(auto)]
 
 mod build;
-mod judging;
+pub mod judging;
 pub mod questions;
 mod running;
 mod script;
 mod settings;
 mod streams;
 
-pub use judging::lacks_memory;
+pub use running::Taken;
 pub use script::Script;
 pub use streams::{run, run_by};

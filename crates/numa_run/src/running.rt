@@ -14,14 +14,13 @@ ghost use Rattle.numa_run.specs.Work.{kept_outcome, release_outcome, touch_outco
 ghost use Rattle.numa_run.specs.Work.{won_by};
 ghost use Rattle.numa_script.specs.Replies.{reply_to};
 
-use crate::judging::refusal_by_plan;
+use crate::judging::{cause_at, refusal_by_plan};
 use crate::questions::{fault_at, say_pages, say_place, say_place_in, say_span};
 use numa_core::{Acceptance, Core};
 use numa_lines::Watched;
-use numa_machine::{Frame, PlaceRefusal};
 use numa_maps::{RecordRefusal, Resident, say_maps};
 use numa_requests::{CoreRefusal, CoreReply, Event, Placement, Refusal, Request};
-use numa_script::line::empty_bind;
+use numa_script::commands::empty_bind;
 use numa_script::tell::{say_ranges, say_starved};
 use numa_script::{Line, Question, Reply, Win, WordError, Work};
 use std::alloc::Global;
@@ -90,9 +89,9 @@ fn command_reply(answer: Result<Acceptance, Refusal>) -> Reply
     }
 }
 
-/// The effect of a line once a machine is ready.
+/// What a line came to: it has been carried out, or its answer shows what is.
 #[derive(Drop)]
-pub(crate) enum Taken {
+pub enum Taken {
     /// A reply; the line has been carried out.
     Reply(Reply),
     /// A question, whose answer is still to be written.
@@ -294,6 +293,10 @@ impl Running {
             Line::Work(work) => Taken::Reply(self.work(*work)),
             Line::Question(question) => Taken::Question(*question),
             Line::Maps(task) => Taken::Maps(*task),
+            Line::Pages(_) => Taken::Reply(Reply::BadWords),
+            Line::Bind { .. } => Taken::Reply(Reply::BadWords),
+            Line::Host => Taken::Reply(Reply::BadWords),
+            Line::HostCommand(_) => Taken::Reply(Reply::BadWords),
         }
     }
 
@@ -313,8 +316,7 @@ impl Running {
         };
         match refusal_by_plan(plan, question) {
             None => None,
-            Some(PlaceRefusal::BadCpu) => Some(CoreRefusal::BadCpu),
-            Some(PlaceRefusal::Unmapped) => Some(CoreRefusal::Unmapped(plan.version())),
+            Some(refusal) => Some(cause_at(plan.version(), refusal)),
         }
     }
 }

@@ -1,15 +1,14 @@
 //! Running scripts.
 ghost use Rattle.std.specs.Prelude.{◌≡◌, ℕ, ◌+◌, Bool, List, Option, None, Some, Ok, MatchOption};
-ghost use Rattle.std.specs.Prelude.{◌↔◌, length, IsTrue};
+ghost use Rattle.std.specs.Prelude.{◌↔◌, length, false, IsTrue};
 ghost use Rattle.numa_lines.specs.Written.{Said};
-ghost use Rattle.numa_run.specs.Answers.{State, after, answer_of, start, start_by};
+ghost use Rattle.numa_run.specs.Answers.{State, after, answer_of, own_line, start, start_by};
 ghost use Rattle.numa_run.specs.Judged.{IsStarved};
 ghost use Rattle.numa_run.specs.Scripts.{IsCoreIn, IsResidentIn, ScriptJudges, ScriptReplies};
-ghost use Rattle.numa_run.specs.Scripts.{ScriptStandsFor};
+ghost use Rattle.numa_run.specs.Scripts.{ScriptStandsFor, ScriptTakes, ScriptTells, ScriptWrites};
 ghost use Rattle.numa_run.specs.Standing.{Replies, Stands};
 
 use crate::build::build;
-use crate::judging::{fault_in, lacks_memory};
 use crate::running::{Running, Taken};
 use crate::settings::Settings;
 use numa_core::Core;
@@ -20,7 +19,7 @@ use numa_mask::{ListFault, NodeMask};
 use numa_requests::Limits;
 use numa_script::line::parse;
 use numa_script::tell::say_reply;
-use numa_script::{Line, MachineLine, Reply, WordError};
+use numa_script::{Line, MachineLine, Question, Reply, ScriptLine, WordError};
 use std::alloc::Global;
 use std::io::Write;
 
@@ -76,19 +75,123 @@ impl Script {
         Some(&running.resident)
     }
 
+    /// Carries out a line. Its answer is still to be written ([`Script::write`]) or judged
+    /// ([`Script::fault`]).
+    #[inline(always)]
+    pub fn take(&mut self, alloc: Global, line: &Line<'_>) -> Taken
+        ensures { ScriptTakes self.old line.now result self.new }
+    {
+        if let Some(running) = &mut self.running {
+            return running.take(line);
+        }
+        Taken::Reply(self.reply_first(alloc, line))
+    }
+
+    /// The same for a line that may be told to a process of a host, which this script hasn't.
+    #[inline(always)]
+    pub fn take_said(&mut self, alloc: Global, said: &ScriptLine<'_>) -> Taken
+        ensures { ScriptTakes self.old (own_line said.now) result self.new }
+    {
+        if let Some(_) = said.process {
+            return Taken::Reply(Reply::BadWords);
+        }
+        self.take(alloc, &said.line)
+    }
+
+    /// Writes the answer of a line that was taken. Returns whether memory ran out; then the answer
+    /// says so.
+    #[inline(always)]
+    pub fn write<W: Write>(&mut self, alloc: Global, taken: Taken, output: &mut Watched<W>) -> bool
+        ensures { ScriptWrites W.contents self.old output.old taken result self.new output.new }
+    {
+        match taken {
+            Taken::Reply(reply) => {
+                say_reply(output, &reply);
+                reply.lacks_memory()
+            }
+            Taken::Question(question) => self.answer(alloc, question, output),
+            Taken::Maps(task) => {
+                self.list(task, output);
+                false
+            }
+        }
+    }
+
+    /// Answers a question.
+    #[inline(always)]
+    fn answer<W: Write>(
+        &mut self,
+        alloc: Global,
+        question: Question,
+        output: &mut Watched<W>,
+    ) -> bool
+        ensures { ScriptWrites W.contents self.old output.old (Taken.Question question) result
+            self.new output.new }
+    {
+        if let Some(running) = &mut self.running {
+            return running.answer(alloc, question, output);
+        }
+        say_reply(output, &Reply::BadState);
+        false
+    }
+
+    /// Lists the ranges.
+    fn list<W: Write>(&self, task: u32, output: &mut Watched<W>)
+        ensures { ScriptWrites W.contents self.now output.old (Taken.Maps task) false
+            self.now output.new }
+    {
+        let Some(running) = &self.running else {
+            say_reply(output, &Reply::BadState);
+            return;
+        };
+        running.list(task, output);
+    }
+
+    /// The error or the refusal of a line that was taken; `None` if its answer is neither. A
+    /// question is judged and not answered.
+    pub fn fault(&mut self, taken: Taken) -> Option<Reply>
+        ensures { ScriptTells self.old taken result self.new }
+    {
+        match taken {
+            Taken::Reply(reply) => reply.fault(),
+            Taken::Question(question) => self.question_fault(question),
+            Taken::Maps(_) => self.list_fault(),
+        }
+    }
+
+    /// The error or the refusal of a question.
+    fn question_fault(&mut self, question: Question) -> Option<Reply>
+        ensures { ScriptTells self.old (Taken.Question question) result self.new }
+    {
+        if let Some(running) = &mut self.running {
+            return match running.question_cause(question) {
+                Some(cause) => Some(Reply::Refused(cause)),
+                None => None,
+            };
+        }
+        Some(Reply::BadState)
+    }
+
+    /// The error of a listing.
+    fn list_fault(&self) -> Option<Reply>
+        ensures { (task : ℕ) → ScriptTells self.now (Taken.Maps task) result self.now }
+    {
+        match &self.running {
+            Some(_) => None,
+            None => Some(Reply::BadState),
+        }
+    }
+
     /// Carries out a line and returns its reply. A question to a ready machine and a line `maps`
     /// have none, and change nothing: their answers are texts, which `serve` writes.
     pub fn reply(&mut self, alloc: Global, line: &Line<'_>) -> Option<Reply>
         ensures { ScriptReplies self.old line.now result self.new }
     {
-        if let Some(running) = &mut self.running {
-            return match running.take(line) {
-                Taken::Reply(reply) => Some(reply),
-                Taken::Question(_) => None,
-                Taken::Maps(_) => None,
-            };
+        match self.take(alloc, line) {
+            Taken::Reply(reply) => Some(reply),
+            Taken::Question(_) => None,
+            Taken::Maps(_) => None,
         }
-        Some(self.reply_first(alloc, line))
     }
 
     /// Sets the limits, if no machine is ready.
@@ -169,22 +272,24 @@ impl Script {
             × Said W.contents output.old output.new (answer_of refused state line.now)
             × (IsTrue result ↔ (IsStarved refused state line.now)) }
     {
-        if let Some(running) = &mut self.running {
-            return match running.take(line) {
-                Taken::Reply(reply) => {
-                    say_reply(output, &reply);
-                    lacks_memory(reply)
-                }
-                Taken::Question(question) => running.answer(alloc, question, output),
-                Taken::Maps(task) => {
-                    running.list(task, output);
-                    false
-                }
-            };
-        }
-        let reply = self.reply_first(alloc, line);
-        say_reply(output, &reply);
-        lacks_memory(reply)
+        let taken = self.take(alloc, line);
+        self.write(alloc, taken, output)
+    }
+
+    /// The same for a line that may be told to a process of a host, which this script hasn't.
+    pub fn serve_said<W: Write>(
+        &mut self,
+        alloc: Global,
+        said: &ScriptLine<'_>,
+        output: &mut Watched<W>,
+    ) -> bool
+        ensures { (state : State) → ScriptStandsFor self.old state → (refused : Bool)
+            × ScriptStandsFor self.new (after refused state (own_line said.now))
+            × Said W.contents output.old output.new (answer_of refused state (own_line said.now))
+            × (IsTrue result ↔ (IsStarved refused state (own_line said.now))) }
+    {
+        let taken = self.take_said(alloc, said);
+        self.write(alloc, taken, output)
     }
 
     /// Carries out a line while no machine is ready.
@@ -209,6 +314,10 @@ impl Script {
             Line::Question(_) => Reply::BadState,
             Line::Maps(_) => Reply::BadState,
             Line::Work(_) => Reply::BadState,
+            Line::Pages(_) => Reply::BadWords,
+            Line::Bind { .. } => Reply::BadWords,
+            Line::Host => Reply::BadWords,
+            Line::HostCommand(_) => Reply::BadWords,
         }
     }
 
@@ -217,18 +326,16 @@ impl Script {
     pub fn judge(&mut self, alloc: Global, line: &Line<'_>) -> Option<Reply>
         ensures { ScriptJudges self.old line.now result self.new }
     {
-        if let Some(running) = &mut self.running {
-            return match running.take(line) {
-                Taken::Reply(reply) => fault_in(reply),
-                Taken::Question(question) => match running.question_cause(question) {
-                    Some(cause) => Some(Reply::Refused(cause)),
-                    None => None,
-                },
-                Taken::Maps(_) => None,
-            };
-        }
-        let reply = self.reply_first(alloc, line);
-        fault_in(reply)
+        let taken = self.take(alloc, line);
+        self.fault(taken)
+    }
+
+    /// The same for a line that may be told to a process of a host, which this script hasn't.
+    pub fn judge_said(&mut self, alloc: Global, said: &ScriptLine<'_>) -> Option<Reply>
+        ensures { ScriptJudges self.old (own_line said.now) result self.new }
+    {
+        let taken = self.take_said(alloc, said);
+        self.fault(taken)
     }
 }
 
@@ -245,6 +352,6 @@ impl Serve for Script {
     ghost after = { after_bytes };
 
     fn serve<W: Write>(&mut self, alloc: Global, line: &[u8], output: &mut Watched<W>) {
-        let _ = self.serve_line(alloc, &parse(line), output);
+        let _ = self.serve_said(alloc, &parse(line), output);
     }
 }

@@ -1,13 +1,13 @@
 use Rattle.std.proofs.Common.{ap}
-use Rattle.numa_host_script.specs.Sessions.{Served, session_by}
-use Rattle.numa_host_script.proofs.Seen.{served_seen}
+use Rattle.numa_script.proofs.Seeing.{line_of_seen}
+use Rattle.numa_host_script.specs.Sessions.{session_after, session_answer, session_by}
 use Rattle.numa_host_script.proofs.streams.run_by.Goals as goal
 
 pub serve_script-requires : goal.serve_script-requires
 serve_script-requires g c = record {
   enough = λ refused session line. (
-    ap (λ (s : Served). s.text) (served_seen refused session line),
-    ap (λ (s : Served). s.session) (served_seen refused session line),
+    ap (session_answer refused session) (line_of_seen line),
+    ap (session_after refused session) (line_of_seen line),
   );
 }
 

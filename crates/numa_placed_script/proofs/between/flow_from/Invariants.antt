@@ -1,5 +1,5 @@
 -- The pages counted so far, and those of the runs that are left, are those of all runs.
-use Rattle.std.proofs.Common.{◌≡◌, ℕ, ◌+◌, ◌<◌, ◌≤◌, ◌^◌, true, get_or, length}
+use Rattle.std.proofs.Common.{◌≡◌, ℕ, ◌+◌, ◌<◌, ◌≤◌, ◌^◌, true, get_or}
 use Rattle.numa_ranges.specs.Runs.{AreApart}
 use Rattle.numa_placed.specs.Spots.{spot_at}
 use Rattle.numa_placed.proofs.Summed.{run_pages}

@@ -1,10 +1,11 @@
-use Rattle.std.proofs.Common.{sym, subst, arith, ◌∙◌}
+use Rattle.std.proofs.Common.{subst, arith}
 use Rattle.numa_placed.specs.Binds.{Asked, IsBound, asked_of as asked_by, bound_spots}
 use Rattle.numa_placed.specs.Refusals.{IsRefusal, span_cause}
 use Rattle.numa_placed.specs.Spots.{spot_at}
 use Rattle.numa_placed_script.specs.Outcomes.{rooms_of}
 use Rattle.numa_placed_script.specs.Standing.{asked_for}
-use Rattle.numa_placed_script.proofs.Asking.{asked-list, few-bound, held-same, sent-refused, sent-so}
+use Rattle.numa_placed_script.proofs.Asking.{asked-list, few-bound, held-same, sent-refused}
+use Rattle.numa_placed_script.proofs.Asking.{sent-so}
 use Rattle.numa_placed_script.proofs.sending.sent_in.Goals as goal
 
 pub returns-in-Err-clause-err : goal.returns-in-Err-clause-err

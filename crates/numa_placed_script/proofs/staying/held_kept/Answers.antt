@@ -1,4 +1,4 @@
-use Rattle.std.proofs.Common.{◌≡◌, ℕ, refl, ap, ◌∙◌, arith, length, subst, sym}
+use Rattle.std.proofs.Common.{◌≡◌, ap, ◌∙◌, arith, length, subst, sym}
 use Rattle.numa_maps.specs.Residents.{Kept}
 use Rattle.numa_placed.specs.Binds.{goals}
 use Rattle.numa_placed.specs.Shifts.{AreRooms}

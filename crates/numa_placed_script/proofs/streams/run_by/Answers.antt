@@ -1,13 +1,12 @@
-use Rattle.std.proofs.Common.{ap}
-use Rattle.numa_placed_script.specs.Scenes.{Served, scene_by}
-use Rattle.numa_placed_script.proofs.Seen.{scene_seen}
+use Rattle.numa_placed_script.specs.Scenes.{scene_by}
+use Rattle.numa_placed_script.proofs.Seen.{after_seen, answer_seen}
 use Rattle.numa_placed_script.proofs.streams.run_by.Goals as goal
 
 pub serve_script-requires : goal.serve_script-requires
 serve_script-requires g c = record {
   enough = λ refused scene line. (
-    ap (λ (s : Served). s.text) (scene_seen refused scene line),
-    ap (λ (s : Served). s.scene) (scene_seen refused scene line),
+    answer_seen refused scene line,
+    after_seen refused scene line,
   );
 }
 

@@ -1,8 +1,9 @@
-use Rattle.std.proofs.Common.{◌≡◌, ℕ, slice_index, sym, arith}
+use Rattle.std.proofs.Common.{ℕ, sym, arith}
 use Rattle.numa_lines.proofs.Adding.{said_both, said_nothing, said_same}
 use Rattle.numa_placed.specs.Spots.{spot_at}
 use Rattle.numa_placed_script.specs.Sending.{flow_between}
-use Rattle.numa_placed_script.proofs.Telling.{all-flows, flows_of, from-alike, texts-more, texts-none}
+use Rattle.numa_placed_script.proofs.Telling.{all-flows, flows_of, from-alike, texts-more}
+use Rattle.numa_placed_script.proofs.Telling.{texts-none}
 use Rattle.numa_placed_script.proofs.tell.say_all_flows.Goals as goal
 
 pub loop-from-init : goal.loop-from-init

@@ -1,13 +1,14 @@
 use Rattle.std.proofs.Common.{ap}
 use Rattle.numa_script.proofs.Seeing.{line_of_seen}
-use Rattle.numa_run.specs.Answers.{after, answer_of, start_by}
+use Rattle.numa_script.specs.declared.line.ScriptLine.{ScriptLine}
+use Rattle.numa_run.specs.Answers.{after, answer_of, own_line, start_by}
 use Rattle.numa_run.proofs.streams.run_by.Goals as goal
 
 pub serve_script-requires : goal.serve_script-requires
 serve_script-requires g c = record {
   enough = λ refused state line. (
-    ap (answer_of refused state) (line_of_seen line),
-    ap (after refused state) (line_of_seen line),
+    ap (λ (said : ScriptLine). answer_of refused state (own_line said)) (line_of_seen line),
+    ap (λ (said : ScriptLine). after refused state (own_line said)) (line_of_seen line),
   );
 }
 

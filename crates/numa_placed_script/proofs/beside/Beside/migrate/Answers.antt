@@ -7,31 +7,29 @@ use Rattle.numa_placed_script.proofs.Served.{moved-denied, moved-done}
 use Rattle.numa_placed_script.proofs.beside.Beside.migrate.Goals as goal
 
 pub returns-in-Ok : goal.returns-in-Ok
-returns-in-Ok g c = λ lying lies.
+returns-in-Ok c = λ lying lies.
     let to = both c.args.to.now c.args.space.now.allowed in
     let is = c.in-Ok.ensures lying.spots lying.room lies.spots lies.room in
-    moved-done g.W.Write.contents c.args.self.now (record {
+    moved-done c.args.self.now (record {
       placed = c.migrate.new.placed;
       rooms = c.migrate.new.rooms;
       follows = c.args.self.now.follows;
       last = c.keep.new.last;
-    }) c.args.output.now c.say_moved.new.output lying lies c.args.resident.now
+    }) lying lies c.args.resident.now
     (motion lying.room lying.spots c.args.from.now to)
-    (migrate_cause c.args.space.now.allowed c.args.to.now) c.in-Ok.moved c.with_held-moved.result is.0 is.1
-    (c.with_held-moved.ensures _ c.args.resident.now is.1.told refl) refl c.keep.ensures
-    c.say_moved.ensures
+    (migrate_cause c.args.space.now.allowed c.args.to.now) c.in-Ok.moved c.with_held-done.result
+    is.0 is.1 (c.with_held-done.ensures _ c.args.resident.now is.1.told refl) refl c.keep.ensures
 
 pub returns-in-Err : goal.returns-in-Err
-returns-in-Err g c = λ lying lies.
+returns-in-Err c = λ lying lies.
     let to = both c.args.to.now c.args.space.now.allowed in
     let is = c.in-Err.ensures lying.spots lying.room lies.spots lies.room in
-    rw c.is_no_memory.ensures
-    (moved-denied g.W.Write.contents c.args.self.now (record {
+    moved-denied c.args.self.now (record {
       placed = c.migrate.new.placed;
       rooms = c.migrate.new.rooms;
       follows = c.args.self.now.follows;
       last = c.args.self.now.last;
-    }) c.args.output.now c.say_refusal.new.output lying lies c.args.resident.now
+    }) lying lies c.args.resident.now
     (motion lying.room lying.spots c.args.from.now to)
     (migrate_cause c.args.space.now.allowed c.args.to.now) c.in-Err.refusal is.0
     (λ i. record {
@@ -39,10 +37,10 @@ returns-in-Err g c = λ lying lies.
       rooms = is.2 i;
       follows = c.args.self.now.follows;
       last = c.args.self.now.last;
-    }) c.say_refusal.ensures)
+    })
 
-pub with_held-moved-requires : goal.with_held-moved-requires
-with_held-moved-requires g c =
+pub with_held-done-requires : goal.with_held-done-requires
+with_held-done-requires c =
     few-left c.args.self.now.placed c.migrate.new.placed c.args.self.now.rooms c.migrate.new.rooms
     c.args.from.now (both c.args.to.now c.args.space.now.allowed)
     (migrate_cause c.args.space.now.allowed c.args.to.now) c.in-Ok.moved c.in-Ok.ensures

@@ -3,19 +3,18 @@ use Rattle.numa_space.specs.History.{page_of}
 use Rattle.numa_requests.specs.declared.placement.Placement.{Placement}
 use Rattle.numa_placed_script.specs.Lying.{ground_in}
 use Rattle.numa_placed_script.specs.Outcomes.{move_where}
-use Rattle.numa_placed_script.specs.Standing.{AnswersAs}
+use Rattle.numa_placed_script.specs.Standing.{RepliesAs}
+use Rattle.numa_placed_script.proofs.Served.{move_lack}
 use Rattle.numa_placed_script.proofs.beside.Beside.move_page.Goals as goal
 
 pub returns-in-Some : goal.returns-in-Some
-returns-in-Some g c =
-    subst (λ (p : Option Placement). AnswersAs g.W.Write.contents c.args.self.now
-    c.args.output.now c.stay.result c.stay.new.self c.stay.new.output
-    (λ refused at. move_where p refused (ground_in c.args.space.now c.args.resident.now)
+returns-in-Some c =
+    subst (λ (p : Option Placement). RepliesAs c.args.self.now c.stay.result c.stay.new.self
+    move_lack (λ refused at. move_where p refused (ground_in c.args.space.now c.args.resident.now)
     (page_of c.args.address) c.args.node at)) (sym c.in-Some.ensures.kept) c.stay.ensures
 
 pub returns-in-None : goal.returns-in-None
-returns-in-None g c =
-    subst (λ (p : Option Placement). AnswersAs g.W.Write.contents c.args.self.now
-    c.args.output.now c.send.result c.send.new.self c.send.new.output
-    (λ refused at. move_where p refused (ground_in c.args.space.now c.args.resident.now)
+returns-in-None c =
+    subst (λ (p : Option Placement). RepliesAs c.args.self.now c.send.result c.send.new.self
+    move_lack (λ refused at. move_where p refused (ground_in c.args.space.now c.args.resident.now)
     (page_of c.args.address) c.args.node at)) (sym c.in-None.ensures.kept) c.send.ensures

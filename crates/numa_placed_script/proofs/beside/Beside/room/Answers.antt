@@ -5,21 +5,20 @@ use Rattle.numa_placed_script.proofs.Served.{room-denied, room-done}
 use Rattle.numa_placed_script.proofs.beside.Beside.room.Goals as goal
 
 pub returns-then-lacks_node : goal.returns-then-lacks_node
-returns-then-lacks_node g c = λ lying lies.
-    room-denied g.W.Write.contents c.args.self.now c.args.self.now c.args.output.now
-    c.say_refusal.new.output lying lies c.args.space.now.machine c.args.node c.args.pages
+returns-then-lacks_node c = λ lying lies.
+    room-denied c.args.self.now c.args.self.now lying lies c.args.space.now.machine c.args.node
+    c.args.pages
     (ap (λ (machine : Hardware). lacks_node machine c.args.node) (sym c.machine.ensures)
-    ∙ sym c.lacks_node.ensures.lacks ∙ c.if-lacks_node.true) refl c.say_refusal.ensures
+    ∙ sym c.lacks_node.ensures.lacks ∙ c.if-lacks_node.true) refl
 
 pub returns : goal.returns
-returns g c = λ lying lies.
-    room-done g.W.Write.contents c.args.self.now (record {
+returns c = λ lying lies.
+    room-done c.args.self.now (record {
       placed = c.args.self.now.placed;
       rooms = Some c.limited.result;
       follows = c.args.self.now.follows;
       last = c.args.self.now.last;
     })
-    c.args.output.now c.say.new.self lying lies c.args.space.now.machine c.args.node
-    c.args.pages c.limited.result
+    lying lies c.args.space.now.machine c.args.node c.args.pages c.limited.result
     (ap (λ (machine : Hardware). lacks_node machine c.args.node) (sym c.machine.ensures)
-    ∙ sym c.lacks_node.ensures.lacks ∙ c.if-lacks_node.false) c.limited.ensures refl refl refl refl c.say.ensures
+    ∙ sym c.lacks_node.ensures.lacks ∙ c.if-lacks_node.false) c.limited.ensures refl refl refl refl

@@ -4,31 +4,30 @@ use Rattle.numa_placed_script.proofs.Served.{move-done, move-refused}
 use Rattle.numa_placed_script.proofs.beside.Beside.send.Goals as goal
 
 pub returns-in-Ok : goal.returns-in-Ok
-returns-in-Ok g c = λ lying lies.
+returns-in-Ok c = λ lying lies.
     let is = c.in-Ok.ensures lying lies.spots lies.room in
-    move-done g.W.Write.contents c.args.self.now (record {
+    move-done c.args.self.now (record {
       placed = c.move_page.new.placed;
       rooms = c.move_page.new.rooms;
       follows = c.args.self.now.follows;
       last = c.keep.new.last;
-    }) c.args.output.now c.say_node.new.output lying lies (ground_in c.args.space.now c.args._resident.now)
+    }) lying lies (ground_in c.args.space.now c.args._resident.now)
     c.args.page c.args.node c.at-spot.result c.told_of.result is.0 is.1 is.2
-    c.at-spot.ensures (c.told_of.ensures is.3) refl c.keep.ensures c.say_node.ensures
+    c.at-spot.ensures (c.told_of.ensures is.3) refl c.keep.ensures
 
 pub returns-in-Err : goal.returns-in-Err
-returns-in-Err g c = λ lying lies.
+returns-in-Err c = λ lying lies.
     let is = c.in-Err.ensures lying lies.spots lies.room in
-    rw c.is_lack.ensures
-    (move-refused g.W.Write.contents c.args.self.now (record {
+    move-refused c.args.self.now (record {
       placed = c.move_page.new.placed;
       rooms = c.move_page.new.rooms;
       follows = c.args.self.now.follows;
       last = c.args.self.now.last;
-    }) c.args.output.now c.say_move_refusal.new.output lying lies
+    }) lying lies
     (ground_in c.args.space.now c.args._resident.now) c.args.page c.args.node c.in-Err.refusal is.0
     (λ i. record {
       placed = is.1 i;
       rooms = is.2 i;
       follows = c.args.self.now.follows;
       last = c.args.self.now.last;
-    }) c.say_move_refusal.ensures)
+    })

@@ -1,7 +1,6 @@
-use Rattle.std.proofs.Common.{◌∙◌, sym, ap, refl, false, Some, length}
+use Rattle.std.proofs.Common.{◌∙◌, sym, ap, refl, ℕ, false, Some, length}
 use Rattle.std.specs.Option.{option_map}
 use Rattle.numa_core.specs.Standing.{CoreState}
-use Rattle.numa_requests.specs.declared.event.CoreRefusal.TheVariants.{Unmapped}
 use Rattle.numa_run.specs.Judged.{cause_at, question_cause}
 use Rattle.numa_run.proofs.Doing.{same-core}
 use Rattle.numa_run.proofs.JudgeLemmas.{plain-cause}
@@ -26,8 +25,8 @@ returns-in-None c =
           c.args.question) c.prepare.ensures,
     )
 
-pub returns-in-Some-BadCpu : goal.returns-in-Some-BadCpu
-returns-in-Some-BadCpu c =
+pub returns-in-Some-refusal_by_plan : goal.returns-in-Some-refusal_by_plan
+returns-in-Some-refusal_by_plan c =
     λ state stands.
     let ready =
     same-core c.args.self.now
@@ -37,31 +36,12 @@ returns-in-Some-BadCpu c =
     let history = state.world.history in
     let plan = c.in-Some.ensures.meaning state.world ready.core.world in
     let why = c.refusal_by_plan.ensures machine history plan in
-    let is = c.in-Some-BadCpu.is ∙ ap Some c.in-Some-BadCpu.field-0-is in (
+    let refusal = c.in-Some-refusal_by_plan.refusal in (
       false,
       ready,
-      ap (option_map (cause_at (length history))) (sym is ∙ why)
-          ∙ sym (plain-cause machine history c.args.question)
-          ∙ ap (λ (core : CoreState). question_cause false core.space.machine history
-          c.args.question) c.prepare.ensures,
-    )
-
-pub returns-in-Some-Unmapped : goal.returns-in-Some-Unmapped
-returns-in-Some-Unmapped c =
-    λ state stands.
-    let ready =
-    same-core c.args.self.now
-    (record { core = c.prepare.new.core; resident = c.args.self.now.resident }) state
-    c.prepare.ensures refl stands in
-    let machine = c.prepare.new.core.space.machine in
-    let history = state.world.history in
-    let plan = c.in-Some.ensures.meaning state.world ready.core.world in
-    let why = c.refusal_by_plan.ensures machine history plan in
-    let is = c.in-Some-Unmapped.is ∙ ap Some c.in-Some-Unmapped.field-0-is in (
-      false,
-      ready,
-      ap (λ v. Some (Unmapped v)) (c.version.ensures ∙ plan.version)
-          ∙ ap (option_map (cause_at (length history))) (sym is ∙ why)
+      ap Some (c.cause_at.ensures
+          ∙ ap (λ (v : ℕ). cause_at v refusal) (c.version.ensures ∙ plan.version))
+          ∙ ap (option_map (cause_at (length history))) (sym c.in-Some-refusal_by_plan.is ∙ why)
           ∙ sym (plain-cause machine history c.args.question)
           ∙ ap (λ (core : CoreState). question_cause false core.space.machine history
           c.args.question) c.prepare.ensures,

@@ -64,3 +64,19 @@ returns-in-Work c =
     (λ refused s state. work_outcome refused s state.world state.resident c.in-Work.work)
     c.work.ensures
     (λ refused machine state. refl))
+
+pub returns-in-Pages : goal.returns-in-Pages
+returns-in-Pages c =
+    rw c.in-Pages.is (later_same c.args.self.now _ reply.BadWords (λ machine state. refl))
+
+pub returns-in-Bind : goal.returns-in-Bind
+returns-in-Bind c =
+    rw c.in-Bind.is (later_same c.args.self.now _ reply.BadWords (λ machine state. refl))
+
+pub returns-in-Host : goal.returns-in-Host
+returns-in-Host c =
+    rw c.in-Host.is (later_same c.args.self.now _ reply.BadWords (λ machine state. refl))
+
+pub returns-in-HostCommand : goal.returns-in-HostCommand
+returns-in-HostCommand c =
+    rw c.in-HostCommand.is (later_same c.args.self.now _ reply.BadWords (λ machine state. refl))

@@ -49,3 +49,23 @@ returns-in-Cpus c = rw c.in-Cpus.is c.equip.ensures
 
 pub returns-in-Machine : goal.returns-in-Machine
 returns-in-Machine c = rw c.in-Machine.is c.describe.ensures
+
+pub returns-in-Pages : goal.returns-in-Pages
+returns-in-Pages c =
+    rw (c.in-Pages.is, c.requires)
+    (first_same c.args.self.now.settings _ reply.BadWords false (λ state. refl))
+
+pub returns-in-Bind : goal.returns-in-Bind
+returns-in-Bind c =
+    rw (c.in-Bind.is, c.requires)
+    (first_same c.args.self.now.settings _ reply.BadWords false (λ state. refl))
+
+pub returns-in-Host : goal.returns-in-Host
+returns-in-Host c =
+    rw (c.in-Host.is, c.requires)
+    (first_same c.args.self.now.settings _ reply.BadWords false (λ state. refl))
+
+pub returns-in-HostCommand : goal.returns-in-HostCommand
+returns-in-HostCommand c =
+    rw (c.in-HostCommand.is, c.requires)
+    (first_same c.args.self.now.settings _ reply.BadWords false (λ state. refl))

@@ -1,0 +1,28 @@
+use Rattle.numa_host_script.proofs.Written.{asked-foreign, asked-nobody, asked-there}
+use Rattle.numa_host_script.proofs.script.HostScript.answer.Goals as goal
+
+pub returns-in_default : goal.returns-in_default
+returns-in_default g c =
+    rw c.in_default.is
+    (λ session stands.
+    asked-foreign g.W.Write.contents c.args.output.now c.say_reply.new.output
+    c.args.self.now.script c.args.self.now.limits c.args.process c.args.question session
+    c.say_reply.ensures stands)
+
+pub returns-in_default-process : goal.returns-in_default-process
+returns-in_default-process g c =
+    rw c.in-Some.is
+    (λ session stands.
+    asked-nobody g.W.Write.contents c.args.output.now c.say_reply-in_default-process.new.output
+    c.args.self.now.script c.args.self.now.limits c.in-Some.host c.args.process
+    c.args.question session c.say_reply-in_default-process.ensures
+    c.in_default-process.ensures stands)
+
+pub returns : goal.returns
+returns g c =
+    rw c.in-Some.is
+    (λ session stands.
+    asked-there g.W.Write.contents c.args.output.now c.ask.new.output c.args.self.now.script
+    c.args.self.now.limits c.in-Some.host c.args.process c.args.question
+    c.in-Some-process.space.now c.ask.result session c.in-Some-process.ensures
+    c.ask.ensures.answer c.ask.ensures.ranges stands)

@@ -1,0 +1,26 @@
+use Rattle.numa_host_script.proofs.Written.{listed-foreign, listed-nobody, listed-there}
+use Rattle.numa_host_script.proofs.script.HostScript.list.Goals as goal
+
+pub returns-in_default : goal.returns-in_default
+returns-in_default g c =
+    rw c.in_default.is
+    (λ session stands.
+    listed-foreign g.W.Write.contents c.args.output.now c.say_reply.new.output
+    c.args.self.now.script c.args.self.now.limits c.args.process c.args.task session
+    c.say_reply.ensures stands)
+
+pub returns-in_default-process : goal.returns-in_default-process
+returns-in_default-process g c =
+    rw c.in-Some.is
+    (λ session stands.
+    listed-nobody g.W.Write.contents c.args.output.now c.say_reply-in_default-process.new.output
+    c.args.self.now.script c.args.self.now.limits c.in-Some.host c.args.process
+    c.args.task session c.say_reply-in_default-process.ensures c.in_default-process.ensures stands)
+
+pub returns : goal.returns
+returns g c =
+    rw c.in-Some.is
+    (λ session stands.
+    listed-there g.W.Write.contents c.args.output.now c.list.new.output c.args.self.now.script
+    c.args.self.now.limits c.in-Some.host c.args.process c.args.task
+    c.in-Some-process.space.now session c.in-Some-process.ensures c.list.ensures stands)

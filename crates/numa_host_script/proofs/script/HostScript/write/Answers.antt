@@ -1,0 +1,29 @@
+use Rattle.numa_host_script.proofs.Written.{written-asked, written-listed, written-reply}
+use Rattle.numa_host_script.proofs.script.HostScript.write.Goals as goal
+
+pub returns-in-Own : goal.returns-in-Own
+returns-in-Own g c = rw c.in-Own.is c.write_own.ensures
+
+pub returns-in-Reply : goal.returns-in-Reply
+returns-in-Reply g c =
+    rw c.in-Reply.is
+    (λ session stands.
+    written-reply g.W.Write.contents c.args.output.now c.say_reply.new.output
+    c.args.self.now.script c.args.self.now.limits c.args.self.now.host c.in-Reply.reply
+    c.lacks_memory.result session stands c.say_reply.ensures c.lacks_memory.ensures)
+
+pub returns-in-Asked : goal.returns-in-Asked
+returns-in-Asked g c =
+    rw c.in-Asked.is
+    (λ session stands.
+    written-asked g.W.Write.contents c.args.output.now c.answer.new.output
+    c.args.self.now.script c.args.self.now.limits c.args.self.now.host c.in-Asked.process
+    c.in-Asked.question c.answer.result session (c.answer.ensures session stands) stands)
+
+pub returns-in-Listed : goal.returns-in-Listed
+returns-in-Listed g c =
+    rw c.in-Listed.is
+    (λ session stands.
+    written-listed g.W.Write.contents c.args.output.now c.list.new.output
+    c.args.self.now.script c.args.self.now.limits c.args.self.now.host c.in-Listed.process
+    c.in-Listed.task session (c.list.ensures session stands) stands)

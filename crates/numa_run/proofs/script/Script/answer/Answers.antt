@@ -1,0 +1,15 @@
+use Rattle.numa_run.proofs.Taking.{question-unready, question-written}
+use Rattle.numa_run.proofs.script.Script.answer.Goals as goal
+
+pub returns-in-Some : goal.returns-in-Some
+returns-in-Some g c =
+    rw c.in-Some.is
+    (question-written g.W.Write.contents c.args.output.now c.answer.new.output c.in-Some.running
+    c.answer.new.self c.args.question c.answer.result c.answer.ensures.answer
+    c.answer.ensures.ranges)
+
+pub returns : goal.returns
+returns g c =
+    rw c.in_default.is
+    (question-unready g.W.Write.contents c.args.output.now c.say_reply.new.output
+    c.args.self.now.settings c.args.question c.say_reply.ensures)

@@ -1,0 +1,11 @@
+use Rattle.std.proofs.Common.{false}
+use Rattle.numa_run.proofs.script.Script.fault.Goals as goal
+
+pub returns-in-Reply : goal.returns-in-Reply
+returns-in-Reply c = rw c.in-Reply.is (λ state stands. (false, c.fault.ensures, stands))
+
+pub returns-in-Question : goal.returns-in-Question
+returns-in-Question c = rw c.in-Question.is c.question_fault.ensures
+
+pub returns-in-Maps : goal.returns-in-Maps
+returns-in-Maps c = rw c.in-Maps.is (c.list_fault.ensures c.in-Maps.field-0)

@@ -1,0 +1,14 @@
+use Rattle.numa_run.proofs.Taking.{reply-written}
+use Rattle.numa_run.proofs.script.Script.write.Goals as goal
+
+pub returns-in-Reply : goal.returns-in-Reply
+returns-in-Reply g c =
+    rw c.in-Reply.is
+    (reply-written g.W.Write.contents c.args.output.now c.say_reply.new.output c.args.self.now
+    c.in-Reply.reply c.lacks_memory.result c.say_reply.ensures c.lacks_memory.ensures)
+
+pub returns-in-Question : goal.returns-in-Question
+returns-in-Question g c = rw c.in-Question.is c.answer.ensures
+
+pub returns-in-Maps : goal.returns-in-Maps
+returns-in-Maps g c = rw c.in-Maps.is c.list.ensures
