@@ -1,9 +1,11 @@
 //! Lines that state where pages lie: `at START LENGTH NODE`, in a host `in P at START LENGTH NODE`.
 
 use numa_lines::{Lines, RunFault, TakeLine, read_all};
-use numa_mask::Parts;
-use numa_script::number::{number, small};
+use numa_script::keyword::{Keyword, read_keyword};
+use numa_script::line::parse;
+use numa_script::number::small;
 use numa_script::parts::words;
+use numa_script::{Line, PageLine, ScriptLine};
 use std::alloc::{AllocError, Global};
 use std::io::Read;
 
@@ -40,9 +42,35 @@ enum Reading {
     Other,
 }
 
-/// What the words behind `at` say.
-fn read_span(place: LinePlace, process: Option<u32>, span: (&[u8], &[u8], &[u8])) -> Reading {
-    let (Some(start), Some(length), Some(node)) = (number(span.0), number(span.1), small(span.2))
+/// The keyword with which a line begins, or, behind `in P`, what the process is told.
+pub(crate) fn keyword_of(line: &[u8]) -> Option<Keyword> {
+    let mut rest = words(line);
+    let keyword = read_keyword(rest.next()?)?;
+    if !keyword.is_in() {
+        return Some(keyword);
+    }
+    let _ = small(rest.next()?)?;
+    read_keyword(rest.next()?)
+}
+
+/// What a line says.
+fn read_line(place: LinePlace, line: &[u8]) -> Reading {
+    if keyword_of(line) != Some(Keyword::At) {
+        return Reading::Other;
+    }
+    let ScriptLine {
+        process,
+        line: said,
+    } = parse(line);
+    let Line::Pages(
+        Ok(
+            PageLine::At {
+                start,
+                length,
+                node,
+            },
+        ),
+    ) = said
     else {
         return Reading::Bad;
     };
@@ -55,44 +83,12 @@ fn read_span(place: LinePlace, process: Option<u32>, span: (&[u8], &[u8], &[u8])
     })
 }
 
-/// The process that a line names by `in P`, and the word behind that.
-pub(crate) fn head<'a>(rest: &mut Parts<'a>) -> Option<(Option<u32>, &'a [u8])> {
-    let first = rest.next()?;
-    if first != b"in".as_slice() {
-        return Some((None, first));
-    }
-    let process = small(rest.next()?)?;
-    Some((Some(process), rest.next()?))
-}
-
-/// The three words that are left, if there are three.
-fn three<'a>(rest: Parts<'a>) -> Option<(&'a [u8], &'a [u8], &'a [u8])> {
-    let mut rest = rest;
-    let first = rest.next()?;
-    let second = rest.next()?;
-    Some((first, second, rest.only()?))
-}
-
-/// What a line says.
-fn read_line(place: LinePlace, line: &[u8]) -> Reading {
-    let mut rest = words(line);
-    let Some((process, first)) = head(&mut rest) else {
-        return Reading::Other;
-    };
-    if first != b"at".as_slice() {
-        return Reading::Other;
-    }
-    match three(rest) {
-        Some(span) => read_span(place, process, span),
-        None => Reading::Bad,
-    }
-}
-
-/// The lines of texts that state where pages lie, and the taker of their other lines.
+/// The lines of texts that state where pages lie, and the taker of all that aren't malformed ones
+/// of these: it plays them too, but need not tell of them.
 #[derive(Drop)]
 pub struct AtLines<T> {
     alloc: Global,
-    /// The taker of the other lines.
+    /// The taker of the lines.
     pub taker: T,
     // The names of the texts.
     names: Vec<String>,
@@ -149,16 +145,19 @@ impl<T> AtLines<T> {
         Ok(self.names.len().saturating_sub(1))
     }
 
-    /// Keeps a line that states where pages lie. Returns whether it is none.
+    /// Keeps a line that states where pages lie. Returns whether the taker takes it.
     fn keep(&mut self, name: &str, place: u64, line: &[u8]) -> Result<bool, AllocError> {
         let text = self.note(name, place)?;
         let place = LinePlace { text, line: place };
         match read_line(place, line) {
             Reading::At(at) => self.lines.push(at)?,
-            Reading::Bad => self.bad.push(place)?,
-            Reading::Other => return Ok(true),
+            Reading::Bad => {
+                self.bad.push(place)?;
+                return Ok(false);
+            }
+            Reading::Other => {}
         }
-        Ok(false)
+        Ok(true)
     }
 }
 
@@ -202,7 +201,8 @@ impl TakeLine<()> for PassOver {
     }
 }
 
-/// Reads texts in order: keeps their lines that state where pages lie, and hands on the others.
+/// Reads texts in order: keeps their lines that state where pages lie, and hands on all but the
+/// malformed ones of these.
 ///
 /// # Errors
 /// `Read`: a read failed. `Memory`: out of memory. Or what the taker answers.

@@ -1,8 +1,10 @@
 //! Lines that move pages.
 
-use crate::at_lines::head;
-use numa_mask::{NodeMask, Parts, read_list};
-use numa_script::parts::words;
+use crate::at_lines::keyword_of;
+use numa_mask::NodeMask;
+use numa_script::keyword::Keyword;
+use numa_script::line::parse;
+use numa_script::{Line, PageLine};
 
 /// What a line moves.
 #[derive(Clone, Copy)]
@@ -24,53 +26,33 @@ pub enum MoveLine {
     Other,
 }
 
-/// The two lists of nodes that are left, if there are two.
-fn two_lists(rest: Parts<'_>) -> Option<(NodeMask, NodeMask)> {
-    let mut rest = rest;
-    let first = rest.next()?;
-    let second = rest.only()?;
-    match (read_list(first), read_list(second)) {
-        (Ok(from), Ok(to)) => Some((from, to)),
-        _ => None,
+/// What a line about pages moves.
+fn page_move(process: Option<u32>, said: &PageLine) -> MoveLine {
+    match said {
+        PageLine::Migrate { from, to } => MoveLine::Migrate {
+            process,
+            from: *from,
+            to: *to,
+        },
+        _ => MoveLine::Bad,
     }
 }
 
-/// Whether lines that begin with the word change which nodes are allowed.
-fn changes_nodes(first: &[u8]) -> bool {
-    if first == b"mems".as_slice() {
-        return true;
+/// What a line `migrate` moves.
+fn read_migrate(line: &[u8]) -> MoveLine {
+    let said = parse(line);
+    match &said.line {
+        Line::Pages(Ok(page)) => page_move(said.process, page),
+        _ => MoveLine::Bad,
     }
-    if first == b"cgroup-mems".as_slice() {
-        return true;
-    }
-    first == b"attach".as_slice()
-}
-
-/// Whether lines that begin with the word take pages away.
-fn takes_pages(first: &[u8]) -> bool {
-    if first == b"unmap".as_slice() {
-        return true;
-    }
-    first == b"exit".as_slice()
 }
 
 /// What a line moves.
 pub fn read_move(line: &[u8]) -> MoveLine {
-    let mut rest = words(line);
-    let Some((process, first)) = head(&mut rest) else {
-        return MoveLine::Other;
-    };
-    if changes_nodes(first) {
-        return MoveLine::Nodes;
-    }
-    if takes_pages(first) {
-        return MoveLine::Away;
-    }
-    if first != b"migrate".as_slice() {
-        return MoveLine::Other;
-    }
-    match two_lists(rest) {
-        Some((from, to)) => MoveLine::Migrate { process, from, to },
-        None => MoveLine::Bad,
+    match keyword_of(line) {
+        Some(Keyword::Mems | Keyword::GroupMems | Keyword::Attach) => MoveLine::Nodes,
+        Some(Keyword::Unmap | Keyword::Exit) => MoveLine::Away,
+        Some(Keyword::Migrate) => read_migrate(line),
+        _ => MoveLine::Other,
     }
 }

@@ -3,7 +3,8 @@
 use crate::at_lines::{AtLine, LinePlace};
 use numa_host::{Host, Process};
 use numa_mask::NodeMask;
-use numa_placed::{Placed, PlacedRefusal};
+use numa_placed::Placed;
+use numa_requests::PlacedRefusal;
 use numa_space::Space;
 use std::alloc::{AllocError, Global};
 

@@ -21,16 +21,16 @@ use Rattle.numa_requests.specs.declared.refusal.Refusal.{Refusal}
 use Rattle.numa_requests.specs.declared.refusal.Refusal.TheVariants as refused
 use Rattle.numa_space.specs.Standing.{SpaceState}
 use Rattle.numa_placed.specs.Astray.{strict_cause_by}
-use Rattle.numa_placed.specs.Binds.{Asked, IsBound, asked_of, bound_spots}
+use Rattle.numa_placed.specs.Binds.{Asked, IsBound, asked_of, bound_spots, span_below}
 use Rattle.numa_placed.specs.Refusals.{IsLack, IsMoveRefusal, IsRefusal, lacks_node}
 use Rattle.numa_placed.specs.Refusals.{migrate_cause, move_cause, span_cause, state_cause}
 use Rattle.numa_placed.specs.Shifts.{AreRooms, IsShift, first_of, room_cause, room_moved, shifted}
 use Rattle.numa_placed.specs.Spots.{changed_spots, forgotten_spot, spot_at, stated_spot}
 use Rattle.numa_placed.specs.Spots.{stated_spots}
 use Rattle.numa_placed.specs.declared.moved.Moved.{Moved}
-use Rattle.numa_placed.specs.declared.refusal.MoveRefusal.{MoveRefusal}
-use Rattle.numa_placed.specs.declared.refusal.PlacedRefusal.{PlacedRefusal}
-use Rattle.numa_placed.specs.declared.refusal.PlacedRefusal.TheVariants.{NoSuchNode}
+use Rattle.numa_requests.specs.declared.page_refusal.MoveRefusal.{MoveRefusal}
+use Rattle.numa_requests.specs.declared.page_refusal.PlacedRefusal.{PlacedRefusal}
+use Rattle.numa_requests.specs.declared.page_refusal.PlacedRefusal.TheVariants.{NoSuchNode}
 use Rattle.numa_placed.specs.declared.rooms.Rooms.{Rooms}
 use Rattle.numa_placed.specs.declared.spot.Spot.{Spot}
 use Rattle.numa_pages.specs.declared.binding.Rebound.{Rebound}
@@ -163,9 +163,11 @@ abbrev pub late_errno : Bool → Specification → ℕ → ℕ
 late_errno strict spec left =
     if strict && (not (is_default spec) && not (left == 0)) then 5 else 0
 
--- the pages, as they are to lie by the list as it is written, and by the nodes of each in this core
+-- the pages that can be mapped, as they are to lie by the list as it is written, and by the nodes
+-- of each in this core
 abbrev pub asked_by : CoreState → ℕ → ℕ → Specification → ℕ → ℕ → Asked
-asked_by core start bytes spec task cpu = asked_of core.space start bytes spec.mask task cpu
+asked_by core start bytes spec task cpu = asked_of core.space (span_below start bytes).0
+    (span_below start bytes).1 spec.mask task cpu
 
 -- why it is refused: by the core; or it would accept it, and the pages' runs lack
 abbrev pub IsMovingCause : ℕ → ℕ → Specification → ℕ → ℕ → PagesState → ChangeRefusal → Type 0
@@ -173,7 +175,8 @@ IsMovingCause start bytes spec task cpu pages (OfSpace refusal) =
     Answers pages.core (Mbind start bytes spec) (Err refusal) pages.core
 IsMovingCause start bytes spec task cpu pages (OfPages cause) = (after : CoreState)
     × Accepted pages.core (Mbind start bytes spec) after
-    × ((room : ℕ → ℕ) → AreRooms pages.rooms room → IsRefusal (span_cause start bytes)
+    × ((room : ℕ → ℕ) → AreRooms pages.rooms room → IsRefusal
+    (span_cause (span_below start bytes).0 (span_below start bytes).1)
     (bound_spots (asked_by after start bytes spec task cpu) (spot_at pages.runs) room) cause)
 IsMovingCause start bytes spec task cpu pages NoMemory = Unit {0}
 

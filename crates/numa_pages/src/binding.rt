@@ -1,7 +1,7 @@
 //! Binding pages strictly, which is judged before anything changes; and moving them to where they
 //! are bound.
 ghost use Rattle.std.specs.Prelude.{◌≡◌, ℕ, Ok, Err, Some, None, IfErr, IfOk, MatchResult, OnErr};
-ghost use Rattle.numa_placed.specs.Binds.{IsBound, bound_spots};
+ghost use Rattle.numa_placed.specs.Binds.{IsBound, bound_spots, span_below};
 ghost use Rattle.numa_placed.specs.Refusals.{IsRefusal, span_cause};
 ghost use Rattle.numa_placed.specs.Shifts.{AreRooms};
 ghost use Rattle.numa_placed.specs.Spots.{spot_at};
@@ -13,8 +13,8 @@ use crate::trial::{TrialError, let_go, tried};
 use numa_core::Core;
 use numa_machine::Rules;
 use numa_mode::PolicySpec;
-use numa_placed::{Bound, Placed, PlacedRefusal, Rooms};
-use numa_requests::{Command, Refusal};
+use numa_placed::{Bound, Placed, Rooms, span_below};
+use numa_requests::{Command, PlacedRefusal, Refusal};
 use numa_space::Space;
 
 /// What setting a policy did, and moving the pages to where it puts them.
@@ -108,11 +108,12 @@ pub(crate) fn move_astray(
         (asked_by after.now start length spec.now task cpu) (spot_at placed.old) room
         (spot_at placed.new) rooms.new.value) }
     ensures err { (room : ℕ → ℕ) → AreRooms rooms.old.value room → IfErr result (IsRefusal
-        (span_cause start length) (bound_spots
+        (span_cause (span_below start length).0 (span_below start length).1) (bound_spots
         (asked_by after.now start length spec.now task cpu) (spot_at placed.old) room)) }
     ensures unchanged { OnErr result (placed.new ≡ placed.old) }
     ensures rooms { OnErr result (rooms.new.value ≡ rooms.old.value) }
 {
     let list = spec.mask();
+    let (start, length) = span_below(start, length);
     placed.bind_astray(after.space(), start, length, &list, task, cpu, rooms)
 }

@@ -1,7 +1,6 @@
 //! Why a change of a core and its pages is refused.
 
-use numa_placed::PlacedRefusal;
-use numa_requests::Refusal;
+use numa_requests::{PlacedRefusal, Refusal};
 
 /// Why a change was refused: a cause of the core comes before one of its pages.
 #[derive(Clone, Copy, Debug, PartialEq, Eq)]

@@ -18,9 +18,9 @@ use Rattle.numa_placed.specs.Moves.{moved_spot}
 use Rattle.numa_machine.specs.Machine.{Hardware}
 use Rattle.numa_placed.specs.Refusals.{IsLack, IsRefusal, IsMoveLack, IsMoveRefusal, lacks_node}
 use Rattle.numa_placed.specs.Refusals.{span_cause, state_cause}
-use Rattle.numa_placed.specs.declared.refusal.MoveRefusal.{MoveRefusal}
+use Rattle.numa_requests.specs.declared.page_refusal.MoveRefusal.{MoveRefusal}
 use Rattle.numa_placed.specs.Wholes.{AreWhole, IsChanged, IsEdit, IsKept}
-use Rattle.numa_placed.specs.declared.refusal.PlacedRefusal.{PlacedRefusal}
+use Rattle.numa_requests.specs.declared.page_refusal.PlacedRefusal.{PlacedRefusal}
 use Rattle.numa_placed.specs.declared.spot.Spot.{Spot}
 use Rattle.numa_placed.specs.declared.spot.Spot.TheVariants.{Nowhere, Stated, Held}
 use Rattle.numa_placed.proofs.Counting.{count-span, count-changed}

@@ -9,8 +9,8 @@ use Rattle.numa_ranges.specs.Runs.{page_at}
 use Rattle.numa_ranges.specs.declared.run.Run.{Run}
 use Rattle.numa_space.specs.Refusals.{PageMap}
 use Rattle.numa_placed.specs.Astray.{judged_end, judged_pages, strict_cause_by}
-use Rattle.numa_placed.specs.declared.refusal.PlacedRefusal.{PlacedRefusal}
-use Rattle.numa_placed.specs.declared.refusal.PlacedRefusal.TheVariants.{Astray}
+use Rattle.numa_requests.specs.declared.page_refusal.PlacedRefusal.{PlacedRefusal}
+use Rattle.numa_requests.specs.declared.page_refusal.PlacedRefusal.TheVariants.{Astray}
 use Rattle.numa_placed.specs.declared.spot.Spot.{Spot}
 use Rattle.numa_placed.specs.declared.spot.Spot.TheVariants.{Nowhere, Stated}
 

@@ -7,14 +7,16 @@ use Rattle.numa_mask.specs.NodeSet.{set_of, members}
 use Rattle.numa_machine.specs.Machine.{Hardware}
 use Rattle.numa_space.proofs.Rows.{flat}
 use Rattle.numa_placed.specs.Moves.{moved_node, moved_spot, goes, is_left, goes_from}
-use Rattle.numa_placed.specs.Refusals.{state_cause, hold_cause, migrate_cause, move_cause}
-use Rattle.numa_placed.specs.Refusals.{move_errno_of}
+use Rattle.numa_placed.specs.Refusals.{state_cause, migrate_cause, move_cause}
+use Rattle.numa_requests.specs.PageErrors.{move_errno_of}
 use Rattle.numa_placed.specs.Spots.{changed_spots, stated_spots, forgotten_spot}
 use Rattle.numa_placed.specs.declared.spot.Spot.{Spot}
 use Rattle.numa_placed.specs.declared.spot.Spot.TheVariants.{Nowhere, Stated, Held}
-use Rattle.numa_placed.specs.declared.refusal.PlacedRefusal.TheVariants.{Unaligned, OutOfSpace}
-use Rattle.numa_placed.specs.declared.refusal.PlacedRefusal.TheVariants.{NoSuchNode, Occupied}
-use Rattle.numa_placed.specs.declared.refusal.PlacedRefusal.TheVariants.{NodesNotAllowed}
+use Rattle.numa_requests.specs.declared.page_refusal.PlacedRefusal.TheVariants.{Unaligned}
+use Rattle.numa_requests.specs.declared.page_refusal.PlacedRefusal.TheVariants.{OutOfSpace}
+use Rattle.numa_requests.specs.declared.page_refusal.PlacedRefusal.TheVariants.{NoSuchNode}
+use Rattle.numa_requests.specs.declared.page_refusal.PlacedRefusal.TheVariants.{Occupied}
+use Rattle.numa_requests.specs.declared.page_refusal.PlacedRefusal.TheVariants.{NodesNotAllowed}
 
 -- where the pages of some nodes go
 gone : List ℕ → List ℕ → List ℕ → List ℕ
@@ -132,14 +134,6 @@ state-node_without_memory = refl
 state-accepted : state_cause gap 0x10000 0x1000 3 ≡ None
 unfolding gap
 state-accepted = refl
-
-hold-occupied : hold_cause 7 (spots 7) ≡ Some Occupied
-unfolding spots
-hold-occupied = refl
-
-hold-free : hold_cause 4 (spots 4) ≡ None
-unfolding spots
-hold-free = refl
 
 -- migrate_pages(2): EINVAL where none of the new nodes is one that is allowed
 migrate-none_allowed : migrate_cause 3 4 ≡ Some NodesNotAllowed

@@ -1,6 +1,6 @@
 -- Pages that lie on other nodes than those of a list (mbind(2), MPOL_MF_STRICT).
-use Rattle.std.specs.Prelude.{ℕ, zero, suc, ◌+◌, ◌-◌, ◌&&◌, Bool, false, not, nat_lt, Option, Some}
-use Rattle.std.specs.Prelude.{None, is_some, if◌then◌else◌}
+use Rattle.std.specs.Prelude.{ℕ, zero, suc, ◌+◌, ◌-◌, ◌%◌, ◌==◌, ◌&&◌, Bool, false, not, nat_lt}
+use Rattle.std.specs.Prelude.{Option, Some, None, is_some, if◌then◌else◌}
 use Rattle.numa_mask.specs.NodeSet.{has}
 use Rattle.numa_machine.specs.declared.rules.Rules.{Rules}
 use Rattle.numa_machine.specs.declared.rules.Rules.TheVariants.{Document, Linux}
@@ -13,8 +13,8 @@ use Rattle.numa_space.specs.Same.{same_record}
 use Rattle.numa_placed.specs.Refusals.{first_of, span_cause}
 use Rattle.numa_placed.specs.declared.spot.Spot.{Spot}
 use Rattle.numa_placed.specs.declared.spot.Spot.TheVariants.{Nowhere, Stated, Held}
-use Rattle.numa_placed.specs.declared.refusal.PlacedRefusal.{PlacedRefusal}
-use Rattle.numa_placed.specs.declared.refusal.PlacedRefusal.TheVariants.{Astray}
+use Rattle.numa_requests.specs.declared.page_refusal.PlacedRefusal.{PlacedRefusal}
+use Rattle.numa_requests.specs.declared.page_refusal.PlacedRefusal.TheVariants.{Astray, Unaligned}
 
 -- whether a page lies on a node that isn't in the list
 abbrev pub is_astray : ℕ → Spot → Bool
@@ -49,9 +49,14 @@ abbrev pub judged_pages : Rules → PageMap → ℕ → ℕ → ℕ
 judged_pages Document map first pages = pages
 judged_pages Linux map first pages = judged_end map first first pages - first
 
+-- why a span may not have a policy: for the kernel it may end anywhere
+abbrev pub strict_span_cause : Rules → ℕ → ℕ → Option PlacedRefusal
+strict_span_cause Document start bytes = span_cause start bytes
+strict_span_cause Linux start bytes = if start % 4096 == 0 then None else Some Unaligned
+
 -- why the policy may not be set for it where pages are mapped so, by whose rules count
 abbrev pub strict_cause_by : Rules → PageMap → (ℕ → Spot) → ℕ → ℕ → ℕ → Option PlacedRefusal
-strict_cause_by rules map spots start bytes list = first_of (span_cause start bytes)
+strict_cause_by rules map spots start bytes list = first_of (strict_span_cause rules start bytes)
     (astray_cause spots (page_of start)
     (judged_pages rules map (page_of start) (page_count bytes)) list)
 

@@ -1,10 +1,11 @@
 -- Where pages go that lie astray when the policy of a span is set anew (mbind(2), MPOL_MF_MOVE).
 -- The lowest page goes first, each to the first node of its own list that has room by then.
-use Rattle.std.specs.Prelude.{◌≡◌, ℕ, zero, suc, ◌^◌, ◌==◌, ◌&&◌, Bool, false, true, not, is_some}
-use Rattle.std.specs.Prelude.{Option, Some, None, List, [], ◌∷◌, if◌then◌else◌}
+use Rattle.std.specs.Prelude.{◌≡◌, ℕ, zero, suc, ◌-◌, ◌^◌, ◌==◌, ◌&&◌, Bool, false, true, not}
+use Rattle.std.specs.Prelude.{Option, Some, None, List, [], ◌∷◌, if◌then◌else◌, is_some, nat_le}
 use Rattle.numa_ranges.specs.Counts.{count_pages}
 use Rattle.numa_ranges.specs.Runs.{in_pages, page_at}
 use Rattle.numa_space.specs.History.{page_of, page_count}
+use Rattle.numa_space.specs.Refusals.{ends_above}
 use Rattle.numa_space.specs.Standing.{SpaceState, list_in, place_refusal_in}
 use Rattle.numa_machine.specs.declared.refusal.PlaceRefusal.{PlaceRefusal}
 use Rattle.numa_placed.specs.Astray.{is_astray}
@@ -23,6 +24,13 @@ pub record Asked : Type 0 where
   pub pages : ℕ
   pub list : ℕ
   pub nodes : ℕ → List ℕ
+
+-- the part of a span below address 2^47: by the kernel's rules a span whose policy is set may end
+-- above, where no page is mapped
+abbrev pub span_below : ℕ → ℕ → ℕ × ℕ
+span_below start bytes =
+    if not (ends_above (2 ^ 47) start bytes) then (start, bytes)
+    else if nat_le (2 ^ 47) start then (0, 0) else (start, 2 ^ 47 - start)
 
 -- a list of nodes, where nothing stands against asking for it
 abbrev pub list_unless : Option PlaceRefusal → List ℕ → List ℕ

@@ -1,4 +1,4 @@
--- Why a call is refused, and the error numbers of that (errno(3)).
+-- Why a call is refused.
 use Rattle.std.specs.Prelude.{◌≡◌, ℕ, ◌+◌, ◌*◌, ◌%◌, ◌^◌, ◌==◌, ◌||◌, Bool, true, not, nat_lt}
 use Rattle.std.specs.Prelude.{nat_le}
 use Rattle.std.specs.Prelude.{Option, Some, None, if◌then◌else◌}
@@ -8,34 +8,17 @@ use Rattle.numa_space.specs.History.{page_count}
 use Rattle.numa_placed.specs.Spots.{is_placed, too_many}
 use Rattle.numa_placed.specs.declared.spot.Spot.{Spot}
 use Rattle.numa_placed.specs.declared.spot.Spot.TheVariants.{Nowhere, Stated, Held}
-use Rattle.numa_placed.specs.declared.refusal.PlacedRefusal.{PlacedRefusal}
-use Rattle.numa_placed.specs.declared.refusal.PlacedRefusal.TheVariants.{Unaligned, OutOfSpace}
-use Rattle.numa_placed.specs.declared.refusal.PlacedRefusal.TheVariants.{NoSuchNode, Occupied}
-use Rattle.numa_placed.specs.declared.refusal.PlacedRefusal.TheVariants.{NodesNotAllowed, Astray}
-use Rattle.numa_placed.specs.declared.refusal.PlacedRefusal.TheVariants.{TooManyRuns, NoMemory}
-use Rattle.numa_placed.specs.declared.refusal.MoveRefusal.{MoveRefusal}
-use Rattle.numa_placed.specs.declared.refusal.MoveRefusal.TheVariants as move
-
--- ---- error numbers
-
-abbrev pub errno_of : PlacedRefusal → ℕ
-errno_of Unaligned = 22
-errno_of OutOfSpace = 12
-errno_of NoSuchNode = 22
-errno_of Occupied = 17
-errno_of NodesNotAllowed = 22
-errno_of Astray = 5
-errno_of TooManyRuns = 12
-errno_of NoMemory = 12
-
-abbrev pub move_errno_of : MoveRefusal → ℕ
-move_errno_of move.NoSuchNode = 19
-move_errno_of move.NodesNotAllowed = 13
-move_errno_of move.Unmapped = 14
-move_errno_of move.NotPlaced = 2
-move_errno_of move.NoRoom = 12
-move_errno_of move.TooManyRuns = 12
-move_errno_of move.NoMemory = 12
+use Rattle.numa_requests.specs.declared.page_refusal.PlacedRefusal.{PlacedRefusal}
+use Rattle.numa_requests.specs.declared.page_refusal.PlacedRefusal.TheVariants.{Unaligned}
+use Rattle.numa_requests.specs.declared.page_refusal.PlacedRefusal.TheVariants.{OutOfSpace}
+use Rattle.numa_requests.specs.declared.page_refusal.PlacedRefusal.TheVariants.{NoSuchNode}
+use Rattle.numa_requests.specs.declared.page_refusal.PlacedRefusal.TheVariants.{Occupied}
+use Rattle.numa_requests.specs.declared.page_refusal.PlacedRefusal.TheVariants.{NodesNotAllowed}
+use Rattle.numa_requests.specs.declared.page_refusal.PlacedRefusal.TheVariants.{Astray}
+use Rattle.numa_requests.specs.declared.page_refusal.PlacedRefusal.TheVariants.{TooManyRuns}
+use Rattle.numa_requests.specs.declared.page_refusal.PlacedRefusal.TheVariants.{NoMemory}
+use Rattle.numa_requests.specs.declared.page_refusal.MoveRefusal.{MoveRefusal}
+use Rattle.numa_requests.specs.declared.page_refusal.MoveRefusal.TheVariants as move
 
 -- ---- causes, in order
 
@@ -59,17 +42,6 @@ span_cause start bytes =
 abbrev pub state_cause : Hardware → ℕ → ℕ → ℕ → Option PlacedRefusal
 state_cause machine start bytes node = first_of (span_cause start bytes)
     (if lacks_node machine node then Some NoSuchNode else None)
-
--- why a page may not go into a frame
-abbrev pub hold_cause : ℕ → Spot → Option PlacedRefusal
-hold_cause page spot =
-    if nat_le (2 ^ 35) page then Some OutOfSpace
-    else if is_placed spot then Some Occupied
-    else None
-
--- why the frame of a page may not be given back
-abbrev pub release_cause : ℕ → Option PlacedRefusal
-release_cause page = if nat_le (2 ^ 35) page then Some OutOfSpace else None
 
 -- why pages may not migrate: none of the nodes is allowed
 abbrev pub migrate_cause : ℕ → ℕ → Option PlacedRefusal

@@ -10,8 +10,8 @@ use Rattle.numa_placed.specs.Moves.{AreTargets, is_left, moved_node}
 use Rattle.numa_placed.specs.Spots.{pages_where, too_many}
 use Rattle.numa_placed.specs.declared.moved.Moved.{Moved}
 use Rattle.numa_placed.specs.declared.rooms.Rooms.{Rooms}
-use Rattle.numa_placed.specs.declared.refusal.MoveRefusal.{MoveRefusal}
-use Rattle.numa_placed.specs.declared.refusal.MoveRefusal.TheVariants.{NoRoom}
+use Rattle.numa_requests.specs.declared.page_refusal.MoveRefusal.{MoveRefusal}
+use Rattle.numa_requests.specs.declared.page_refusal.MoveRefusal.TheVariants.{NoRoom}
 use Rattle.numa_placed.specs.declared.spot.Spot.{Spot}
 use Rattle.numa_placed.specs.declared.spot.Spot.TheVariants.{Nowhere, Stated, Held}
 

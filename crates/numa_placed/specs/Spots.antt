@@ -9,7 +9,7 @@ use Rattle.numa_ranges.specs.declared.run.Run.{Run}
 use Rattle.numa_placed.specs.declared.spot.Spot.{Spot}
 use Rattle.numa_placed.specs.declared.spot.Spot.TheVariants.{Nowhere, Stated, Held}
 use Rattle.numa_placed.specs.declared.change.Change.{Change}
-use Rattle.numa_placed.specs.declared.change.Change.TheVariants.{State, Forget, Hold, Release}
+use Rattle.numa_placed.specs.declared.change.Change.TheVariants.{State, Forget}
 
 -- ---- a page
 
@@ -42,18 +42,10 @@ forgotten_spot Nowhere = Nowhere
 forgotten_spot (Stated node) = Nowhere
 forgotten_spot (Held node) = Held node
 
--- a page whose frame, if it has one, was given back
-abbrev pub released_spot : Spot → Spot
-released_spot Nowhere = Nowhere
-released_spot (Stated node) = Stated node
-released_spot (Held node) = Nowhere
-
 -- what a change makes of a page
 abbrev pub changed_spot : Change → Spot → Spot
 changed_spot (State node) spot = stated_spot node spot
 changed_spot Forget spot = forgotten_spot spot
-changed_spot (Hold node) spot = Held node
-changed_spot Release spot = released_spot spot
 
 -- ---- all pages
 

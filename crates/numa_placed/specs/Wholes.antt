@@ -6,7 +6,7 @@ use Rattle.numa_ranges.specs.Runs.{page_at}
 use Rattle.numa_ranges.specs.declared.run.Run.{Run}
 use Rattle.numa_placed.specs.Spots.{spot_at, changed_spots, run_count, most_runs, too_many}
 use Rattle.numa_placed.specs.Refusals.{IsLack}
-use Rattle.numa_placed.specs.declared.refusal.PlacedRefusal.{PlacedRefusal}
+use Rattle.numa_requests.specs.declared.page_refusal.PlacedRefusal.{PlacedRefusal}
 use Rattle.numa_placed.specs.declared.spot.Spot.{Spot}
 
 -- the runs have each page below 2^35, with itself as its index

@@ -1,13 +1,13 @@
 //! Pages that lie on other nodes than those of a list.
-ghost use Rattle.std.specs.Prelude.{◌≡◌, ◌+◌, ◌≤◌, ◌^◌, MatchResult, None, Some};
+ghost use Rattle.std.specs.Prelude.{◌≡◌, ◌+◌, ◌<◌, ◌^◌, MatchResult, None, Some};
 ghost use Rattle.numa_ranges.specs.Maps.{any_page};
 ghost use Rattle.numa_placed.specs.Astray.{astray_cause, is_astray, reaches};
 ghost use Rattle.numa_placed.specs.Spots.{spot_at};
 
-use crate::refusal::PlacedRefusal;
 use crate::spot::Spot;
 use numa_mask::NodeMask;
 use numa_ranges::{RangeMap, Run};
+use numa_requests::PlacedRefusal;
 
 /// Whether a page lies on a node that isn't in the list.
 pub(crate) fn is_astray(spot: Spot, list: &NodeMask) -> bool
@@ -31,7 +31,7 @@ fn reaches(run: &Run<Spot>, first: u64, end: u64, list: &NodeMask) -> bool
 
 /// Whether some page of a span lies on a node that isn't in the list.
 fn has_astray(map: &RangeMap<Spot>, first: u64, pages: u64, list: &NodeMask) -> bool
-    requires within { first + pages ≤ 2 ^ 35 }
+    requires fits { first + pages < 2 ^ 64 }
     ensures { result ≡ any_page (λ page. is_astray list.now (spot_at map.now.runs page)) first
         pages }
 {
@@ -54,7 +54,7 @@ pub(crate) fn judge_pages(
     pages: u64,
     list: &NodeMask,
 ) -> Result<(), PlacedRefusal>
-    requires within { first + pages ≤ 2 ^ 35 }
+    requires fits { first + pages < 2 ^ 64 }
     ensures { MatchResult result
         (λ done. astray_cause (spot_at map.now.runs) first pages list.now ≡ None)
         (λ cause. astray_cause (spot_at map.now.runs) first pages list.now ≡ Some cause) }

@@ -16,12 +16,12 @@ use crate::astray::is_astray;
 use crate::bound::Bound;
 use crate::change::Change;
 use crate::edit::{change_span, let_go, put};
-use crate::refusal::PlacedRefusal;
 use crate::rooms::Rooms;
 use crate::spot::Spot;
 use numa_machine::NoMemory;
 use numa_mask::NodeMask;
 use numa_ranges::{RangeMap, Run};
+use numa_requests::PlacedRefusal;
 use numa_space::Space;
 
 /// A task, and the node on which it runs.

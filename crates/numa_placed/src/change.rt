@@ -1,6 +1,6 @@
 //! Changes of where a page lies.
 ghost use Rattle.std.specs.Prelude.{◌≡◌};
-ghost use Rattle.numa_placed.specs.Spots.{stated_spot, forgotten_spot, released_spot, changed_spot};
+ghost use Rattle.numa_placed.specs.Spots.{stated_spot, forgotten_spot, changed_spot};
 
 use crate::spot::Spot;
 
@@ -11,10 +11,6 @@ pub(crate) enum Change {
     State(u8),
     /// They lie nowhere, unless they are in a frame.
     Forget,
-    /// They are in a frame of a node.
-    Hold(u8),
-    /// They lie nowhere if they are in a frame.
-    Release,
 }
 
 /// A page that is stated to lie on a node.
@@ -39,17 +35,6 @@ fn forgotten(spot: Spot) -> Spot
     }
 }
 
-/// A page whose frame, if it has one, was given back.
-fn released(spot: Spot) -> Spot
-    ensures { result ≡ released_spot spot }
-{
-    match spot {
-        Spot::Nowhere => Spot::Nowhere,
-        Spot::Stated(node) => Spot::Stated(node),
-        Spot::Held(_) => Spot::Nowhere,
-    }
-}
-
 /// A page after a change.
 pub(crate) fn changed(change: Change, spot: Spot) -> Spot
     ensures { result ≡ changed_spot change spot }
@@ -57,7 +42,5 @@ pub(crate) fn changed(change: Change, spot: Spot) -> Spot
     match change {
         Change::State(node) => stated(node, spot),
         Change::Forget => forgotten(spot),
-        Change::Hold(node) => Spot::Held(node),
-        Change::Release => released(spot),
     }
 }

@@ -5,10 +5,10 @@ ghost use Rattle.numa_placed.specs.Spots.{spot_at, changed_spot, changed_spots, 
 ghost use Rattle.numa_placed.specs.Wholes.{AreWhole, IsChanged, IsEdit, IsKept};
 
 use crate::change::{Change, changed};
-use crate::refusal::PlacedRefusal;
 use crate::spot::Spot;
 use numa_machine::NoMemory;
 use numa_ranges::RangeMap;
+use numa_requests::PlacedRefusal;
 use std::mem::replace;
 
 /// The most runs of placed pages.

@@ -14,7 +14,6 @@ ghost use Rattle.numa_placed.specs.declared.spot.Spot.TheVariants.{Stated};
 use crate::course::course_of;
 use crate::edit::{let_go, put};
 use crate::moved::Moved;
-use crate::refusal::PlacedRefusal;
 use crate::rooms::Rooms;
 use crate::shift::send_all;
 use crate::spot::Spot;
@@ -23,6 +22,7 @@ use crate::targets::{gone, targets};
 use numa_machine::NoMemory;
 use numa_mask::NodeMask;
 use numa_ranges::{RangeMap, Run};
+use numa_requests::PlacedRefusal;
 
 /// The number of pages that are stated to lie on each node.
 fn stated_counts(map: &RangeMap<Spot>) -> [u64; 256]

@@ -3,15 +3,15 @@ ghost use Rattle.std.specs.Prelude.{◌≡◌, ◌<◌, ◌^◌, ℕ, true, fals
 ghost use Rattle.std.specs.Prelude.{MatchResult, IsErrAnd, Ok};
 ghost use Rattle.numa_ranges.specs.Maps.{IsSpan};
 ghost use Rattle.numa_ranges.specs.Runs.{page_at};
-ghost use Rattle.numa_placed.specs.Refusals.{IsLack, IsMoveLack, lacks_node, hold_cause};
-ghost use Rattle.numa_placed.specs.Refusals.{move_cause, release_cause, spot_cause};
+ghost use Rattle.numa_placed.specs.Refusals.{IsLack, IsMoveLack, lacks_node};
+ghost use Rattle.numa_placed.specs.Refusals.{move_cause, spot_cause};
 ghost use Rattle.numa_placed.specs.Shifts.{AreRooms, HasRoom, room_cause, room_of};
 ghost use Rattle.numa_placed.specs.declared.spot.Spot.{Spot};
 
-use crate::refusal::{MoveRefusal, PlacedRefusal};
 use crate::rooms::Rooms;
 use crate::spot::Spot;
 use numa_machine::Machine;
+use numa_requests::{MoveRefusal, PlacedRefusal};
 use numa_space::Space;
 
 /// Whether the machine lacks a node, or the node has no memory.
@@ -39,34 +39,6 @@ fn is_mapped(space: &Space, page: u64) -> bool
     // Tells the proof that all mapped pages are below 2^35.
     let _ = space.range_iter();
     has_list(space, page)
-}
-
-/// Refuses a page from 2^35 on.
-pub(crate) fn judge_page(page: u64) -> Result<(), PlacedRefusal>
-    ensures cause { MatchResult result (λ done. release_cause page ≡ None)
-        (λ refusal. release_cause page ≡ Some refusal) }
-    ensures span { OnOk result (IsSpan page 1) }
-{
-    if page >= 1 << 35 {
-        return Err(PlacedRefusal::OutOfSpace);
-    }
-    Ok(())
-}
-
-/// Refuses to put a page that lies here into a frame, unless it may go there.
-pub(crate) fn judge_hold(page: u64, spot: Spot) -> Result<(), PlacedRefusal>
-    ensures cause { MatchResult result (λ done. hold_cause page spot ≡ None)
-        (λ refusal. hold_cause page spot ≡ Some refusal) }
-    ensures span { OnOk result (IsSpan page 1) }
-{
-    if page >= 1 << 35 {
-        return Err(PlacedRefusal::OutOfSpace);
-    }
-    match spot {
-        Spot::Nowhere => Ok(()),
-        Spot::Stated(_) => Err(PlacedRefusal::Occupied),
-        Spot::Held(_) => Err(PlacedRefusal::Occupied),
-    }
 }
 
 /// Refuses to move a page that lies here to a node, unless it may go there.

@@ -16,7 +16,7 @@
 //! if it is asked to. (`judge_strict_by`, `bind_astray`)
 //!
 //! **Frames.** A page in a frame stays there in every move, and is counted as left; stating or
-//! forgetting the pages of a span skips it. Only `release` takes it away.
+//! forgetting the pages of a span skips it.
 //!
 //! **Runs.** A run is a maximal run of pages that lie alike, and there may be 1,048,576 of them.
 //! `follow` and `migrate` never make more, and take no memory.
@@ -41,7 +41,6 @@ pub mod laws;
 pub mod leaving;
 pub mod moved;
 pub mod placed;
-pub mod refusal;
 pub mod rooms;
 mod shift;
 mod spans;
@@ -56,7 +55,7 @@ pub use judge::{judge_move, lacks_node};
 pub use leaving::{Leaving, departures};
 pub use moved::Moved;
 pub use placed::Placed;
-pub use refusal::{MoveRefusal, PlacedRefusal};
 pub use rooms::Rooms;
+pub use spans::span_below;
 pub use spot::Spot;
 pub use targets::moved_node;

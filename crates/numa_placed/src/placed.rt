@@ -8,24 +8,22 @@ ghost use Rattle.numa_placed.specs.Binds.{IsBound, asked_of, bound_spots};
 ghost use Rattle.numa_placed.specs.Moves.{IsMove, moved_node};
 ghost use Rattle.numa_placed.specs.Refusals.{IsLack, IsRefusal, IsMoveRefusal, state_cause};
 ghost use Rattle.numa_placed.specs.Refusals.{span_cause};
-ghost use Rattle.numa_placed.specs.Refusals.{hold_cause, migrate_cause, move_cause, release_cause};
+ghost use Rattle.numa_placed.specs.Refusals.{migrate_cause, move_cause};
 ghost use Rattle.numa_placed.specs.Spots.{spot_at, is_on, pages_where, pages_within, run_count};
 ghost use Rattle.numa_placed.specs.Spots.{stated_beside, too_many};
 ghost use Rattle.numa_placed.specs.Spots.{changed_spots, stated_spots, stated_spot, forgotten_spot};
-ghost use Rattle.numa_placed.specs.Spots.{released_spot};
 ghost use Rattle.numa_placed.specs.Shifts.{AreRooms, IsShift, first_of, room_cause, room_moved};
 ghost use Rattle.numa_placed.specs.Shifts.{shifted};
 ghost use Rattle.numa_placed.specs.Wholes.{AreWhole};
-ghost use Rattle.numa_placed.specs.declared.spot.Spot.TheVariants.{Nowhere, Held};
+ghost use Rattle.numa_placed.specs.declared.spot.Spot.TheVariants.{Nowhere};
 
 use crate::bind::{FaultingTask, bind_span};
 use crate::bound::Bound;
 use crate::change::Change;
 use crate::edit::{edit, placed_runs};
 use crate::filling::fill;
-use crate::judge::{judge_hold, judge_move, judge_page, judge_room, lacks_node, move_outcome};
+use crate::judge::{judge_move, judge_room, lacks_node, move_outcome};
 use crate::moved::Moved;
-use crate::refusal::{MoveRefusal, PlacedRefusal};
 use crate::rooms::Rooms;
 use crate::shift::shift;
 use crate::spans::{span_of, state_others, state_span};
@@ -35,6 +33,7 @@ use numa_machine::NoMemory;
 use numa_maps::Resident;
 use numa_mask::NodeMask;
 use numa_ranges::{RangeIter, RangeMap};
+use numa_requests::{MoveRefusal, PlacedRefusal};
 use numa_space::Space;
 use std::alloc::Global;
 use std::marker::Model;
@@ -242,43 +241,6 @@ impl Placed {
             return Ok(());
         }
         edit(&mut self.map, first, pages, Change::Forget)
-    }
-
-    /// Notes that a touch put a page into a frame of a node.
-    ///
-    /// # Errors
-    /// The first of these that applies; nothing has changed: `OutOfSpace`, `Occupied`,
-    /// `TooManyRuns`, `NoMemory`, as [`PlacedRefusal`] says.
-    pub fn hold(&mut self, page: u64, node: u8) -> Result<(), PlacedRefusal>
-        ensures accepted { OnOk result (hold_cause page (spot_at self.old page) ≡ None) }
-        ensures ok { OnOk result ((other : ℕ) → spot_at self.new other
-            ≡ changed_spots page 1 (λ spot. Held node) (spot_at self.old) other) }
-        ensures few { OnOk result (too_many (spot_at self.new) ≡ false) }
-        ensures err { IfErr result (IsRefusal (hold_cause page (spot_at self.old page))
-            (changed_spots page 1 (λ spot. Held node) (spot_at self.old))) }
-        ensures unchanged { OnErr result (self.new ≡ self.old) }
-    {
-        judge_hold(page, self.at(page))?;
-        edit(&mut self.map, page, 1, Change::Hold(node))
-    }
-
-    /// Notes that the frame of a page was given back: it lies nowhere then. A page that is in no
-    /// frame stays as it is.
-    ///
-    /// # Errors
-    /// The first of these that applies; nothing has changed: `OutOfSpace`, `TooManyRuns`,
-    /// `NoMemory`, as [`PlacedRefusal`] says.
-    pub fn release(&mut self, page: u64) -> Result<(), PlacedRefusal>
-        ensures accepted { OnOk result (release_cause page ≡ None) }
-        ensures ok { OnOk result ((other : ℕ) → spot_at self.new other
-            ≡ changed_spots page 1 released_spot (spot_at self.old) other) }
-        ensures few { OnOk result (too_many (spot_at self.new) ≡ false) }
-        ensures err { IfErr result (IsRefusal (release_cause page)
-            (changed_spots page 1 released_spot (spot_at self.old))) }
-        ensures unchanged { OnErr result (self.new ≡ self.old) }
-    {
-        judge_page(page)?;
-        edit(&mut self.map, page, 1, Change::Release)
     }
 
     /// Moves the pages of a span that lie on other nodes than those of a list, as mbind(2) does

@@ -1,9 +1,11 @@
 //! Stating where the mapped pages of a span lie.
 ghost use Rattle.std.specs.Prelude.{◌≡◌, ◌+◌, ◌<◌, ◌≤◌, ◌^◌, ◌&&◌, ℕ, true, is_some, None, Some};
-ghost use Rattle.std.specs.Prelude.{OnOk, MatchResult, if◌then◌else◌};
+ghost use Rattle.std.specs.Prelude.{IfOk, OnOk, MatchResult, if◌then◌else◌};
 ghost use Rattle.numa_ranges.specs.Maps.{IsSpan};
 ghost use Rattle.numa_ranges.specs.Runs.{end_of, in_pages, page_at};
 ghost use Rattle.numa_space.specs.History.{page_of, page_count};
+ghost use Rattle.numa_placed.specs.Astray.{strict_span_cause};
+ghost use Rattle.numa_placed.specs.Binds.{span_below};
 ghost use Rattle.numa_placed.specs.Refusals.{span_cause};
 ghost use Rattle.numa_placed.specs.Spots.{changed_spots, forgotten_spot, passed_over, spot_at};
 ghost use Rattle.numa_placed.specs.Spots.{stated_beside, stated_spot, stated_spots};
@@ -11,13 +13,24 @@ ghost use Rattle.numa_placed.specs.Wholes.{AreWhole, IsEdit, IsKept};
 
 use crate::change::Change;
 use crate::edit::{change_span, edit, let_go, put};
-use crate::refusal::PlacedRefusal;
 use crate::spot::Spot;
-use numa_machine::NoMemory;
+use numa_machine::{NoMemory, Rules};
 use numa_maps::Resident;
 use numa_ranges::{RangeMap, Run};
-use numa_requests::PAGE_BYTES;
+use numa_requests::{PAGE_BYTES, PlacedRefusal};
 use numa_space::{RangeRecord, Space};
+
+/// The end of the addresses of a space.
+const SPACE_END: u64 = 1 << 47;
+
+/// The page of a start, and the number of pages of a length.
+fn pages_of(start: u64, length: u64) -> (u64, u64)
+    ensures first { result.0 ≡ page_of start }
+    ensures count { result.1 ≡ page_count length }
+{
+    let pages = length / PAGE_BYTES + u64::from(length % PAGE_BYTES != 0);
+    (start / PAGE_BYTES, pages)
+}
 
 /// The first page of a span and the number of its pages.
 pub(crate) fn span_of(start: u64, length: u64) -> Result<(u64, u64), PlacedRefusal>
@@ -29,11 +42,45 @@ pub(crate) fn span_of(start: u64, length: u64) -> Result<(u64, u64), PlacedRefus
     if start % PAGE_BYTES != 0 {
         return Err(PlacedRefusal::Unaligned);
     }
-    let pages = length / PAGE_BYTES + u64::from(length % PAGE_BYTES != 0);
-    if start > 1 << 47 || pages > (1 << 35) - start / PAGE_BYTES {
+    let (first, pages) = pages_of(start, length);
+    if start > SPACE_END || pages > (1 << 35) - first {
         return Err(PlacedRefusal::OutOfSpace);
     }
-    Ok((start / PAGE_BYTES, pages))
+    Ok((first, pages))
+}
+
+/// The part of a span below address 2^47, by its start and length: by the kernel's rules a span
+/// whose policy is set may end above, where no page is mapped. `(0, 0)` where it has none.
+pub fn span_below(start: u64, length: u64) -> (u64, u64)
+    ensures start { result.0 ≡ (span_below start length).0 }
+    ensures length { result.1 ≡ (span_below start length).1 }
+{
+    let (_, pages) = pages_of(start, length);
+    if start <= SPACE_END && pages <= (SPACE_END - start) / PAGE_BYTES {
+        return (start, length);
+    }
+    if start >= SPACE_END {
+        return (0, 0);
+    }
+    (start, SPACE_END - start)
+}
+
+/// The first page of a span and the number of its pages, which for the kernel may end anywhere.
+pub(crate) fn span_by(rules: Rules, start: u64, length: u64) -> Result<(u64, u64), PlacedRefusal>
+    ensures span { MatchResult result (λ span. (strict_span_cause rules start length ≡ None)
+        × (span.0 ≡ page_of start) × (span.1 ≡ page_count length))
+        (λ refusal. strict_span_cause rules start length ≡ Some refusal) }
+    ensures fits { IfOk result (λ span. span.0 + span.1 < 2 ^ 64) }
+{
+    match rules {
+        Rules::Document => span_of(start, length),
+        Rules::Linux => {
+            if start % PAGE_BYTES != 0 {
+                return Err(PlacedRefusal::Unaligned);
+            }
+            Ok(pages_of(start, length))
+        }
+    }
 }
 
 /// The number of ranges that begin at a page or before it, by a binary search over the 65,536 that

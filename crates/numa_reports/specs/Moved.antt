@@ -44,9 +44,3 @@ AddsMoves old new more = (from to : ℕ) → from < 256 → to < 256
 pub record HasRoomFor (table : List ℕ) (pages : ℕ) : Type 0 where
   pub entries : length table ≡ 65536
   pub room : (from to : ℕ) → from < 256 → to < 256 → moves_in table from to + pages < 2 ^ 64
-
--- the table has the pages of a span, for each two nodes
-abbrev pub AreMoves : Hardware → List Command → List Command → ℕ → ℕ → ℕ → ℕ → List ℕ → Type 0
-AreMoves machine before after task first pages cpu table =
-    (from to : ℕ) → from < 256 → to < 256
-    → moves_in table from to ≡ meant_moves machine before after task first pages cpu from to

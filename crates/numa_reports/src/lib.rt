@@ -27,7 +27,6 @@ pub use asked::{AddressAsked, CpuAsked, TouchAsked};
 pub use differences::{SpanMove, all_moves};
 pub use fault::ReportError;
 pub use filling::{FreePages, fill_all};
-pub use moves::span_moves;
 pub use outlook::{Outlook, PageSpan, common_spans, outlook_of};
 pub use prediction::{RangePrediction, TakeRange, predict_all, predict_range};
 pub use sheet::{

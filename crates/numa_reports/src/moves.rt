@@ -1,16 +1,13 @@
 //! Which pages go to another node.
 ghost use Rattle.std.specs.Prelude.{◌≡◌, ◌-◌, ◌≤◌, ◌<◌, ◌==◌, ◌&&◌, ℕ, List, length, slice_index};
-ghost use Rattle.std.specs.Prelude.{Err, IfErr, IfOk, OnOk, nat_lt, if◌then◌else◌};
+ghost use Rattle.std.specs.Prelude.{IfErr, IfOk, OnOk, nat_lt, if◌then◌else◌};
 ghost use Rattle.numa_compile.specs.Standing.{PlanStandsFor};
 ghost use Rattle.numa_machine.specs.Machine.{Hardware};
 ghost use Rattle.numa_requests.specs.declared.command.Command.{Command};
-ghost use Rattle.numa_machine.specs.declared.refusal.PlaceRefusal.TheVariants.{BadCpu};
-ghost use Rattle.numa_reports.specs.declared.fault.ReportError.TheVariants.{Refused};
-ghost use Rattle.numa_reports.specs.Failing.{MovesMayFail, RefusesEither};
-ghost use Rattle.numa_reports.specs.Moved.{AddsMoves, AreMoves, HasRoomFor};
+ghost use Rattle.numa_reports.specs.Failing.{RefusesEither};
+ghost use Rattle.numa_reports.specs.Moved.{AddsMoves, HasRoomFor};
 ghost use Rattle.numa_reports.specs.Moved.{meant_moves, pairs, planned_moves};
 
-use crate::fault::ReportError;
 use crate::outlook::PageSpan;
 use crate::touch::Touch;
 use crate::watch::Watch;
@@ -151,40 +148,4 @@ pub(crate) fn empty_table(alloc: Global, entries: usize) -> Result<Vec<u64>, All
     ensures empty { IfOk result (λ table. (k : ℕ) → k < entries → slice_index table.items k ≡ 0) }
 {
     vec![in alloc; 0; entries]
-}
-
-/// The number of pages of a span that go from one node, by the plan `before`, to another, by the
-/// plan `after`, if the task touched each of them on a CPU of node `cpu`: entry `256 * from + to`
-/// of the table. Pages that stay are on its diagonal. The time depends on the number of pages.
-///
-/// # Errors
-/// The first that applies: `Refused(BadCpu)`, a plan has no node `cpu`; `Memory`, there is no
-/// memory for the table; `Refused(Unmapped)`, a page of the span isn't mapped in a plan.
-pub fn span_moves(
-    alloc: Global,
-    before: &Plan,
-    after: &Plan,
-    task: u32,
-    first: u64,
-    pages: u64,
-    cpu: u32,
-) -> Result<Vec<u64>, ReportError>
-    ensures ok { (machine : Hardware) (old new : List Command)
-        → PlanStandsFor machine before.now old → PlanStandsFor machine after.now new
-        → cpu < machine.nodes
-        → IfOk result (λ table. AreMoves machine old new task first pages cpu table.items) }
-    ensures entries { IfOk result (λ table. length table.items ≡ 65536) }
-    ensures err { (machine : Hardware) (old new : List Command)
-        → PlanStandsFor machine before.now old → PlanStandsFor machine after.now new
-        → IfErr result (MovesMayFail machine old new first pages cpu) }
-    ensures bad_cpu { before.now.nodes ≤ cpu → result ≡ Err (Refused BadCpu) }
-{
-    if !has_node(before, cpu) {
-        return Err(ReportError::Refused(PlaceRefusal::BadCpu));
-    }
-    let mut table = empty_table(alloc, ENTRIES)?;
-    let span = PageSpan { first, pages };
-    let touch = Touch { task, cpu };
-    add_moves(before, after, touch, span, &mut table, &mut ())?;
-    Ok(table)
 }

@@ -7,9 +7,9 @@ ghost use Rattle.numa_placed.specs.Spots.{spot_at};
 use crate::areas::judged_pages;
 use crate::astray::judge_pages;
 use crate::placed::Placed;
-use crate::refusal::PlacedRefusal;
-use crate::spans::span_of;
+use crate::spans::{span_by, span_of};
 use numa_mask::NodeMask;
+use numa_requests::PlacedRefusal;
 use numa_space::Space;
 
 impl Placed {
@@ -53,7 +53,7 @@ impl Placed {
             (λ refusal. strict_cause_by space.now.machine.rules (page_at space.now.ranges)
             (spot_at self.now) start length list.now ≡ Some refusal) }
     {
-        let (first, pages) = span_of(start, length)?;
+        let (first, pages) = span_by(space.machine().rules(), start, length)?;
         let judged = judged_pages(space, first, pages);
         judge_pages(&self.map, first, judged, list)
     }

@@ -4,7 +4,7 @@ use Rattle.numa_ranges.specs.Runs.{page_at}
 use Rattle.numa_placed.specs.Refusals.{IsMoveRefusal, move_cause}
 use Rattle.numa_placed.specs.Shifts.{first_of, room_cause}
 use Rattle.numa_placed.specs.Spots.{changed_spots, spot_at, stated_spot}
-use Rattle.numa_placed.specs.declared.refusal.MoveRefusal.{MoveRefusal}
+use Rattle.numa_requests.specs.declared.page_refusal.MoveRefusal.{MoveRefusal}
 use Rattle.numa_placed.specs.declared.spot.Spot.{Spot}
 use Rattle.numa_placed.proofs.Edits.{move-refusal}
 use Rattle.numa_placed.proofs.placed.Placed.move_page_within.Goals as goal
