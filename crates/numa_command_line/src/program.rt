@@ -23,10 +23,9 @@ each line to standard output; or it shows that this holds while threads place pa
 policies.";
 
 /// The end of the help of the program.
-const MORE: &str =
-    "Example, from the top of the repository:\n  ./numaplan run examples/first-run.numaplan\n\nThe \
-language of scripts is told in docs/SCRIPT.md of the repository, the commands in \
-docs/COMMANDS.md.";
+const MORE: &str = "Example, from the top of the repository:\n  ./numaplan run \
+examples/first-run.numaplan\n\ndocs/SCRIPT.md of the repository describes the language of \
+scripts, docs/COMMANDS.md the commands.";
 
 /// The program without subcommands.
 fn bare<'a>(alloc: Global) -> Command<'a>

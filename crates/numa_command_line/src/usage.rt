@@ -56,7 +56,7 @@ pub struct SubcommandHelp {
 pub const FILES: Argument = Argument {
     name: "FILE",
     value: "",
-    help: "Scripts, read in turn; - is standard input, which is read where none is named",
+    help: "Scripts, read in turn; - is standard input, which is also read if none is named",
     is_required: false,
     takes: Takes::Files,
 };

@@ -2,6 +2,7 @@
 use numa_lines::{Respond, Watched};
 use numa_machine::Rules;
 use numa_placed_script::PlacedScript;
+use numa_script::line::parse;
 use std::alloc::{AllocError, Global};
 use std::io::Write;
 use std::mem;
@@ -26,20 +27,15 @@ impl Answering {
     }
 }
 
-/// Answers a line. (It is a function of its own so that the contract of `serve_line`, which isn't
-/// needed here, stays out of every goal.)
-fn serve<W: Write>(script: &mut PlacedScript, alloc: Global, line: &[u8], output: &mut Watched<W>) {
-    script.serve_line(alloc, line, output);
-}
-
-/// Whether a text ends so.
-fn ends_with(text: &[u8], end: &[u8]) -> bool {
-    &text[text.len().saturating_sub(end.len())..] == end
-}
-
-/// Whether an answer says that memory ran out.
-fn says_starved(answer: &[u8]) -> bool {
-    ends_with(answer, b"NoMemory\n") || ends_with(answer, b"NoMemory ENOMEM\n")
+/// Answers a line, and returns whether memory ran out. (It is a function of its own so that the
+/// contract of `serve_line`, which isn't needed here, stays out of every goal.)
+fn serve<W: Write>(
+    script: &mut PlacedScript,
+    alloc: Global,
+    line: &[u8],
+    output: &mut Watched<W>,
+) -> bool {
+    script.serve_line(alloc, &parse(line), output)
 }
 
 impl Respond for Answering {
@@ -53,11 +49,11 @@ impl Respond for Answering {
 
     fn respond(&mut self, line: &[u8], answer: &mut Vec<u8>) -> Result<(), AllocError> {
         let mut output = Watched::new(mem::replace(answer, Vec::new(self.alloc)));
-        serve(&mut self.script, self.alloc, line, &mut output);
+        let is_starved = serve(&mut self.script, self.alloc, line, &mut output);
         let handed_over = output.hand_over();
         *answer = output.inner;
         match handed_over {
-            Ok(()) if !says_starved(answer.as_slice()) => Ok(()),
+            Ok(()) if !is_starved => Ok(()),
             _ => Err(AllocError),
         }
     }

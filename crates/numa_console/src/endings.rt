@@ -157,7 +157,7 @@ pub fn answered(
 /// Ends because no task is given, and lines name several.
 fn lack_task(rt: &impl Eprint, first: u32, second: u32) -> ExitCode {
     let _ = eprintln!(rt;
-        "error: '--task <T>' is wanted: lines name several tasks, as {first} and {second}"
+        "error: '--task <T>' is wanted: lines name several tasks, such as {first} and {second}"
     );
     ExitCode::from(2)
 }

@@ -1,23 +1,19 @@
 -- What checking a line finds.
-use Rattle.std.specs.Prelude.{◌≡◌, ℕ, Bool, List, Option}
+use Rattle.std.specs.Prelude.{Option}
 use Rattle.std.specs.Option.{option_map}
-use Rattle.numa_host_script.specs.Judged.{session_fault}
-use Rattle.numa_host_script.specs.Sessions.{Session, session_after}
-use Rattle.numa_host_script.specs.Standing.{StandsIn}
-use Rattle.numa_host_script.specs.declared.fault.LineFault.{LineFault}
-use Rattle.numa_host_script.specs.declared.script.HostScript.{HostScript}
+use Rattle.numa_placed_script.specs.Taking.{JudgesScene}
+use Rattle.numa_placed_script.specs.declared.script.PlacedScript.{PlacedScript}
+use Rattle.numa_script.specs.declared.line.ScriptLine.{ScriptLine}
+use Rattle.numa_script.specs.declared.reply.Reply.{Reply}
 use Rattle.numa_diagnose.specs.declared.finding.Finding.{Finding}
 
 -- the fault or the refusal that the line is answered is returned, or nothing where it is answered
 -- neither, and the script goes on
-abbrev pub Judged : HostScript → List ℕ → Option LineFault → HostScript → Type 0
-Judged old line found new =
-    (session : Session) → StandsIn old.script old.limits old.host session
-    → (refused : Bool)
-    × StandsIn new.script new.limits new.host (session_after refused session line)
-    × (found ≡ session_fault refused session line)
+abbrev pub Judged : PlacedScript → ScriptLine → Option Reply → PlacedScript → Type 0
+Judged old said found new =
+    JudgesScene old.script old.beside found new.script new.beside said
 
 -- the same of what is found
-abbrev pub Checks : HostScript → List ℕ → Option Finding → HostScript → Type 0
-Checks old line found new =
-    Judged old line (option_map (λ finding. finding.fault) found) new
+abbrev pub Checks : PlacedScript → ScriptLine → Option Finding → PlacedScript → Type 0
+Checks old said found new =
+    Judged old said (option_map (λ finding. finding.fault) found) new

@@ -1,13 +1,14 @@
 //! Details of an error or a refusal.
+use crate::bad_words::plain_words;
 use crate::finding::Detail;
 use crate::pages::{first_mapped, first_unmapped, first_without_home, is_mapped};
 use numa_machine::Machine;
 use numa_mask::ListFault;
 use numa_mask::parts::first_place;
-use numa_requests::{Command, CoreRefusal, Event, Refusal};
+use numa_requests::{Command, CoreRefusal, Event, MoveRefusal, PlacedRefusal, Refusal};
 use numa_run::Script;
 use numa_script::parts::{items, words};
-use numa_script::{Line, Question, Reply, WordError, Work, why_malformed};
+use numa_script::{Line, PageLine, Question, Reply, ScriptLine, WordError, Work};
 use numa_space::Space;
 
 /// The size of a page in bytes.
@@ -85,6 +86,15 @@ fn command_detail(space: &Space, command: &Command, refusal: Refusal) -> Detail 
     }
 }
 
+/// The details of the refusal of an `mbind` that judges or moves pages.
+fn bind_detail(space: &Space, start: u64, length: u64, refusal: Refusal) -> Detail {
+    match refusal {
+        Refusal::CommandsSpent => Detail::Count(space.version()),
+        Refusal::TooManyRanges => Detail::Count(space.ranges() as u64),
+        _ => span_detail(space, pages_from(start, page_count(length)), refusal),
+    }
+}
+
 /// The highest node of the machine.
 fn last_node(space: &Space) -> Detail {
     last_of(space.machine())
@@ -134,6 +144,7 @@ pub(crate) fn refusal_detail(space: &Space, said: &Line<'_>, cause: CoreRefusal)
     match cause {
         CoreRefusal::Command(refusal) => match said {
             Line::Command(Ok(command)) => command_detail(space, command, refusal),
+            Line::Bind { start, length, .. } => bind_detail(space, *start, *length, refusal),
             _ => Detail::None,
         },
         CoreRefusal::BadCpu => last_node(space),
@@ -213,23 +224,71 @@ pub(crate) fn list_detail(line: &[u8], all: Detail, fault: WordError) -> Detail 
     }
 }
 
-/// The details of a line's error or refusal, by the script after it.
-pub(crate) fn detail_of(script: &Script, line: &[u8], said: &Line<'_>, fault: Reply) -> Detail {
+/// The page at which the span of a line begins, or which it moves.
+fn first_page(said: &Line<'_>) -> Detail {
+    match said {
+        Line::Pages(Ok(PageLine::At { start, .. })) => Detail::Page(*start / PAGE),
+        Line::Pages(Ok(PageLine::Move { address, .. })) => Detail::Page(*address / PAGE),
+        _ => Detail::None,
+    }
+}
+
+/// The details of the refusal of a line about pages that are there.
+fn placed_detail(space: &Space, line: &[u8], said: &Line<'_>, refusal: PlacedRefusal) -> Detail {
+    match refusal {
+        PlacedRefusal::Unaligned if is_decimal_start(line) => Detail::DecimalStart,
+        PlacedRefusal::Unaligned => first_page(said),
+        PlacedRefusal::NoSuchNode => last_node(space),
+        _ => Detail::None,
+    }
+}
+
+/// The details of why a page isn't moved.
+fn move_detail(space: &Space, said: &Line<'_>, refusal: MoveRefusal) -> Detail {
+    match refusal {
+        MoveRefusal::NoSuchNode => last_node(space),
+        MoveRefusal::Unmapped => first_page(said),
+        _ => Detail::None,
+    }
+}
+
+/// The details of a refusal once a machine is ready.
+fn refused_detail(space: &Space, line: &[u8], said: &Line<'_>, fault: Reply) -> Detail {
     match fault {
-        Reply::BadWords => match why_malformed(line) {
-            Some(malformed) => Detail::Malformed(malformed),
-            None => Detail::None,
-        },
-        Reply::BadState if script.core().is_some() => Detail::MachineReady,
-        Reply::BadState => Detail::NoMachine,
-        Reply::BadWord(fault) => list_detail(line, all_detail(script, said), fault),
         Reply::Refused(CoreRefusal::Command(Refusal::Unaligned)) if is_decimal_start(line) => {
             Detail::DecimalStart
         }
-        Reply::Refused(cause) => match script.core() {
-            Some(core) => refusal_detail(core.space(), said, cause),
+        Reply::Refused(cause) => refusal_detail(space, said, cause),
+        Reply::PlacedRefused(refusal) => placed_detail(space, line, said, refusal),
+        Reply::MoveRefused(refusal) => move_detail(space, said, refusal),
+        _ => Detail::None,
+    }
+}
+
+/// The details of a line that has no place where it stands.
+fn state_detail(is_ready: bool, said: &Line<'_>) -> Detail {
+    match said {
+        Line::Host if is_ready => Detail::LateHost,
+        _ if is_ready => Detail::MachineReady,
+        _ => Detail::NoMachine,
+    }
+}
+
+/// The details of a line's error or refusal, by the script of one process after it.
+pub(crate) fn detail_of(
+    script: &Script,
+    line: &[u8],
+    said: &ScriptLine<'_>,
+    fault: Reply,
+) -> Detail {
+    let said = &said.line;
+    match fault {
+        Reply::BadWords => plain_words(line),
+        Reply::BadState => state_detail(script.core().is_some(), said),
+        Reply::BadWord(fault) => list_detail(line, all_detail(script, said), fault),
+        fault => match script.core() {
+            Some(core) => refused_detail(core.space(), line, said, fault),
             None => Detail::None,
         },
-        _ => Detail::None,
     }
 }

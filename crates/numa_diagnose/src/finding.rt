@@ -1,13 +1,12 @@
 //! Findings: what is wrong with a line.
+ghost use Rattle.std.specs.Prelude.{◌≡◌};
 ghost use Rattle.numa_diagnose.specs.Checks.{Checks};
 
 use crate::details::detail_of;
 use crate::host_details::host_detail;
-use crate::host_words::{HostCause, HostMalformed, is_of_a_host};
-use numa_host_script::{HostLine, HostScript, LineFault, parse_host};
-use numa_run::Script;
-use numa_script::line::parse;
-use numa_script::{Cause, Malformed, Reply, why_malformed};
+use numa_host_script::HostScript;
+use numa_placed_script::PlacedScript;
+use numa_script::{Malformed, Reply, ScriptLine};
 use std::alloc::Global;
 
 /// A detail of an error or a refusal, beyond its name.
@@ -17,6 +16,13 @@ pub enum Detail {
     None,
     /// Why the line is malformed, and where.
     Malformed(Malformed),
+    /// The same of an `mbind` with words after its policy.
+    MalformedBind(Malformed),
+    /// Only a host's script has the line, and this isn't one.
+    NoHost,
+    /// The line is about pages that are there, which a host has none of; where a process is told
+    /// it, with the column of what it is told.
+    NoPages(Option<usize>),
     /// No machine is ready yet, so the line wasn't judged.
     NoMachine,
     /// A machine is already ready.
@@ -39,9 +45,7 @@ pub enum Detail {
     Count(u64),
     /// The nodes to be allowed have no memory.
     Mems,
-    /// Why the line is malformed in a host's script, and where.
-    HostMalformed(HostMalformed),
-    /// A line `host` comes behind the first command.
+    /// A line `host` comes after the first command.
     LateHost,
     /// The script is a host's already.
     HostReady,
@@ -56,7 +60,7 @@ pub enum Detail {
 /// What is wrong with a line: its error or refusal, and a detail.
 #[derive(Clone, Copy)]
 pub struct Finding {
-    pub fault: LineFault,
+    pub fault: Reply,
     pub detail: Detail,
     /// The process of a host that was told or asked the line, if one was.
     pub process: Option<u32>,
@@ -67,69 +71,49 @@ impl Detail {
     pub fn column(self) -> Option<usize> {
         match self {
             Detail::Malformed(malformed) => Some(malformed.column),
-            Detail::HostMalformed(malformed) => Some(malformed.column),
+            Detail::MalformedBind(malformed) => Some(malformed.column),
+            Detail::NoHost => Some(1),
+            Detail::NoPages(column) => column,
             _ => None,
         }
     }
 }
 
-/// The details of an error or a refusal in a script of one process.
-fn plain_detail(script: &Script, line: &[u8], fault: Reply) -> Detail {
-    if line == b"host".as_slice() {
-        return match script.core() {
-            Some(_) => Detail::LateHost,
-            None => Detail::NoMachine,
+/// What is wrong with a line that this fault or refusal answers, by the script after it.
+fn finding_of(script: &HostScript, line: &[u8], said: &ScriptLine<'_>, fault: Reply) -> Finding
+    ensures { result.fault ≡ fault }
+{
+    if let Some(host) = script.host() {
+        return Finding {
+            fault,
+            detail: host_detail(host, line, said, fault),
+            process: said.process,
         };
     }
-    match why_malformed(line) {
-        Some(
-            Malformed {
-                cause: Cause::UnknownWord,
-                column,
-            },
-        ) if is_of_a_host(line) => Detail::HostMalformed(HostMalformed {
-            cause: HostCause::NoHost,
-            column,
-        }),
-        _ => detail_of(script, line, &parse(line), fault),
+    let detail = match script.script() {
+        Some(script) => detail_of(script, line, said, fault),
+        None => Detail::None,
+    };
+    Finding {
+        fault,
+        detail,
+        process: None,
     }
 }
 
-/// The details of a line's error or refusal, by the script after it.
-fn detail_in(script: &HostScript, line: &[u8], fault: LineFault) -> Detail {
-    if let Some(host) = script.host() {
-        return host_detail(host, line, fault);
-    }
-    match (script.script(), fault) {
-        (Some(script), LineFault::Reply(fault)) => plain_detail(script, line, fault),
-        _ => Detail::None,
-    }
-}
-
-/// The process of a host that is told or asked a line.
-fn process_of(script: &HostScript, line: &[u8]) -> Option<u32> {
-    let _ = script.host()?;
-    match parse_host(line) {
-        HostLine::In { process, .. } => Some(process),
-        _ => None,
-    }
-}
-
-/// Carries out a line, without its line feed, and returns what is wrong with it: `Some` exactly if
-/// its answer is an error or a refusal, and then that one. A question is judged and not answered.
-pub fn judge(alloc: Global, script: &mut HostScript, line: &[u8]) -> Option<Finding>
-    ensures { Checks script.old line.now result script.new }
+/// Carries out a line, which is `said` in bytes without a line feed, and returns what is wrong with
+/// it: `Some` exactly if its answer is an error or a refusal, and then that one. A question is
+/// judged and not answered.
+pub fn judge(
+    alloc: Global,
+    script: &mut PlacedScript,
+    line: &[u8],
+    said: &ScriptLine<'_>,
+) -> Option<Finding>
+    ensures { Checks script.old said.now result script.new }
 {
-    match script.judge(alloc, line) {
+    match script.judge(alloc, said) {
         None => None,
-        Some(fault) => {
-            let detail = detail_in(script, line, fault);
-            let process = process_of(script, line);
-            Some(Finding {
-                fault,
-                detail,
-                process,
-            })
-        }
+        Some(fault) => Some(finding_of(script.session(), line, said, fault)),
     }
 }

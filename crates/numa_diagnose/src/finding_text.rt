@@ -1,9 +1,9 @@
 //! Findings as texts.
 use crate::finding::{Detail, Finding};
 use crate::hint::HostHint;
-use crate::host_text::{put_host_cause, put_host_refused};
+use crate::host_text::put_host_refused;
+use crate::page_text::{PLACED, put_move_refused, put_placed_refused};
 use crate::words::{list_words, machine_words, policy_words, worker_words};
-use numa_host_script::LineFault;
 use numa_requests::{CoreRefusal, Refusal};
 use numa_rules::{Text, say_hint, say_otherwise};
 use numa_script::keyword::Keyword;
@@ -20,7 +20,7 @@ const FRAMES_FORM: &str = " are no decimal numbers below 2^32 with commas betwee
 
 /// What DIST isn't.
 const DISTANCES_FORM: &str = " is neither flat nor decimal numbers of at most 255 with commas \
-and semicolons; either may stand behind kernel:";
+and semicolons; either may follow kernel:";
 
 /// The message for a carriage return.
 const RETURN: &str =
@@ -36,7 +36,7 @@ of 4096; write 0x before hexadecimal digits";
 
 /// The message for a binary text.
 pub const BINARY: &str =
-    "a byte 0, as in a binary file; scripts are text, so nothing behind it is looked at";
+    "a byte 0, as in a binary file; scripts are text, so nothing after it is read";
 
 /// The text after a page that is mapped but not published.
 const UNPUBLISHED: &str = " is mapped, but not published yet; publish first";
@@ -55,20 +55,33 @@ fn put_usage(text: &mut Text, keyword: Keyword) {
         text.put(" ");
         text.put(parameter.name());
     }
+    if keyword == Keyword::GroupMems {
+        text.put(", or - for no list");
+    }
+}
+
+/// Appends the syntax of an `mbind` with words after its policy, after a semicolon.
+fn put_bind_usage(text: &mut Text) {
+    put_usage(text, Keyword::Mbind);
+    text.put(", then strict, move TASK CPU, or both");
 }
 
 /// Appends the form that a word must have.
 fn put_form(text: &mut Text, parameter: Parameter) {
+    if let Form::Switch = parameter.form() {
+        text.put("a word is neither on nor off");
+        return;
+    }
     text.put(parameter.name());
     match parameter.form() {
         Form::Number(greatest) => {
             text.put_number(" is no number from 0 to ", greatest);
-            text.put(", decimal or hexadecimal behind 0x");
+            text.put(", decimal, or hexadecimal after 0x");
         }
         Form::Rules => text.put(RULES_FORM),
         Form::Frames => text.put(FRAMES_FORM),
         Form::Distances => text.put(DISTANCES_FORM),
-        Form::Any => {}
+        Form::Switch | Form::Any => {}
     }
 }
 
@@ -103,25 +116,40 @@ fn cause_words(cause: Cause) -> &'static str {
         Cause::TrailingSpace => "a space at the end of the line; take it out",
         Cause::TwoSpaces => "two spaces in a row; write one",
         Cause::UnknownWord => "no line begins with this word",
+        Cause::NotTold(_) => {
+            "in P is followed by a command, a question or maps; write one of these"
+        }
         Cause::TooFewWords(_) => "too few words",
         Cause::TooManyWords(_) => "too many words",
         Cause::StrayByte(_) | Cause::BadWord(..) => "",
     }
 }
 
-/// Appends why a line is malformed.
-pub(crate) fn put_cause(text: &mut Text, cause: Cause) {
+/// Appends what is wrong with a malformed line, without what it wants.
+fn put_fault_of(text: &mut Text, cause: Cause) {
     text.put(cause_words(cause));
     match cause {
         Cause::StrayByte(byte) => put_byte(text, byte),
-        Cause::TooFewWords(keyword) => put_usage(text, keyword),
-        Cause::TooManyWords(keyword) => put_usage(text, keyword),
-        Cause::BadWord(keyword, parameter, misfit) => {
-            put_misfit(text, parameter, misfit);
-            put_usage(text, keyword);
-        }
+        Cause::BadWord(_, parameter, misfit) => put_misfit(text, parameter, misfit),
         _ => {}
     }
+}
+
+/// Appends why a line is malformed.
+fn put_cause(text: &mut Text, cause: Cause) {
+    put_fault_of(text, cause);
+    match cause {
+        Cause::TooFewWords(keyword) => put_usage(text, keyword),
+        Cause::TooManyWords(keyword) => put_usage(text, keyword),
+        Cause::BadWord(keyword, ..) => put_usage(text, keyword),
+        _ => {}
+    }
+}
+
+/// Appends why an `mbind` with words after its policy is malformed.
+fn put_bind_cause(text: &mut Text, cause: Cause) {
+    put_fault_of(text, cause);
+    put_bind_usage(text);
 }
 
 /// Appends an error: its head, its name and its cause.
@@ -156,6 +184,7 @@ fn name_of(cause: CoreRefusal) -> &'static [u8] {
         CoreRefusal::NotOwned => b"NotOwned",
         CoreRefusal::BadCpu => b"BadCpu",
         CoreRefusal::Unmapped(_) => b"Unmapped",
+        CoreRefusal::NoSuchNode => b"NoSuchNode",
         CoreRefusal::NoMemory => b"NoMemory",
     }
 }
@@ -218,8 +247,8 @@ fn put_refused(text: &mut Text, cause: CoreRefusal, detail: Detail) {
     put_refusal(text, cause, detail);
 }
 
-/// Appends an error or a refusal of a script of one process, and its cause.
-fn put_reply(text: &mut Text, fault: Reply, detail: Detail) {
+/// Appends a line's error or refusal, and its cause.
+fn put_answer(text: &mut Text, fault: Reply, detail: Detail) {
     match fault {
         Reply::BadWords => text.put("bad words"),
         Reply::BadState => text.put("bad state"),
@@ -230,25 +259,25 @@ fn put_reply(text: &mut Text, fault: Reply, detail: Detail) {
         }
         Reply::BadWord(fault) => put_word_fault(text, fault),
         Reply::Refused(cause) => put_refused(text, cause, detail),
+        Reply::HostRefused(refusal) => put_host_refused(text, refusal, detail),
+        Reply::PlacedRefused(refusal) => put_placed_refused(text, refusal, detail),
+        Reply::MoveRefused(refusal) => put_move_refused(text, refusal, detail),
+        Reply::Placed => text.put(PLACED),
         _ => {}
-    }
-}
-
-/// Appends a line's error or refusal, and its cause.
-fn put_answer(text: &mut Text, fault: LineFault, detail: Detail) {
-    match fault {
-        LineFault::Reply(reply) => put_reply(text, reply, detail),
-        LineFault::Refused(refusal) => put_host_refused(text, refusal, detail),
     }
 }
 
 /// The text of a detail of bad words or a bad state.
 fn detail_words(detail: Detail) -> &'static str {
     match detail {
-        Detail::Malformed(_) | Detail::HostMalformed(_) => ": ",
-        Detail::LateHost => ": host stands behind machine and before the first command",
+        Detail::Malformed(_) | Detail::MalformedBind(_) => ": ",
+        Detail::NoHost => ": only a host's script has this line; write host after machine",
+        Detail::NoPages(_) => {
+            ": in a host no line says where pages lie; this one is for scripts of one process"
+        }
+        Detail::LateHost => ": host comes after machine and before the first command",
         Detail::HostReady => ": the script is a host's already; take the line out",
-        Detail::NeedsProcess => ": in a host a line of one process stands behind in P; write that",
+        Detail::NeedsProcess => ": in a host a line of one process follows in P; write that",
         Detail::NoWorkers => ": a host has no workers; they are for scripts of one process",
         Detail::NoMachine => ": no machine is ready; limits and machine come first",
         Detail::MachineReady => {
@@ -273,7 +302,7 @@ fn put_detail(text: &mut Text, detail: Detail) {
     text.put(detail_words(detail));
     match detail {
         Detail::Malformed(malformed) => put_cause(text, malformed.cause),
-        Detail::HostMalformed(malformed) => put_host_cause(text, malformed.cause),
+        Detail::MalformedBind(malformed) => put_bind_cause(text, malformed.cause),
         Detail::CarriageReturn => text.put(RETURN),
         Detail::Tab => text.put(TAB),
         Detail::AllNodes(last) => put_all(text, last),

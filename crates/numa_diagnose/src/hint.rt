@@ -1,16 +1,16 @@
 //! What a running kernel would do differently with a line, and playing a script by the other rules.
 ghost use Rattle.std.specs.Prelude.{◌≡◌, Option};
-ghost use Rattle.numa_script.specs.Lines.{line_of};
+ghost use Rattle.numa_script.specs.Lines.{alone};
+ghost use Rattle.numa_script.specs.declared.line.Line.TheVariants as line;
 ghost use Rattle.numa_diagnose.specs.Checks.{Judged};
-ghost use Rattle.numa_diagnose.specs.Hints.{hint_for, rules_text, turned_bytes};
+ghost use Rattle.numa_diagnose.specs.Hints.{hint_for, rules_instead, turned};
 
-use numa_host::{Host, HostCommand, Process};
-use numa_host_script::{HostLine, HostScript, LineFault, parse_host};
+use numa_host::{Host, Process};
 use numa_machine::{NoMemory, Rules};
-use numa_requests::Command;
+use numa_placed_script::PlacedScript;
+use numa_requests::{Command, HostCommand};
 use numa_rules::{Otherwise, other_rules, otherwise_of, otherwise_of_empty_bind};
-use numa_script::Line;
-use numa_script::line::parse;
+use numa_script::{Line, Reply, ScriptLine};
 use numa_space::Space;
 use std::alloc::Global;
 
@@ -22,8 +22,9 @@ pub struct HostHint {
     pub otherwise: Otherwise,
 }
 
-/// What a running kernel would do differently with what a line says.
-fn hint_by(space: &Space, said: &Line<'_>) -> Option<Otherwise>
+/// What a running kernel would do differently with a line in a space that follows the documents'
+/// rules. `Some` only if the line is a command, or is one by the kernel's rules.
+pub fn hint_of(space: &Space, said: &Line<'_>) -> Option<Otherwise>
     ensures { result ≡ hint_for space.now said.now }
 {
     match said {
@@ -31,15 +32,6 @@ fn hint_by(space: &Space, said: &Line<'_>) -> Option<Otherwise>
         Line::EmptyBind { start, .. } => otherwise_of_empty_bind(space, *start),
         _ => None,
     }
-}
-
-/// What a running kernel would do differently with a line, without its line feed, in a space that
-/// follows the documents' rules. `Some` only if the line is a command, or is one by the kernel's
-/// rules.
-pub fn hint_of(space: &Space, line: &[u8]) -> Option<Otherwise>
-    ensures { result ≡ hint_for space.now (line_of line.now) }
-{
-    hint_by(space, &parse(line))
 }
 
 /// The hint of a process, if there is one.
@@ -59,7 +51,7 @@ fn hint_of_process(host: &Host, process: u32, said: &Line<'_>) -> Option<HostHin
         return None;
     }
     match host.process(process) {
-        Some(space) => of_process(process, hint_by(space, said)),
+        Some(space) => of_process(process, hint_of(space, said)),
         None => None,
     }
 }
@@ -118,53 +110,66 @@ fn hint_of_nodes(host: &Host, command: &HostCommand) -> Result<Option<HostHint>,
     Ok(hint)
 }
 
-/// What a running kernel would do differently with a line of a host, without its line feed; of a
-/// change of the allowed nodes the first process to whose policies it would give other nodes.
-///
-/// # Errors
-/// `NoMemory`: there is no memory to try the line on a copy of the host.
-pub fn hint_in(host: &Host, line: &[u8]) -> Result<Option<HostHint>, NoMemory> {
-    match parse_host(line) {
-        HostLine::In { process, line } => Ok(hint_of_process(host, process, &line)),
-        HostLine::Command(Ok(HostCommand::SetWeight { node, weight })) => {
-            Ok(hint_of_weight(host, node, weight))
+/// What a running kernel would do differently with a command of a host.
+fn hint_of_command(host: &Host, command: &HostCommand) -> Result<Option<HostHint>, NoMemory> {
+    match command {
+        HostCommand::SetGroupMems { .. } | HostCommand::Attach { .. } => {
+            hint_of_nodes(host, command)
         }
-        HostLine::Command(Ok(command)) => match command {
-            HostCommand::SetGroupMems { .. } | HostCommand::Attach { .. } => {
-                hint_of_nodes(host, &command)
-            }
-            _ => Ok(None),
-        },
         _ => Ok(None),
     }
 }
 
+/// What a running kernel would do differently with a line of a host; of a change of the allowed
+/// nodes the first process to whose policies it would give other nodes.
+///
+/// # Errors
+/// `NoMemory`: there is no memory to try the line on a copy of the host.
+pub fn hint_in(host: &Host, said: &ScriptLine<'_>) -> Result<Option<HostHint>, NoMemory> {
+    if let Some(process) = said.process {
+        return Ok(hint_of_process(host, process, &said.line));
+    }
+    match &said.line {
+        Line::Command(Ok(Command::SetWeight { node, weight })) => {
+            Ok(hint_of_weight(host, *node, *weight))
+        }
+        Line::HostCommand(Ok(command)) => hint_of_command(host, command),
+        _ => Ok(None),
+    }
+}
+
+/// The rules that a line chooses instead where it chooses the others.
+fn rules_instead(said: &Line<'_>) -> Option<Rules>
+    ensures { result ≡ rules_instead said.now }
+{
+    match said {
+        Line::Rules(rules) => Some(other_rules(*rules)),
+        _ => None,
+    }
+}
+
 /// The line that chooses these rules.
-fn rules_line(rules: Rules) -> &'static [u8]
-    ensures { result.now ≡ rules_text rules }
+fn rules_line<'a>(rules: Rules) -> ScriptLine<'a>
+    ensures { result ≡ alone (line.Rules rules) }
 {
-    match rules {
-        Rules::Document => b"rules document",
-        Rules::Linux => b"rules linux",
+    ScriptLine {
+        process: None,
+        line: Line::Rules(rules),
     }
 }
 
-/// The line, or, if it chooses rules, the one that chooses the others.
-#[tactic(auto, using(crate::proofs::Turning::other_turned))]
-fn turned(line: &[u8]) -> &[u8]
-    ensures { result.now ≡ turned_bytes line.now }
+/// Carries out a line, but takes a line `rules` for one with the other rules, and returns what is
+/// wrong with it. So of two scripts that begin with different rules and are given the same lines,
+/// one by `judge` and one by this, each follows its own set of rules.
+pub fn judge_by_other(
+    alloc: Global,
+    script: &mut PlacedScript,
+    said: &ScriptLine<'_>,
+) -> Option<Reply>
+    ensures { Judged script.old (turned said.now) result script.new }
 {
-    match parse(line) {
-        Line::Rules(rules) => rules_line(other_rules(rules)),
-        _ => line,
+    match rules_instead(&said.line) {
+        Some(rules) => script.judge(alloc, &rules_line(rules)),
+        None => script.judge(alloc, said),
     }
-}
-
-/// Carries out a line, without its line feed, but takes a line `rules` for one with the other
-/// rules, and returns what is wrong with it. So of two scripts that begin with different rules and
-/// are given the same lines, one by `judge` and one by this, each follows its own set of rules.
-pub fn judge_by_other(alloc: Global, script: &mut HostScript, line: &[u8]) -> Option<LineFault>
-    ensures { Judged script.old (turned_bytes line.now) result script.new }
-{
-    script.judge(alloc, turned(line))
 }

@@ -1,26 +1,24 @@
 //! Details of an error or a refusal in a host's script.
+use crate::bad_words::host_words;
 use crate::details::{all_nodes, is_decimal_start, last_of, list_detail, refusal_detail};
 use crate::finding::Detail;
-use crate::host_words::why_malformed_in;
-use numa_host::{Host, HostCommand, HostRefusal};
-use numa_host_script::{HostLine, LineFault, parse_host};
-use numa_requests::{CoreRefusal, Refusal};
-use numa_script::{Line, Reply, WordError};
+use numa_host::Host;
+use numa_requests::{CoreRefusal, HostCommand, HostRefusal, Refusal};
+use numa_script::{Line, Reply, ScriptLine, WordError};
 
 /// The details of a line that has no place where it stands.
-fn state_detail(line: &[u8], said: &HostLine<'_>) -> Detail {
-    if line == b"host".as_slice() {
-        return Detail::HostReady;
+fn state_detail(said: &ScriptLine<'_>) -> Detail {
+    if said.process.is_some() {
+        return Detail::NoWorkers;
     }
-    match said {
-        HostLine::Plain(plain) => match plain {
-            Line::Limits { .. } | Line::Rules(_) | Line::Cpus(_) | Line::Machine(_) => {
-                Detail::MachineReady
-            }
-            Line::Work(_) => Detail::NoWorkers,
-            _ => Detail::NeedsProcess,
-        },
-        _ => Detail::NoWorkers,
+    match said.line {
+        Line::Host => Detail::HostReady,
+        Line::Limits { .. } | Line::Rules(_) | Line::Cpus(_) | Line::Machine(_) => {
+            Detail::MachineReady
+        }
+        Line::Work(_) => Detail::NoWorkers,
+        Line::Pages(_) | Line::Bind { .. } => Detail::NoPages(None),
+        _ => Detail::NeedsProcess,
     }
 }
 
@@ -39,20 +37,16 @@ fn inner_of(line: &[u8]) -> &[u8] {
 }
 
 /// The details of a question's or a command's refusal by the space of a process.
-fn in_detail(host: &Host, line: &[u8], said: &HostLine<'_>, cause: CoreRefusal) -> Detail {
-    let HostLine::In {
-        process,
-        line: inner,
-    } = said
-    else {
+fn in_detail(host: &Host, line: &[u8], said: &ScriptLine<'_>, cause: CoreRefusal) -> Detail {
+    let Some(process) = said.process else {
         return Detail::None;
     };
     let is_unaligned = cause == CoreRefusal::Command(Refusal::Unaligned);
     if is_unaligned && is_decimal_start(inner_of(line).strip_prefix(b" ").unwrap_or(&[])) {
         return Detail::DecimalStart;
     }
-    match host.process(*process) {
-        Some(space) => refusal_detail(space, inner, cause),
+    match host.process(process) {
+        Some(space) => refusal_detail(space, &said.line, cause),
         None => Detail::None,
     }
 }
@@ -102,23 +96,31 @@ fn command_detail(host: &Host, command: &HostCommand, refusal: HostRefusal) -> D
         HostRefusal::NoSuchGroup => group_named(command, false),
         HostRefusal::ProcessExists => made_or_named(command, true),
         HostRefusal::NoSuchProcess => made_or_named(command, false),
-        HostRefusal::OfSpace(Refusal::NoSuchNode) => last_of(host.machine()),
         HostRefusal::OfSpace(Refusal::TooManyTasks) => fork_detail(host, command),
         _ => Detail::None,
     }
 }
 
+/// The details of the refusal of a command of the host that a line says.
+fn own_detail(host: &Host, said: &Line<'_>, refusal: HostRefusal) -> Detail {
+    match said {
+        Line::HostCommand(Ok(command)) => command_detail(host, command, refusal),
+        _ => Detail::None,
+    }
+}
+
 /// The details of a refusal.
-fn refused_detail(host: &Host, line: &[u8], said: &HostLine<'_>, refusal: HostRefusal) -> Detail {
-    match (refusal, said) {
+fn refused_detail(host: &Host, line: &[u8], said: &ScriptLine<'_>, refusal: HostRefusal) -> Detail {
+    match (refusal, said.process) {
         (HostRefusal::CommandsSpent, _) => Detail::Count(host.version()),
         (HostRefusal::NoSuchNode, _) => last_of(host.machine()),
-        (HostRefusal::NoSuchProcess, HostLine::In { process, .. }) => Detail::Number(*process),
-        (HostRefusal::OfSpace(refusal), HostLine::In { .. }) => {
+        (HostRefusal::NoSuchProcess, Some(process)) => Detail::Number(process),
+        (HostRefusal::OfSpace(refusal), Some(_)) => {
             in_detail(host, line, said, CoreRefusal::Command(refusal))
         }
-        (_, HostLine::Command(Ok(command))) => command_detail(host, command, refusal),
-        _ => Detail::None,
+        (_, Some(_)) => Detail::None,
+        (HostRefusal::OfSpace(Refusal::NoSuchNode), None) => last_of(host.machine()),
+        (refusal, None) => own_detail(host, &said.line, refusal),
     }
 }
 
@@ -128,17 +130,13 @@ fn word_detail(host: &Host, line: &[u8], fault: WordError) -> Detail {
 }
 
 /// The details of a line's error or refusal, by the host after it.
-pub(crate) fn host_detail(host: &Host, line: &[u8], fault: LineFault) -> Detail {
-    let said = parse_host(line);
+pub(crate) fn host_detail(host: &Host, line: &[u8], said: &ScriptLine<'_>, fault: Reply) -> Detail {
     match fault {
-        LineFault::Refused(refusal) => refused_detail(host, line, &said, refusal),
-        LineFault::Reply(Reply::BadWords) => match why_malformed_in(line) {
-            Some(malformed) => Detail::HostMalformed(malformed),
-            None => Detail::None,
-        },
-        LineFault::Reply(Reply::BadState) => state_detail(line, &said),
-        LineFault::Reply(Reply::BadWord(fault)) => word_detail(host, line, fault),
-        LineFault::Reply(Reply::Refused(cause)) => in_detail(host, line, &said, cause),
-        LineFault::Reply(_) => Detail::None,
+        Reply::HostRefused(refusal) => refused_detail(host, line, said, refusal),
+        Reply::BadWords => host_words(line, said),
+        Reply::BadState => state_detail(said),
+        Reply::BadWord(fault) => word_detail(host, line, fault),
+        Reply::Refused(cause) => in_detail(host, line, said, cause),
+        _ => Detail::None,
     }
 }

@@ -10,17 +10,17 @@
 //! [`numa_rules::by_other_rules`] returns where it leads for a page.
 #![tactic(auto)]
 
+mod bad_words;
 mod details;
 mod finding;
 mod finding_text;
 mod hint;
 mod host_details;
 mod host_text;
-mod host_words;
+mod page_text;
 mod pages;
 mod words;
 
 pub use finding::{Detail, Finding, judge};
 pub use finding_text::{BINARY, say_binary, say_finding, say_hint_line, say_line, say_unjudged};
 pub use hint::{HostHint, hint_in, hint_of, judge_by_other};
-pub use host_words::{HostCause, HostMalformed};

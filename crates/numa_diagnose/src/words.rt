@@ -28,7 +28,7 @@ interleave and weighted, nor one of these with =static or =relative"
         SpecError::FlagsForbidden => {
             "local takes no flag, nor does prefer without a list; leave it out, or name nodes"
         }
-        SpecError::NodesMissing => "the policy wants nodes; name them behind a colon",
+        SpecError::NodesMissing => "the policy wants nodes; name them after a colon",
     }
 }
 
@@ -61,6 +61,9 @@ pub(crate) fn command_words(refusal: Refusal) -> &'static str {
         Refusal::OutOfSpace => {
             "the span ends above address 2^47, or 2^47 - 4096 by linux rules; use lower addresses"
         },
+        Refusal::BadSpan => {
+            "the span ends above 2^47 - 4096, or 2^64 - 1 for mbind and home; use lower addresses"
+        }
         Refusal::EmptyLength => "LENGTH is 0; name at least one byte",
         Refusal::BadOffset => "OFFSET is 2^35 or more; it is in pages, not in bytes",
         Refusal::Overlap => "a page is mapped already; unmap it first",
@@ -70,6 +73,7 @@ pub(crate) fn command_words(refusal: Refusal) -> &'static str {
         Refusal::NodesNotAllowed => {
             "the policy would have no node now; name an allowed one, or allow it first by mems"
         }
+        Refusal::NoNodes => "no node is named; name one",
         Refusal::NotSupported => "a page has a policy that takes no home; leave that page out",
         Refusal::NoPolicy => "no page has a policy of its own; bind one first",
         Refusal::TooManyTasks => {
@@ -96,6 +100,7 @@ pub(crate) fn worker_words(cause: CoreRefusal) -> &'static str {
         CoreRefusal::NotOwned => "the worker owns no such frame, or the page keeps none",
         CoreRefusal::BadCpu => "the machine lacks the node of CPU",
         CoreRefusal::Unmapped(_) => "a page isn't mapped; map it, or look at the address",
+        CoreRefusal::NoSuchNode => "the machine lacks the node, or the node has no frames",
         CoreRefusal::NoMemory => "the program found no memory for it",
     }
 }

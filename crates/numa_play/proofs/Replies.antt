@@ -1,10 +1,10 @@
 -- Which texts tell a fault or a refusal.
 use Rattle.std.proofs.Common.{◌≡◌, ℕ, List, refl, ◌∙◌, ap}
+use Rattle.numa_script.specs.Replies.{is_fault}
 use Rattle.numa_script.specs.Texts.{text_of}
 use Rattle.numa_script.specs.declared.policy.WordError.TheVariants as word
 use Rattle.numa_script.specs.declared.reply.Reply.{Reply}
 use Rattle.numa_script.specs.declared.reply.Reply.TheVariants as reply
-use Rattle.numa_run.specs.Judged.{is_fault}
 use Rattle.numa_play.specs.Faults.{tells_fault}
 
 -- exactly the text of a fault or a refusal does
@@ -26,9 +26,22 @@ text_tells_fault (reply.Published version) = refl
 text_tells_fault reply.Still = refl
 text_tells_fault (reply.Exhausted version) = refl
 text_tells_fault (reply.Won win) = refl
+text_tells_fault (reply.Found frame) = refl
+text_tells_fault reply.Full = refl
 text_tells_fault reply.Given = refl
 text_tells_fault (reply.Back frame) = refl
 text_tells_fault (reply.Refused cause) = refl
+text_tells_fault reply.Placed = refl
+text_tells_fault reply.HostReady = refl
+text_tells_fault (reply.HostRefused cause) = refl
+text_tells_fault reply.AtOk = refl
+text_tells_fault reply.RoomOk = refl
+text_tells_fault reply.MemoryMigrateOk = refl
+text_tells_fault (reply.Moved moved left) = refl
+text_tells_fault (reply.MovedTo node) = refl
+text_tells_fault (reply.Sent version moved left late) = refl
+text_tells_fault (reply.PlacedRefused cause) = refl
+text_tells_fault (reply.MoveRefused cause) = refl
 
 pub fault_of_text : (answer : List ℕ) (said : Reply) → answer ≡ text_of said
     → tells_fault answer ≡ is_fault said

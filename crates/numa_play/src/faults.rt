@@ -1,8 +1,8 @@
 //! Recognizing errors and refusals in answers.
 ghost use Rattle.std.specs.Prelude.{◌≡◌};
+ghost use Rattle.numa_script.specs.Replies.{is_fault};
 ghost use Rattle.numa_script.specs.Texts.{text_of};
 ghost use Rattle.numa_script.specs.declared.reply.Reply.{Reply};
-ghost use Rattle.numa_run.specs.Judged.{is_fault};
 ghost use Rattle.numa_play.specs.Faults.{tells_fault};
 
 /// Whether an answer is an error or a refusal: it begins with `bad ` or `refused `, as no other

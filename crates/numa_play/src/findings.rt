@@ -8,16 +8,17 @@ use numa_diagnose::{
     Detail, Finding, HostHint, hint_in, hint_of, judge, judge_by_other, say_binary, say_hint_line,
     say_line, say_unjudged,
 };
-use numa_host::HostRefusal;
-use numa_host_script::{HostScript, LineFault};
+use numa_host_script::HostScript;
 use numa_lines::{RunFault, TakeLine, Watched};
 use numa_machine::Rules;
 use numa_mask::parts::first_place;
+use numa_placed_script::PlacedScript;
 use numa_reports::Format;
-use numa_requests::{CoreRefusal, Refusal};
+use numa_requests::{CoreRefusal, HostRefusal, Refusal};
 use numa_rules::{Text, other_rules};
 use numa_run::Script;
-use numa_script::Reply;
+use numa_script::line::parse;
+use numa_script::{Line, PageLine, Reply, ScriptLine};
 use std::alloc::{AllocError, Global};
 use std::io::Write;
 
@@ -53,6 +54,8 @@ pub struct Look {
     pub other: Twin,
     /// The process of a host, if messages are wanted of its lines alone.
     pub process: Option<u32>,
+    /// Whether what is wrong with a line `at` is told; else it isn't, since others tell it.
+    pub tells_at: bool,
     /// Text or JSON.
     pub format: Format,
 }
@@ -62,6 +65,7 @@ pub const PLAIN: Look = Look {
     hints: false,
     other: Twin::None,
     process: None,
+    tells_at: true,
     format: Format::Text,
 };
 
@@ -70,9 +74,9 @@ pub const PLAIN: Look = Look {
 #[derive(Drop)]
 pub struct Findings<W> {
     alloc: Global,
-    script: HostScript,
+    script: PlacedScript,
     // The same script by the other rules, if requested.
-    other: Option<HostScript>,
+    other: Option<PlacedScript>,
     look: Look,
     // What lines name.
     named: Named,
@@ -89,11 +93,11 @@ pub struct Findings<W> {
 }
 
 /// A script by the rules other than these, if requested.
-fn other_script(rules: Rules, twin: Twin) -> Option<HostScript> {
+fn other_script(rules: Rules, twin: Twin) -> Option<PlacedScript> {
     match twin {
         Twin::None => None,
         Twin::UnlessChosen if rules.is_linux() => None,
-        _ => Some(HostScript::by(other_rules(rules))),
+        _ => Some(PlacedScript::by(other_rules(rules))),
     }
 }
 
@@ -106,7 +110,7 @@ impl<W: Write> Findings<W> {
         let _ = output.gather(alloc);
         Findings {
             alloc,
-            script: HostScript::by(rules),
+            script: PlacedScript::by(rules),
             other: other_script(rules, look.other),
             look,
             named: Named::new(None, None),
@@ -121,7 +125,10 @@ impl<W: Write> Findings<W> {
 
     /// The script that the lines led to by the other rules, if they are played by those.
     pub fn other(&self) -> Option<&HostScript> {
-        self.other.as_ref()
+        match &self.other {
+            Some(other) => Some(other.session()),
+            None => None,
+        }
     }
 
     /// The same, where this process of a host and this task are asked for, if they are given.
@@ -139,22 +146,19 @@ impl<W: Write> Findings<W> {
     /// Notes what lines name that will be played.
     pub fn note_all(&mut self, lines: &[String]) {
         for line in lines {
-            self.note(line.as_str().as_bytes());
+            self.note(&parse(line.as_str().as_bytes()));
         }
     }
 
     /// Notes what a line names.
-    fn note(&mut self, line: &[u8]) {
-        let is_ready = match self.script.script() {
-            Some(script) => script.core().is_some(),
-            None => true,
-        };
-        self.named.note(line, is_ready);
+    fn note(&mut self, said: &ScriptLine<'_>) {
+        let is_ready = is_ready(self.script());
+        self.named.note(said, is_ready);
     }
 
     /// The script after the lines so far.
     pub fn script(&self) -> &HostScript {
-        &self.script
+        self.script.session()
     }
 
     /// Whether something was wrong with a line so far.
@@ -192,11 +196,11 @@ impl<W: Write> Findings<W> {
     }
 
     /// What a kernel would do differently with the next line, if hints are written.
-    fn hint(&self, line: &[u8]) -> Result<Option<HostHint>, RunFault> {
+    fn hint(&self, said: &ScriptLine<'_>) -> Result<Option<HostHint>, RunFault> {
         if !self.look.hints {
             return Ok(None);
         }
-        hint_of_next(&self.script, line)
+        hint_of_next(self.script(), said)
     }
 
     /// Whether messages are wanted of lines of this process, or of none.
@@ -248,11 +252,11 @@ impl<W: Write> Findings<W> {
     }
 
     /// Plays a line by the other rules, if requested.
-    fn follow(&mut self, line: &[u8]) -> Result<(), RunFault> {
+    fn follow(&mut self, said: &ScriptLine<'_>) -> Result<(), RunFault> {
         let Some(other) = &mut self.other else {
             return Ok(());
         };
-        match judge_by_other(self.alloc, other, line) {
+        match judge_by_other(self.alloc, other, said) {
             Some(fault) if fault.lacks_memory() => Err(RunFault::Memory),
             _ => Ok(()),
         }
@@ -363,20 +367,38 @@ fn say_unnamed(text: &mut Vec<u8>, task: u32, tasks: TasksNamed) -> Result<(), A
     written.end(text)
 }
 
+/// Whether a machine is ready.
+fn is_ready(script: &HostScript) -> bool {
+    match script.script() {
+        Some(script) => script.core().is_some(),
+        None => true,
+    }
+}
+
 /// Whether a line is refused only for the number of commands, as by a kernel's rules too.
 fn is_spent(finding: &Finding) -> bool {
     match finding.fault {
-        LineFault::Reply(reply) => {
-            reply == Reply::Refused(CoreRefusal::Command(Refusal::CommandsSpent))
-        }
-        LineFault::Refused(refusal) => refusal == HostRefusal::CommandsSpent,
+        Reply::Refused(cause) => cause == CoreRefusal::Command(Refusal::CommandsSpent),
+        Reply::HostRefused(refusal) => refusal == HostRefusal::CommandsSpent,
+        _ => false,
+    }
+}
+
+/// Whether a line says where pages lie.
+fn is_at(said: &ScriptLine<'_>) -> bool {
+    match said.line {
+        Line::Pages(Ok(PageLine::At { .. })) => true,
+        _ => false,
     }
 }
 
 /// The hint of a script of one process.
-fn plain_hint(script: &Script, line: &[u8]) -> Option<HostHint> {
+fn plain_hint(script: &Script, said: &ScriptLine<'_>) -> Option<HostHint> {
     let core = script.core()?;
-    match hint_of(core.space(), line) {
+    if said.process.is_some() {
+        return None;
+    }
+    match hint_of(core.space(), &said.line) {
         Some(otherwise) => Some(HostHint {
             process: None,
             otherwise,
@@ -386,16 +408,63 @@ fn plain_hint(script: &Script, line: &[u8]) -> Option<HostHint> {
 }
 
 /// What a kernel would do differently with the next line of a script.
-fn hint_of_next(script: &HostScript, line: &[u8]) -> Result<Option<HostHint>, RunFault> {
+fn hint_of_next(script: &HostScript, said: &ScriptLine<'_>) -> Result<Option<HostHint>, RunFault> {
     if let Some(host) = script.host() {
-        return match hint_in(host, line) {
+        return match hint_in(host, said) {
             Ok(hint) => Ok(hint),
             Err(_) => Err(RunFault::Memory),
         };
     }
     match script.script() {
-        Some(script) => Ok(plain_hint(script, line)),
+        Some(script) => Ok(plain_hint(script, said)),
         None => Ok(None),
+    }
+}
+
+impl<W: Write> Findings<W> {
+    /// Whether others tell what is wrong with a line.
+    fn is_told_elsewhere(&self, said: &ScriptLine<'_>) -> bool {
+        !self.look.tells_at && is_at(said)
+    }
+
+    /// Writes what was found in a line that doesn't lack memory, or counts it as not judged.
+    fn tell_found(
+        &mut self,
+        name: &str,
+        place: u64,
+        finding: &Finding,
+        hint: Option<HostHint>,
+    ) -> Result<(), RunFault> {
+        if let Detail::NoMachine = finding.detail {
+            self.unjudged = self.unjudged.saturating_add(1);
+            return Ok(());
+        }
+        self.tell_both(name, place, finding, hint)
+    }
+
+    /// Plays a line, and writes what is wrong with it, and what a kernel would do differently.
+    fn judge_line(
+        &mut self,
+        name: &str,
+        place: u64,
+        line: &[u8],
+        said: &ScriptLine<'_>,
+    ) -> Result<(), RunFault> {
+        let hint = match self.hint(said) {
+            Ok(hint) => hint,
+            Err(why) => return Err(why),
+        };
+        let Some(finding) = judge(self.alloc, &mut self.script, line, said) else {
+            self.has_fine = self.has_fine || !line.is_empty();
+            return self.tell_hint(name, place, hint);
+        };
+        if finding.fault.lacks_memory() {
+            return Err(RunFault::Memory);
+        }
+        if self.is_told_elsewhere(said) {
+            return Ok(());
+        }
+        self.tell_found(name, place, &finding, hint)
     }
 }
 
@@ -410,31 +479,12 @@ impl<W: Write> TakeLine<()> for Findings<W> {
         if self.is_binary(name, place, line)? {
             return Ok(());
         }
-        self.note(line);
+        let said = parse(line);
+        self.note(&said);
         self.heed_rules();
-        if let Err(why) = self.follow(line) {
-            return Err(why);
-        }
-        let hint = match self.hint(line) {
-            Ok(hint) => hint,
-            Err(why) => return Err(why),
-        };
-        match judge(self.alloc, &mut self.script, line) {
-            None => {
-                self.has_fine = self.has_fine || !line.is_empty();
-                self.tell_hint(name, place, hint)
-            }
-            Some(finding) if finding.fault.lacks_memory() => Err(RunFault::Memory),
-            Some(
-                Finding {
-                    detail: Detail::NoMachine,
-                    ..
-                },
-            ) => {
-                self.unjudged = self.unjudged.saturating_add(1);
-                Ok(())
-            }
-            Some(finding) => self.tell_both(name, place, &finding, hint),
+        match self.follow(&said) {
+            Ok(()) => self.judge_line(name, place, line, &said),
+            Err(why) => Err(why),
         }
     }
 

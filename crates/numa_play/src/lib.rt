@@ -1,7 +1,8 @@
 //! Playing scripts to their end, and telling what is wrong with their lines.
 //!
-//! Scripts may be a host's (`numa_host_script`): then an answer is about one process, or about each
-//! and all together ([`Subject`]).
+//! Every line of the language is played (`numa_placed_script`). Scripts may be a host's: then an
+//! answer is about one process, or about each and all together ([`Subject`]). Lines about pages
+//! that are there change no answer: these are about first touches.
 //!
 //! Malformed and refused lines are skipped, and what is wrong with each is reported. [`check`] does
 //! only that; other commands answer by the accepted lines, and return in [`Ended`] whether there

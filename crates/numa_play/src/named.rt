@@ -2,10 +2,9 @@
 ghost use Rattle.std.specs.Prelude.{◌≡◌, MatchResult, None, Some};
 ghost use Rattle.numa_play.specs.Named.{and_task, is_unnamed, task_asked, task_in};
 
-use numa_host_script::{HostLine, parse_host};
 use numa_mask::NodeMask;
 use numa_requests::Command;
-use numa_script::Line;
+use numa_script::{Line, ScriptLine};
 
 /// The tasks that lines name.
 #[derive(Clone, Copy)]
@@ -107,13 +106,11 @@ impl Named {
     }
 
     /// Notes what a line names. The nodes with CPUs and the rules are of the machine to come.
-    pub(crate) fn note(&mut self, line: &[u8], is_ready: bool) {
-        match parse_host(line) {
-            HostLine::Plain(Line::Cpus(Ok(cpus))) if !is_ready => self.cpus = Some(cpus),
-            HostLine::Plain(Line::Rules(_)) if !is_ready => self.has_rules = true,
-            HostLine::Plain(line) => self.note_task(None, &line),
-            HostLine::In { process, line } => self.note_task(Some(process), &line),
-            _ => {}
+    pub(crate) fn note(&mut self, said: &ScriptLine<'_>, is_ready: bool) {
+        match &said.line {
+            Line::Cpus(Ok(cpus)) if !is_ready => self.cpus = Some(*cpus),
+            Line::Rules(_) if !is_ready => self.has_rules = true,
+            line => self.note_task(said.process, line),
         }
     }
 

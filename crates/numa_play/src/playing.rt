@@ -72,6 +72,7 @@ pub fn check<R: Read + Drop, W: Write + Drop>(
         hints: true,
         other: Twin::None,
         process,
+        tells_at: true,
         format,
     };
     let mut findings = match play(alloc, texts, Findings::new(alloc, rules, look, output)) {

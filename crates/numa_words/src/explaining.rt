@@ -4,8 +4,8 @@ use numa_host::{Host, Process};
 use numa_host_script::HostScript;
 use numa_lines::RunFault;
 use numa_play::{
-    Ended, Findings, Halt, Look, Scripts, Subject, Twin, halt_by, other_space, play, subject_of,
-    write,
+    Ended, Findings, Halt, Look, PLAIN, Scripts, Subject, Twin, halt_by, other_space, play,
+    subject_of, write,
 };
 use numa_reports::{ByProcess, Format, Touch};
 use numa_rules::{Explanation, by_other_rules, say_by_other};
@@ -282,10 +282,8 @@ pub fn explain<R: Read + Drop, W: Write, T: Write + Drop>(
         process,
     } = scripts;
     let look = Look {
-        hints: false,
         other: Twin::Always,
-        process: None,
-        format: Format::Text,
+        ..PLAIN
     };
     let mut findings = match play(alloc, texts, Findings::new(alloc, rules, look, told)) {
         Ok(findings) => findings,

@@ -2,10 +2,10 @@
 use crate::shell::{SHELL_LINES, answer_to, asked_of};
 use numa_console::{Answering, StandardError, fail};
 use numa_diagnose::{judge, say_line};
-use numa_host_script::HostScript;
 use numa_lines::{Lines, Respond, RunFault, TakeLine, read_all};
-use numa_placed_script::{is_plain, parse_placed};
+use numa_placed_script::PlacedScript;
 use numa_play::Scripts;
+use numa_script::line::parse;
 use std::alloc::Global;
 use std::io;
 use std::io::{Read, Write};
@@ -48,7 +48,7 @@ move ADDR NODE                 one of them goes to a node
 moved                          asks what the last move did
 mbind .. strict                refused where a page of the span lies on another node
 mbind .. move TASK CPU         moves such pages to where TASK would have them
-host                           from here on a host's lines, as man numaplan-script tells
+host                           from here on a host's lines: see man numaplan-script
 ";
 
 /// The help on the words of lines.
@@ -56,7 +56,7 @@ const WORDS: &str = "\
 A POLICY is default, local, or a mode and nodes: bind:0-1 prefer:1 many:0,2 interleave:0-3
 weighted:0-1; =static or =relative may follow the mode, as in bind=static:0-1. Numbers are decimal,
 or 0x and hexadecimal; START, LENGTH and ADDR count bytes, OFFSET and PAGES pages of 4096 bytes. CPU
-is the node of a CPU. Words stand between single spaces. A line that begins with # says nothing.
+is the node of a CPU. One space separates words. A line that begins with # is a comment.
 ";
 
 /// A typed script.
@@ -70,7 +70,7 @@ struct Typed<W, T> {
     process: Option<u32>,
     answering: Answering,
     // The same script, for finding what is wrong with a line.
-    judged: HostScript,
+    judged: PlacedScript,
     // The texts for standard output and standard error.
     text: Vec<u8>,
     output: W,
@@ -88,25 +88,19 @@ fn put<W: Write>(output: &mut W, bytes: &[u8]) -> Result<(), RunFault> {
 /// Appends what is wrong with a line, if anything.
 fn find(
     alloc: Global,
-    script: &mut HostScript,
+    script: &mut PlacedScript,
     name: &str,
     place: u64,
     line: &[u8],
     text: &mut Vec<u8>,
 ) -> Result<(), RunFault> {
-    let Some(finding) = judge(alloc, script, line) else {
+    let Some(finding) = judge(alloc, script, line, &parse(line)) else {
         return Ok(());
     };
     match say_line(text, name, place, &finding) {
         Ok(()) => Ok(()),
         Err(_) => Err(RunFault::Memory),
     }
-}
-
-/// Whether what is wrong with a line isn't looked for: a line about pages that are there, or one
-/// that such a page refuses, says it all by its answer.
-fn says_all(line: &[u8], answer: &[u8]) -> bool {
-    !is_plain(&parse_placed(line)) || answer == b"refused Placed\n".as_slice()
 }
 
 impl<W: Write, T: Write> Typed<W, T> {
@@ -125,9 +119,6 @@ impl<W: Write, T: Write> Typed<W, T> {
             return Err(RunFault::Memory);
         }
         put(&mut self.output, self.text.as_slice())?;
-        if says_all(line, self.text.as_slice()) {
-            return Ok(());
-        }
         self.tell(name, place, line)
     }
 
@@ -136,9 +127,6 @@ impl<W: Write, T: Write> Typed<W, T> {
         self.text.clear();
         if let Err(_) = self.answering.respond(line, &mut self.text) {
             return Err(RunFault::Memory);
-        }
-        if says_all(line, self.text.as_slice()) {
-            return Ok(());
         }
         self.tell(name, place, line)
     }
@@ -151,7 +139,7 @@ impl<W: Write, T: Write> Typed<W, T> {
         let Some(asked) = asked else {
             return Ok(false);
         };
-        match answer_to(self.alloc, &self.judged, asked) {
+        match answer_to(self.alloc, self.judged.session(), asked) {
             Ok(text) => put(&mut self.output, text.as_slice())?,
             Err(Some(message)) => {
                 put(&mut self.told, message.as_bytes())?;
@@ -227,7 +215,7 @@ where
         has_quit: false,
         process,
         answering: Answering::new(alloc, rules),
-        judged: HostScript::by(rules),
+        judged: PlacedScript::by(rules),
         text: Vec::new(alloc),
         output,
         told: StandardError { rt },

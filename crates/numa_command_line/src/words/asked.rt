@@ -25,8 +25,8 @@ const NOT_EACH: &str = "error: '--node all' wants '--format text' or '--format j
 pub const TASK: Argument = Argument {
     name: "task",
     value: "T",
-    help: "The task that touches the pages; where scripts name one task or none, it may be left \
-out",
+    help: "The task that touches the pages; it may be left out where scripts name one task or \
+none",
     is_required: false,
     takes: Takes::Number,
 };
@@ -35,7 +35,7 @@ out",
 pub const NODE: Argument = Argument {
     name: "node",
     value: "N",
-    help: "The node of the CPU on which it does; all for each node with CPUs in turn",
+    help: "The node of the CPU on which the task runs, or all: each node with CPUs in turn",
     is_required: true,
     takes: Takes::TextOr("cpu"),
 };

@@ -10,16 +10,16 @@ use crate::words::process::PROCESS;
 /// The help of the subcommand.
 static WORD: SubcommandHelp = SubcommandHelp {
     name: "check",
-    line: "Tells what is wrong with scripts, and what to do about it",
-    about: "Tells what is wrong with scripts, and what to do about it\n\nExamples, from the top \
-of the repository:\n  ./numaplan check examples/why-refused.numaplan\n  ./numaplan check \
+    line: "Reports what is wrong with scripts, and what to do about it",
+    about: "Reports what is wrong with scripts, and what to do about it\n\nExamples, from the \
+top of the repository:\n  ./numaplan check examples/why-refused.numaplan\n  ./numaplan check \
 --format json examples/why-refused.numaplan",
-    more: "No answers are written. For each line that `run` answers by a fault or a refusal \
-there is one line on standard output: the file, the line, for bad words the column in bytes, \
-the answer, and its cause with what to do. Lines that need a machine while none is ready are \
-counted at the end. Of a file that is binary that is said once.\n\nOf a host's script the \
-process of a line is told too, and with --process only what is wrong with the lines of process \
-P. The status is 3 where anything was told, and else 0.",
+    more: "No answers are written. For each line that `run` answers by a fault or a refusal, \
+standard output gets one line: the file, the line, for bad words the column in bytes, the \
+answer, and its cause with what to do. Lines that need a machine while none is ready are \
+counted at the end. A binary file is reported once.\n\nOf a host's script the process of a \
+line is named too; with --process only what is wrong with the lines of process P is reported. \
+The status is 3 if anything was reported, else 0.",
     reads_lines: true,
     arguments: &[PLAIN, PROCESS, FILES],
 };

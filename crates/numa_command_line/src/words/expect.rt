@@ -36,7 +36,7 @@ const ANY_VERSION: Argument = Argument {
 const UPDATE: Argument = Argument {
     name: "update",
     value: "",
-    help: "Writes the answers that the lines get into the files, and shows what that changes",
+    help: "Writes the answers that the lines get into the files, and shows the changes",
     is_required: false,
     takes: Takes::Nothing,
 };
@@ -48,18 +48,17 @@ static WORD: SubcommandHelp = SubcommandHelp {
     about: "Compares the answers that scripts hold with those that they get\n\nExamples, from \
 the top of the repository:\n  ./numaplan expect examples/*.answers\n  ./numaplan expect \
 --format tap examples",
-    more: "Worked scripts hold the answers that are wanted as `run --echo` writes them; each \
-answer that is another is told. Each file is a script of its own. A line holds a script line \
-and its answer, as LINE => ANSWER, or a script line alone, or, after `=> `, the next line of \
-the answer to the script line above; a script line of which no answer stands there is carried \
-out and not compared, but a fault or a refusal isn't wanted there. The last line on standard \
-output counts the lines of answers: as wanted, not so, and not compared. Of a folder the files \
-*.answers are taken, and those *.numaplan that hold an answer.\n\nWith --format tap each answer \
-is a test of the Test Anything Protocol, and with --format json a line of JSON. With --update \
-each file gets the answers that its lines get, where one stands now: it is written anew beside \
-itself and then takes its own place, and standard output shows the lines that change.\n\nThe \
-status is 0 where each file holds answers and all are as wanted, or are written anew, and else \
-3.",
+    more: "Worked scripts hold the wanted answers as `run --echo` writes them; each answer \
+that differs is reported. Each file is a script of its own. A line holds a script line and \
+its answer, as LINE => ANSWER; or a script line alone; or, after `=> `, the next line of the \
+answer to the script line above. A script line without an answer is carried out and not \
+compared, but a fault or a refusal there is reported. The last line on standard output counts \
+the lines of answers: as wanted, not so, and not compared. In a folder the files *.answers \
+are taken, and those *.numaplan that hold an answer.\n\nWith --format tap each answer is a \
+test of the Test Anything Protocol, and with --format json a line of JSON. With --update the \
+files get the answers that their lines get, in place of those that differ: each is written \
+beside itself and then replaced, and standard output shows the lines that change.\n\nThe \
+status is 0 if each file holds answers and all are as wanted, or are written anew, else 3.",
     reads_lines: true,
     arguments: &[FORMAT, ANY_VERSION, UPDATE, WORKED],
 };

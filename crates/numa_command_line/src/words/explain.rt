@@ -40,7 +40,7 @@ const ADDRESS: Argument = Argument {
 const PAGES: Argument = Argument {
     name: "pages",
     value: "N",
-    help: "Tells by which rules N pages go, from that of ADDRESS on",
+    help: "Explains N pages, from that of ADDRESS on, by stretches with one rule",
     is_required: false,
     takes: Takes::Number,
 };
@@ -48,21 +48,22 @@ const PAGES: Argument = Argument {
 /// The help of the subcommand.
 static WORD: SubcommandHelp = SubcommandHelp {
     name: "explain",
-    line: "Tells why a page goes where it goes",
-    about: "Tells why a page goes where it goes\n\nExamples, from the top of the repository:\n  \
-./numaplan explain --node 3 0x32000 examples/interleaved-range.numaplan\n  ./numaplan explain \
---task 1 --node all 00032000 examples/interleaved-range.numaplan",
-    more: "It tells why memory for the page is looked for on its nodes, if the task touched it \
-now on a CPU of the node: in six lines the nodes in order, the range with the page's index, \
-which policy counts and why the other doesn't, the sets of nodes, the rule that chose the first \
-node with its arithmetic, and the order of the others with their distances.\n\nADDRESS is \
-hexadecimal after 0x, with a letter, or as eight digits or more of which the first is 0, as \
-answers print it. Other digits are decimal, or hexadecimal where that page alone is mapped; \
-where both pages are, say which.\n\nWith --pages it tells for each stretch of so many pages \
-from there on which policy counts, and its rule. Of a host it tells that for each process that \
-has mapped the page, or with --process for process P alone.\n\nLines that are faulty or refused \
-are told on standard error as by `check`, and passed over. The status is 3 where some are, \
-unless --lenient is given, and where no machine is ready after the scripts.",
+    line: "Explains why a page goes where it goes",
+    about: "Explains why a page goes where it goes\n\nExamples, from the top of the \
+repository:\n  ./numaplan explain --node 3 0x32000 examples/interleaved-range.numaplan\n  \
+./numaplan explain --task 1 --node all 00032000 examples/interleaved-range.numaplan",
+    more: "It explains why memory for the page is looked for on its nodes, if the task \
+touched it now on a CPU of the node. Six lines give the nodes in order; the range, with the \
+page's index; which policy counts, and why the other doesn't; the sets of nodes; the rule \
+that chose the first node, with its arithmetic; and the order of the others, with their \
+distances.\n\nADDRESS is hexadecimal after 0x, with a letter, or as eight digits or more of \
+which the first is 0, as answers print it. Other digits are decimal, or hexadecimal if only \
+that page is mapped; if both pages are, write the one that is meant with 0x.\n\nWith --pages \
+it names, for each stretch of so many pages from there on, the policy that counts and its \
+rule. Of a host it answers for each process that has mapped the page, or with --process for \
+process P alone.\n\nLines that are faulty or refused are reported on standard error as by \
+`check`, and skipped. The status is 3 if there are some, unless --lenient is given, and if no \
+machine is ready after the scripts.",
     reads_lines: true,
     arguments: &[TASK, NODE, PAGES, PROCESS, PLAIN, LENIENT, ADDRESS, FILES],
 };

@@ -21,8 +21,8 @@ pub const PLAIN: Argument = Argument {
 pub const LARGEST: Argument = Argument {
     name: "largest",
     value: "N",
-    help: "Shows the N largest ranges by themselves, and sums the others: 40 in a picture and 400 \
-in a page, where it isn't given",
+    help: "Shows the N largest ranges by themselves, and the others as a sum; without it 40 \
+in a picture, 400 in a page",
     is_required: false,
     takes: Takes::Number,
 };

@@ -26,7 +26,8 @@ bytes in K, M, G or T that make whole pages, as in 0=1000,1=4G\n";
 pub const FREE: Argument = Argument {
     name: "free",
     value: "NODE=PAGES,..",
-    help: "So many free pages on these nodes; with K, M, G or T after it a number is one of bytes",
+    help: "How many pages are free on these nodes; with K, M, G or T after it a number is in \
+bytes",
     is_required: false,
     takes: Takes::Text,
 };

@@ -5,7 +5,7 @@ use crate::usage::{Argument, Takes};
 pub const LENIENT: Argument = Argument {
     name: "lenient",
     value: "",
-    help: "Ends with status 0 where lines were faulty or refused",
+    help: "Ends with status 0 even if lines were faulty or refused",
     is_required: false,
     takes: Takes::Nothing,
 };

@@ -23,8 +23,8 @@ use std::alloc::Global;
 const TASK: Argument = Argument {
     name: "task",
     value: "T",
-    help: "The task that would touch the pages; where scripts name one task or none, it may be \
-left out",
+    help: "The task that would touch the pages; it may be left out where scripts name one \
+task or none",
     is_required: false,
     takes: Takes::Number,
 };
@@ -33,8 +33,8 @@ left out",
 const NODE: Argument = Argument {
     name: "node",
     value: "N",
-    help: "Pages lie where the task would touch them on a CPU of this node, and not as lines at \
-state",
+    help: "Pages lie where the task would touch them on a CPU of this node, and not where \
+lines at put them",
     is_required: false,
     takes: Takes::NumberOr("cpu"),
 };
@@ -43,7 +43,8 @@ state",
 const THEN: Argument = Argument {
     name: "then",
     value: "LINE",
-    help: "A line that moves pages: mems, migrate FROM TO, cgroup-mems or attach; several in turn",
+    help: "A line that moves pages: mems, migrate FROM TO, cgroup-mems or attach; several in \
+turn",
     is_required: true,
     takes: Takes::Texts,
 };
@@ -52,7 +53,7 @@ const THEN: Argument = Argument {
 const FREE: Argument = Argument {
     name: "free",
     value: "NODE=PAGES,..",
-    help: "These nodes take so many more pages; with K, M, G or T after it a number is one of \
+    help: "How many more pages these nodes take; with K, M, G or T after it a number is in \
 bytes",
     is_required: false,
     takes: Takes::Text,
@@ -70,25 +71,26 @@ const FORMAT: Argument = Argument {
 /// The help of the subcommand.
 static WORD: SubcommandHelp = SubcommandHelp {
     name: "moves",
-    line: "Tells what becomes of pages that are there when lines move them",
-    about: "Tells what becomes of pages that are there when lines move them\n\nExamples, from \
+    line: "Shows what becomes of pages that are there when lines move them",
+    about: "Shows what becomes of pages that are there when lines move them\n\nExamples, from \
 the top of the repository:\n  ./numaplan moves --node 0 --then 'mems 0-1' \
 examples/interleaved-range.numaplan\n  ./numaplan moves --at examples/interleaved-range.at \
 --free 0=3 --then 'mems 0-1' examples/interleaved-range.numaplan",
-    more: "It tells that when the nodes change that pages may lie on, or when people migrate \
-them: for each range how many pages go from which node to which (N2->N0=), how many need not go \
-(stays=) and how many find no room (noroom=), and in all. A line of --then is `mems LIST`, \
-which moves pages as a control group of version 2 does; `migrate FROM TO`, two lists of nodes, \
-as migrate_pages(2) does; or in a host `cgroup-mems`, `attach`, or `in P migrate ..`.\n\nPages \
-lie as lines `at START LENGTH NODE` of the scripts and of the file of --at state (in a host `in \
-P at ..`); with --node where the task would touch them on a CPU of node N, while every node had \
-room. With --free the named nodes take so many more pages, and the others never fill: nodes go \
-one by one, the lowest pages first, and a node that fills ends the move. Of a host it tells \
-that by process, in the order in which they were made, and in all, or with --process of process \
-P alone.\n\nLines that are faulty or refused are told on standard error as by `check`, and \
-passed over. The status is 3 where some are, unless --lenient is given, and where no machine is \
-ready after the scripts. Where the documents' rules count only since nothing else is said, and \
-by a kernel's the answer would be another, a line on standard error says so.",
+    more: "Pages move when the nodes change on which they may lie, or when someone migrates \
+them. For each range, and in total, it counts those that go from one node to another \
+(N2->N0=), that need not go (stays=), and that find no room (noroom=). A line of --then is \
+`mems LIST`, which moves pages as a control group of version 2 does; `migrate FROM TO`, two \
+lists of nodes, as migrate_pages(2) does; or in a host `cgroup-mems`, `attach`, or `in P \
+migrate ..`.\n\nPages lie as lines `at START LENGTH NODE` of the scripts and of the file of \
+--at state (in a host `in P at ..`); with --node where the task would touch them on a CPU of \
+node N, while every node had room. With --free the named nodes take so many more pages, and \
+the others never fill: nodes are emptied one by one, the lowest pages first, and a node that \
+fills ends the move. Of a host each process is answered for, in the order in which they were \
+made, and then all together; with --process only process P is.\n\nLines that are faulty or \
+refused are reported on standard error as by `check`, and skipped. The status is 3 if there \
+are some, unless --lenient is given, and if no machine is ready after the scripts. If neither \
+--rules nor a line says whose rules count, and a kernel's would give another answer, a line \
+on standard error says so.",
     reads_lines: true,
     arguments: &[
         AT, TASK, NODE, THEN, FREE, PROCESS, FORMAT, LARGEST, LENIENT, FILES,

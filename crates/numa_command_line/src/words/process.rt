@@ -20,7 +20,7 @@ For more information, try '--help'.\n";
 pub const PROCESS: Argument = Argument {
     name: "process",
     value: "P",
-    help: "Asks process P of a host alone; all of them where it is all, or isn't given",
+    help: "Asks about process P of a host only; without it, or with all, about each process",
     is_required: false,
     takes: Takes::Text,
 };

@@ -38,24 +38,24 @@ const FORMAT: Argument = Argument {
 /// The help of the subcommand.
 static WORD: SubcommandHelp = SubcommandHelp {
     name: "replay",
-    line: "Tells what a trace of accesses meets after scripts",
-    about: "Tells what a trace of accesses meets after scripts\n\nExamples, from the top of the \
-repository:\n  ./numaplan replay --trace examples/replayed.trace \
+    line: "Shows where the accesses of a trace go after scripts",
+    about: "Shows where the accesses of a trace go after scripts\n\nExamples, from the top of \
+the repository:\n  ./numaplan replay --trace examples/replayed.trace \
 examples/interleaved-range.numaplan\n  ./numaplan replay --format json --trace \
 examples/replayed.trace examples/interleaved-range.numaplan",
     more: "The trace is replayed after the scripts, on the frames of their machine, where no \
-page is placed yet: the first touch of a page places it on the first node of its list that has \
-a frame left, and later accesses go to where it lies. It tells, by task and in all, how many \
-accesses went to which node (N0=) and over which distance (D10=), how many faults placed a page \
-and how many found no frame, and how many accesses those made.\n\nA line of the trace is TASK \
-ADDRESS CPU [COUNT], in decimal or 0x; an empty line or one that begins with # says nothing. Of \
-a host a line is in P TASK ADDRESS CPU [COUNT]: it is told by process and in all, and all \
-processes take the same frames; or with --process of process P alone, whose lines need not name \
-it.\n\nScript lines that are faulty or refused are told on standard error as by `check`, and \
-passed over. The status is 3 where some are, unless --lenient is given, where no machine is \
-ready after the scripts, and where a line of the trace can't be replayed. Where the documents' \
-rules count only since nothing else is said, and by a kernel's the answer would be another, a \
-line on standard error says so.",
+page is placed yet: the first touch of a page places it on the first node of its list that \
+has a frame left, and later accesses go to where it lies. By task, and in total, it counts \
+the accesses by node (N0=) and by distance (D10=), the faults that placed a page (placed=) or \
+found no frame (exhausted=), and the accesses that these left unserved (unserved=).\n\nA line \
+of the trace is TASK ADDRESS CPU [COUNT], in decimal or 0x; empty lines and those that begin \
+with # are skipped. Of a host a line is in P TASK ADDRESS CPU [COUNT]: each process is \
+answered for, and then all together, and all take the same frames; or with --process process \
+P alone, whose lines need not name it.\n\nScript lines that are faulty or refused are \
+reported on standard error as by `check`, and skipped. The status is 3 if there are some, \
+unless --lenient is given, if no machine is ready after the scripts, and if a line of the \
+trace can't be replayed. If neither --rules nor a line says whose rules count, and a kernel's \
+would give another answer, a line on standard error says so.",
     reads_lines: true,
     arguments: &[TRACE, PROCESS, FORMAT, LARGEST, LENIENT, FILES],
 };

@@ -14,7 +14,7 @@ use numa_machine::Rules;
 static RULES: Argument = Argument {
     name: "rules",
     value: "RULES",
-    help: "Whose rules count, where no line `rules` of the scripts says so",
+    help: "Whose rules count, unless a line `rules` of the scripts says otherwise",
     is_required: false,
     takes: Takes::OneOf("document", &["document", "linux"]),
 };

@@ -19,16 +19,16 @@ const ECHO: Argument = Argument {
 static WORD: SubcommandHelp = SubcommandHelp {
     name: "run",
     line: "Answers the scripts of files, or of standard input",
-    about: "Answers the scripts of files, or of standard input\n\nExamples, from the top of the \
-repository:\n  ./numaplan run examples/first-run.numaplan\n  ./numaplan run --echo \
+    about: "Answers the scripts of files, or of standard input\n\nExamples, from the top of \
+the repository:\n  ./numaplan run examples/first-run.numaplan\n  ./numaplan run --echo \
 examples/first-run.numaplan",
     more: "The script is read from the files in turn, or from standard input, and its answers \
 are written to standard output: one line for each line of the script, but none for an empty \
 line or a comment, and for `maps` one for each range. With --format json there is a line of \
-JSON for each answer.\n\nAt a terminal, where no file is named, there is a prompt, what is \
-wrong with a line is told too, and a line `help` tells the lines. Where answers stand after \
-`=>` in a script, a line on standard error says so at the end: `expect` compares them.\n\nThe \
-language of scripts is told in docs/SCRIPT.md of the repository.",
+JSON for each answer.\n\nAt a terminal, where no file is named, there is a prompt, standard \
+error says what is wrong with a line, and a line `help` lists the lines. If answers stand \
+after `=>` in a script, a line on standard error says so at the end: `expect` compares \
+them.\n\ndocs/SCRIPT.md of the repository describes the language of scripts.",
     reads_lines: true,
     arguments: &[ECHO, PLAIN, FILES],
 };

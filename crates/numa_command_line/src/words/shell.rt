@@ -12,10 +12,10 @@ static WORD: SubcommandHelp = SubcommandHelp {
     about: "Answers lines as they are typed, after scripts\n\nExample, from the top of the \
 repository:\n  ./numaplan shell examples/interleaved-range.numaplan",
     more: "It plays the scripts of the files, and then answers the lines of standard input, \
-each after a prompt. What is wrong with a line is told on standard error as by `check`. Beside \
-the lines of scripts it takes `predict TASK NODE`, `explain TASK ADDR NODE`, `help` and `quit`; \
-so does the end of the input. Of a host the first two ask all processes, after `in P` or with \
---process P process P alone. The status is 0.",
+with a prompt for each. What is wrong with a line is reported on standard error as by \
+`check`. Besides the lines of scripts it takes `predict TASK NODE`, `explain TASK ADDR NODE`, \
+`help` and `quit`; it ends with its input, too. Of a host the first two ask about all \
+processes, or after `in P` or with --process P about process P alone. The status is 0.",
     reads_lines: true,
     arguments: &[PROCESS, FILES],
 };

@@ -13,7 +13,8 @@ use std::alloc::Global;
 
 /// The message for an invalid number of workers.
 const BAD_WORKERS: &str =
-    "error: '--workers <K>' takes a number from 1 to 16\n\nFor more information, try '--help'.\n";
+    "error: '--workers <K>' takes a number from 1 to 16\n\nFor more information, try \
+'--help'.\n";
 
 /// The option `--workers K`.
 const WORKERS: Argument = Argument {
@@ -30,12 +31,13 @@ static WORD: SubcommandHelp = SubcommandHelp {
     line: "Lets workers place pages while policies change, and compares each placement",
     about: "Lets workers place pages while policies change, and compares each \
 placement\n\nExample, from the top of the repository:\n  ./numaplan storm --workers 4",
-    more: "K workers, each in a thread of its own, place 320 pages on a machine of 4 nodes with \
-64 frames each, while one more thread changes the policy of their task eight times. Then each \
-placement is compared with the list of nodes that the space of its version gives. Five lines on \
-standard output tell how many workers there were, how many pages were placed and for how many \
-no frame was free, whether all placements match, and how many frames are held at the end. The \
-status is 0 where all is as it must be whichever thread is first, and else 1.",
+    more: "K workers, each in a thread of its own, place 320 pages on a machine of 4 nodes \
+with 64 frames each, while one more thread changes the policy of their task eight times. Then \
+each placement is compared with the list of nodes that the space of its version gives. Five \
+lines on standard output give the number of workers, of the pages that were placed, and of \
+those for which no frame was free, whether all placements match, and how many frames are held \
+at the end. The status is 0 if all is as it must be in whatever order the threads ran, else \
+1.",
     reads_lines: false,
     arguments: &[WORKERS],
 };

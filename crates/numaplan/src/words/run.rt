@@ -93,9 +93,7 @@ fn tell_answers<R: Eprint>(rt: &R, names: &[String], notice: &Notice) {
         return;
     };
     if let Some(name) = names.get(text) {
-        let _ = eprintln!(rt;
-            "{name}:{line}: answers stand behind =>: numaplan expect compares them"
-        );
+        let _ = eprintln!(rt; "{name}:{line}: answers follow =>; numaplan expect compares them");
     }
 }
 

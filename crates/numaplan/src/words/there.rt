@@ -92,7 +92,7 @@ pub fn stated_in(
 }
 
 /// Plays scripts, and keeps the lines that state where pages lie: theirs, and those of further
-/// texts. A task is asked for, if one is given.
+/// texts, which alone aren't played. What is wrong with these lines is for [`tell_at`]. A task is asked for, if one is given.
 ///
 /// # Errors
 /// `Read` or `Write`: a read or a write failed. `Memory`: out of memory.
@@ -118,6 +118,7 @@ where
         hints: false,
         other: twin,
         process: None,
+        tells_at: false,
         format: Format::Text,
     };
     let findings = Findings::new(alloc, rules, look, StandardError { rt }).asking(process, task);

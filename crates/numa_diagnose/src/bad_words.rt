@@ -1,0 +1,118 @@
+//! Why lines are answered `bad words`.
+use crate::finding::Detail;
+use numa_script::keyword::{Keyword, read_keyword};
+use numa_script::parts::words;
+use numa_script::{Cause, Line, Malformed, ScriptLine, why_malformed};
+
+/// The place of the word after the policy of an `mbind`, from 0.
+const AFTER_POLICY: u32 = 4;
+
+/// The place of what a process is told, in a line `in P LINE`.
+const TOLD: u32 = 2;
+
+/// The word with a place, from 0.
+fn word_at(line: &[u8], place: u32) -> Option<&[u8]> {
+    let mut left = place;
+    for word in words(line) {
+        if left == 0 {
+            return Some(word);
+        }
+        left -= 1;
+    }
+    None
+}
+
+/// The column at which the word with a place, from 0, begins, or would begin.
+fn column_of(line: &[u8], place: u32) -> usize {
+    let mut column = 1usize;
+    let mut left = place;
+    for word in words(line) {
+        if left == 0 {
+            return column;
+        }
+        left -= 1;
+        column = column.saturating_add(word.len()).saturating_add(1);
+    }
+    column
+}
+
+/// Whether a line begins with a word that only a host's script has, once it is one.
+fn is_of_a_host(line: &[u8]) -> bool {
+    let Some(first) = word_at(line, 0) else {
+        return false;
+    };
+    match read_keyword(first) {
+        Some(Keyword::Group | Keyword::GroupMems | Keyword::Process | Keyword::Exit) => true,
+        Some(Keyword::Attach | Keyword::Fork | Keyword::In) => true,
+        _ => false,
+    }
+}
+
+/// Whether it is the words that are wrong, and not the bytes or the spaces.
+fn is_of_words(cause: Cause) -> bool {
+    match cause {
+        Cause::UnknownWord | Cause::NotTold(_) | Cause::BadWord(..) => true,
+        Cause::TooFewWords(_) | Cause::TooManyWords(_) => true,
+        _ => false,
+    }
+}
+
+/// Whether a word after the policy of an `mbind` says what becomes of pages.
+fn is_of_pages(word: &[u8]) -> bool {
+    if word == b"strict".as_slice() {
+        return true;
+    }
+    word == b"move".as_slice()
+}
+
+/// Whether the words of an `mbind` don't fit what follows its policy.
+fn is_of_bind(line: &[u8], cause: Cause) -> bool {
+    match cause {
+        Cause::TooFewWords(Keyword::Mbind)
+        | Cause::TooManyWords(Keyword::Mbind)
+        | Cause::BadWord(Keyword::Mbind, ..) => {}
+        _ => return false,
+    }
+    let place = match word_at(line, 0) {
+        Some(word) if word == b"in".as_slice() => AFTER_POLICY + TOLD,
+        _ => AFTER_POLICY,
+    };
+    match word_at(line, place) {
+        Some(word) => is_of_pages(word),
+        None => false,
+    }
+}
+
+/// Why a line is malformed.
+fn malformed_detail(line: &[u8], malformed: Malformed) -> Detail {
+    if is_of_bind(line, malformed.cause) {
+        return Detail::MalformedBind(malformed);
+    }
+    Detail::Malformed(malformed)
+}
+
+/// Why a line of a script of one process is answered so. What isn't malformed is a host's.
+pub(crate) fn plain_words(line: &[u8]) -> Detail {
+    match why_malformed(line) {
+        None => Detail::NoHost,
+        Some(malformed) if is_of_words(malformed.cause) && is_of_a_host(line) => Detail::NoHost,
+        Some(malformed) => malformed_detail(line, malformed),
+    }
+}
+
+/// The column of what makes a line of a process one about pages that are there.
+fn pages_column(line: &[u8], said: &Line<'_>) -> usize {
+    match said {
+        Line::Bind { .. } => column_of(line, AFTER_POLICY + TOLD),
+        _ => column_of(line, TOLD),
+    }
+}
+
+/// Why a line of a host's script is answered so. What isn't malformed is about pages that are
+/// there.
+pub(crate) fn host_words(line: &[u8], said: &ScriptLine<'_>) -> Detail {
+    match why_malformed(line) {
+        None => Detail::NoPages(Some(pages_column(line, &said.line))),
+        Some(malformed) => malformed_detail(line, malformed),
+    }
+}
