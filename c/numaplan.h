@@ -1,34 +1,32 @@
 /* numaplan.h: the placement planner of numaplan, for C99 and C++.
  *
- * Units. Addresses and lengths of spans are in bytes; a page is 4,096 bytes, and its number is
- * its address divided by 4,096. Offsets, page numbers and counts are in pages. A frame is a
- * unit of any size. Nodes are numbered from 0 to 255, tasks by any number of 32 bits, workers
- * from 0.
+ * Units. Addresses and lengths of spans are in bytes; a page is 4,096 bytes, and its number is its
+ * address divided by 4,096. Offsets, page numbers and counts are in pages. A frame is a unit of any
+ * size. Nodes are numbered from 0 to 255, tasks by any number of 32 bits, workers from 0.
  *
  * Handles. A core, a core with its pages, a plan, a seat, a script and a host are kept by handles
  * of 16 bytes that begin as zero bytes, as in `np_core core = {0};`. A handle owns what it keeps
- * until it is closed. It is not to be copied, and its fields are the library's: C neither reads
- * nor writes them. Closing a closed handle does nothing. No call takes a `const` handle: a
- * question, too, takes what is kept out of its handle, and puts it back before it answers.
+ * until it is closed. It must not be copied, and its fields are the library's: C neither reads nor
+ * writes them. Closing a closed handle does nothing. No call takes a `const` handle: a question,
+ * too, takes what is kept out of its handle, and puts it back before it answers.
  *
- * Threads. A handle may go to another thread, ordered by a lock, a start or a join, and is
- * given to one call at a time. A plan never changes: np_plan_share keeps it in a handle for
- * each thread that reads it, and np_seat_split makes a seat for each thread that takes frames.
- * The library starts no thread, waits for nothing and never ends the process. So it has no
- * desk and no reader: who swaps the plan of running threads does that under a lock of his own.
+ * Threads. A handle may go to another thread, ordered by a lock, a start or a join, and is given to
+ * one call at a time. A plan never changes: np_plan_share keeps it in a handle for each thread that
+ * reads it, and np_seat_split makes a seat for each thread that takes frames. The library starts no
+ * thread, waits for nothing and never ends the process. So it has no desk and no reader: a program
+ * that swaps the plan of running threads does so under a lock of its own.
  *
- * Pointers are not null, not even where a length is 0, and hold for the call; no two of one
- * call overlap. Texts are bytes with a length, without a zero at the end.
+ * Pointers are not null, not even where a length is 0, and hold for the call; no two of one call
+ * overlap. Texts are bytes with a length, without a zero at the end.
  *
  * Answers. Each function that can fail answers one of the numbers of `enum np_answer`, as a
- * uint32_t: a later version may answer a number that this header lacks. NP_OK is 0. A call
- * that answers another one changed nothing, but for NP_STILL and NP_EXHAUSTED, which are no
- * failures, NP_NO_ROOM, which tells the length that is needed, and NP_ANSWER_LOST. After
- * NP_NO_MEMORY every handle is as it was.
+ * uint32_t: a later version may answer a number that this header lacks. NP_OK is 0. A call that
+ * answers another one changed nothing, except for NP_STILL and NP_EXHAUSTED, which are no failures,
+ * NP_NO_ROOM, which gives the length that is needed, and NP_ANSWER_LOST. After NP_NO_MEMORY every
+ * handle is as it was.
  *
- * Memory comes from malloc, realloc and free by three functions in libnumaplan.a
- * (rattle_alloc, rattle_realloc, rattle_dealloc), which another object that is linked before
- * it can supply. */
+ * Memory comes from malloc, realloc and free by three functions in libnumaplan.a (rattle_alloc,
+ * rattle_realloc, rattle_dealloc), which another object that is linked before it can supply. */
 #ifndef NUMAPLAN_H
 #define NUMAPLAN_H
 
@@ -48,8 +46,8 @@ extern "C" {
 #define NP_VERSION (NP_VERSION_MAJOR * 1000000 + NP_VERSION_MINOR * 1000 + NP_VERSION_PATCH)
 #define NP_UNPROVED UINT32_C(0x80000000)
 
-/* The version of the library, as one number like NP_VERSION. They differ where a program runs with
- * another library than it was compiled for. A library that was compiled without a proof
+/* The version of the library, as one number like NP_VERSION. They differ if a program runs with
+ * another library than the one it was compiled for. A library that was compiled without a proof
  * (`./numaplan library --unproved`) adds NP_UNPROVED. */
 uint32_t np_version(void);
 
@@ -78,7 +76,9 @@ enum np_answer {
     NP_NOT_SUPPORTED = 20,     /* EOPNOTSUPP: a home for a policy that takes none */
     NP_TOO_MANY_TASKS = 21,    /* ENOMEM: as many tasks have a policy as the limits allow */
     NP_TOO_MANY_RANGES = 22,   /* ENOMEM: there would be more ranges than the limits allow */
-    NP_NO_POLICY_THERE = 23,   /* ENOENT: by the kernel's rules, a home where no page has a policy */
+    NP_NO_POLICY_THERE = 23,   /* ENOENT: by the kernel's rules, a home where no page has one */
+    NP_BAD_SPAN = 24,          /* EINVAL: by the kernel's rules, a span that ends too high */
+    NP_NO_NODES = 25,          /* ENOSPC: by the kernel's rules, no allowed node; no list says so */
 
     /* an event of a worker, or a question, is refused */
     NP_NO_SUCH_WORKER = 30, /* there are not so many workers */
@@ -193,7 +193,7 @@ typedef struct np_options {
     np_nodes cpus;
 } np_options;
 
-/* A policy as it stands: its mode as get_mempolicy(2) tells it, with MPOL_F_STATIC_NODES (0x8000)
+/* A policy as it stands: its mode as get_mempolicy(2) gives it, with MPOL_F_STATIC_NODES (0x8000)
  * or MPOL_F_RELATIVE_NODES (0x4000), MPOL_DEFAULT (0) where there is no policy; its home node, or
  * NP_NO_HOME; the nodes that were asked for, allowed or not, and those that it has at present. */
 #define NP_NO_HOME 256
@@ -253,7 +253,7 @@ uint32_t np_core_open_by(np_core *core, const uint8_t *memory, size_t memory_len
                          size_t distances_count, const np_limits *limits, uint32_t workers,
                          const np_options *options);
 
-/* Frees the core, where one is kept. */
+/* Frees the core, if there is one. */
 void np_core_close(np_core *core);
 
 /* Keeps a copy of the core in `copy`, to be asked "what if": it has the same ranges, policies
@@ -265,7 +265,7 @@ uint32_t np_core_copy(np_core *core, np_core *copy);
 /* How many commands are accepted, and how many of them are published. NP_CLOSED. */
 uint32_t np_core_versions(np_core *core, uint64_t *accepted, uint64_t *published);
 
-/* ---- commands: each that is accepted adds one to the version. NP_CLOSED; 10 to 23;
+/* ---- commands: each that is accepted adds one to the version. NP_CLOSED; 10 to 25;
  * NP_NO_MEMORY */
 
 /* Maps `length` bytes of unmapped pages from `start` on; the first page has the index `offset`. */
@@ -274,10 +274,10 @@ uint32_t np_core_map(np_core *core, uint64_t start, uint64_t length, uint64_t of
 /* Unmaps the pages of a span, those among them that are mapped. */
 uint32_t np_core_unmap(np_core *core, uint64_t start, uint64_t length);
 
-/* Gives the pages of a span a policy of their own (mbind(2)): a word as
- * "interleave=static:0-3", by name (default, prefer, bind, interleave, local, many, weighted),
- * flags and nodes. "default" takes the policy away. A faulty word is told first, also by a
- * closed handle: 60 to 63, 70 to 74. */
+/* Gives the pages of a span a policy of their own (mbind(2)): a word as "interleave=static:0-3", by
+ * name (default, prefer, bind, interleave, local, many, weighted), flags and nodes. "default" takes
+ * the policy away. A faulty word is answered first, even for a closed handle: 60 to 63, 70
+ * to 74. */
 uint32_t np_core_mbind(np_core *core, uint64_t start, uint64_t length, const uint8_t *policy,
                        size_t policy_length);
 
@@ -295,7 +295,7 @@ uint32_t np_core_set_home(np_core *core, uint64_t start, uint64_t length, uint32
 uint32_t np_core_set_weight(np_core *core, uint32_t node, uint32_t weight);
 
 /* Changes the nodes on which memory may be placed (cpuset.mems of cpusets(7)), a list as "0-1". A
- * faulty list is told first, also by a closed handle: 60 to 63. */
+ * faulty list is answered first, even for a closed handle: 60 to 63. */
 uint32_t np_core_set_mems(np_core *core, const uint8_t *nodes, size_t nodes_length);
 
 /* Publishes all accepted commands. NP_CLOSED, NP_NO_MEMORY. */
@@ -307,12 +307,12 @@ uint32_t np_core_publish(np_core *core);
  * that do so too, and with the same policy of their own or none. At most 65,536. NP_CLOSED. */
 uint32_t np_core_ranges(np_core *core, size_t *count);
 
-/* Writes the range at a place, from 0, in order of address; in front of `policy` the policy of
- * its own, as numa_maps shows it with the nodes that it has at present
- * ("interleave=static:0-3", but also "weighted interleave:0-1"; at most 1,024 bytes, and none
- * where it has no policy of its own); and to `policy_length` how many bytes these are. NP_NO_ROOM
- * where `room` is less: then `policy_length` is what is needed, and `range` and `policy` are as they
- * were. NP_CLOSED, NP_NO_RANGE. */
+/* Writes the range at a place, from 0, in order of address; at the start of `policy` the policy of
+ * its own, as numa_maps shows it with the nodes that it has at present ("interleave=static:0-3",
+ * but also "weighted interleave:0-1"; at most 1,024 bytes, and none where it has no policy of its
+ * own); and to `policy_length` how many bytes these are. NP_NO_ROOM where `room` is less: then
+ * `policy_length` is what is needed, and `range` and `policy` are as they were. NP_CLOSED,
+ * NP_NO_RANGE. */
 uint32_t np_core_range(np_core *core, size_t index, np_range *range, uint8_t *policy, size_t room,
                        size_t *policy_length);
 
@@ -325,14 +325,13 @@ uint32_t np_core_range_at(np_core *core, uint64_t address, size_t *index);
 uint32_t np_core_range_policy(np_core *core, size_t index, np_policy *policy);
 uint32_t np_core_task_policy(np_core *core, uint32_t task, np_policy *policy);
 
-/* Writes one line for each range, in order of address, as /proc/PID/numa_maps has it
- * (numa(7)): "00010000 bind:0-1 anon=2 N0=1 N1=1 kernelpagesize_kB=4" and a line feed. These
- * are its address in hexadecimal, the policy by which a fault of this task is served, and of
- * the placements' pages how many are in it, in all and on each node. Placements come from
- * np_core_touch and np_core_try, or are the caller's own; those of pages that aren't mapped
- * are left out. The text stands in front of `text`, and its length in `length`. NP_NO_ROOM
- * where `room` is less: then `length` is what is needed, and `text` is as it was. NP_CLOSED,
- * NP_PLACED_TWICE, NP_NO_MEMORY. */
+/* Writes one line for each range, in order of address, as /proc/PID/numa_maps has it (numa(7)):
+ * "00010000 bind:0-1 anon=2 N0=1 N1=1 kernelpagesize_kB=4" and a line feed. These are its address
+ * in hexadecimal, the policy by which a fault of this task is served, and of the placements' pages
+ * how many are in it, in all and on each node. Placements come from np_core_touch and np_core_try,
+ * or are the caller's own; those of pages that aren't mapped are left out. The text stands at the
+ * start of `text`, its length in `length`. NP_NO_ROOM where `room` is less: then `length` is what
+ * is needed, and `text` is as it was. NP_CLOSED, NP_PLACED_TWICE, NP_NO_MEMORY. */
 uint32_t np_core_maps(np_core *core, uint32_t task, const np_placement *placements, size_t count,
                       uint8_t *text, size_t room, size_t *length);
 
@@ -364,7 +363,7 @@ uint32_t np_core_give(np_core *core, uint32_t worker, uint8_t node, uint16_t fra
 uint32_t np_core_compile(np_core *core, np_plan *plan);
 
 /* Keeps the plan of the published commands of the core, by which its workers place pages: the
- * newest published version, as np_core_versions tells it. Compiles nothing. NP_OPEN, NP_CLOSED,
+ * newest published version, as np_core_versions gives it. Compiles nothing. NP_OPEN, NP_CLOSED,
  * NP_NO_MEMORY. */
 uint32_t np_core_plan(np_core *core, np_plan *plan);
 
@@ -377,10 +376,9 @@ void np_plan_close(np_plan *plan);
 /* How many commands the plan was made of. NP_CLOSED. */
 uint32_t np_plan_version(np_plan *plan, uint64_t *version);
 
-/* Writes the list of nodes of a page in front of `nodes`, in the order in which memory is
- * looked for on them, and how many they are (1 to 256) to `count`. NP_NO_ROOM where `room` is
- * less: then `count` is what is needed, and `nodes` is as it was. NP_CLOSED, NP_BAD_CPU,
- * NP_UNMAPPED. */
+/* Writes the list of nodes of a page at the start of `nodes`, in the order in which memory is
+ * looked for on them, and how many they are (1 to 256) to `count`. NP_NO_ROOM where `room` is less:
+ * then `count` is what is needed, and `nodes` is as it was. NP_CLOSED, NP_BAD_CPU, NP_UNMAPPED. */
 uint32_t np_plan_choice(np_plan *plan, uint32_t task, uint64_t page, uint32_t cpu, uint8_t *nodes,
                         size_t room, size_t *count);
 
@@ -399,7 +397,7 @@ uint32_t np_plan_counts(np_plan *plan, uint32_t task, uint32_t cpu, uint64_t fir
 /* Reads a list of nodes, as "0-2,5". 60 to 63. */
 uint32_t np_nodes_read(const uint8_t *text, size_t length, np_nodes *nodes);
 
-/* Writes a set as a list, "0-2,5", in front of `text`, and how many bytes that are (at most
+/* Writes a set as a list, "0-2,5", at the start of `text`, and how many bytes that are (at most
  * 1,024) to `length`. The empty set is the empty text, which np_nodes_read refuses. NP_NO_ROOM
  * where `room` is less: then `length` is what is needed, and `text` is as it was. */
 uint32_t np_nodes_write(const np_nodes *nodes, uint8_t *text, size_t room, size_t *length);
@@ -434,10 +432,9 @@ uint32_t np_policy_text(const uint8_t *policy, size_t policy_length, const uint8
 
 /* ---- scripts: the language of `numaplan run`, docs/SCRIPT.md */
 
-/* Answers a whole script of one process, from a fresh start: writes what `numaplan run` prints in
- * front of `answers`, and how many bytes that are to `written`. The line `host` and lines about
- * pages that are there are `bad words` here. NP_NO_ROOM where `room` is less: then `written` is
- * what is needed, and `answers` is as it was. NP_NO_MEMORY. */
+/* Answers a whole script, from a fresh start: writes what `numaplan run` prints at the start of
+ * `answers`, and how many bytes that are to `written`. NP_NO_ROOM where `room` is less: then
+ * `written` is what is needed, and `answers` is as it was. NP_NO_MEMORY. */
 uint32_t np_script_run(const uint8_t *script, size_t length, uint8_t *answers, size_t room,
                        size_t *written);
 
@@ -447,27 +444,27 @@ uint32_t np_script_open(np_script *script);
 /* The same by these rules, if no line `rules` gives others. NP_OPEN, NP_BAD_RULES, NP_NO_MEMORY. */
 uint32_t np_script_open_by(np_script *script, uint32_t rules);
 
-/* Frees the script, where one is kept. */
+/* Frees the script, if there is one. */
 void np_script_close(np_script *script);
 
-/* Serves a line (without its line feed), keeps its answer in place of the last one, and writes
- * to `needed` how many bytes it has: none for a comment or an empty line. That a line is
- * faulty or refused is told in the answer. NP_CLOSED; NP_NO_MEMORY: nothing has changed;
- * NP_ANSWER_LOST: the line was served, there was no memory for its answer, and none is kept.
- * Only a question or `maps` has an answer of over 4,096 bytes that can be lost so; it changed
- * nothing, and can be asked again. */
+/* Serves a line (without its line feed), keeps its answer in place of the last one, and writes to
+ * `needed` how many bytes it has: none for a comment or an empty line. The answer says whether a
+ * line is faulty or refused. NP_CLOSED; NP_NO_MEMORY: nothing has changed; NP_ANSWER_LOST: the line
+ * was served, there was no memory for its answer, and none is kept. Only a question, `maps` or
+ * `moved` has an answer of over 4,096 bytes that can be lost so; it changed nothing, and can be
+ * asked again. */
 uint32_t np_script_line(np_script *script, const uint8_t *line, size_t length, size_t *needed);
 
-/* Copies the answer to the last line in front of `answer`, with its line feed, and how many
- * bytes that are to `length`. It is kept until the next line. NP_CLOSED; NP_NO_ROOM where
- * `room` is less: then `length` is what is needed, and `answer` is as it was. */
+/* Copies the answer to the last line, with its line feed, to the start of `answer`, and how many
+ * bytes that are to `length`. It is kept until the next line. NP_CLOSED; NP_NO_ROOM where `room` is
+ * less: then `length` is what is needed, and `answer` is as it was. */
 uint32_t np_script_answer(np_script *script, uint8_t *answer, size_t room, size_t *length);
 
 /* ---- answers as names */
 
-/* Writes the name of an answer in front of `name`, as "Unaligned" for NP_UNALIGNED, and how
- * many bytes it has (at most 32) to `length`. NP_NO_ROOM as above; NP_UNKNOWN where no answer
- * has this number. */
+/* Writes the name of an answer at the start of `name`, as "Unaligned" for NP_UNALIGNED, and how
+ * many bytes it has (at most 32) to `length`. NP_NO_ROOM as above; NP_UNKNOWN where no answer has
+ * this number. */
 uint32_t np_answer_name(uint32_t code, uint8_t *name, size_t room, size_t *length);
 
 /* Writes the error number that Linux gives for the cause of an answer (errno(3)): EINVAL,

@@ -1,5 +1,5 @@
 /* numaplan_hosts.h: hosts of processes in control groups, for C99 and C++. numaplan.h includes this
- * file, and its first page counts here too.
+ * file, and its first page applies here too.
  *
  * A host is a machine with a tree of control groups and with processes in them. A process has
  * pages, and policies of ranges and tasks, as a core has; the nodes that it is allowed are the
@@ -61,7 +61,7 @@ uint32_t np_host_open(np_host *host, const uint8_t *memory, size_t memory_length
                       const uint32_t *frames, size_t nodes, const uint8_t *distances,
                       size_t distances_count, const np_limits *limits, const np_options *options);
 
-/* Frees the host, where one is kept. */
+/* Frees the host, if there is one. */
 void np_host_close(np_host *host);
 
 /* Keeps a copy of the host in `copy`, to be asked "what if": what is then done to one of the two
@@ -80,9 +80,9 @@ uint32_t np_host_version(np_host *host, uint64_t *version);
 uint32_t np_host_new_group(np_host *host, uint32_t group, uint32_t parent);
 
 /* Gives a group a list of its own, as "0-1". Its effective nodes are those of its list that its
- * parent has effectively; the parent's, where none of these is left. A faulty list is told first,
- * also by a closed handle: 60 to 63. NP_NO_SUCH_GROUP, NP_ROOT_GROUP, NP_NO_SUCH_NODE. Needs no
- * memory. */
+ * parent has effectively; the parent's, where none of these is left. A faulty list is answered
+ * first, even for a closed handle: 60 to 63. NP_NO_SUCH_GROUP, NP_ROOT_GROUP, NP_NO_SUCH_NODE.
+ * Needs no memory. */
 uint32_t np_host_set_group_mems(np_host *host, uint32_t group, const uint8_t *nodes,
                                 size_t nodes_length);
 
@@ -113,8 +113,8 @@ uint32_t np_host_exit(np_host *host, uint32_t process);
 uint32_t np_host_set_weight(np_host *host, uint32_t node, uint32_t weight);
 
 /* ---- commands of one process: as those of a core (np_core_map and so on), with a number of a
- * process. NP_CLOSED; NP_COMMANDS_SPENT; NP_NO_SUCH_PROCESS; then 11 to 23; NP_NO_MEMORY. A faulty
- * policy word is told first: 60 to 63, 70 to 74 */
+ * process. NP_CLOSED; NP_COMMANDS_SPENT; NP_NO_SUCH_PROCESS; then 11 to 25; NP_NO_MEMORY. A faulty
+ * policy word is answered first: 60 to 63, 70 to 74 */
 
 uint32_t np_host_map(np_host *host, uint32_t process, uint64_t start, uint64_t length,
                      uint64_t offset);

@@ -2,9 +2,10 @@
  *
  *     np_mark("loaded");
  *
- * Under numaplan-emulate and numaplan-record its pages are looked at then, before it goes on: the report has a part for
- * the moment, and a line of --expect may name it (NAME NODE=PAGES,.. at loaded). Elsewhere nothing happens. It takes no
- * library. Names have no blanks, and at most 200 bytes. Not proved.
+ * Under numaplan-emulate and numaplan-record its pages are looked at then, before it goes on: the
+ * report has a part for the moment, and a line of --expect may name it (NAME NODE=PAGES,.. at
+ * loaded). Elsewhere nothing happens. It needs no library. Names have no blanks, and at most 200
+ * bytes. Not proved.
  */
 #ifndef NUMAPLAN_MARK_H
 #define NUMAPLAN_MARK_H

@@ -1,13 +1,13 @@
-/* numaplan_placed.h: cores whose pages are there, for C99 and C++. numaplan.h includes this
- * file, and its first page counts here too.
+/* numaplan_placed.h: cores whose pages are there, for C99 and C++. numaplan.h includes this file,
+ * and its first page applies here too.
  *
  * A core says where a page would go when it is first touched. An np_pages keeps a core together
- * with where its pages lie: a caller states that pages lie on nodes, and then they go where
- * Linux moves them: when the allowed nodes change, by migrate_pages(2), move_pages(2) and mbind(2).
- * Each command of that core is given to the np_pages, so that what it tells of the pages is of
- * the core as it is: of a page that was unmapped nothing is stated any more.
+ * with where its pages lie: a caller states that pages lie on nodes, and then they go where Linux
+ * moves them: when the allowed nodes change, by migrate_pages(2), move_pages(2) and mbind(2). Each
+ * command for that core is given to the np_pages, so that what it says of the pages fits the core
+ * as it is: of a page that was unmapped nothing is stated any more.
  *
- * Pages lie only where it was stated. Frames that workers take (np_core_touch, seats) are apart.
+ * Pages lie only where it was stated. Frames that workers take (np_core_touch, seats) are separate.
  * There are at most 1,048,576 runs of pages that lie on one node. */
 #ifndef NUMAPLAN_PLACED_H
 #define NUMAPLAN_PLACED_H
@@ -66,7 +66,7 @@ _Static_assert(sizeof(np_moves) == 2320 && sizeof(np_bound) == 24, "structs");
  * `core` keeps none, NP_NO_MEMORY. */
 uint32_t np_pages_open(np_pages *pages, np_core *core);
 
-/* Frees the core with its pages, where one is kept. */
+/* Frees the core with its pages, if there is one. */
 void np_pages_close(np_pages *pages);
 
 /* Keeps a copy in `copy`, to be asked "what if", as np_core_copy. NP_OPEN, NP_CLOSED,
@@ -81,7 +81,7 @@ uint32_t np_pages_core(np_pages *pages, np_core *core);
 uint32_t np_pages_version(np_pages *pages, uint64_t *version);
 
 /* ---- commands of the core: as those of an np_core (np_core_map and so on), and answered so. No
- * page moves by them. NP_CLOSED; 10 to 23; NP_NO_MEMORY. A faulty policy word or list is told
+ * page moves by them. NP_CLOSED; 10 to 25; NP_NO_MEMORY. A faulty policy word or list is answered
  * first: 60 to 63, 70 to 74 */
 
 uint32_t np_pages_map(np_pages *pages, uint64_t start, uint64_t length, uint64_t offset);
@@ -131,28 +131,28 @@ uint32_t np_pages_node(np_pages *pages, uint64_t address, uint32_t *node);
 /* Counts, for each node, the pages that lie on it. */
 uint32_t np_pages_counts(np_pages *pages, np_counts *counts);
 
-/* Writes the runs of pages that lie on one node, in order of address and as long as they can be,
- * in front of `runs`, and how many they are to `count`. NP_NO_ROOM where `room` is less: then
+/* Writes the runs of pages that lie on one node, in order of address and as long as they can be, at
+ * the start of `runs`, and how many they are to `count`. NP_NO_ROOM where `room` is less: then
  * `count` is what is needed, and `runs` is as it was. NP_NO_MEMORY. */
 uint32_t np_pages_runs(np_pages *pages, np_page_run *runs, size_t room, size_t *count);
 
 /* ---- moves: as far as there is room. They go node by node, as Linux does: each time the lowest
- * node whose pages go to a node that isn't still to go, else the highest; of a node the lowest
- * pages first. A node that fills ends the move: the pages that found no room stay, and so do
- * those of all nodes that were still to go. What went where is written to `moves`, where NP_OK
- * is answered */
+ * node whose pages go to a node that isn't still to be emptied, else the highest; of a node the
+ * lowest pages first. A node that fills ends the move: the pages that found no room stay, and so do
+ * those of all nodes that were still to be emptied. What went where is written to `moves`, where
+ * NP_OK is answered */
 
-/* Changes the nodes on which memory may be placed, as np_pages_set_mems, and moves the pages
- * along, as in a cpuset of cgroup v2, or of v1 with memory_migrate (cpusets(7)): where the old
- * nodes and the new are as many, those of the k-th go to the k-th; else pages on a node that
- * stays allowed stay, and the k-th node's go to the k-th of the new ones, counted round. A
- * faulty list is told first: 60 to 63. NP_CLOSED; 10 to 23; NP_TOO_MANY_RUNS, NP_NO_MEMORY. */
+/* Changes the nodes on which memory may be placed, as np_pages_set_mems, and moves the pages along,
+ * as in a cpuset of cgroup v2, or of v1 with memory_migrate (cpusets(7)): where the old nodes and
+ * the new are as many, those of the k-th go to the k-th; else pages on a node that stays allowed
+ * stay, and the k-th node's go to the k-th of the new ones, counted round. A faulty list is
+ * answered first: 60 to 63. NP_CLOSED; 10 to 25; NP_TOO_MANY_RUNS, NP_NO_MEMORY. */
 uint32_t np_pages_move_mems(np_pages *pages, const uint8_t *nodes, size_t nodes_length,
                             np_moves *moves);
 
 /* Moves pages from the nodes of one list to the allowed nodes of another, by the same rule
- * (migrate_pages(2)). A faulty list is told first, that of `from` before that of `to`: 60 to 63.
- * NP_CLOSED; NP_NODES_NOT_ALLOWED where no node of `to` is allowed; NP_TOO_MANY_RUNS,
+ * (migrate_pages(2)). A faulty list is answered first, that of `from` before that of `to`: 60 to
+ * 63. NP_CLOSED; NP_NODES_NOT_ALLOWED where no node of `to` is allowed; NP_TOO_MANY_RUNS,
  * NP_NO_MEMORY. */
 uint32_t np_pages_migrate(np_pages *pages, const uint8_t *from, size_t from_length,
                           const uint8_t *to, size_t to_length, np_moves *moves);
@@ -167,8 +167,8 @@ uint32_t np_pages_move(np_pages *pages, uint64_t address, uint32_t node);
  * all): the lowest first, each to the first node with room of its list, as a fault of the task on
  * the node `cpu` would put it; all of them stay where the machine has no such node. What they did
  * is written to `bound`, where NP_OK is answered; where pages stayed and `strict` (MPOL_MF_STRICT
- * too), which "default" drops, with EIO. A faulty word is told first: 60 to 63, 70 to 74.
- * NP_CLOSED; 10 to 23; NP_TOO_MANY_RUNS, NP_NO_MEMORY. */
+ * too), which "default" drops, with EIO. A faulty word is answered first: 60 to 63, 70 to 74.
+ * NP_CLOSED; 10 to 25; NP_TOO_MANY_RUNS, NP_NO_MEMORY. */
 uint32_t np_pages_mbind_moving(np_pages *pages, uint64_t start, uint64_t length,
                                const uint8_t *policy, size_t policy_length, bool strict,
                                uint32_t task, uint32_t cpu, np_bound *bound);

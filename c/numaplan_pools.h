@@ -1,5 +1,5 @@
 /* numaplan_pools.h: pools of frames, for C99 and C++. numaplan.h includes this file, and its first
- * page counts here too. */
+ * page applies here too. */
 #ifndef NUMAPLAN_POOLS_H
 #define NUMAPLAN_POOLS_H
 
@@ -9,9 +9,9 @@
 extern "C" {
 #endif
 
-/* ---- pools of frames, which threads share without a lock: each has a seat of its own. Every
- * frame is free at first, and held by one seat from where that takes it until that gives it
- * back. A call waits for no other. Pools are apart from the frames of any core. */
+/* ---- pools of frames, which threads share without a lock: each has a seat of its own. Every frame
+ * is free at first, and held by one seat from where that takes it until that gives it back. A call
+ * waits for no other. Pools are separate from the frames of any core. */
 
 /* A seat at pools of frames: what one thread takes frames with, and the frames that it holds. */
 typedef struct np_seat {
@@ -57,17 +57,16 @@ uint32_t np_seat_give(np_seat *seat, uint8_t node, uint16_t number);
 /* Exchanges a frame that the seat holds for one of the node `to`, as for a page that moves there:
  * takes a free frame of that node, copied to `frame`, and then gives back the old one. Another
  * thread may take that as soon as it is given back: where contents have to be copied, call
- * np_seat_take, copy, and call np_seat_give. NP_NOT_OWNED where the seat doesn't hold the frame; NP_ALL_TAKEN where each frame of `to` was found
- * taken at some time during this call, also where it has none. Then the seat holds what it held,
- * and `frame` is as it was. A frame of `to` itself is exchanged for another. Needs no memory.
- * NP_CLOSED. */
+ * np_seat_take, copy, and call np_seat_give. NP_NOT_OWNED where the seat doesn't hold the frame;
+ * NP_ALL_TAKEN where each frame of `to` was found taken at some time during this call, also where
+ * it has none. Then the seat holds what it held, and `frame` is as it was. A frame of `to` itself
+ * is exchanged for another. Needs no memory. NP_CLOSED. */
 uint32_t np_seat_migrate(np_seat *seat, uint8_t node, uint16_t number, uint8_t to,
                          np_frame *frame);
 
-/* Gives all frames that `other` holds to `seat`, and closes `other`. Both have to be seats at
- * the same pools, from one np_seat_open by np_seat_split: this is for the caller to see to, as
- * no call can tell. Needs no memory. NP_CLOSED where either keeps none, and then both are as
- * they were. */
+/* Gives all frames that `other` holds to `seat`, and closes `other`. Both have to be seats at the
+ * same pools, from one np_seat_open by np_seat_split: the caller has to see to that, since no call
+ * can check it. Needs no memory. NP_CLOSED where either keeps none, and then both are as before. */
 uint32_t np_seat_join(np_seat *seat, np_seat *other);
 
 /* Lets go of the seat. Frames that it still holds stay taken as long as the pools last, so

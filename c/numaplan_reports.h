@@ -1,20 +1,20 @@
 /* numaplan_reports.h: the reports of numaplan, for C99 and C++. numaplan.h includes this file, and
- * its first page counts here too.
+ * its first page applies here too.
  *
  * Scripts. The first five calls play a script from a fresh start to its end and answer what the
- * words `check`, `predict`, `diff`, `explain` and `replay` of the program print, byte for byte.
- * Lines that are malformed or refused are passed over; messages tell of each. A call reads a
- * script, and lines that stand behind it, as texts: messages call the script `-`, the lines
- * `--then` and a trace `trace`.
+ * program's commands `check`, `predict`, `diff`, `explain` and `replay` print, byte for byte. Lines
+ * that are malformed or refused are skipped; a message reports each. A call reads a script, and
+ * lines to add to it, as texts: messages call the script `-`, the lines `--then` and a trace
+ * `trace`.
  *
- * Rooms. The answer stands at the beginning of `text`, and the messages behind it. `report` gets
- * how many bytes each has. NP_NO_ROOM where both together are longer than the room: then `report`
- * tells what is needed, and `text` is as it was. Where another number than these is answered,
- * there is no answer, and the messages stand in `text` all the same. After NP_NO_MEMORY,
- * NP_BAD_RULES and NP_BAD_FORMAT, which come first, nothing has changed.
+ * Rooms. The answer stands at the start of `text`, and the messages after it. `report` gets how
+ * many bytes each has. NP_NO_ROOM where both together are longer than the room: then `report` gives
+ * what is needed, and `text` is as it was. With any other number there is no answer, but the
+ * messages stand in `text` all the same. After NP_NO_MEMORY, NP_BAD_RULES and NP_BAD_FORMAT, which
+ * come first, nothing has changed.
  *
  * Cores. The other calls ask the same of a core, by all accepted commands, and answer structs;
- * those that end with `_text` answer in the formats of the words, as the calls for scripts do. A
+ * those that end with `_text` answer in the formats of the commands, as the calls for scripts do. A
  * change is asked about with two cores: one as it stands, and a copy of it (np_core_copy) with more
  * commands. */
 #ifndef NUMAPLAN_REPORTS_H
@@ -30,7 +30,7 @@ extern "C" {
 
 /* The formats of an answer: lines, JSON (RFC 8259: one object, or one on each line), records with a
  * header (RFC 4180), a picture (SVG 1.1), a page for a browser (HTML 5). Each answer has some of
- * them, as the word of the program has, and is text where it lacks the wanted one. */
+ * them, as the program's command has, and is text where it lacks the wanted one. */
 enum np_format {
     NP_FORMAT_TEXT = 0,
     NP_FORMAT_JSON = 1,
@@ -52,8 +52,8 @@ typedef struct np_free {
     uint8_t node;
 } np_free;
 
-/* How many bytes an answer has, and the messages behind it; 1 where lines were malformed, refused
- * or not judged, so that the answer goes by the others alone, else 0. */
+/* How many bytes an answer has, and the messages after it; 1 where lines were malformed, refused or
+ * not judged, so that the answer goes by the others alone, else 0. */
 typedef struct np_report {
     size_t answer, messages;
     uint64_t faulty;
@@ -66,7 +66,7 @@ enum np_scope { NP_SCOPE_RANGE = 0, NP_SCOPE_TASK = 1, NP_SCOPE_SYSTEM = 2 };
 /* What puts the nodes of a page in order. LOCAL, PREFERRED and the two INTERLEAVEs: the allowed
  * nodes in the order of a node: the faulting one, the lowest of the policy's, the one whose turn it
  * is. BIND: the policy's nodes alone in the order of the home or else the faulting node.
- * PREFERRED_MANY: the same, and behind them the other allowed nodes. */
+ * PREFERRED_MANY: the same, and after them the other allowed nodes. */
 enum np_rule {
     NP_RULE_LOCAL = 0,
     NP_RULE_PREFERRED = 1,
@@ -148,10 +148,10 @@ uint32_t np_explain(const uint8_t *script, size_t length, const uint8_t *lines,
                     size_t lines_length, const np_question *asked, uint64_t page, uint8_t *text,
                     size_t room, np_report *report);
 
-/* What a trace of accesses meets on a machine where no page is placed (numaplan replay): a line
+/* Where the accesses of a trace go on a machine where no page is placed (numaplan replay): a line
  * `TASK ADDRESS CPU [COUNT]` for each, of a host with `in P` before it. The question's task and
- * node don't count. NP_BAD_RULES; NP_BAD_FORMAT; NP_NO_MEMORY; NP_NO_MACHINE; NP_BAD_ACCESS where
- * a line of the trace can't be replayed, which the last message tells. */
+ * node don't count. NP_BAD_RULES; NP_BAD_FORMAT; NP_NO_MEMORY; NP_NO_MACHINE; NP_BAD_ACCESS where a
+ * line of the trace can't be replayed; the last message says why. */
 uint32_t np_replay(const uint8_t *script, size_t length, const uint8_t *lines, size_t lines_length,
                    const uint8_t *trace, size_t trace_length, const np_question *asked,
                    uint8_t *text, size_t room, np_report *report);
@@ -168,32 +168,33 @@ uint32_t np_core_predict(np_core *core, uint32_t task, uint32_t cpu, np_counts *
  * list that has one, or has gone nowhere. NP_CLOSED, NP_BAD_CPU, NP_NO_MEMORY. */
 uint32_t np_core_fill(np_core *core, uint32_t task, uint32_t cpu, np_counts *free_pages);
 
-/* Tells why a page would go where it goes, if the task touched it now on a CPU of node `cpu`; its
- * list of nodes is np_plan_choice's. NP_CLOSED, NP_BAD_CPU, NP_UNMAPPED, NP_NO_MEMORY. */
+/* Explains why a page would go where it goes, if the task touched it now on a CPU of node `cpu`;
+ * its list of nodes is np_plan_choice's. NP_CLOSED, NP_BAD_CPU, NP_UNMAPPED, NP_NO_MEMORY. */
 uint32_t np_core_explain(np_core *core, uint32_t task, uint64_t page, uint32_t cpu,
                          np_explanation *explanation);
 
 /* Lists the pages that would go to another node in the core `after` than in `before`, if the task
  * touched each of them now on a CPU of node `cpu`: for each span of pages that are mapped in both,
  * how many go from which node to which other, in order of the span, of `from` and of `to`. They
- * stand in front of `moves`, and how many they are in `count`. The time grows with the pages.
+ * stand at the start of `moves`, and `count` says how many they are. The time grows with the pages.
  * NP_NO_ROOM where `room` is less: then `count` is what is needed, and `moves` is as it was.
  * NP_CLOSED; NP_BAD_CPU where one of the machines lacks the node; NP_NO_MEMORY. */
 uint32_t np_core_diff(np_core *before, np_core *after, uint32_t task, uint32_t cpu, np_move *moves,
                       size_t room, size_t *count);
 
-/* Counts what a trace meets if no page is placed before it: the first touch of a page places it on
- * the first node of its list that has a frame left, and later accesses go there. The routes stand
- * in front of `routes`, in order of task, of `cpu` and of the node, where pages that found no frame
- * come first; how many they are is in `count`. NP_NO_ROOM as above. NP_BAD_ACCESS where an access
- * can't be replayed, since the machine lacks the node, the page isn't mapped, or a number would
- * pass 2^64 - 1: then `count` is its place in the trace, from 0. NP_CLOSED, NP_NO_MEMORY. */
+/* Counts where the accesses of a trace go if no page is placed before it: the first touch of a page
+ * places it on the first node of its list that has a frame left, and later accesses go there. The
+ * routes stand at the start of `routes`, in order of task, of `cpu` and of the node, where pages
+ * that found no frame come first; how many they are is in `count`. NP_NO_ROOM as above.
+ * NP_BAD_ACCESS where an access can't be replayed, since the machine lacks the node, the page isn't
+ * mapped, or a number would pass 2^64 - 1: then `count` is its place in the trace, from 0.
+ * NP_CLOSED, NP_NO_MEMORY. */
 uint32_t np_core_replay(np_core *core, const np_access *trace, size_t length, np_route *routes,
                         size_t room, size_t *count);
 
-/* ---- the same as texts: what the words of the program print of a script with these commands. The
- * question's rules don't count, since a core has its own; np_core_explain_text doesn't tell by
- * which other rules a page would go elsewhere. NP_CLOSED, then as the calls for scripts */
+/* ---- the same as texts: what the program prints of a script with these commands. The question's
+ * rules don't count, since a core has its own; np_core_explain_text doesn't say by which other
+ * rules a page would go elsewhere. NP_CLOSED, then as the calls for scripts */
 
 /* As np_predict. NP_BAD_FORMAT; NP_NO_MEMORY; NP_NO_SUCH_NODE; NP_BAD_CPU. */
 uint32_t np_core_predict_text(np_core *core, const np_question *asked, const np_free *free_pages,

@@ -1,6 +1,6 @@
 #!/usr/bin/env python3
 """Asks one what-if of many hosts, on the processors of this machine, and writes a table (CSV): where
-would the pages of each go if these lines stood behind its script, and which would go elsewhere?
+would the pages of each go if these lines were added to its script, and which would go elsewhere?
 
     PYTHONPATH=PREFIX/share/numaplan python3 sweep.py --then 'mems 0-1' HOST.numaplan.. > table.csv
 

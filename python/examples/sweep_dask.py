@@ -5,7 +5,7 @@
     PYTHONPATH=PREFIX/share/numaplan python3 sweep_dask.py tcp://HOST:8786 SCRIPT TRACE \\
         'task 1 bind:0' 'task 1 interleave:0-1' .. > table.csv
 
-Each line stands behind the script once. Workers need the package numaplan. Script and trace are sent
+Each line is added to the script once. Workers need the package numaplan. Script and trace are sent
 to them as bytes; by name, they would read them there.
 """
 

@@ -21,12 +21,13 @@ from ._causes import CAUSES as CAUSES
 from ._causes import AllTaken, AnswerLost, Astray, BadAccess, BadCpu, BadDistance, BadFormat
 from ._causes import BadLimits
 from ._causes import BadNodeCount, BadOffset
-from ._causes import BadOrders, BadRules, BadTry, BadWeight, BadWorkers, BothFlags, Busy, Closed
+from ._causes import BadOrders, BadRules, BadSpan, BadTry, BadWeight, BadWorkers, BothFlags, Busy
+from ._causes import Closed
 from ._causes import GroupExists, GroupMems, NoSuchGroup, NoSuchProcess, Populated, ProcessExists
 from ._causes import RootGroup, TooManyGroups, TooManyProcesses
 from ._causes import CommandsSpent, EmptyLength, Exhausted, FlagsForbidden, Hole, Idle
 from ._causes import ListBackwards, ListBadDigit, ListEmpty, ListTooHigh, ManyProcesses, NoMachine
-from ._causes import NoMemory, NoMemoryNode
+from ._causes import NoMemory, NoMemoryNode, NoNodes
 from ._causes import NodeFull, NoNodeAllowed, NoPolicy, NoPolicyThere, NoRange, NoRoom, NoSuchNode
 from ._causes import NoSuchTarget, NotPlaced, Occupied, PageUnmapped, TargetNotAllowed, TooManyRuns
 from ._causes import NoSuchWorker, NodesForbidden
@@ -53,13 +54,14 @@ __all__ = [
     "AllTaken", "AnswerLost", "Astray", "BadAccess", "BadCpu", "BadDistance", "BadFormat",
     "BadLimits",
     "BadNodeCount", "BadOffset",
-    "BadOrders", "BadRules", "BadTry", "BadWeight", "BadWorkers", "BothFlags", "Busy", "CAUSES",
+    "BadOrders", "BadRules", "BadSpan", "BadTry", "BadWeight", "BadWorkers", "BothFlags", "Busy",
+    "CAUSES",
     "Closed", "CommandsSpent", "EmptyLength", "Exhausted", "FlagsForbidden", "Hole", "Idle",
     "GroupExists", "GroupMems", "NoSuchGroup", "NoSuchProcess", "Populated", "ProcessExists",
     "RootGroup", "TooManyGroups", "TooManyProcesses",
     "ListBackwards", "ListBadDigit", "ListEmpty", "ListTooHigh", "ManyProcesses", "NoMachine",
     "NoMemory",
-    "NoMemoryNode", "NoNodeAllowed", "NoPolicy", "NodeFull", "NoSuchTarget", "NotPlaced",
+    "NoMemoryNode", "NoNodeAllowed", "NoNodes", "NoPolicy", "NodeFull", "NoSuchTarget", "NotPlaced",
     "Occupied", "PageUnmapped", "TargetNotAllowed", "TooManyRuns",
     "NoPolicyThere", "NoRange", "NoRoom", "NoSuchNode", "NoSuchWorker", "NodesForbidden",
     "NodesMissing", "NodesNotAllowed", "NotOwned", "NotSupported", "Open", "OutOfSpace", "Overlap",
@@ -101,7 +103,7 @@ else:
 
 
 def _ensure_version() -> None:
-    """The library has to be of the version of this module, which tells where it isn't proved."""
+    """The library has to be of the version of this module, which says if it isn't proved."""
     global __version__
     major, minor, patch = map(int, __version__.split("."))
     is_unproved, found = divmod(LIBRARY.np_version(), 1 << 31)

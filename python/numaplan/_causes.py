@@ -9,7 +9,7 @@ from ._library import LIBRARY
 
 
 class Refused(Exception):
-    """A call that was refused: each cause is a class of its own below this one. As a text it tells
+    """A call that was refused: each cause is a class of its own below this one. As a text it gives
     the cause and what to do."""
 
     number: ClassVar[int] = 0
@@ -130,6 +130,14 @@ class TooManyRanges(Refused):
 class NoPolicyThere(Refused):
     number = 23
     words = ("by the kernel's rules some page of the span needs a policy of its own; bind one first")
+
+
+class BadSpan(Refused):
+    number, words = 24, "by the kernel's rules the span ends too high; use lower addresses"
+
+
+class NoNodes(Refused):
+    number, words = 25, "by the kernel's rules set_mems needs a node; name one"
 
 
 # ---- events of workers, frames, questions
@@ -272,7 +280,7 @@ class FlagsForbidden(Refused):
 
 
 class NodesMissing(Refused):
-    number, words = 74, "the policy wants nodes; name them behind a colon"
+    number, words = 74, "the policy wants nodes; name them after a colon"
 
 
 class NoPolicy(Refused):
@@ -293,7 +301,7 @@ class NoMachine(Refused):
 
 class BadAccess(Refused):
     number = 81
-    words = "a line of the trace can't be replayed; the last message tells which, and why"
+    words = "a line of the trace can't be replayed; the last message says which, and why"
     place: "int | None" = None  # (of an access that was given as a value, from 0)
 
 

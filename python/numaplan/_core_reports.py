@@ -76,7 +76,7 @@ class CoreReports(Owner):
 
     def predict_text(self, task: int = 1, cpu: int = 0, free: "Mapping[int, int] | None" = None, *,
                      format: str = "json") -> Report:
-        """Where all mapped pages would go, as numaplan.predict tells it of a script. Raises BadCpu or
+        """Where all mapped pages would go, as numaplan.predict does for a script. Raises BadCpu or
         NoSuchNode."""
         from ._reports import answered
         named = [FreePages(u64("free pages", pages), u8("a node of free", node))
@@ -89,7 +89,7 @@ class CoreReports(Owner):
     def diff_text(self, after: CoreReports, task: int = 1, cpu: int = 0, *,
                   format: str = "text") -> Report:
         """Which pages would go to another node in the core `after`, another than this one, than in
-        this one, as numaplan.diff tells it of a script. Raises BadCpu."""
+        this one, as numaplan.diff does for a script. Raises BadCpu."""
         from ._reports import answered
         if after is self:
             raise ValueError("the two cores are one")
@@ -99,16 +99,16 @@ class CoreReports(Owner):
 
     def explain_text(self, page: int, task: int = 1, cpu: int = 0, *,
                      format: str = "text") -> Report:
-        """Why the page of a number (address / 4096) would go where it goes, as numaplan.explain tells
-        it of a script. Raises BadCpu or Unmapped."""
+        """Why the page of a number (address / 4096) would go where it goes, as numaplan.explain does
+        for a script. Raises BadCpu or Unmapped."""
         from ._reports import answered
         asked, number = _question(task, cpu, format), u64("page", page)
         with self._alone():
             return answered("core_explain_text", self._at, asked, number)
 
     def replay_text(self, trace: Text, *, format: str = "json") -> Report:
-        """What a trace meets if no page is placed before it, as numaplan.replay tells it of a script:
-        the name of a file, or its text as bytes. Raises BadAccess."""
+        """Where the accesses of a trace go if no page is placed before it, as numaplan.replay does for
+        a script; a trace is the name of a file, or its text as bytes. Raises BadAccess."""
         from ._reports import answered, read
         name, accesses = read(trace, "trace")
         asked = _question(0, 0, format)

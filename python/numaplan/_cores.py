@@ -38,7 +38,7 @@ class Range(NamedTuple):
 
 
 class Policy(NamedTuple):
-    """A policy as it stands: the mode with its flag as get_mempolicy(2) tells it, its home node,
+    """A policy as it stands: the mode with its flag as get_mempolicy(2) gives it, its home node,
     None where it was given none, the nodes that were asked for, and those that it has now."""
 
     mode: int
@@ -208,8 +208,8 @@ class Core(CoreReports):
             yield found
 
     def __iter__(self) -> Iterator[Range]:
-        """The ranges in order of address, each as it is asked for: what changes behind it meanwhile
-        is seen."""
+        """The ranges in order of address, each as it is asked for: changes to later ones in
+        the meantime are seen."""
         address = 0
         while True:
             found = self._first(address, 2**64 - 1)
@@ -324,7 +324,7 @@ class Core(CoreReports):
 
 
 def policy_of(told: StandingPolicy) -> "Policy | None":
-    """A policy as the library tells it."""
+    """A policy as the library gives it."""
     if told.mode == 0:
         return None
     home = told.home if told.home < NO_HOME else None
@@ -349,5 +349,5 @@ def _placed(one: Placement) -> PlacedPage:
 
 
 def _placement(placed: PlacedPage) -> Placement:
-    """A placement as the library tells it."""
+    """A placement as the library gives it."""
     return Placement(*(getattr(placed, name) for name in Placement._fields))

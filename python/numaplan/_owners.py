@@ -86,7 +86,7 @@ class Owner:
         getattr(LIBRARY, f"np_{self._kind}_close")(self._at)
 
     def _shown(self) -> str:
-        """What is told of it beside its class; raises Closed where it keeps nothing."""
+        """What its text shows beside its class; raises Closed where it keeps nothing."""
         with self._alone():
             if self._is_closed:
                 raise Closed
@@ -106,8 +106,8 @@ class Owner:
         return self.__copy__()
 
     def __reduce_ex__(self, protocol: SupportsIndex) -> NoReturn:
-        raise TypeError(f"a {type(self).__name__} is kept by this process alone, and can't be"
-                        " pickled: send what it is made of, and make it anew there")
+        raise TypeError(f"a {type(self).__name__} belongs to this process, and can't be"
+                        " pickled: send what it is made from, and make it anew there")
 
     def __enter__(self: _Itself) -> _Itself:
         return self

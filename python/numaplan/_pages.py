@@ -196,7 +196,7 @@ class Pages(Owner):
         """Gives pages a policy as `mbind`, and moves those that lie on nodes that aren't in the
         policy's list as it is written (MPOL_MF_MOVE): the lowest first, each to the first node with
         room of its list, as a fault of the task on the node `cpu` would put it; all of them stay
-        where the machine has no such node. If `strict`, that pages stayed is told as EIO
+        where the machine has no such node. If `strict`, that pages stayed is answered by EIO
         (MPOL_MF_STRICT too; "default" drops it)."""
         told = ToldBound()
         self._call("pages_mbind_moving", u64("start", start), u64("length", length),
@@ -205,6 +205,6 @@ class Pages(Owner):
 
 
 def _moved(told: ToldMoves) -> Moved:
-    """A move as the library tells it."""
+    """A move as the library gives it."""
     flows = {(node, told.to[node]): pages for node, pages in enumerate(told.went) if pages}
     return Moved(told.moved, told.left, flows)

@@ -56,7 +56,7 @@ class Progress:
 
 
 def progress(items: Iterable[_Item], what: str) -> Iterator[_Item]:
-    """The same items; meanwhile a line on standard error tells how many there were and since when,
+    """The same items; meanwhile a line on standard error shows how many there were and since when,
     where that is a terminal and it takes more than two seconds. `what` names them ("accesses")."""
     with Progress(what, length_hint(items)) as line:
         for item in items:

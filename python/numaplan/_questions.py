@@ -14,7 +14,7 @@ from ._reports import Text, diff, predict, replay
 
 class Question(NamedTuple):
     """Where do the pages of a script go, if `task` touches each of them now on a CPU of `node`?
-    Or, with a trace, where do its accesses go? In both, what if `lines` stood behind the script?
+    Or, with a trace, where do its accesses go? In both, what if `lines` were added to the script?
 
     script: the name of a file in the language of `numaplan run`, or its text as bytes
     trace: the name of a file of accesses, `TASK ADDRESS CPU [COUNT]` a line, or its text as bytes

@@ -51,10 +51,10 @@ def check(script: Text, *, format: str = "text", rules: str = "document") -> Rep
 def predict(script: Text, lines: Sequence[str] = (), *, task: int = 1, node: int = 0,
             free: "Mapping[int, int] | None" = None, format: str = "json",
             rules: str = "document") -> Report:
-    """Where all mapped pages would go after a script, and lines behind it, if `task` touched each of
+    """Where all mapped pages would go after a script and further lines, if `task` touched each of
     them on a CPU of `node`; by `free` nodes have so many free pages, and others never run out. As
     `numaplan predict` prints it, in the format "text", "json", "csv", "svg" or "html". Raises NoMachine,
-    BadCpu or NoSuchNode, whose `messages` tell of the script's lines."""
+    BadCpu or NoSuchNode, whose `messages` are about the script's lines."""
     named = [FreePages(u64("free pages", pages), u8("a node of free", each))
              for each, pages in (free or {}).items()]
     name, text = read(script)
@@ -88,10 +88,10 @@ def explain(script: Text, page: int, lines: Sequence[str] = (), *, task: int = 1
 
 def replay(script: Text, trace: Text, lines: Sequence[str] = (), *, format: str = "json",
            rules: str = "document") -> Report:
-    """What a trace of accesses meets after a script on a machine where no page is placed, as
+    """Where the accesses of a trace go after a script, on a machine where no page is placed, as
     `numaplan replay` prints it, in the format "text", "json" or "html". A trace is the name of a file, or
     its text as bytes: `TASK ADDRESS CPU [COUNT]` a line. Raises NoMachine, or BadAccess, whose last
-    message tells which line can't be replayed."""
+    message says which line can't be replayed."""
     name, text = read(script)
     trace_name, accesses = read(trace, "trace")
     asked = AskedReport(0, 0, rules_number(rules), format_number(format))

@@ -67,7 +67,5 @@ class Script(Owner):
 
     @staticmethod
     def run(text: str) -> str:
-        """The answers to a whole script, as `numaplan run` prints them.
-
-        It is one process's: the line `host` and lines about pages that are there are `bad words`."""
+        """The answers to a whole script, as `numaplan run` prints them."""
         return written("script_run", *encoded(text), room=65536)

@@ -27,19 +27,19 @@ Numbered = Tuple[int, Question]
 def sweep(questions: "Iterable[Question | tuple[Any, ...]]", executor: "Executor | None" = None,
           *, workers: "int | None" = None) -> Iterator[Answer]:
     """Asks each question, and yields exactly one answer for each, as it is there and in any order,
-    with the number of its question from 0. An answer tells what failed, and why.
+    with the number of its question from 0. An answer says what failed, and why.
 
     The questions go to processes of this machine, as many as `workers` or one a processor. Or they
     go to the workers of an executor that is handed in: of concurrent.futures, Dask
     (`client.get_executor()`) or MPI (mpi4py's `MPIPoolExecutor()`). These need this package;
-    `workers` is how many they are, where the executor doesn't tell. They share nothing: a script or
+    `workers` is how many they are, if the executor doesn't say. They share nothing: a script or
     trace that is named is read where it is asked about, by its absolute name, and one in bytes is
     sent there. A worker answers in its own process, by `predict`, `diff` and `replay`.
 
     Questions are taken from the iterable some time ahead of their answers. A faulty one is a
     ValueError or a TypeError. What a lost worker hadn't answered is asked again, without others
     beside it, and fails after three times. An executor that is broken for good raises what it
-    raises then. On a terminal a line on standard error tells how far a long sweep is."""
+    raises then. On a terminal a line on standard error shows how far a long sweep is."""
     asking = _Asking(map(judged, questions),
                      _Workers(executor, workers) if executor else _Processes(workers))
     try:

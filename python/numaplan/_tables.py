@@ -14,7 +14,7 @@ COLUMNS = ["number", "script", "trace", "lines", "task", "node", "failed", "faul
 
 def write_table(answers: Iterable[Answer], file: TextIO) -> int:
     """Writes a table of answers (CSV) to a file that is opened with newline="", a record for each
-    as it comes, and tells how many failed. Its fields are those of question and answer; `total`
+    as it comes, and returns how many failed. Its fields are those of question and answer; `total`
     adds up the pages or accesses of `nodes`, and `moved` the pages of `moves`. What is by node or
     distance stands as `numaplan predict`, `diff` and `replay` write it: "N0=2 N1=1", "N0->N3=2",
     "D10=50 D20=8"; several lines or faults with a semicolon between them. A script or a trace that

@@ -1,14 +1,14 @@
 -- The names and numbers of refusals are those that a script's answers have, but for one.
 use Rattle.std.proofs.Common.{◌≡◌, ℕ, List, Some, codes, refl}
-use Rattle.numa_host.specs.Answers.{host_errno_of}
-use Rattle.numa_host.specs.declared.refusal.HostRefusal.{HostRefusal}
-use Rattle.numa_host.specs.declared.refusal.HostRefusal.TheVariants as host
-use Rattle.numa_placed.specs.Refusals.{errno_of as placed_errno_of, move_errno_of}
-use Rattle.numa_placed.specs.declared.refusal.MoveRefusal.{MoveRefusal}
-use Rattle.numa_placed.specs.declared.refusal.MoveRefusal.TheVariants as move
-use Rattle.numa_placed.specs.declared.refusal.PlacedRefusal.{PlacedRefusal}
-use Rattle.numa_placed.specs.declared.refusal.PlacedRefusal.TheVariants as placed
-use Rattle.numa_script.specs.Texts.{refusal_name}
+use Rattle.numa_requests.specs.HostErrors.{host_errno_of}
+use Rattle.numa_requests.specs.declared.host_refusal.HostRefusal.{HostRefusal}
+use Rattle.numa_requests.specs.declared.host_refusal.HostRefusal.TheVariants as host
+use Rattle.numa_requests.specs.PageErrors.{page_errno_of as placed_errno_of, move_errno_of}
+use Rattle.numa_requests.specs.declared.page_refusal.MoveRefusal.{MoveRefusal}
+use Rattle.numa_requests.specs.declared.page_refusal.MoveRefusal.TheVariants as move
+use Rattle.numa_requests.specs.declared.page_refusal.PlacedRefusal.{PlacedRefusal}
+use Rattle.numa_requests.specs.declared.page_refusal.PlacedRefusal.TheVariants as placed
+use Rattle.numa_script.specs.Names.{refusal_name}
 use Rattle.numa_requests.specs.declared.refusal.Refusal.{Refusal}
 use Rattle.numa_requests.specs.declared.refusal.Refusal.TheVariants as refusal
 use Rattle.numaplan_c.specs.Codes.{refusal_code}
@@ -20,6 +20,7 @@ pub numbered-same : (cause : Refusal) → refusal_numbered (refusal_code cause) 
 numbered-same refusal.CommandsSpent = refl
 numbered-same refusal.Unaligned = refl
 numbered-same refusal.OutOfSpace = refl
+numbered-same refusal.BadSpan = refl
 numbered-same refusal.EmptyLength = refl
 numbered-same refusal.BadOffset = refl
 numbered-same refusal.Overlap = refl
@@ -27,6 +28,7 @@ numbered-same refusal.Hole = refl
 numbered-same refusal.NoSuchNode = refl
 numbered-same refusal.BadWeight = refl
 numbered-same refusal.NodesNotAllowed = refl
+numbered-same refusal.NoNodes = refl
 numbered-same refusal.NotSupported = refl
 numbered-same refusal.TooManyTasks = refl
 numbered-same refusal.TooManyRanges = refl
@@ -43,6 +45,7 @@ unfolding answer_name
 name-same refusal.CommandsSpent = refl
 name-same refusal.Unaligned = refl
 name-same refusal.OutOfSpace = refl
+name-same refusal.BadSpan = refl
 name-same refusal.EmptyLength = refl
 name-same refusal.BadOffset = refl
 name-same refusal.Overlap = refl
@@ -50,6 +53,7 @@ name-same refusal.Hole = refl
 name-same refusal.NoSuchNode = refl
 name-same refusal.BadWeight = refl
 name-same refusal.NodesNotAllowed = refl
+name-same refusal.NoNodes = refl
 name-same refusal.NotSupported = refl
 name-same refusal.TooManyTasks = refl
 name-same refusal.TooManyRanges = refl
@@ -73,6 +77,7 @@ host-errno-same host.GroupMems = refl
 host-errno-same (host.OfSpace refusal.CommandsSpent) = refl
 host-errno-same (host.OfSpace refusal.Unaligned) = refl
 host-errno-same (host.OfSpace refusal.OutOfSpace) = refl
+host-errno-same (host.OfSpace refusal.BadSpan) = refl
 host-errno-same (host.OfSpace refusal.EmptyLength) = refl
 host-errno-same (host.OfSpace refusal.BadOffset) = refl
 host-errno-same (host.OfSpace refusal.Overlap) = refl
@@ -80,6 +85,7 @@ host-errno-same (host.OfSpace refusal.Hole) = refl
 host-errno-same (host.OfSpace refusal.NoSuchNode) = refl
 host-errno-same (host.OfSpace refusal.BadWeight) = refl
 host-errno-same (host.OfSpace refusal.NodesNotAllowed) = refl
+host-errno-same (host.OfSpace refusal.NoNodes) = refl
 host-errno-same (host.OfSpace refusal.NotSupported) = refl
 host-errno-same (host.OfSpace refusal.TooManyTasks) = refl
 host-errno-same (host.OfSpace refusal.TooManyRanges) = refl

@@ -55,6 +55,8 @@ Places (Ok reply.Still) old new = new ≡ old
 Places (Ok (reply.Exhausted version)) old new = new ≡ old
 Places (Ok (reply.Accepted version)) old new = new ≡ old
 Places (Ok (reply.Published version)) old new = new ≡ old
+Places (Ok (reply.Found frame)) old new = new ≡ old
+Places (Ok reply.Full) old new = new ≡ old
 Places (Ok reply.Given) old new = new ≡ old
 Places (Err cause) old new = new ≡ old
 

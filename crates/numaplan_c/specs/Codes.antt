@@ -3,7 +3,7 @@
 --     0          it is done
 --     1 to 4     the handle is closed; it is open; out of memory; no room for the answer
 --     5, 6       no such number; the line was served, out of memory for its answer
---     10 to 23   a command is refused
+--     10 to 25   a command is refused
 --     30 to 38   an event or a question is refused
 --     40, 41     the worker goes on; every frame of every listed node is met
 --     42         every frame of every listed node was found taken
@@ -47,6 +47,8 @@ refusal_code refusal.NotSupported = 20
 refusal_code refusal.TooManyTasks = 21
 refusal_code refusal.TooManyRanges = 22
 refusal_code refusal.NoPolicy = 23
+refusal_code refusal.BadSpan = 24
+refusal_code refusal.NoNodes = 25
 refusal_code refusal.NoMemory = 3
 
 abbrev pub cause_code : CoreRefusal → ℕ
@@ -58,6 +60,7 @@ cause_code cause.BadTry = 33
 cause_code cause.NotOwned = 34
 cause_code cause.BadCpu = 35
 cause_code (cause.Unmapped version) = 36
+cause_code cause.NoSuchNode = 17
 cause_code cause.NoMemory = 3
 
 abbrev pub answer_code : Result CoreReply CoreRefusal → ℕ
@@ -66,6 +69,8 @@ answer_code (Ok (reply.Exhausted version)) = 41
 answer_code (Ok (reply.Accepted version)) = 0
 answer_code (Ok (reply.Published version)) = 0
 answer_code (Ok (reply.Won placement)) = 0
+answer_code (Ok (reply.Found frame)) = 0
+answer_code (Ok reply.Full) = 42
 answer_code (Ok reply.Given) = 0
 answer_code (Err cause) = cause_code cause
 

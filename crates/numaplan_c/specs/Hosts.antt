@@ -3,10 +3,10 @@ use Rattle.std.specs.Prelude.{◌≡◌, ℕ, true, Option, Some, None, Result, 
 use Rattle.std.specs.Prelude.{MatchResult, unwrap_or}
 use Rattle.numa_host.specs.Processes.{Member}
 use Rattle.numa_host.specs.Standing.{HostState, HostStandsFor}
-use Rattle.numa_host.specs.declared.command.HostCommand.{HostCommand}
+use Rattle.numa_requests.specs.declared.host_command.HostCommand.{HostCommand}
 use Rattle.numa_host.specs.declared.group.ControlGroup.{ControlGroup}
-use Rattle.numa_host.specs.declared.refusal.HostRefusal.{HostRefusal}
-use Rattle.numa_host.specs.declared.refusal.HostRefusal.TheVariants as cause
+use Rattle.numa_requests.specs.declared.host_refusal.HostRefusal.{HostRefusal}
+use Rattle.numa_requests.specs.declared.host_refusal.HostRefusal.TheVariants as cause
 use Rattle.numa_machine.specs.declared.no_memory.NoMemory.{NoMemory}
 use Rattle.numa_mask.specs.Words.{number_of}
 use Rattle.numa_mask.specs.declared.list.ListFault.{ListFault}

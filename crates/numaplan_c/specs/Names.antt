@@ -3,16 +3,16 @@ use Rattle.std.specs.Prelude.{ℕ, ◌-◌, ◌==◌, ◌&&◌, nat_le, nat_lt, 
 use Rattle.std.specs.Prelude.{slice_index}
 use Rattle.std.specs.Prelude.{Option, Some, None, if◌then◌else◌}
 use Rattle.std.specs.Borrow.{Bor}
-use Rattle.numa_host.specs.Answers.{host_errno_of}
-use Rattle.numa_host.specs.declared.refusal.HostErrno.{HostErrno}
-use Rattle.numa_host.specs.declared.refusal.HostErrno.TheVariants as host_errno
-use Rattle.numa_host.specs.declared.refusal.HostRefusal.{HostRefusal}
-use Rattle.numa_host.specs.declared.refusal.HostRefusal.TheVariants as host
-use Rattle.numa_placed.specs.Refusals.{errno_of as placed_errno_of, move_errno_of}
-use Rattle.numa_placed.specs.declared.refusal.MoveRefusal.TheVariants as move
-use Rattle.numa_placed.specs.declared.refusal.PlacedRefusal.TheVariants as placed
-use Rattle.numa_script.specs.Texts.{refusal_name}
-use Rattle.numa_space.specs.Errors.{errno_of}
+use Rattle.numa_requests.specs.HostErrors.{host_errno_of}
+use Rattle.numa_requests.specs.declared.host_refusal.HostErrno.{HostErrno}
+use Rattle.numa_requests.specs.declared.host_refusal.HostErrno.TheVariants as host_errno
+use Rattle.numa_requests.specs.declared.host_refusal.HostRefusal.{HostRefusal}
+use Rattle.numa_requests.specs.declared.host_refusal.HostRefusal.TheVariants as host
+use Rattle.numa_requests.specs.PageErrors.{page_errno_of as placed_errno_of, move_errno_of}
+use Rattle.numa_requests.specs.declared.page_refusal.MoveRefusal.TheVariants as move
+use Rattle.numa_requests.specs.declared.page_refusal.PlacedRefusal.TheVariants as placed
+use Rattle.numa_script.specs.Names.{refusal_name}
+use Rattle.numa_requests.specs.Errors.{errno_of}
 use Rattle.numa_requests.specs.declared.refusal.Errno.{Errno}
 use Rattle.numa_requests.specs.declared.refusal.Errno.TheVariants as errno
 use Rattle.numa_requests.specs.declared.refusal.Refusal.{Refusal}
@@ -26,7 +26,8 @@ refusals =
     refusal.CommandsSpent ∷ refusal.Unaligned ∷ refusal.OutOfSpace ∷ refusal.EmptyLength
     ∷ refusal.BadOffset ∷ refusal.Overlap ∷ refusal.Hole ∷ refusal.NoSuchNode
     ∷ refusal.BadWeight ∷ refusal.NodesNotAllowed ∷ refusal.NotSupported
-    ∷ refusal.TooManyTasks ∷ refusal.TooManyRanges ∷ refusal.NoPolicy ∷ []
+    ∷ refusal.TooManyTasks ∷ refusal.TooManyRanges ∷ refusal.NoPolicy ∷ refusal.BadSpan
+    ∷ refusal.NoNodes ∷ []
 
 -- the refusal of a command that has this number
 abbrev pub refusal_numbered : ℕ → Option Refusal

@@ -6,10 +6,10 @@ use Rattle.numa_pages.specs.declared.listing.PageRun.{PageRun}
 use Rattle.numa_pages.specs.declared.refusal.ChangeRefusal.{ChangeRefusal}
 use Rattle.numa_pages.specs.declared.refusal.ChangeRefusal.TheVariants as change
 use Rattle.numa_placed.specs.declared.moved.Moved.{Moved}
-use Rattle.numa_placed.specs.declared.refusal.MoveRefusal.{MoveRefusal}
-use Rattle.numa_placed.specs.declared.refusal.MoveRefusal.TheVariants as move
-use Rattle.numa_placed.specs.declared.refusal.PlacedRefusal.{PlacedRefusal}
-use Rattle.numa_placed.specs.declared.refusal.PlacedRefusal.TheVariants as placed
+use Rattle.numa_requests.specs.declared.page_refusal.MoveRefusal.{MoveRefusal}
+use Rattle.numa_requests.specs.declared.page_refusal.MoveRefusal.TheVariants as move
+use Rattle.numa_requests.specs.declared.page_refusal.PlacedRefusal.{PlacedRefusal}
+use Rattle.numa_requests.specs.declared.page_refusal.PlacedRefusal.TheVariants as placed
 use Rattle.numaplan_c.specs.Codes.{refusal_code}
 use Rattle.numaplan_c.specs.Compared.{IsListed}
 use Rattle.numaplan_c.specs.declared.placed_moves.NpBound.{NpBound}

@@ -8,9 +8,8 @@ use numa_mask::ListFault;
 use numa_requests::{CoreRefusal, CoreReply, Refusal};
 use numa_script::WordError;
 
-/// The result codes that need a name here, as in the header. Those of refusals of commands and
-/// questions, and of errors in machines, lists and policies, are counted from the first of their
-/// kind.
+/// The result codes that need a name here, as in the header. Those of refusals of questions, and of
+/// errors in machines, lists and policies, are counted from the first of their kind.
 #[derive(Clone, Copy)]
 pub(crate) enum Code {
     /// The handle is closed: it keeps nothing.
@@ -79,10 +78,22 @@ pub(crate) fn refusal_code(refusal: Refusal) -> u32
 {
     match refusal {
         Refusal::NoMemory => Code::NoMemory as u32,
+        Refusal::CommandsSpent => 10,
+        Refusal::Unaligned => 11,
+        Refusal::OutOfSpace => 12,
+        Refusal::EmptyLength => 13,
+        Refusal::BadOffset => 14,
+        Refusal::Overlap => 15,
+        Refusal::Hole => 16,
+        Refusal::NoSuchNode => 17,
+        Refusal::BadWeight => 18,
+        Refusal::NodesNotAllowed => 19,
+        Refusal::NotSupported => 20,
         Refusal::TooManyTasks => 21,
         Refusal::TooManyRanges => 22,
         Refusal::NoPolicy => 23,
-        refusal => 10 + refusal as u32,
+        Refusal::BadSpan => 24,
+        Refusal::NoNodes => 25,
     }
 }
 
@@ -99,6 +110,7 @@ fn cause_code(cause: CoreRefusal) -> u32
         CoreRefusal::NotOwned => Code::NotOwned as u32,
         CoreRefusal::BadCpu => Code::BadCpu as u32,
         CoreRefusal::Unmapped(_) => Code::Unmapped as u32,
+        CoreRefusal::NoSuchNode => refusal_code(Refusal::NoSuchNode),
         CoreRefusal::NoMemory => Code::NoMemory as u32,
     }
 }
@@ -110,6 +122,7 @@ pub(crate) fn answer_code(answer: &Result<CoreReply, CoreRefusal>) -> u32
     match answer {
         Ok(CoreReply::Still) => Code::Still as u32,
         Ok(CoreReply::Exhausted(_)) => Code::Exhausted as u32,
+        Ok(CoreReply::Full) => Code::AllTaken as u32,
         Ok(_) => 0,
         Err(cause) => cause_code(*cause),
     }

@@ -3,8 +3,7 @@ ghost use Rattle.std.specs.Prelude.{◌≡◌, ◌≢◌};
 ghost use Rattle.numaplan_c.specs.Hosts.{host_cause_code, host_code};
 
 use crate::codes::{Code, refusal_code};
-use numa_host::HostRefusal;
-use numa_requests::Refusal;
+use numa_requests::{HostRefusal, Refusal};
 
 /// The codes of causes that only a host has.
 #[derive(Clone, Copy)]

@@ -1,6 +1,6 @@
 //! Commands of hosts: of groups, of processes, and what one process does.
 ghost use Rattle.std.specs.Prelude.{None, Some};
-ghost use Rattle.numa_host.specs.declared.command.HostCommand.{HostCommand};
+ghost use Rattle.numa_requests.specs.declared.host_command.HostCommand.{HostCommand};
 ghost use Rattle.numa_mask.specs.Lists.{list_of};
 ghost use Rattle.numa_script.specs.Policies.{policy_of};
 ghost use Rattle.numa_requests.specs.declared.command.Command.{Command};
@@ -10,9 +10,8 @@ ghost use Rattle.numaplan_handles.specs.Handles.{host_in};
 
 use crate::codes::{Code, list_code, word_code};
 use crate::host_codes::host_code;
-use numa_host::HostCommand;
 use numa_mask::read_list;
-use numa_requests::Command;
+use numa_requests::{Command, HostCommand};
 use numa_script::policy::read_policy;
 use numaplan_handles::HostHandle;
 use std::alloc::Global;

@@ -9,9 +9,7 @@ ghost use Rattle.numaplan_c.specs.Texts.{IsWritten};
 
 use crate::codes::Code;
 use crate::texts::write;
-use numa_host::{HostErrno, HostRefusal};
-use numa_placed::{MoveRefusal, PlacedRefusal};
-use numa_requests::{Errno, Refusal};
+use numa_requests::{Errno, HostErrno, HostRefusal, MoveRefusal, PlacedRefusal, Refusal};
 use numa_script::names::Named;
 
 /// The command's refusal with this code.
@@ -34,6 +32,8 @@ fn refusal_numbered(code: u32) -> Option<Refusal>
         21 => Some(Refusal::TooManyTasks),
         22 => Some(Refusal::TooManyRanges),
         23 => Some(Refusal::NoPolicy),
+        24 => Some(Refusal::BadSpan),
+        25 => Some(Refusal::NoNodes),
         _ => None,
     }
 }

@@ -4,8 +4,7 @@ ghost use Rattle.numaplan_c.specs.Placed.{change_code, done_code, move_code, pla
 
 use crate::codes::{Code, refusal_code};
 use numa_pages::ChangeRefusal;
-use numa_placed::{MoveRefusal, PlacedRefusal};
-use numa_requests::Refusal;
+use numa_requests::{MoveRefusal, PlacedRefusal, Refusal};
 
 /// The codes of causes that only pages have.
 #[derive(Clone, Copy)]

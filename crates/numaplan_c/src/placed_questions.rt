@@ -3,7 +3,7 @@ ghost use Rattle.std.specs.Prelude.{◌≡◌, IfOk, List, Result, ℕ};
 ghost use Rattle.numa_machine.specs.declared.no_memory.NoMemory.{NoMemory};
 ghost use Rattle.numa_pages.specs.declared.listing.PageRun.{PageRun};
 ghost use Rattle.numa_placed.specs.Spots.{node_of, spot_at};
-ghost use Rattle.numa_placed.specs.declared.refusal.PlacedRefusal.{PlacedRefusal};
+ghost use Rattle.numa_requests.specs.declared.page_refusal.PlacedRefusal.{PlacedRefusal};
 ghost use Rattle.numa_space.specs.History.{page_of};
 ghost use Rattle.numaplan_c.specs.Border.{Asked};
 ghost use Rattle.numaplan_c.specs.Placed.{TellsNode, TellsRoom, TellsRuns};

@@ -16,7 +16,7 @@ use crate::options::rules_of;
 use crate::texts::{copy_code, length_copied, write};
 use numa_lines::Watched;
 use numa_machine::Rules;
-use numa_run::run;
+use numa_placed_script::run_by;
 use numaplan_handles::{LineRefusal, ScriptHandle};
 use std::alloc::Global;
 
@@ -26,7 +26,7 @@ fn answers_to(alloc: Global, script: &[u8]) -> Option<Vec<u8>>
 {
     let mut input = Watched::new(script);
     let mut output = Watched::new(Vec::new(alloc));
-    match run(alloc, &mut input, &mut output) {
+    match run_by(alloc, Rules::Document, &mut input, &mut output) {
         Ok(()) => Some(output.inner),
         Err(_) => None,
     }

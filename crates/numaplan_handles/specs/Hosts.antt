@@ -6,9 +6,9 @@ use Rattle.numa_compile.specs.Standing.{PlanStandsFor}
 use Rattle.numa_host.specs.Groups.{effective_mems, groups_of, is_group}
 use Rattle.numa_host.specs.Processes.{Member, commands_of, is_there, members_of}
 use Rattle.numa_host.specs.Standing.{HostState, HostStandsFor, IsHostApplied, member_of}
-use Rattle.numa_host.specs.declared.command.HostCommand.{HostCommand}
+use Rattle.numa_requests.specs.declared.host_command.HostCommand.{HostCommand}
 use Rattle.numa_host.specs.declared.group.ControlGroup.{ControlGroup}
-use Rattle.numa_host.specs.declared.refusal.HostRefusal.{HostRefusal}
+use Rattle.numa_requests.specs.declared.host_refusal.HostRefusal.{HostRefusal}
 use Rattle.numa_machine.specs.Machine.{Hardware}
 use Rattle.numa_machine.specs.declared.no_memory.NoMemory.{NoMemory}
 use Rattle.numa_maps.specs.Listing.{AreRangesOf}

@@ -13,5 +13,5 @@ pub mod Steps
 pub use Rattle.numa_core.specs.Standing
 pub use Rattle.numa_pages.specs.Changes
 pub use Rattle.numa_plan.specs.Meaning
-pub use Rattle.numa_run.specs.Answers
-pub use Rattle.numa_run.specs.Scripts
+pub use Rattle.numa_placed_script.specs.Scenes
+pub use Rattle.numa_placed_script.specs.Standing as SceneStanding

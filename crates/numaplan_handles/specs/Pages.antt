@@ -10,8 +10,8 @@ use Rattle.numa_placed.specs.Refusals.{lacks_node}
 use Rattle.numa_placed.specs.Shifts.{AreRooms, endless, room_of}
 use Rattle.numa_placed.specs.Spots.{is_on, node_of, pages_where, spot_at}
 use Rattle.numa_placed.specs.Wholes.{AreWhole}
-use Rattle.numa_placed.specs.declared.refusal.PlacedRefusal.{PlacedRefusal}
-use Rattle.numa_placed.specs.declared.refusal.PlacedRefusal.TheVariants.{NoSuchNode}
+use Rattle.numa_requests.specs.declared.page_refusal.PlacedRefusal.{PlacedRefusal}
+use Rattle.numa_requests.specs.declared.page_refusal.PlacedRefusal.TheVariants.{NoSuchNode}
 use Rattle.numa_placed.specs.declared.spot.Spot.{Spot}
 use Rattle.numa_placed.specs.declared.spot.Spot.TheVariants.{Nowhere}
 use Rattle.numa_ranges.specs.Runs.{AreApart, AreMaximal}

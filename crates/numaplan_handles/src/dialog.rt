@@ -1,17 +1,17 @@
 //! Scripts that are given line by line.
 ghost use Rattle.std.specs.Prelude.{◌≡◌, [], Ok, Err, Bool, MatchOption};
-ghost use Rattle.numa_run.specs.Answers.{State, answer_to, after_bytes};
-ghost use Rattle.numa_run.specs.Scripts.{ScriptStandsFor};
+ghost use Rattle.numa_placed_script.specs.Scenes.{Scene, scene_after_bytes, scene_answer_to};
+ghost use Rattle.numa_placed_script.specs.Standing.{StandsIn};
 ghost use Rattle.numaplan_handles.specs.Dialogs.{IsFresh, Serves, Copies};
 
 use crate::room::copy_bytes;
 use numa_lines::{Serve, Watched};
 use numa_machine::Rules;
-use numa_run::Script;
+use numa_placed_script::PlacedScript;
 use std::alloc::Global;
 
 /// The bytes of an answer for which memory is reserved before its line is served: enough for any
-/// answer but those to a question and to `maps`, which change nothing.
+/// answer but those to a question, `maps` and `moved`, which change nothing.
 const ROOM: usize = 4096;
 
 /// Why a line has no answer.
@@ -26,17 +26,17 @@ pub enum LineRefusal {
 /// A script, and the answer to its last line.
 #[derive(Drop)]
 pub struct Dialog {
-    pub(crate) script: Script,
+    pub(crate) script: PlacedScript,
     pub(crate) answer: Vec<u8>,
 }
 
 /// Serves a line, and returns its answer, if there is memory for it.
-fn serve(script: &mut Script, alloc: Global, line: &[u8], room: Vec<u8>) -> Option<Vec<u8>>
+fn serve(script: &mut PlacedScript, alloc: Global, line: &[u8], room: Vec<u8>) -> Option<Vec<u8>>
     requires empty { room.items ≡ [] }
-    ensures { (state : State) → ScriptStandsFor script.old state → (refused : Bool)
-        × ScriptStandsFor script.new (after_bytes refused state line.now)
-        × MatchOption result (Unit {0}) (λ answer.
-        answer.items ≡ answer_to refused state line.now) }
+    ensures { (scene : Scene) → StandsIn script.old.script script.old.beside scene
+        → (refused : Bool) × StandsIn script.new.script script.new.beside
+        (scene_after_bytes refused scene line.now) × MatchOption result (Unit {0}) (λ answer.
+        answer.items ≡ scene_answer_to refused scene line.now) }
 {
     let mut output = Watched::new(room);
     script.serve(alloc, line, &mut output);
@@ -52,7 +52,7 @@ impl Dialog {
         ensures { IsFresh rules result }
     {
         Dialog {
-            script: Script::by(rules),
+            script: PlacedScript::by(rules),
             answer: Vec::new(alloc),
         }
     }

@@ -3,11 +3,12 @@ ghost use Rattle.std.specs.Prelude.{◌≡◌, None, true};
 ghost use Rattle.numaplan_handles.specs.Calls.{Asks, Calls, IsShared, Keeps};
 ghost use Rattle.numaplan_handles.specs.Hosts.{HasHostVersion, Obeys, OfHost};
 ghost use Rattle.numaplan_handles.specs.Kinds.{CallsKept, host_of, is_host};
-ghost use Rattle.numa_host.specs.declared.command.HostCommand.{HostCommand};
+ghost use Rattle.numa_requests.specs.declared.host_command.HostCommand.{HostCommand};
 
 use crate::handle::Handle;
 use crate::kept::Kept;
-use numa_host::{Host, HostCommand, HostRefusal};
+use numa_host::Host;
+use numa_requests::{HostCommand, HostRefusal};
 use std::alloc::{AllocError, Global};
 
 /// A host that a C caller keeps, or none.

@@ -12,7 +12,8 @@ use crate::pages_handle::PagesHandle;
 use numa_mask::NodeMask;
 use numa_mode::PolicySpec;
 use numa_pages::{ChangeRefusal, Rebound};
-use numa_placed::{MoveRefusal, Moved, PlacedRefusal};
+use numa_placed::Moved;
+use numa_requests::{MoveRefusal, PlacedRefusal};
 use std::alloc::Global;
 
 /// States that the mapped pages of a span lie on a node.

@@ -8,7 +8,8 @@ ghost use Rattle.numaplan_handles.specs.Pages.{TellsOf};
 use crate::pages_handle::{PagesHandle, pages_kept};
 use numa_machine::NoMemory;
 use numa_pages::{PageRun, list_runs};
-use numa_placed::{Placed, PlacedRefusal};
+use numa_placed::Placed;
+use numa_requests::PlacedRefusal;
 use std::alloc::Global;
 
 /// The runs of pages that lie on one node.

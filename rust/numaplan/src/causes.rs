@@ -60,6 +60,10 @@ causes! {
         "there would be more ranges than the limits allow; unmap some, or open a core with a higher max_ranges";
     23 NO_POLICY_THERE "NoPolicyThere"
         "by the kernel's rules some page of the span needs a policy of its own; bind one first";
+    24 BAD_SPAN "BadSpan"
+        "by the kernel's rules the span ends too high; use lower addresses";
+    25 NO_NODES "NoNodes"
+        "by the kernel's rules set_mems needs a node; name one";
     30 NO_SUCH_WORKER "NoSuchWorker"
         "there are not so many workers; they are numbered from 0";
     31 BUSY "Busy"
@@ -117,7 +121,7 @@ causes! {
     73 FLAGS_FORBIDDEN "FlagsForbidden"
         "local takes no flag, nor does prefer without a list; leave it out, or name nodes";
     74 NODES_MISSING "NodesMissing"
-        "the policy wants nodes; name them behind a colon";
+        "the policy wants nodes; name them after a colon";
     75 NO_POLICY "NoPolicy"
         "default is no policy; name one";
     76 NO_NODE_ALLOWED "NoNodeAllowed"
@@ -125,7 +129,7 @@ causes! {
     80 NO_MACHINE "NoMachine"
         "no line of the script makes a machine; begin with one, as machine 2 0-1 8 flat";
     81 BAD_ACCESS "BadAccess"
-        "a line of the trace can't be replayed; the last message tells which, and why";
+        "a line of the trace can't be replayed; the last message says which, and why";
     82 MANY_PROCESSES "ManyProcesses"
         "the script is a host's, and the answer is about one process";
     90 GROUP_EXISTS "GroupExists"

@@ -15,7 +15,7 @@ pub struct Range {
     pub policy: Option<String>,
 }
 
-/// A policy as it stands: its mode with its flag, as get_mempolicy(2) tells it, its home node if it was
+/// A policy as it stands: its mode with its flag, as get_mempolicy(2) gives it, its home node if it was
 /// given one, the nodes that were asked for, and those that it has at present.
 #[derive(Clone, Debug, PartialEq, Eq)]
 pub struct Policy {

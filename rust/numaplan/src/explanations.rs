@@ -23,7 +23,7 @@ pub enum OrderRule {
     Preferred,
     /// The policy's nodes alone, in the order of the home or else the faulting node.
     Bind,
-    /// The same, and behind them the other allowed nodes.
+    /// The same, and after them the other allowed nodes.
     PreferredMany,
     /// In the order of the node whose turn it is.
     Interleave,

@@ -234,7 +234,7 @@ impl Pages {
     /// Gives pages a policy as `mbind`, and moves those that lie on nodes that aren't in the policy's list as
     /// it is written (MPOL_MF_MOVE): the lowest first, each to the first node with room of its list, as a
     /// fault of the task on the node `cpu` would put it; all of them stay where the machine has no such node.
-    /// If `strict`, that pages stayed is told as EIO (MPOL_MF_STRICT too; "default" drops it).
+    /// If `strict`, that pages stayed is answered by EIO (MPOL_MF_STRICT too; "default" drops it).
     pub fn mbind_moving(
         &mut self,
         start: u64,

@@ -8,7 +8,7 @@ use crate::raw::{self, AskedReport, FreePages, ToldReport};
 use crate::{Refused, Rules};
 
 /// A script that is asked about, played to its end from a fresh start: its text, in the language of
-/// `numaplan run`, lines that stand behind it, and the task that touches pages on a CPU of a node.
+/// `numaplan run`, lines to add to it, and the task that touches pages on a CPU of a node.
 /// Begin with `Question::of(text)`.
 ///
 /// ```
@@ -66,7 +66,7 @@ pub struct Report {
     pub is_faulty: bool,
 }
 
-/// Why there is no answer, and what is wrong with lines; the last message tells which line of a trace
+/// Why there is no answer, and what is wrong with lines; the last message says which line of a trace
 /// can't be replayed.
 #[derive(Clone, Debug, PartialEq, Eq)]
 pub struct Unanswered {
@@ -87,7 +87,7 @@ impl fmt::Display for Unanswered {
 impl Error for Unanswered {}
 
 impl<'a> Question<'a> {
-    /// A question about this script, without lines behind it, of task 1 on node 0, by the documents'
+    /// A question about this script, without lines to add, of task 1 on node 0, by the documents'
     /// rules.
     pub fn of(script: &'a str) -> Question<'a> {
         Question {

@@ -26,8 +26,7 @@ impl Script {
         Ok(script)
     }
 
-    /// The answers to a whole script, as `numaplan run` prints them. It is one process's: the line
-    /// `host` and lines about pages that are there are `bad words`.
+    /// The answers to a whole script, as `numaplan run` prints them.
     pub fn run(script: &str) -> Result<String, Refused> {
         written(65_536, |answers, length| unsafe {
             raw::np_script_run(
@@ -41,7 +40,7 @@ impl Script {
     }
 
     /// Serves a line, which comes without its line feed, and gives its answer, which has one. What is
-    /// faulty or refused is told in the answer.
+    /// faulty or refused stands in the answer.
     pub fn line(&mut self, line: &str) -> Result<Vec<u8>, Refused> {
         let mut needed = 0;
         done(unsafe {

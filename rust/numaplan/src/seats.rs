@@ -49,7 +49,7 @@ impl Seat {
         Ok(other)
     }
 
-    /// Takes a free frame of the first of the listed nodes that has one, and tells the node's place
+    /// Takes a free frame of the first of the listed nodes that has one, and returns the node's place
     /// in the list. `ALL_TAKEN` where each frame of each of them was found taken.
     pub fn take(&mut self, nodes: &[u8]) -> Result<(Frame, usize), Refused> {
         let (mut frame, mut rank) = (Frame::default(), 0);
