@@ -5,13 +5,13 @@ _numaplan() {
     local -a commands
     commands=(
         'run:Answers the scripts of files, or of standard input'
-        'check:Tells what is wrong with scripts, and what to do about it'
+        'check:Reports what is wrong with scripts, and what to do about it'
         'expect:Compares the answers that scripts hold with those that they get'
-        'predict:Tells where pages would go after scripts, if a task touched them'
-        'diff:Tells which pages would go elsewhere if lines were added to scripts'
-        'moves:Tells what becomes of pages that are there when lines move them'
-        'explain:Tells why a page goes where it goes'
-        'replay:Tells what a trace of accesses meets after scripts'
+        'predict:Shows where pages would go after scripts, if a task touched them'
+        'diff:Shows which pages would go elsewhere if lines were added to scripts'
+        'moves:Shows what becomes of pages that are there when lines move them'
+        'explain:Explains why a page goes where it goes'
+        'replay:Shows where the accesses of a trace go after scripts'
         'shell:Answers lines as they are typed, after scripts'
         'storm:Lets workers place pages while policies change, and compares each placement'
         'help:Print this message or the help of the given subcommand(s)'
@@ -28,15 +28,15 @@ _numaplan() {
             _arguments \
                 '(--echo)--echo[Writes each line of the script, and its answer after `=> `]' \
                 '(--format)--format[How the answer is written]:FORMAT:(text json)' \
-                '(--rules)--rules[Whose rules count, where no line `rules` of the scripts says so]:RULES:(document linux)' \
+                '(--rules)--rules[Whose rules count, unless a line `rules` of the scripts says otherwise]:RULES:(document linux)' \
                 '(-h --help)-h[Print help]' '(-h --help)--help[Print help]' \
                 '*:file:_files'
             ;;
         check)
             _arguments \
                 '(--format)--format[How the answer is written]:FORMAT:(text json)' \
-                '(--process)--process[Asks process P of a host alone; all of them where it is all, or isn'\''t given]:P: ' \
-                '(--rules)--rules[Whose rules count, where no line `rules` of the scripts says so]:RULES:(document linux)' \
+                '(--process)--process[Asks about process P of a host only; without it, or with all, about each process]:P: ' \
+                '(--rules)--rules[Whose rules count, unless a line `rules` of the scripts says otherwise]:RULES:(document linux)' \
                 '(-h --help)-h[Print help]' '(-h --help)--help[Print help]' \
                 '*:file:_files'
             ;;
@@ -44,81 +44,81 @@ _numaplan() {
             _arguments \
                 '(--format)--format[How the answer is written]:FORMAT:(text json tap)' \
                 '(--ignore-versions)--ignore-versions[Compares answers without the numbers of their versions, as in v2\: and ok 2]' \
-                '(--update)--update[Writes the answers that the lines get into the files, and shows what that changes]' \
-                '(--rules)--rules[Whose rules count, where no line `rules` of the scripts says so]:RULES:(document linux)' \
+                '(--update)--update[Writes the answers that the lines get into the files, and shows the changes]' \
+                '(--rules)--rules[Whose rules count, unless a line `rules` of the scripts says otherwise]:RULES:(document linux)' \
                 '(-h --help)-h[Print help]' '(-h --help)--help[Print help]' \
                 '*:file:_files'
             ;;
         predict)
             _arguments \
-                '(--task)--task[The task that touches the pages; where scripts name one task or none, it may be left out]:T: ' \
-                '(--node)--node[The node of the CPU on which it does; all for each node with CPUs in turn]:N: ' \
+                '(--task)--task[The task that touches the pages; it may be left out where scripts name one task or none]:T: ' \
+                '(--node)--node[The node of the CPU on which the task runs, or all\: each node with CPUs in turn]:N: ' \
                 '(--at)--at[A file with further lines at START LENGTH NODE; - is standard input]:FILE:_files' \
-                '(--process)--process[Asks process P of a host alone; all of them where it is all, or isn'\''t given]:P: ' \
+                '(--process)--process[Asks about process P of a host only; without it, or with all, about each process]:P: ' \
                 '(--format)--format[How the answer is written]:FORMAT:(text json csv svg html)' \
-                '(--largest)--largest[Shows the N largest ranges by themselves, and sums the others\: 40 in a picture and 400 in a page, where it isn'\''t given]:N: ' \
-                '(--free)--free[So many free pages on these nodes; with K, M, G or T after it a number is one of bytes]:NODE=PAGES,..: ' \
-                '(--lenient)--lenient[Ends with status 0 where lines were faulty or refused]' \
-                '(--rules)--rules[Whose rules count, where no line `rules` of the scripts says so]:RULES:(document linux)' \
+                '(--largest)--largest[Shows the N largest ranges by themselves, and the others as a sum; without it 40 in a picture, 400 in a page]:N: ' \
+                '(--free)--free[How many pages are free on these nodes; with K, M, G or T after it a number is in bytes]:NODE=PAGES,..: ' \
+                '(--lenient)--lenient[Ends with status 0 even if lines were faulty or refused]' \
+                '(--rules)--rules[Whose rules count, unless a line `rules` of the scripts says otherwise]:RULES:(document linux)' \
                 '(-h --help)-h[Print help]' '(-h --help)--help[Print help]' \
                 '*:file:_files'
             ;;
         diff)
             _arguments \
-                '(--task)--task[The task that touches the pages; where scripts name one task or none, it may be left out]:T: ' \
-                '(--node)--node[The node of the CPU on which it does; all for each node with CPUs in turn]:N: ' \
-                '*--then[A script line that is added; several in turn]:LINE: ' \
+                '(--task)--task[The task that touches the pages; it may be left out where scripts name one task or none]:T: ' \
+                '(--node)--node[The node of the CPU on which the task runs, or all\: each node with CPUs in turn]:N: ' \
+                '*--then[A script line to add; several are added in turn]:LINE: ' \
                 '(--at)--at[A file with further lines at START LENGTH NODE; - is standard input]:FILE:_files' \
-                '(--process)--process[Asks process P of a host alone; all of them where it is all, or isn'\''t given]:P: ' \
+                '(--process)--process[Asks about process P of a host only; without it, or with all, about each process]:P: ' \
                 '(--format)--format[How the answer is written]:FORMAT:(text json svg html)' \
-                '(--largest)--largest[Shows the N largest ranges by themselves, and sums the others\: 40 in a picture and 400 in a page, where it isn'\''t given]:N: ' \
-                '(--lenient)--lenient[Ends with status 0 where lines were faulty or refused]' \
-                '(--rules)--rules[Whose rules count, where no line `rules` of the scripts says so]:RULES:(document linux)' \
+                '(--largest)--largest[Shows the N largest ranges by themselves, and the others as a sum; without it 40 in a picture, 400 in a page]:N: ' \
+                '(--lenient)--lenient[Ends with status 0 even if lines were faulty or refused]' \
+                '(--rules)--rules[Whose rules count, unless a line `rules` of the scripts says otherwise]:RULES:(document linux)' \
                 '(-h --help)-h[Print help]' '(-h --help)--help[Print help]' \
                 '*:file:_files'
             ;;
         moves)
             _arguments \
                 '(--at)--at[A file with further lines at START LENGTH NODE; - is standard input]:FILE:_files' \
-                '(--task)--task[The task that would touch the pages; where scripts name one task or none, it may be left out]:T: ' \
-                '(--node)--node[Pages lie where the task would touch them on a CPU of this node, and not as lines at state]:N: ' \
+                '(--task)--task[The task that would touch the pages; it may be left out where scripts name one task or none]:T: ' \
+                '(--node)--node[Pages lie where the task would touch them on a CPU of this node, and not where lines at put them]:N: ' \
                 '*--then[A line that moves pages\: mems, migrate FROM TO, cgroup-mems or attach; several in turn]:LINE: ' \
-                '(--free)--free[These nodes take so many more pages; with K, M, G or T after it a number is one of bytes]:NODE=PAGES,..: ' \
-                '(--process)--process[Asks process P of a host alone; all of them where it is all, or isn'\''t given]:P: ' \
+                '(--free)--free[How many more pages these nodes take; with K, M, G or T after it a number is in bytes]:NODE=PAGES,..: ' \
+                '(--process)--process[Asks about process P of a host only; without it, or with all, about each process]:P: ' \
                 '(--format)--format[How the answer is written]:FORMAT:(text json svg)' \
-                '(--largest)--largest[Shows the N largest ranges by themselves, and sums the others\: 40 in a picture and 400 in a page, where it isn'\''t given]:N: ' \
-                '(--lenient)--lenient[Ends with status 0 where lines were faulty or refused]' \
-                '(--rules)--rules[Whose rules count, where no line `rules` of the scripts says so]:RULES:(document linux)' \
+                '(--largest)--largest[Shows the N largest ranges by themselves, and the others as a sum; without it 40 in a picture, 400 in a page]:N: ' \
+                '(--lenient)--lenient[Ends with status 0 even if lines were faulty or refused]' \
+                '(--rules)--rules[Whose rules count, unless a line `rules` of the scripts says otherwise]:RULES:(document linux)' \
                 '(-h --help)-h[Print help]' '(-h --help)--help[Print help]' \
                 '*:file:_files'
             ;;
         explain)
             _arguments \
-                '(--task)--task[The task that touches the pages; where scripts name one task or none, it may be left out]:T: ' \
-                '(--node)--node[The node of the CPU on which it does; all for each node with CPUs in turn]:N: ' \
-                '(--pages)--pages[Tells by which rules N pages go, from that of ADDRESS on]:N: ' \
-                '(--process)--process[Asks process P of a host alone; all of them where it is all, or isn'\''t given]:P: ' \
+                '(--task)--task[The task that touches the pages; it may be left out where scripts name one task or none]:T: ' \
+                '(--node)--node[The node of the CPU on which the task runs, or all\: each node with CPUs in turn]:N: ' \
+                '(--pages)--pages[Explains N pages, from that of ADDRESS on, by stretches with one rule]:N: ' \
+                '(--process)--process[Asks about process P of a host only; without it, or with all, about each process]:P: ' \
                 '(--format)--format[How the answer is written]:FORMAT:(text json)' \
-                '(--lenient)--lenient[Ends with status 0 where lines were faulty or refused]' \
-                '(--rules)--rules[Whose rules count, where no line `rules` of the scripts says so]:RULES:(document linux)' \
+                '(--lenient)--lenient[Ends with status 0 even if lines were faulty or refused]' \
+                '(--rules)--rules[Whose rules count, unless a line `rules` of the scripts says otherwise]:RULES:(document linux)' \
                 '(-h --help)-h[Print help]' '(-h --help)--help[Print help]' \
                 '*:file:_files'
             ;;
         replay)
             _arguments \
                 '(--trace)--trace[The file of the trace; - is standard input]:TRACE:_files' \
-                '(--process)--process[Asks process P of a host alone; all of them where it is all, or isn'\''t given]:P: ' \
+                '(--process)--process[Asks about process P of a host only; without it, or with all, about each process]:P: ' \
                 '(--format)--format[How the answer is written]:FORMAT:(text json html)' \
-                '(--largest)--largest[Shows the N largest ranges by themselves, and sums the others\: 40 in a picture and 400 in a page, where it isn'\''t given]:N: ' \
-                '(--lenient)--lenient[Ends with status 0 where lines were faulty or refused]' \
-                '(--rules)--rules[Whose rules count, where no line `rules` of the scripts says so]:RULES:(document linux)' \
+                '(--largest)--largest[Shows the N largest ranges by themselves, and the others as a sum; without it 40 in a picture, 400 in a page]:N: ' \
+                '(--lenient)--lenient[Ends with status 0 even if lines were faulty or refused]' \
+                '(--rules)--rules[Whose rules count, unless a line `rules` of the scripts says otherwise]:RULES:(document linux)' \
                 '(-h --help)-h[Print help]' '(-h --help)--help[Print help]' \
                 '*:file:_files'
             ;;
         shell)
             _arguments \
-                '(--process)--process[Asks process P of a host alone; all of them where it is all, or isn'\''t given]:P: ' \
-                '(--rules)--rules[Whose rules count, where no line `rules` of the scripts says so]:RULES:(document linux)' \
+                '(--process)--process[Asks about process P of a host only; without it, or with all, about each process]:P: ' \
+                '(--rules)--rules[Whose rules count, unless a line `rules` of the scripts says otherwise]:RULES:(document linux)' \
                 '(-h --help)-h[Print help]' '(-h --help)--help[Print help]' \
                 '*:file:_files'
             ;;

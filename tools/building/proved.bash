@@ -131,11 +131,11 @@ announce() {
     keeps_proofs || takes=${takes%, or 7 *}
     say "proving ${what[$1]} and the $((${#needed[@]} - 1)) crates below it: $takes"
     if ! keeps_proofs; then
-        say "this is not to be interrupted: this kit's rt doesn't keep what it proved"
+        say "don't interrupt this: this kit's rt doesn't keep what it proved"
     elif [ -w "$beside" ] || [ -w "$beside/rattle-kept" ]; then
         say 'this can be interrupted, and then goes on from there'
     else
-        say "this is not to be interrupted: rt can't keep what it proved in $beside"
+        say "don't interrupt this: rt can't keep what it proved in $beside"
     fi
 }
 

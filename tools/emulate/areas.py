@@ -14,6 +14,7 @@ from .tracing import PAGE, TOP
 # (compiled at their first use)
 LINE = r"([0-9a-f]+)-([0-9a-f]+) (....) ([0-9a-f]+) (\S+) (\d+) *(.*)"
 IN_MEMORY = r"/dev/zero \(deleted\)|\[anon_shmem:|/SYSV[0-9a-f]{8}|/memfd:|/dev/shm/"
+SHARED_ANONYMOUS = "/dev/zero (deleted)"  # what maps calls such memory without a name
 KERNELS_OWN = ("[vvar]", "[vvar_vclock]", "[vdso]", "[vsyscall]")
 MOST_INDEX = 1 << 35
 MOST_CLOSED = 1 << 30  # bytes: larger areas without access are mostly addresses that a program keeps for later
@@ -173,14 +174,23 @@ def open_spans(areas, start, end):
         yield last
 
 
+def named(area, text):
+    """What maps calls an area that a program names so (PR_SET_VMA_ANON_NAME): anonymous memory alone can be named,
+    and heap and stack keep their own names. None: it isn't named."""
+    if area.name == SHARED_ANONYMOUS or area.name.startswith("[anon_shmem:"):
+        return f"[anon_shmem:{text}]"
+    return f"[anon:{text}]" if not area.name or area.name.startswith("[anon:") else None
+
+
 def with_names(areas, names):
     """The areas, parted where a program has named some of them: names are spans."""
     for area in areas:
         inside = names.between(area.start, area.end)
-        if not inside or area.name and not area.name.startswith("[anon:"):
+        if not inside or named(area, "") is None:
             yield area
             continue
-        rows = inside + [(start, end, "") for start, end in names.gaps(area.start, area.end)]
+        unnamed = SHARED_ANONYMOUS if area.shared else ""
+        rows = inside + [(start, end, unnamed) for start, end in names.gaps(area.start, area.end)]
         for start, end, name in sorted(rows):
             yield area._replace(start=start, end=end, index=area.index + (start - area.start) // PAGE, name=name)
 

@@ -16,7 +16,7 @@ from .words import list_text
 STRICT, MOVE, MOVE_ALL = 1, 2, 4  # MPOL_MF_*
 AS_NODE, AT_ADDRESS, ALLOWED = 1, 2, 4  # MPOL_F_*
 FLAGS = 0xC000  # of a mode, that keep the nodes as they were asked for
-NO_RIGHT = "MPOL_MF_MOVE_ALL takes CAP_SYS_NICE"
+NO_RIGHT = "MPOL_MF_MOVE_ALL needs CAP_SYS_NICE"
 INTERLEAVE, WEIGHTED = 3, 6
 
 
@@ -53,7 +53,7 @@ def mbind(all_, task, start, length, mode, mask, most, flags):
 def judge_flags(all_, flags, known):
     """The flags MPOL_MF_* of a call."""
     if flags & ~known:
-        fail(errno.EINVAL, f"flags 0x{flags & ~known:x} are none of this call")
+        fail(errno.EINVAL, f"flags 0x{flags & ~known:x} aren't flags of this call")
     if flags & MOVE_ALL and not all_.may_move_all:
         fail(errno.EPERM, NO_RIGHT)
 
@@ -102,7 +102,7 @@ def set_mempolicy(all_, task, mode, mask, most, *_):
 def get_mempolicy(all_, task, mode, mask, most, address, flags, *_):
     count = all_.machine.count
     if flags & ~7:
-        fail(errno.EINVAL, f"flags 0x{flags & ~7:x} are none of this call")
+        fail(errno.EINVAL, f"flags 0x{flags & ~7:x} aren't flags of this call")
     if mask and most < count:
         fail(errno.EINVAL, f"the mask has {most} bits, the machine {count} nodes")
     if flags & ALLOWED:

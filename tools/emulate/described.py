@@ -13,7 +13,7 @@ LIVE = "live"
 
 
 def lines_of(described):
-    """The lines of the description, with their numbers. A real machine has a kernel's rules and orders."""
+    """The lines of the description, with their numbers. A real machine has a kernel's orders."""
     if described == LIVE:
         return read_by_tool(NODES, ["--weights"] if os.path.isdir(WEIGHTS) else [])
     if os.path.isdir(described):
@@ -37,7 +37,7 @@ def read_by_tool(path, options=(), text=None):
 
     command = [sys.executable, "-IS", _machine_line(), "--kernel-orders", *options, *([path] if path else [])]
     said = output_of(command, text, "machine-line")
-    return list(enumerate(["rules linux", *said.splitlines()], 1))
+    return list(enumerate(said.splitlines(), 1))
 
 
 def xml_of(text):

@@ -325,7 +325,7 @@ class Emulator:
     def program_begins(self, task, calls):
         """With the places in its memory where getcpu is a call now."""
         if calls is None:
-            self.say(task.number, "getcpu of the vDSO can't be told")
+            self.say(task.number, "getcpu of the vDSO can't be answered")
 
     def at_exit(self, task):
         task.ends = True

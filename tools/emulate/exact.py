@@ -90,7 +90,7 @@ class Exact(Emulator):
         super().program_begins(task, calls)
         try:
             if not calls:
-                raise OSError("no instruction of the program is known that makes a call")
+                raise OSError("no instruction of the program that makes a call is known")
             self.tell_of(task.space, Faults(opened_in(task.number, calls[0] + TO_SYSCALL, self.room)))
             self.watch(task, 0, TOP)
         except Ended as fault:
@@ -124,7 +124,7 @@ class Exact(Emulator):
             return
         own = next((one for one in faults.forks if is_of(child, one)), None)
         if own is None:
-            tell(f"process {child.number} isn't followed exactly: its faults aren't told")
+            tell(f"process {child.number} isn't followed exactly: its faults aren't reported")
             return
         faults.forks.remove(own)
         own.shared = faults.shared.copy()

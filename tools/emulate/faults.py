@@ -33,7 +33,7 @@ def why_not():
     try:
         begin(file)
     except OSError as fault:
-        return f"userfaultfd, with forks and threads told: {fault.strerror}"
+        return f"userfaultfd, with reports of forks and threads: {fault.strerror}"
     finally:
         os.close(file)
     return None

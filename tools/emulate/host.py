@@ -6,7 +6,7 @@ import os
 import re
 
 from .tracing import CALLS, LIBC, PAGE
-from .words import Unfit
+from .words import BY_KERNEL, KERNEL_ORDERS, Unfit
 
 NODES = "/sys/devices/system/node"
 WEIGHTS = "/sys/kernel/mm/mempolicy/weighted_interleave"
@@ -27,7 +27,8 @@ def host_lines(rules=None):
         memory, allowed = read(f"{NODES}/has_memory"), re.search(r"Mems_allowed_list:\s*(\S+)", read("/proc/self/status"))
         numbers = range(max(nodes) + 1)
         table = ";".join(",".join(str(10 if a == b else rows.get(a, {}).get(b, FAR)) for b in numbers) for a in numbers)
-        lines = [f"rules {rules or 'linux'}", f"machine {len(numbers)} {memory} 0 {table}"]
+        orders = KERNEL_ORDERS if rules in (None, BY_KERNEL) else ""
+        lines = [f"machine {len(numbers)} {memory} 0 {orders}{table}"]
         for node in nodes if os.path.isdir(WEIGHTS) else ():
             lines.append(f"weight {node} {read(f'{WEIGHTS}/node{node}')}")
         return list(enumerate(lines + [f"mems {allowed[1]}"], 1))

@@ -4,17 +4,17 @@ proved."""
 import numaplan
 
 from .cpus import read_cpus
-from .words import RULES, Unfit, list_text
+from .words import BY_KERNEL, KERNEL_ORDERS, RULES, Unfit, list_text
 
 KILOBYTES = 4 << 20  # that each node with memory shows
 TAKEN = ("limits", "rules", "cpus", "machine", "weight", "mems")
-KERNEL_ORDERS = "kernel:"
 
 
-def machine_lines(lines, path):
-    """The lines about the machine, each accepted by the library."""
-    taken = {}
+def machine_lines(lines, path, rules):
+    """The lines about the machine, each accepted by the library; by these rules until one of them names others."""
+    taken = {"rules": [[rules]]}
     with numaplan.Script() as script:
+        script.line(f"rules {rules}")
         for number, line in lines:
             word = line.split(" ")[0]
             if word not in TAKEN:
@@ -38,12 +38,12 @@ class Machine:
     """Nodes, memory, distances, whose rules count, weights, the nodes that are allowed, and CPUs."""
 
     def __init__(self, numbered, path, allowed=None, cpus=None, rules=None):
-        lines = machine_lines(numbered, path)
+        lines = machine_lines(numbered, path, rules or BY_KERNEL)
         count, memory, _, distances = lines["machine"][0]
         self.count, self.memory = int(count, 0), set(numaplan.nodes(memory))
         self.has_kernel_orders = distances.startswith(KERNEL_ORDERS)
         self.distances = distance_rows(self.count, distances.removeprefix(KERNEL_ORDERS))
-        self.rules = rules or (lines["rules"][-1][0] if "rules" in lines else RULES[0])
+        self.rules = rules or lines["rules"][-1][0]
         self.weights = {int(node, 0): int(weight, 0) for node, weight in lines.get("weight", [])}
         self.allowed = self.allowed_nodes(allowed or (lines["mems"][-1][0] if "mems" in lines else None))
         self.cpu_nodes = set(numaplan.nodes(lines["cpus"][-1][0])) if "cpus" in lines else set(range(self.count))

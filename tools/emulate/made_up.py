@@ -6,6 +6,7 @@ import re
 from collections import Counter
 from itertools import count
 
+from .areas import SHARED_ANONYMOUS
 from .machine import KILOBYTES
 from .policies import MOST_BITS, shown_form
 from .spans import Spans
@@ -167,7 +168,10 @@ def numa_maps_text(all_, task):
 
 
 def name_in_maps(name):
-    """As numa_maps has it: files, heap and stack alone; blanks of files as octal numbers."""
+    """As numa_maps has it: files, heap and stack alone, without names that a program gave; blanks of files as octal
+    numbers."""
+    if name.startswith("[anon_shmem:"):
+        name = SHARED_ANONYMOUS
     if name.startswith("/"):
         return " file=" + "".join(f"\\{ord(letter):03o}" if letter in " \t\n=" else letter for letter in name)
     return f" {name[1:-1]}" if name in ("[heap]", "[stack]") else ""

@@ -3,7 +3,7 @@ what is to be done at the end of the call, or None. Not proved."""
 
 import errno
 
-from .areas import Areas
+from .areas import Areas, named
 from .calls import whole_pages
 from .policies import word_of
 from .tracing import MAP_FIXED, PAGE, TOP, set_registers, text_at
@@ -130,8 +130,11 @@ def prctl(all_, task, _option, what, start, length, name, *_):
         return None
     text = text_at(task.number, name) if name else ""
     task.space.names.remove(start, end)
-    if text:
-        task.space.names.add(start, end, f"[anon:{text}]")
+    with Areas(task.number) as areas:
+        for area in areas.between(start, end) if text else ():
+            name_there = named(area, text)
+            if name_there:
+                task.space.names.add(max(start, area.start), min(end, area.end), name_there)
 
     def succeed(registers):
         if registers.rax == 2**64 - errno.EINVAL:

@@ -10,10 +10,10 @@ ABOUT_EMULATE = """Runs a program as if on a NUMA machine: its calls about memor
 numaplan, its pages are placed as they are first touched, and /sys and /proc show the machine.
 docs/EMULATE.md says what is exact and what isn't. It isn't proved; the rules are the library's."""
 ABOUT_RECORD = """Runs a program on this machine as it is, and writes down what it does about memory: scripts
-that numaplan takes, and where the kernel has put its pages. docs/EMULATE.md tells more. It isn't proved."""
-STATUS = """The status is the program's, or 128 and the number of the signal that ended it; 3 where pages
-lie elsewhere than --expect wants, or nothing was compared; 4 where that can't be told, since threads
-raced; 126 or 127 where the program can't be run or found; 125 where the command itself can't go on."""
+that numaplan takes, and where the kernel has put its pages. docs/EMULATE.md has more. It isn't proved."""
+STATUS = """The status is the program's, or 128 plus the number of the signal that ended it; 3 if pages lie
+elsewhere than --expect wants, or nothing was compared; 4 if that can't be known, since threads raced;
+126 or 127 if the program can't be run or found; 125 if the command itself can't go on."""
 
 # Each option: what its value is called (None: it has none), whether numaplan-record has it, what it does.
 OPTIONS = {
@@ -22,22 +22,22 @@ OPTIONS = {
                 " lstopo --of xml prints; hwloc's synthetic text; or live, this machine (otherwise {machine})"),
     "mems": ("LIST", False, "the allowed nodes, as 0-2"),
     "cpus": ("NUMBERS", False,
-             "made-up CPUs in place of this machine's: so many a node, as 4, or for each node, as 4,4,0,0"),
+             "made-up CPUs in place of this machine's: as many on each node, as 4, or by node, as 4,4,0,0"),
     "exact": (None, False,
-              "each page goes by the thread that touches it first, and when; needs root, and makes touches slow"),
+              "places each page at the moment of its first touch, by any thread; needs root, and makes touches slow"),
     "rules": ("|".join(RULES), True,
-              "whose rules count where Linux's documents and its kernel differ (otherwise as FILE says, {rules})"),
+              "whose rules count where Linux's documents and its kernel differ (otherwise as FILE says, else the kernel's)"),
     "record": ("DIR", True, "writes a script for each address space"),
     "report": ("FILE", True,
-               "writes where pages are as each process ends, and refused calls, in the form that the name ends with"
+               "writes where pages are as each process ends, and refused calls, in the form that the name's end asks for"
                " (.json, .svg, .html, else text); - is standard error. SIGUSR1 asks for it before the end"),
     "expect": ("FILE", True,
                "lines NAME NODE=PAGES,.. [at MOMENT]: where the pages of an area are to be as PROGRAM ends, at"
                " peak, or at a moment that the program marks"),
     "log": ("FILE", True, "writes each call about policies, its answer, and why it was refused"),
 }
-OF_EMULATE = {"machine": "two nodes", "rules": "else the documents'"}
-OF_RECORD = {"machine": "what sysfs tells, and the kernel's rules", "rules": "without one the kernel's"}
+OF_EMULATE = {"machine": "two nodes"}
+OF_RECORD = {"machine": "what sysfs shows"}
 
 
 class Words:
@@ -86,7 +86,7 @@ def read_words(is_real):
 
 
 def unfit(what):
-    raise Unfit(f"{what}; --help tells more")
+    raise Unfit(f"{what}; see --help")
 
 
 def version_text():

@@ -113,7 +113,7 @@ def part_of(space, word, state):
     return {"process": space.leader, "program": space.name, "state": state, "policy": word, "ranges": rows,
             "pages": dict(sorted(all_.items())), "refused": refused,
             "peaks": {shown_name(name) if name.startswith("[") else name: dict(sorted(pages.items()))
-                      for name, pages in space.peaks.items() if pages and re.match(r"\[anon:|[0-9a-f]+-", name)}}
+                      for name, pages in space.peaks.items() if pages and re.match(r"\[anon(_shmem)?:|[0-9a-f]+-", name)}}
 
 
 def touchers_of(space, pages):
@@ -190,7 +190,7 @@ class Wanted:
         texts = ", ".join(f"{least} to {most} on node {node}" for node, (least, most) in bounds.items())
         if bounds and can_be(wanted, found, bounds):
             if not are_sure(bounds):
-                what = f"{pairs_text(wanted)} can't be told: first touches were raced; sure is {texts}"
+                what = f"can't tell {pairs_text(wanted)}, since threads raced to touch first; certain is {texts}"
                 self.untold[number] = f"{where}: {what}"
         elif bounds or dict(found) != wanted:
             self.problems[number] = f"{where}: {texts or pairs_text(found)}, not {pairs_text(wanted)}"

@@ -205,12 +205,12 @@ class Telling:
     def what_helps(self):
         """What would tell of touches that aren't told."""
         if self.is_allowed and self.why:
-            return (f"faults of some threads aren't told here ({self.why}); "
+            return (f"the kernel doesn't report faults of some threads here ({self.why}); "
                     "higher limits would allow it (ulimit -l and -n)")
         if self.is_allowed:
-            return ("touches of threads in the kernel, as by read(2), aren't told here; kernel.perf_event_paranoid=1, "
-                    "CAP_PERFMON, or --exact as root would allow it")
-        return (f"first touches of threads aren't told here (perf_event_open: {self.why}); "
+            return ("touches by the kernel for threads, as in read(2), aren't reported here; "
+                    "kernel.perf_event_paranoid=1, CAP_PERFMON, or --exact as root would allow it")
+        return (f"first touches of threads aren't reported here (perf_event_open: {self.why}); "
                 "kernel.perf_event_paranoid=2, CAP_PERFMON, or --exact as root would allow it")
 
     def is_stop(self, task):

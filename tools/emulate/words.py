@@ -5,6 +5,8 @@ import sys
 
 OWN_FAULT = 125  # the status where the command itself can't go on
 RULES = ("document", "linux")
+BY_KERNEL = RULES[1]  # which a machine has where nobody says otherwise: programs run on a kernel
+KERNEL_ORDERS = "kernel:"  # before distances: the orders are those that a kernel makes of them
 
 
 class Unfit(Exception):
