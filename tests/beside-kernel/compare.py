@@ -24,11 +24,15 @@ ROWS = {
     "home": "home over a page with a policy of another mode",
     "unmap": "unmap of length 0",
     "last page": "map of the last page below 2^47",
+    "map above": "map of length 0, or of an unaligned START, above",
+    "unmap above": "unmap of that page, or past it",
+    "unmap across": "unmap of that page, and of pages below",
+    "above": "mbind or home past 2^47",
     "no memory": "mems without a node that has memory",
 }
 
-# rows behind which the two have another space, so that no line is compared
-APART = {"default", "no memory"}
+# rows behind which the two have another space where one accepts, so that no line is compared
+APART = {"default", "no memory", "unmap across", "above"}
 
 # the rows that are left under each set of rules
 LEFT = {"document": set(ROWS), "linux": {"home"}}
@@ -124,9 +128,28 @@ def short(answer):
     return "ok" if words[0] == "ok" or answer == "host ok" else answer
 
 
+def at_end(words, mine, seen):
+    """The row of a difference over a span that reaches the last page below 2^47, or None."""
+    if words[0] not in ("map", "unmap", "mbind", "home"):
+        return None
+    start = int(words[1], 16)
+    end = start - int(words[2], 16) // -4096 * 4096
+    if words[0] == "map" and max(start, end) > LAST_PAGE:
+        return "last page" if mine.startswith("ok") else "map above"
+    if words[0] == "unmap" and end > LAST_PAGE:
+        return "unmap across" if mine.startswith("ok") and start < LAST_PAGE else "unmap above"
+    if words[0] in ("mbind", "home") and mine == "refused OutOfSpace ENOMEM":
+        return "above"
+    if words[0] == "mbind" and mine.startswith("ok") and seen == "EFAULT" and end >= LAST_PAGE:
+        return "last page"
+    return "no policy" if words[0] == "home" and seen == "ENOENT" and end > LAST_PAGE else None
+
+
 def cause(line, mine, seen, before, left):
     """The row of the table that a difference falls under, where it is left, or None."""
     words = line.split()
+    if row := at_end(words, mine, seen):
+        return row
     if words[0] == "mbind":
         if int(words[2], 16) == 0 and seen == "ok" and mine.startswith("bad policy"):
             return "length 0"
@@ -140,8 +163,6 @@ def cause(line, mine, seen, before, left):
         return "no policy"
     elif words[0] == "unmap" and int(words[2], 16) == 0 and seen == "EINVAL":
         return "unmap"
-    elif words[0] == "map" and int(words[1], 16) == LAST_PAGE and seen == "ENOMEM":
-        return "last page"
     elif words[0] == "mems" and seen == "ok" and mine.startswith("refused NodesNotAllowed"):
         return "no memory"
     elif words[0] == "place":
@@ -182,7 +203,8 @@ def compare(program, rules, machine, script, counts):
             print(f"{name}: {line}: numaplan {mine}, the kernel {seen}")
         else:
             counts[ROWS[row]] += 1
-            before.add(row)
+            if row not in APART or "ok" in (short(mine), seen):
+                before.add(row)
 
 
 def main():

@@ -31,6 +31,7 @@ def table(nodes, distance):
 
 
 MACHINES = {
+    "one": machine(table(1, lambda a, b: 20)),
     "two": machine(table(2, lambda a, b: 20)),
     "four": machine([[10, 12, 20, 22], [12, 10, 22, 20], [20, 22, 10, 12], [22, 20, 12, 10]]),
     "gap": machine(

@@ -70,9 +70,22 @@ class Script:
         less = self.random.randrange(PAGE) if length and self.random.random() < 0.1 else 0
         return hex((FIRST_PAGE + first) * PAGE), hex(length * PAGE - less)
 
+    def above(self):
+        """A span from the last page below 2^47 on, at times empty."""
+        start = self.random.choice([LAST_PAGE, LAST_PAGE + 1, LAST_PAGE + 2, 2**52 - 1]) * PAGE
+        return hex(start), hex(self.random.choice([0, PAGE, 2 * PAGE]))
+
+    def across(self):
+        """A span from a mapped page on to past 2^47."""
+        start = (FIRST_PAGE + min(self.mapped)) * PAGE
+        return hex(start), hex(LAST_PAGE * PAGE + 2 * PAGE - start)
+
     def map(self):
         if self.random.random() < 0.03:
             return self.say("map", hex(LAST_PAGE * PAGE), hex(PAGE), hex(LAST_PAGE))
+        if self.random.random() < 0.02:
+            start, length = self.above()
+            return self.say("map", hex(int(start, 16) + self.random.choice([0, 8])), length, 0)
         first, length = self.random.randrange(PAGES), self.random.randint(1, 12)
         if self.random.random() < 0.03:
             length = 0
@@ -82,6 +95,8 @@ class Script:
             self.mapped.update({page: False for page in span})
 
     def unmap(self):
+        if self.random.random() < 0.1:
+            return self.say("unmap", *self.above())
         first, length = self.span()
         self.say("unmap", *self.bytes(first, length))
         for page in range(first, first + length):
@@ -89,12 +104,21 @@ class Script:
 
     def mbind(self):
         start, length = self.bytes(*self.span())
+        if self.random.random() < 0.03:
+            start, length = self.above()
+        elif self.mapped and self.random.random() < 0.01:
+            start, length = self.across()
         if self.random.random() < 0.02:
             start = hex(int(start, 16) + self.random.choice([1, 8, 2048]))
         self.say("mbind", start, length, self.policy())
 
     def home(self):
-        self.say("home", *self.bytes(*self.span()), self.random.randrange(self.nodes + 1))
+        span = self.bytes(*self.span())
+        if self.random.random() < 0.1:
+            span = self.above()
+        elif self.mapped and self.random.random() < 0.05:
+            span = self.across()
+        self.say("home", *span, self.random.randrange(self.nodes + 1))
 
     def task(self):
         self.say("task", self.random.randrange(4), self.policy())

@@ -6,7 +6,7 @@ import copy
 import re
 
 import model
-from commands import COMMANDS, accept, span_cause
+from commands import COMMANDS, accept
 from space import PAGE, ranges
 from words import BadWords, Fault, is_found_late, line_of
 
@@ -66,7 +66,7 @@ def is_overlooked(space, line):
         return False
     if space is None or space.machine.is_linux or not is_found_late(name, arguments):
         return False
-    return span_cause(*arguments[:2]) is None
+    return arguments[0] % 4096 == 0
 
 
 def wanted(space, line):

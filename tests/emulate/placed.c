@@ -1,7 +1,8 @@
 /* Where pages go, and what calls answer, on the machine of four.numaplan: run by numaplan-emulate. The
  * values are worked out by hand from set_mempolicy(2), mbind(2), get_mempolicy(2), move_pages(2),
- * migrate_pages(2), set_mempolicy_home_node(2) and "NUMA Memory Policy". Page k of BASE has the index
- * 2^18 + k: 2^18 is 1 modulo 3. Node 0 is 12 from node 2, and 20 from 1 and 3. Not proved. */
+ * migrate_pages(2), set_mempolicy_home_node(2) and "NUMA Memory Policy"; where a kernel does otherwise than these say
+ * (docs/KERNEL.md has a table), as a kernel does. Page k of BASE has the index 2^18 + k: 2^18 is 1 modulo 3.
+ * Node 0 is 12 from node 2, and 20 from 1 and 3. Not proved. */
 #define _GNU_SOURCE
 #include <errno.h>
 #include <pthread.h>
@@ -200,9 +201,12 @@ static void refusals(void) {
     WANT(bind_pages(0, 6, 99, 0x1, 0), -EINVAL);
     WANT(bind_pages(0, 6, BIND, 0x1, 8), -EINVAL);
     WANT(bind_pages(0, 7, BIND, 0x1, 0), -EFAULT);
+    WANT(bind_pages(0, 7, BIND, 0x10, 0), -EINVAL); /* (a kernel looks at the nodes before the hole, */
+    WANT(bind_pages(0, 7, DEFAULT, 0, 0), 0);       /* and passes it over for DEFAULT) */
     WANT(told(syscall(SYS_mbind, BASE + 1, 4096L, (long)LOCAL, NULL, 0L, 0L)), -EINVAL);
     WANT(told(syscall(SYS_mbind, BASE, 4096L, (long)BIND, (void *)8, 65L, 0L)), -EFAULT);
     WANT(told(syscall(SYS_set_mempolicy_home_node, BASE, 4096L, 9L, 0L)), -EINVAL);
+    WANT(told(syscall(SYS_set_mempolicy_home_node, BASE, 4096L, 1L, 0L)), -ENOENT); /* (no policy there) */
     WANT(set_task(INTERLEAVE, 0), -EINVAL);
     WANT(set_task(INTERLEAVE, 0x30), -EINVAL);
     WANT(policy(&mask, BASE, 4 | 2), -EINVAL);

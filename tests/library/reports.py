@@ -14,9 +14,9 @@ PROGRAM, EXAMPLES = sys.argv[1:]
 TRACES = sorted(glob.glob(os.path.join(EXAMPLES, "*.trace")))
 SCRIPTS = sorted(set(glob.glob(os.path.join(EXAMPLES, "**", "*"), recursive=True)) - set(TRACES))
 SCRIPTS = [path for path in SCRIPTS if os.path.isfile(path)]
-# (The program passes over lines `at`; the library doesn't know them yet.)
-SCRIPTS = [path for path in SCRIPTS
-           if not any(line.startswith("at ") for line in open(path, encoding="utf-8"))]
+# (The program passes over lines `at` that are malformed or come before a machine; the library reports them.)
+APART = ("interleaved-range.at", "pages-that-are-there.answers")
+SCRIPTS = [path for path in SCRIPTS if os.path.basename(path) not in APART]
 THEN = ["mems 0", "task 1 bend:0", "# \u00e9"]
 PAGES = [0, 0x10, 0x31]
 TOUCH = ["--task=1", "--node=0"]

@@ -83,7 +83,7 @@ static void prefers(uint32_t rules, uint64_t task_nodes, uint8_t first) {
 }
 
 /* Refusals that differ: a weight of 0 puts back 1 in a kernel, and a home where no page has a
- * policy is ENOENT there. */
+ * policy is ENOENT there; as is what such a call answered above the last page (6.18.44). */
 static void refusals(void) {
     np_core document = {0}, kernel = {0};
     open_by(&document, NP_RULES_DOCUMENT);
@@ -92,6 +92,13 @@ static void refusals(void) {
     WANT(np_core_set_weight(&kernel, 0, 0), NP_OK);
     WANT(np_core_set_home(&document, 0x10000, 0x1000, 0), NP_OK);
     WANT(np_core_set_home(&kernel, 0x10000, 0x1000, 0), NP_NO_POLICY_THERE);
+    WANT(np_core_unmap(&document, 0x7ffffffff000, 0x1000), NP_OK);
+    WANT(np_core_unmap(&kernel, 0x7ffffffff000, 0x1000), NP_BAD_SPAN);
+    WANT(np_core_mbind(&document, 0x800000001000, 0, TEXT("bind:0")), NP_OUT_OF_SPACE);
+    WANT(np_core_mbind(&kernel, 0x800000001000, 0, TEXT("bind:0")), NP_OK);
+    WANT(np_core_mbind(&kernel, 0x800000001000, 0x1000, TEXT("bind:0")), NP_HOLE);
+    WANT(np_core_mbind(&kernel, 0xfffffffffffff000, 0x1000, TEXT("bind:0")), NP_BAD_SPAN);
+    WANT(np_core_set_home(&kernel, 0x800000001000, 0x1000, 0), NP_NO_POLICY_THERE);
     np_core_close(&document);
     np_core_close(&kernel);
 }

@@ -4,7 +4,7 @@ address, by the Python module: the values of rules.c. Prints what is wrong; not 
 
 import sys
 
-from numaplan import BadNodeCount, Core, NoPolicyThere, Policy, Range, Script, rebind
+from numaplan import BadNodeCount, BadSpan, Core, NoPolicyThere, Policy, Range, Script, rebind
 
 FLAT = [[10 if a == b else 20 for b in range(4)] for a in range(4)]
 PREFERRED, BIND, STATIC = 1, 2, 0x8000  # MPOL_*
@@ -84,6 +84,7 @@ with Core([8] * 4, FLAT) as core:
 with Core([8] * 4, FLAT, rules="linux") as core:
     core.map(0x10000, 0x1000)
     want(raised(lambda: core.set_home(0x10000, 0x1000, 0))[0], NoPolicyThere.__name__, "a home")
+    want(raised(lambda: core.unmap(2**47 - 4096, 4096))[0], BadSpan.__name__, "the last page")
 told = ("ValueError", "rules is 'unix'; it has to be 'document' or 'linux'")
 want(raised(lambda: Core([8], [[10]], rules="unix")), told, "other rules")
 want(raised(lambda: rebind("bind:0", "0", "0", "unix")), told, "other rules")

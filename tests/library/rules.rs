@@ -75,5 +75,7 @@ fn main() -> Result<(), Refused> {
     assert_eq!(core.task_policy(5), None);
     let home = open_by(Rules::Linux)?.set_home(0x10000, 0x1000, 0);
     assert_eq!(home, Err(Refused::NO_POLICY_THERE));
+    let last = open_by(Rules::Linux)?.unmap((1 << 47) - 0x1000, 0x1000);
+    assert_eq!(last, Err(Refused::BAD_SPAN));
     Ok(())
 }

@@ -1,5 +1,5 @@
-"""Puts each worked script of one process into a file NAME.script and its answers into NAME.said, in the
-folder that is the first argument. (A script of the library has no line `host`.) Not proved."""
+"""Puts each worked script into a file NAME.script and its answers into NAME.said, in the folder that is
+the first argument. Not proved."""
 
 import os
 import sys
@@ -8,10 +8,8 @@ sys.path.insert(0, os.path.join(os.path.dirname(os.path.abspath(__file__)), ".."
 
 import worked
 
-for name, path in worked.paths().items():
+for name, path in worked.paths(True).items():
     script, said = worked.read(path)
-    if b"\nhost\n" in script:
-        continue
     for ending, text in (("script", script), ("said", said)):
         with open(os.path.join(sys.argv[1], f"{name}.{ending}"), "wb") as file:
             file.write(text)

@@ -161,7 +161,8 @@ static void errors(void) {
         {NP_NODES_NOT_ALLOWED, EINVAL}, {NP_NOT_SUPPORTED, EOPNOTSUPP}, {NP_TOO_MANY_TASKS, ENOMEM},
         {NP_TOO_MANY_RANGES, ENOMEM}, {NP_UNKNOWN_MODE, EINVAL}, {NP_BOTH_FLAGS, EINVAL},
         {NP_NODES_FORBIDDEN, EINVAL}, {NP_FLAGS_FORBIDDEN, EINVAL}, {NP_NODES_MISSING, EINVAL},
-        {NP_NO_POLICY_THERE, ENOENT}, {NP_NO_POLICY, 0}, {NP_BUSY, 0}, {NP_LIST_EMPTY, 0},
+        {NP_NO_POLICY_THERE, ENOENT}, {NP_BAD_SPAN, EINVAL}, {NP_NO_NODES, ENOSPC},
+        {NP_NO_POLICY, 0}, {NP_BUSY, 0}, {NP_LIST_EMPTY, 0},
     };
     uint32_t number = 0;
     for (size_t k = 0; k < sizeof rows / sizeof rows[0]; k++) {
@@ -169,7 +170,7 @@ static void errors(void) {
         WANT(number, rows[k][1]);
     }
     number = 7;
-    WANT(np_answer_errno(24, &number), NP_UNKNOWN);
+    WANT(np_answer_errno(26, &number), NP_UNKNOWN);
     WANT(np_answer_errno(UINT32_MAX, &number), NP_UNKNOWN);
     WANT(number, 7);
 }

@@ -6,7 +6,7 @@
 
 int main(void) {
     uint32_t version = np_version() & ~NP_UNPROVED, number = 7;
-    enum np_answer answer = (enum np_answer)np_answer_errno(24, &number);
+    enum np_answer answer = (enum np_answer)np_answer_errno(26, &number);
     printf("%d.%d.%d\n", NP_VERSION_MAJOR, NP_VERSION_MINOR, NP_VERSION_PATCH);
     printf("%u.%u.%u\n", version / 1000000, version / 1000 % 1000, version % 1000);
     puts(np_version() & NP_UNPROVED ? "unproved" : "proved");

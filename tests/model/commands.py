@@ -7,6 +7,8 @@ the kernel's mm/mempolicy.c, mm/mmap.c and kernel/cgroup/cpuset.c. Not proved.""
 from space import (ERRNO, LAST, PAGE, Piece, has_hole, inside, lacks_nodes, mapped_pages, page_count,
                    page_of, ranges, record_after, record_when_set)
 
+TASK_SIZE = (LAST - 1) * PAGE  # in a kernel, the end of what can be mapped
+
 
 def span_cause(start, length):
     """Each span: its start is a multiple of 4,096, and it ends at address 2^47 at the latest."""
@@ -15,6 +17,42 @@ def span_cause(start, length):
     if start + length > LAST * PAGE:
         return "OutOfSpace"
     return None
+
+
+def end_of(start, length):
+    """The address behind a span's last page."""
+    return start + page_count(length) * PAGE
+
+
+def map_cause(space, start, length):
+    """`map`'s span. do_mmap judges length 0 first, get_unmapped_area the end before the start."""
+    if not space.machine.is_linux:
+        return span_cause(start, length) or ("EmptyLength" if length == 0 else None)
+    if length == 0:
+        return "EmptyLength"
+    if end_of(start, length) > TASK_SIZE:
+        return "OutOfSpace"
+    return "Unaligned" if start % PAGE else None
+
+
+def unmap_cause(space, start, length):
+    """`unmap`'s span: do_vmi_munmap has one errno for all."""
+    if not space.machine.is_linux:
+        return span_cause(start, length)
+    if start % PAGE:
+        return "Unaligned"
+    if end_of(start, length) > TASK_SIZE:
+        return "BadSpan"
+    return "EmptyLength" if length == 0 else None
+
+
+def policy_cause(space, start, length):
+    """The span of `mbind` and `home`: for a kernel it may end anywhere but past 2^64."""
+    if not space.machine.is_linux:
+        return span_cause(start, length)
+    if start % PAGE:
+        return "Unaligned"
+    return "BadSpan" if end_of(start, length) >= 2**64 else None
 
 
 def span_of(start, length):
@@ -29,13 +67,9 @@ def range_cause(space):
 
 def map_span(space, start, length, offset):
     """`map`: a span of unmapped pages is mapped, from the index OFFSET on, without a policy."""
-    cause = span_cause(start, length)
+    cause = map_cause(space, start, length)
     if cause:
         return cause
-    if space.machine.is_linux and page_of(start) + page_count(length) > LAST - 1:
-        return "OutOfSpace"  # TASK_SIZE is a page less than 2^47
-    if length == 0:
-        return "EmptyLength"
     if offset >= LAST:
         return "BadOffset"
     first, end = span_of(start, length)
@@ -47,9 +81,9 @@ def map_span(space, start, length, offset):
 
 def unmap(space, start, length):
     """`unmap`: the mapped pages of a span are mapped no more."""
-    cause = span_cause(start, length)
+    cause = unmap_cause(space, start, length)
     if cause or length == 0:
-        return cause or ("EmptyLength" if space.machine.is_linux else None)
+        return cause
     gone = inside(space, *span_of(start, length))
     space.pieces = [piece for piece in space.pieces if piece not in gone]
     return range_cause(space)
@@ -65,7 +99,7 @@ def set_records(space, pieces, record_for):
 
 def mbind(space, start, length, asked):
     """`mbind`: each page of a span has the policy from now on, without a home; or none."""
-    cause = span_cause(start, length)
+    cause = policy_cause(space, start, length)
     if cause or length == 0:
         return cause
     first, end = span_of(start, length)
@@ -90,7 +124,7 @@ def lacks_pages(space, first, end, asked):
 def home(space, start, length, node):
     """`home`: the policies `bind` and `many` of a span's pages get a home; no policy is passed
     over, and another mode refuses the whole."""
-    cause = span_cause(start, length)
+    cause = policy_cause(space, start, length)
     if cause:
         return cause
     if node >= space.machine.nodes:

@@ -7,7 +7,7 @@ proved."""
 
 from collections import Counter
 
-from commands import accept, refused, span_cause, span_of
+from commands import accept, policy_cause, refused, span_cause, span_of
 from space import has_hole, lacks_nodes, page_of, piece_at, ranges
 from workers import list_of_page, touch as take_frame
 
@@ -235,7 +235,7 @@ def judged_end(space, first, end):
 
 def early_cause(space, start, length, asked):
     """What of an `mbind` is judged before its pages, and before a hole in a kernel."""
-    if space.version >= space.limits[2] or span_cause(start, length):
+    if space.version >= space.limits[2] or policy_cause(space, start, length):
         return True
     return lacks_nodes(space, asked)
 

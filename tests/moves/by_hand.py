@@ -62,6 +62,23 @@ def try_rows(call, tell):
     return good
 
 
+# Lines that moves passes over: the pages lie as lines `at` say.
+OTHERS = ["memory-migrate on", "room 3 9", "moved", "move 0x30000 1",
+          "mbind 0x40000 0x2000 bind:0 move 1 0"]
+
+
+def try_others(call, tell, room):
+    """A script with lines about pages of each kind is played, and nothing is told of it."""
+    with open(room + "/script", "w", encoding="utf-8") as file:
+        for name in ".numaplan", ".at":
+            with open(EXAMPLE + name, encoding="utf-8") as part:
+                file.write(part.read())
+        file.write("".join(line + "\n" for line in OTHERS))
+    words, want = ROWS[0]
+    got = call("moves", *words, room + "/script")
+    return tell(got == (0, want, ""), f"moves passes over other lines about pages: {got}")
+
+
 # Lines that aren't as they have to be, and what is told of them.
 FAULTS = [
     ("at 0x30000 0x1000", [], "AT:1: bad words; write at START LENGTH NODE, in a host in P at START"
@@ -110,7 +127,7 @@ def try_lines(call, tell):
 
 
 def try_faults(call, tell, room):
-    good = try_lines(call, tell)
+    good = try_lines(call, tell) and try_others(call, tell, room)
     for line, lines, want in FAULTS:
         with open(room + "/at", "w", encoding="utf-8") as file:
             file.write(line + "\n")

@@ -38,8 +38,8 @@ def is_of_pages(path):
 
 
 def paths(hosts=False):
-    """The files, by name; those of hosts and those about pages that are there, which `run` and
-    `expect` alone know, where they are wanted."""
+    """The files, by name; those of hosts and those about pages that are there where they are
+    wanted."""
     files = glob.glob(TOP + "/tests/worked/scripts/*.answers") + glob.glob(TOP + "/examples/*.answers")
     if hosts:
         files += glob.glob(TOP + "/tests/worked/hosts/*.answers")
