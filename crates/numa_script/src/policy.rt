@@ -155,7 +155,7 @@ pub fn read_policy(word: &[u8]) -> Result<PolicySpec, WordError>
 
 /// Whether a kernel finds the fault of a policy only where there are pages to give the policy to:
 /// mode, flag and nodes don't go together. Each of them by itself it judges before.
-pub(crate) fn waits_for_pages(fault: WordError) -> bool
+pub fn waits_for_pages(fault: WordError) -> bool
     ensures { result ≡ waits_for_pages fault }
 {
     match fault {
