@@ -1,0 +1,75 @@
+-- Pages that follow the allowed nodes.
+use Rattle.std.proofs.Common.{◌≡◌, ℕ, Bool, true, false, Option, Some, None, List, sym}
+use Rattle.std.proofs.Common.{ap, subst, ◌∙◌}
+use Rattle.numa_ranges.specs.declared.run.Run.{Run}
+use Rattle.numa_placed.specs.Spots.{spot_at}
+use Rattle.numa_placed.specs.declared.moved.Moved.{Moved}
+use Rattle.numa_requests.specs.declared.page_refusal.PlacedRefusal.{PlacedRefusal}
+use Rattle.numa_placed.specs.declared.rooms.Rooms.{Rooms}
+use Rattle.numa_placed.specs.declared.spot.Spot.{Spot}
+use Rattle.numa_page_state.specs.Lying.{Lying, OfNodes, motion, still, with_held, with_motion}
+use Rattle.numa_maps.specs.Residents.{Kept}
+use Rattle.numa_page_state.specs.Outcomes.{follow_unless, followed, followed_where, is_no_memory}
+use Rattle.numa_page_state.specs.Outcomes.{lack_in}
+use Rattle.numa_page_state.specs.Standing.{HaveRoom, LastAs, LiesAs, Moves, TellsOf}
+use Rattle.numa_page_state.specs.declared.state.PageState.{PageState}
+use Rattle.numa_page_state.specs.declared.last.Last.{Last}
+use Rattle.numa_page_state.specs.declared.last.Last.TheVariants as went
+
+module _ (old new : PageState) (lying : Lying) (lies : LiesAs old lying) (from to : ℕ)
+    (kept : Kept) where
+  -- the pages followed so
+  abbrev pub Follows : Type 0
+  Follows = (refused : Bool) × LiesAs new (followed refused from to kept lying)
+
+  still-so : (moved : Moved) → new.placed ≡ old.placed → new.rooms ≡ old.rooms
+      → new.follows ≡ old.follows → TellsOf moved still → new.last ≡ went.Nodes moved
+      → LiesAs new (record lying { last = OfNodes still })
+  still-so moved placed rooms follows tells last = record {
+    spots = λ page. ap (λ (runs : List (Run Spot)). spot_at runs page) placed ∙ lies.spots page;
+    room = subst (λ (r : Option Rooms). HaveRoom r lying.room) (sym rooms) lies.room;
+    follows = follows ∙ lies.follows;
+    last = subst (λ (m : Last). LastAs m (OfNodes still)) (sym last) tells;
+  }
+
+  follows-on : (b refused : Bool) → b ≡ true → followed_where b refused from to kept lying
+      ≡ follow_unless
+      (lack_in lying.room refused (motion lying.room lying.spots from to).spots) kept
+      (motion lying.room lying.spots from to) lying
+  follows-on b refused on = ap (λ (c : Bool). followed_where c refused from to kept lying) on
+
+  module _ (on : old.follows ≡ true) where
+    pub follow-done : (before moved : Moved)
+        → lack_in lying.room false (motion lying.room lying.spots from to).spots ≡ None
+        → Moves new.placed new.rooms before (motion lying.room lying.spots from to)
+        → TellsOf moved (with_held kept (motion lying.room lying.spots from to).told)
+        → new.follows ≡ old.follows → new.last ≡ went.Nodes moved → Follows
+    follow-done before moved none moves tells follows last =
+        let here = motion lying.room lying.spots from to in
+        let is : followed false from to kept lying ≡ with_motion kept lying here =
+        follows-on lying.follows false (sym lies.follows ∙ on)
+        ∙ ap (λ (c : Option PlacedRefusal). follow_unless c kept here lying) none in (
+          false,
+          subst (LiesAs new) (sym is) (record {
+            spots = moves.spots;
+            room = moves.room;
+            follows = follows ∙ lies.follows;
+            last = subst (λ (m : Last). LastAs m (OfNodes (with_held kept here.told))) (sym last)
+                tells;
+          }),
+        )
+
+    pub follow-lacks : (refusal : PlacedRefusal) (moved : Moved)
+        → lack_in lying.room (is_no_memory refusal)
+        (motion lying.room lying.spots from to).spots ≡ Some refusal
+        → new.placed ≡ old.placed → new.rooms ≡ old.rooms → new.follows ≡ old.follows
+        → TellsOf moved still → new.last ≡ went.Nodes moved → Follows
+    follow-lacks refusal moved lack placed rooms follows tells last =
+        let here = motion lying.room lying.spots from to in
+        let is : followed (is_no_memory refusal) from to kept lying
+        ≡ record lying { last = OfNodes still } =
+        follows-on lying.follows (is_no_memory refusal) (sym lies.follows ∙ on)
+        ∙ ap (λ (c : Option PlacedRefusal). follow_unless c kept here lying) lack in (
+          is_no_memory refusal,
+          subst (LiesAs new) (sym is) (still-so moved placed rooms follows tells last),
+        )

@@ -1,0 +1,120 @@
+-- What becomes of pages of which nothing is stated any more.
+use Rattle.std.proofs.Common.{◌≡◌, ℕ, Bool, true, false, Option, Some, None, List, refl}
+use Rattle.std.proofs.Common.{sym, ap, subst, ◌∙◌, inl, inr, is_some}
+use Rattle.std.specs.Prelude.{if◌then◌else◌, Ok, Err, not, nat_lt, ◌%◌, ◌*◌, ◌+◌, ◌^◌, ◌==◌}
+use Rattle.std.proofs.lemmas.Bool.{cases_Bool, both_ways}
+use Rattle.numa_ranges.proofs.Pages.{any_page-false}
+use Rattle.numa_ranges.specs.declared.run.Run.{Run}
+use Rattle.numa_space.specs.History.{page_of, page_count}
+use Rattle.numa_placed.specs.Refusals.{IsRefusal, first_of, span_cause}
+use Rattle.numa_placed.specs.Spots.{spot_at, too_many}
+use Rattle.numa_requests.specs.declared.page_refusal.PlacedRefusal.{PlacedRefusal}
+use Rattle.numa_requests.specs.declared.page_refusal.PlacedRefusal.TheVariants as cause
+use Rattle.numa_placed.specs.declared.spot.Spot.{Spot}
+use Rattle.numa_placed.specs.declared.spot.Spot.TheVariants.{Nowhere}
+use Rattle.numa_page_state.specs.Lying.{Lying}
+use Rattle.numa_page_state.specs.Outcomes.{forgotten, has_stated, is_astray_cause, is_no_memory}
+use Rattle.numa_page_state.specs.Outcomes.{lack_of}
+use Rattle.numa_page_state.specs.Standing.{Forgets, LiesAs}
+use Rattle.numa_page_state.specs.declared.state.PageState.{PageState}
+use Rattle.numa_page_state.proofs.Judged.{lack-told}
+
+astray-first : (first : Option PlacedRefusal) (found : Bool) → is_astray_cause first ≡ false
+    → is_astray_cause (first_of first (if found then Some cause.Astray else None)) ≡ true
+    → first ≡ None
+astray-first None found clear is = refl
+astray-first (Some why) found clear is = absurd (both_ways (is_astray_cause (Some why)) clear is)
+
+pub span-clear : (start bytes : ℕ) → is_astray_cause (span_cause start bytes) ≡ false
+span-clear start bytes =
+    elim (cases_Bool (not (start % 4096 == 0))) [
+      | inl t ↦ rw t refl
+      | inr e ↦ elim (cases_Bool (nat_lt (2 ^ 47) (start + page_count bytes * 4096))) [
+        | inl u ↦ rw (e, u) refl
+        | inr u ↦ rw (e, u) refl
+      ]
+    ]
+
+-- of a span that isn't one nothing is stated
+pub stated-span : (spots : ℕ → Spot) (start bytes : ℕ) → has_stated spots start bytes ≡ true
+    → span_cause start bytes ≡ None
+stated-span spots start bytes is =
+    astray-first (span_cause start bytes) _ (span-clear start bytes) is
+
+pub clear-first : (first : Option PlacedRefusal) → is_astray_cause first ≡ false
+    → is_astray_cause (first_of first None) ≡ false
+clear-first None clear = refl
+clear-first (Some why) clear = clear
+
+pub nothing-stated : (start bytes : ℕ) → has_stated (λ page. Nowhere) start bytes ≡ false
+nothing-stated start bytes =
+    rw (any_page-false (λ page. false) (page_of start) (page_count bytes)
+    (λ page low high. refl)) (clear-first (span_cause start bytes) (span-clear start bytes))
+
+pub forgets-none : (start bytes : ℕ) → Forgets None start bytes (Ok None)
+forgets-none start bytes lying none =
+    ap (λ (l : Lying). has_stated l.spots start bytes) none ∙ nothing-stated start bytes
+
+module _ (kept : PageState) (start bytes : ℕ) where
+  alike : (lying : Lying) → LiesAs kept lying → spot_at kept.placed ≡ lying.spots
+  alike lying lies = λ i page. lies.spots page i
+
+  pub forgets-still : has_stated (spot_at kept.placed) start bytes ≡ false
+      → Forgets (Some kept) start bytes (Ok None)
+  forgets-still is lying lies =
+      ap (λ (s : ℕ → Spot). has_stated s start bytes) (sym (alike lying lies)) ∙ is
+
+  pub forgets-some : (after : List (Run Spot))
+      → has_stated (spot_at kept.placed) start bytes ≡ true
+      → lack_of false (forgotten start bytes (spot_at kept.placed)) ≡ None
+      → ((page : ℕ) → spot_at after page ≡ forgotten start bytes (spot_at kept.placed) page)
+      → Forgets (Some kept) start bytes (Ok (Some after))
+  forgets-some after is free spots lying lies =
+      let same = alike lying lies in (
+        ap (λ (s : ℕ → Spot). has_stated s start bytes) (sym same) ∙ is,
+        refl,
+        ap (λ (s : ℕ → Spot). lack_of false (forgotten start bytes s)) (sym same) ∙ free,
+        λ page. spots page ∙ ap (λ (s : ℕ → Spot). forgotten start bytes s page) same,
+      )
+
+  pub forgets-lacks : (why : PlacedRefusal)
+      → has_stated (spot_at kept.placed) start bytes ≡ true
+      → lack_of (is_no_memory why) (forgotten start bytes (spot_at kept.placed)) ≡ Some why
+      → Forgets (Some kept) start bytes (Err why)
+  forgets-lacks why is lack lying lies =
+      let same = alike lying lies in (
+        ap (λ (s : ℕ → Spot). has_stated s start bytes) (sym same) ∙ is,
+        ap (λ (s : ℕ → Spot). lack_of (is_no_memory why) (forgotten start bytes s)) (sym same)
+            ∙ lack,
+      )
+
+-- the copy of the pages with nothing stated of the span
+pub forgets-free : (old copy after : List (Run Spot)) (start bytes : ℕ) → copy ≡ old
+    → ((page : ℕ) → spot_at after page ≡ forgotten start bytes (spot_at copy) page)
+    → too_many (spot_at after) ≡ false
+    → (lack_of false (forgotten start bytes (spot_at old)) ≡ None)
+    × ((page : ℕ) → spot_at after page ≡ forgotten start bytes (spot_at old) page)
+forgets-free old copy after start bytes same spots few =
+    let all : (page : ℕ) → spot_at after page ≡ forgotten start bytes (spot_at old) page =
+    λ page. spots page ∙ ap (λ (runs : List (Run Spot)). forgotten start bytes (spot_at runs) page)
+    same in
+    let is : spot_at after ≡ forgotten start bytes (spot_at old) = λ i page. all page i in
+    let fits : too_many (forgotten start bytes (spot_at old)) ≡ false =
+    sym (ap too_many is) ∙ few in
+    (rw fits refl, all)
+
+refused-lack : (first : Option PlacedRefusal) (after : ℕ → Spot) (why : PlacedRefusal)
+    → first ≡ None → IsRefusal first after why → lack_of (is_no_memory why) after ≡ Some why
+refused-lack None after why none is = lack-told after why is
+refused-lack (Some first) after why none is =
+    let odd : true ≡ false = ap is_some none in absurd (both_ways true odd refl)
+
+pub forgets-refused : (old copy : List (Run Spot)) (why : PlacedRefusal) (start bytes : ℕ)
+    → copy ≡ old → has_stated (spot_at old) start bytes ≡ true
+    → IsRefusal (span_cause start bytes) (forgotten start bytes (spot_at copy)) why
+    → lack_of (is_no_memory why) (forgotten start bytes (spot_at old)) ≡ Some why
+forgets-refused old copy why start bytes same stated is =
+    refused-lack (span_cause start bytes) (forgotten start bytes (spot_at old)) why
+    (stated-span (spot_at old) start bytes stated)
+    (subst (λ (runs : List (Run Spot)). IsRefusal (span_cause start bytes)
+    (forgotten start bytes (spot_at runs)) why) same is)

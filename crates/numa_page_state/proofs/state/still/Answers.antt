@@ -1,0 +1,11 @@
+use Rattle.std.proofs.Common.{ℕ, refl}
+use Rattle.std.proofs.lemmas.Simd.{get_or-replicate}
+use Rattle.numa_page_state.proofs.state.still.Goals as goal
+
+pub returns : goal.returns
+returns c = record {
+  moved = refl;
+  left = refl;
+  from = λ node small. get_or-replicate {A = ℕ} 256 node 0 0 small;
+  to = λ node small. get_or-replicate {A = ℕ} 256 node 0 0 small;
+}

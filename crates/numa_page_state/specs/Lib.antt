@@ -1,0 +1,5 @@
+pub mod Lying
+pub mod Outcomes
+pub mod Sending
+pub mod Standing
+pub mod Strict

@@ -1,0 +1,199 @@
+-- What each change of pages comes to, and where pages lie after it. `refused` says whether a growth
+-- was refused while it was made.
+use Rattle.std.specs.Prelude.{ℕ, ◌==◌, Bool, true, false, Option, Some, None, Result}
+use Rattle.std.specs.Prelude.{Ok, Err}
+use Rattle.std.specs.Prelude.{if◌then◌else◌}
+use Rattle.numa_mask.specs.NodeSet.{both}
+use Rattle.numa_space.specs.History.{page_of, page_count}
+use Rattle.numa_placed.specs.Refusals.{first_of, lacks_node, migrate_cause, move_cause, state_cause}
+use Rattle.numa_placed.specs.Shifts.{endless, first_of as first_move, room_cause, room_moved}
+use Rattle.numa_machine.specs.Machine.{Hardware}
+use Rattle.numa_maps.specs.Residents.{Kept, placed_at}
+use Rattle.numa_requests.specs.declared.placement.Placement.{Placement}
+use Rattle.numa_placed.specs.Spots.{changed_spots, forgotten_spot, stated_beside, stated_spot}
+use Rattle.numa_placed.specs.Spots.{too_many}
+use Rattle.numa_placed.specs.Astray.{strict_cause}
+use Rattle.numa_requests.specs.declared.page_refusal.MoveRefusal.{MoveRefusal}
+use Rattle.numa_requests.specs.declared.page_refusal.MoveRefusal.TheVariants as move
+use Rattle.numa_requests.specs.declared.page_refusal.PlacedRefusal.{PlacedRefusal}
+use Rattle.numa_requests.specs.declared.page_refusal.PlacedRefusal.TheVariants as cause
+use Rattle.numa_placed.specs.declared.spot.Spot.{Spot}
+use Rattle.numa_placed.specs.declared.spot.Spot.TheVariants.{Nowhere, Stated, Held}
+use Rattle.numa_page_state.specs.declared.shift.Shift.{Shift}
+use Rattle.numa_page_state.specs.Lying.{Ground, Lying, Motion, OfNodes, Told, motion, still}
+use Rattle.numa_page_state.specs.Lying.{with_held, with_motion}
+
+-- what was done, or why it was refused, and the pages after it
+abbrev pub Done : Type 0 → Type 0 → Type 0
+Done A Cause = Result A Cause × Lying
+
+-- it was done, and nothing is to be said of it
+abbrev pub done_with : {Cause : Type 0} → Lying → Done (Unit {0}) Cause
+done_with at = (Ok tt, at)
+
+-- ---- refusals
+
+abbrev pub is_no_memory : PlacedRefusal → Bool
+is_no_memory cause.NoMemory = true
+is_no_memory _ = false
+
+abbrev pub refused_with : {A : Type 0} → PlacedRefusal → Lying → Done A PlacedRefusal
+refused_with why at = (Err why, at)
+
+-- too many runs, or lack of memory, where nothing else stands against a call
+abbrev pub lack_of : Bool → (ℕ → Spot) → Option PlacedRefusal
+lack_of refused after = if refused then Some cause.NoMemory
+    else if too_many after then Some cause.TooManyRuns else None
+
+abbrev pub cause_by : Bool → Option PlacedRefusal → (ℕ → Spot) → Option PlacedRefusal
+cause_by refused first after = first_of first (lack_of refused after)
+
+abbrev pub unless_refused : {A : Type 0} → Option PlacedRefusal → Lying → Done A PlacedRefusal
+    → Done A PlacedRefusal
+unless_refused None at done = done
+unless_refused (Some why) at outcome = refused_with why at
+
+-- ---- at START LENGTH NODE
+
+abbrev pub at_spots : Ground → ℕ → ℕ → ℕ → (ℕ → Spot) → ℕ → Spot
+at_spots basis start bytes node spots =
+    stated_beside basis.mapped basis.kept (page_of start) (page_count bytes) node spots
+
+abbrev pub at_outcome : Bool → Ground → ℕ → ℕ → ℕ → Lying → Done (Unit {0}) PlacedRefusal
+at_outcome refused basis start bytes node at = unless_refused
+    (cause_by refused (state_cause basis.machine start bytes node)
+    (at_spots basis start bytes node at.spots)) at
+    (done_with (record at { spots = at_spots basis start bytes node at.spots }))
+
+-- ---- room NODE PAGES
+
+-- the rooms, once a line says one
+abbrev pub rooms_of : Option (ℕ → ℕ) → ℕ → ℕ
+rooms_of None node = endless
+rooms_of (Some room) node = room node
+
+abbrev pub room_outcome : Hardware → ℕ → ℕ → Lying → Done (Unit {0}) PlacedRefusal
+room_outcome machine node pages at =
+    if lacks_node machine node then refused_with cause.NoSuchNode at
+    else done_with (record at {
+      room = Some (λ other. if other == node then pages else rooms_of at.room other);
+    })
+
+-- ---- migrate FROM TO
+
+-- where no node fills, a move wants no memory
+abbrev pub lack_in : Option (ℕ → ℕ) → Bool → (ℕ → Spot) → Option PlacedRefusal
+lack_in None refused after = None
+lack_in (Some room) refused after = lack_of refused after
+
+-- how many pages a move took along, and left
+abbrev pub shift_of : Told → Shift
+shift_of told = record { moved = told.moved; left = told.left }
+
+abbrev pub moved_outcome : Bool → Kept → Motion → Option PlacedRefusal → Lying
+    → Done Shift PlacedRefusal
+moved_outcome refused kept done first at = unless_refused
+    (first_of first (lack_in at.room refused done.spots)) at
+    (Ok (shift_of (with_held kept done.told)), with_motion kept at done)
+
+abbrev pub migrate_outcome : Bool → Ground → ℕ → ℕ → Lying → Done Shift PlacedRefusal
+migrate_outcome refused basis from to at = moved_outcome refused basis.kept
+    (motion at.room at.spots from (both to basis.allowed)) (migrate_cause basis.allowed to) at
+
+-- pages leave one set of nodes for another, whatever nodes are allowed
+abbrev pub along_outcome : Bool → Kept → ℕ → ℕ → Lying → Done Shift PlacedRefusal
+along_outcome refused kept old new at = moved_outcome refused kept
+    (motion at.room at.spots old new) None at
+
+-- ---- move ADDR NODE
+
+abbrev pub is_lack : MoveRefusal → Bool
+is_lack move.NoMemory = true
+is_lack _ = false
+
+abbrev pub room_cause_in : Option (ℕ → ℕ) → ℕ → Spot → Option MoveRefusal
+room_cause_in None node spot = None
+room_cause_in (Some room) node spot = room_cause room node spot
+
+abbrev pub move_lack_of : Bool → (ℕ → Spot) → Option MoveRefusal
+move_lack_of refused after = if refused then Some move.NoMemory
+    else if too_many after then Some move.TooManyRuns else None
+
+abbrev pub move_spots : ℕ → ℕ → (ℕ → Spot) → ℕ → Spot
+move_spots page node spots = changed_spots page 1 (stated_spot node) spots
+
+-- the first cause of all
+abbrev pub move_cause_by : Bool → Ground → ℕ → ℕ → Lying → Option MoveRefusal
+move_cause_by refused basis page node at = first_move
+    (first_move (move_cause basis.machine basis.allowed node (basis.mapped page)
+    (at.spots page)) (room_cause_in at.room node (at.spots page)))
+    (move_lack_of refused (move_spots page node at.spots))
+
+abbrev pub room_moved_in : Option (ℕ → ℕ) → ℕ → Spot → Option (ℕ → ℕ)
+room_moved_in None node spot = None
+room_moved_in (Some room) node spot = Some (room_moved room node spot)
+
+-- what is told of one page
+abbrev pub told_of : ℕ → Spot → Told
+told_of node Nowhere = still
+told_of node (Stated from) = if from == node then still
+    else record {
+      moved = 1;
+      left = 0;
+      from = λ other. if other == from then 1 else 0;
+      to = λ other. node;
+    }
+told_of node (Held from) = still
+
+abbrev pub move_unless : Option MoveRefusal → ℕ → ℕ → Lying → Done (Unit {0}) MoveRefusal
+move_unless (Some why) page node at = (Err why, at)
+move_unless None page node at = done_with (record at {
+  spots = move_spots page node at.spots;
+  room = room_moved_in at.room node (at.spots page);
+  last = OfNodes (told_of node (at.spots page));
+})
+
+-- a page that keeps a frame stays there
+abbrev pub held_move_unless : Option MoveRefusal → Lying → Done (Unit {0}) MoveRefusal
+held_move_unless (Some why) at = (Err why, at)
+held_move_unless None at = done_with (record at { last = OfNodes still })
+
+abbrev pub move_where : Option Placement → Bool → Ground → ℕ → ℕ → Lying
+    → Done (Unit {0}) MoveRefusal
+move_where None refused basis page node at =
+    move_unless (move_cause_by refused basis page node at) page node at
+move_where (Some placement) refused basis page node at = held_move_unless
+    (move_cause basis.machine basis.allowed node (basis.mapped page) (Held placement.node)) at
+
+abbrev pub move_outcome : Bool → Ground → ℕ → ℕ → Lying → Done (Unit {0}) MoveRefusal
+move_outcome refused basis address node at = move_where
+    (placed_at basis.kept (page_of address)) refused basis (page_of address) node at
+
+-- ---- what commands of the process do to pages
+
+-- where the allowed nodes have changed, pages follow them, if they are to and memory serves
+abbrev pub follow_unless : Option PlacedRefusal → Kept → Motion → Lying → Lying
+follow_unless None kept done at = with_motion kept at done
+follow_unless (Some lack) kept done at = record at { last = OfNodes still }
+
+abbrev pub followed_where : Bool → Bool → ℕ → ℕ → Kept → Lying → Lying
+followed_where false refused old new kept at = record at { last = OfNodes still }
+followed_where true refused old new kept at = follow_unless
+    (lack_in at.room refused (motion at.room at.spots old new).spots) kept
+    (motion at.room at.spots old new) at
+
+abbrev pub followed : Bool → ℕ → ℕ → Kept → Lying → Lying
+followed refused old new kept at = followed_where at.follows refused old new kept at
+
+-- nothing is stated any more of the pages of a span
+abbrev pub forgotten : ℕ → ℕ → (ℕ → Spot) → ℕ → Spot
+forgotten start bytes spots =
+    changed_spots (page_of start) (page_count bytes) forgotten_spot spots
+
+-- whether pages of a span were stated to lie somewhere: then they lie astray of an empty list
+abbrev pub is_astray_cause : Option PlacedRefusal → Bool
+is_astray_cause (Some cause.Astray) = true
+is_astray_cause _ = false
+
+abbrev pub has_stated : (ℕ → Spot) → ℕ → ℕ → Bool
+has_stated spots start bytes = is_astray_cause (strict_cause spots start bytes 0)

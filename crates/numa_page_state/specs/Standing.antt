@@ -1,0 +1,202 @@
+-- What is kept beside a script, and which pages it stands for.
+use Rattle.std.specs.Prelude.{◌≡◌, ℕ, ◌<◌, ◌^◌, Bool, true, false, List, ◌∷◌, Option, Some}
+use Rattle.std.specs.Prelude.{None}
+use Rattle.std.specs.Prelude.{slice_index}
+use Rattle.std.specs.Prelude.{IsSome, MatchResult, Result, Ok, Err, is_some}
+use Rattle.numa_maps.specs.Residents.{Kept}
+use Rattle.numa_placed.specs.Binds.{Asked, asked_of as asked_by, room_before}
+use Rattle.numa_placed.specs.Refusals.{first_of}
+use Rattle.numa_placed.specs.Shifts.{AreRooms}
+use Rattle.numa_placed.specs.Spots.{spot_at, too_many}
+use Rattle.numa_placed.specs.declared.moved.Moved.{Moved}
+use Rattle.numa_placed.specs.declared.rooms.Rooms.{Rooms}
+use Rattle.numa_requests.specs.declared.page_refusal.MoveRefusal.{MoveRefusal}
+use Rattle.numa_requests.specs.declared.page_refusal.PlacedRefusal.{PlacedRefusal}
+use Rattle.numa_placed.specs.declared.spot.Spot.{Spot}
+use Rattle.numa_ranges.specs.declared.run.Run.{Run}
+use Rattle.numa_space.specs.Refusals.{refusal_of}
+use Rattle.numa_space.specs.Standing.{SpaceState, StandsFor}
+use Rattle.numa_requests.specs.declared.command.Command.{Command}
+use Rattle.numa_page_state.specs.Lying.{Ground, LastMove, Lying, Motion, OfNodes, OfPages}
+use Rattle.numa_page_state.specs.Lying.{Process, Sent}
+use Rattle.numa_page_state.specs.Lying.{Told, motion, nothing}
+use Rattle.numa_page_state.specs.Outcomes.{forgotten, has_stated, is_lack}
+use Rattle.numa_page_state.specs.Outcomes.{is_no_memory, lack_in, lack_of}
+use Rattle.numa_page_state.specs.Outcomes.{move_cause_by, move_spots, room_moved_in}
+use Rattle.numa_page_state.specs.Sending.{asked_of, command_of, flow_between, rooms_sent}
+use Rattle.numa_page_state.specs.Sending.{sent_in}
+use Rattle.numa_page_state.specs.Sending.{sent_spots}
+use Rattle.numa_page_state.specs.declared.state.PageState.{PageState}
+use Rattle.numa_page_state.specs.declared.last.Departures.{Departures}
+use Rattle.numa_page_state.specs.declared.last.Last.{Last}
+use Rattle.numa_page_state.specs.declared.last.Last.TheVariants as went
+use Rattle.numa_page_state.specs.declared.shift.Shift.{Shift}
+use Rattle.numa_page_state.specs.declared.sending.Rebinding.{Rebinding}
+use Rattle.numa_page_state.specs.declared.sending.Sending.{Sending}
+use Rattle.numa_page_state.specs.declared.sending.Toucher.{Toucher}
+use Rattle.numa_page_state.specs.declared.staying.Front.{Front}
+
+-- how many more pages each node takes, once a line says so
+abbrev pub HaveRoom : Option Rooms → Option (ℕ → ℕ) → Type 0
+HaveRoom None None = Unit {0}
+HaveRoom (Some rooms) (Some room) = AreRooms rooms room
+HaveRoom _ _ = ⊥
+
+-- what a move did
+pub record TellsOf (done : Moved) (told : Told) : Type 0 where
+  pub moved : done.moved ≡ told.moved
+  pub left : done.left ≡ told.left
+  pub from : (node : ℕ) → node < 256 → slice_index done.from node ≡ told.from node
+  pub to : (node : ℕ) → node < 256 → slice_index done.to node ≡ told.to node
+
+-- a list has the node to which the pages of each go
+abbrev pub AreGone : List ℕ → (ℕ → ℕ) → Type 0
+AreGone to go = (node : ℕ) → node < 256 → slice_index to node ≡ go node
+
+-- as it is told
+abbrev pub told_in : Moved → Told
+told_in moved = record {
+  moved = moved.moved;
+  left = moved.left;
+  from = slice_index moved.from;
+  to = slice_index moved.to;
+}
+
+-- pages lay and lie so that as many went
+pub record SentAs (done : Departures) (sent : Sent) : Type 0 where
+  pub moved : done.moved ≡ sent.moved
+  pub left : done.left ≡ sent.left
+  pub flow : (from to : ℕ) → flow_between (spot_at done.before) (spot_at done.after) from to
+      ≡ sent.flow from to
+
+-- as it is told
+abbrev pub sent_by : Departures → Sent
+sent_by done = record {
+  moved = done.moved;
+  left = done.left;
+  flow = flow_between (spot_at done.before) (spot_at done.after);
+}
+
+abbrev pub LastAs : Last → LastMove → Type 0
+LastAs (went.Nodes moved) (OfNodes told) = TellsOf moved told
+LastAs (went.Pages done) (OfPages sent) = SentAs done sent
+LastAs _ _ = ⊥
+
+-- the last move went by nodes: so many pages moved, and were left
+abbrev pub IsLastShift : Last → Shift → Type 0
+IsLastShift (went.Nodes moved) shift = (moved.moved ≡ shift.moved) × (moved.left ≡ shift.left)
+IsLastShift (went.Pages done) shift = ⊥
+
+pub record LiesAs (beside : PageState) (lying : Lying) : Type 0 where
+  pub spots : (page : ℕ) → spot_at beside.placed page ≡ lying.spots page
+  pub room : HaveRoom beside.rooms lying.room
+  pub follows : beside.follows ≡ lying.follows
+  pub last : LastAs beside.last lying.last
+
+-- ---- moves
+
+-- pages moved from one set of nodes to another
+pub record Moves (new : List (Run Spot)) (rooms : Option Rooms) (moved : Moved)
+    (done : Motion) : Type 0 where
+  pub spots : (page : ℕ) → spot_at new page ≡ done.spots page
+  pub room : HaveRoom rooms done.room
+  pub told : TellsOf moved done.told
+  pub few : moved.left < 2 ^ 62
+
+-- they did, unless this stands against it or memory lacks; then all is as it was
+abbrev pub Migrates : List (Run Spot) → Option Rooms → ℕ → ℕ → Option PlacedRefusal
+    → Result Moved PlacedRefusal → List (Run Spot) → Option Rooms → Type 0
+Migrates old rooms from to first result new rooms_then = (spots : ℕ → Spot)
+    (room : Option (ℕ → ℕ)) → ((page : ℕ) → spot_at old page ≡ spots page)
+    → HaveRoom rooms room → MatchResult result
+    (λ moved. (first_of first (lack_in room false (motion room spots from to).spots) ≡ None)
+    × Moves new rooms_then moved (motion room spots from to))
+    (λ refusal. (first_of first (lack_in room (is_no_memory refusal)
+    (motion room spots from to).spots) ≡ Some refusal) × (new ≡ old) × (rooms_then ≡ rooms))
+
+-- a page moved to a node, unless something stands against it or memory lacks
+abbrev pub MovesPage : List (Run Spot) → Option Rooms → Ground → ℕ → ℕ
+    → Result (Unit {0}) MoveRefusal → List (Run Spot) → Option Rooms → Type 0
+MovesPage old rooms basis page node result new rooms_then = (at : Lying)
+    → ((other : ℕ) → spot_at old other ≡ at.spots other) → HaveRoom rooms at.room
+    → MatchResult result
+    (λ done. (move_cause_by false basis page node at ≡ None)
+    × ((other : ℕ) → spot_at new other ≡ move_spots page node at.spots other)
+    × HaveRoom rooms_then (room_moved_in at.room node (at.spots page)) × (node < 256))
+    (λ refusal. (move_cause_by (is_lack refusal) basis page node at ≡ Some refusal)
+    × (new ≡ old) × (rooms_then ≡ rooms))
+
+-- ---- mbind .. move
+
+-- the space with a policy that nothing refuses
+pub record HasPolicy (space : SpaceState) (history : List Command) (said : Rebinding)
+    (after : SpaceState) : Type 0 where
+  pub free : refusal_of space.machine space.bounds history (command_of said) ≡ None
+  pub stands : StandsFor after (command_of said ∷ history)
+  pub machine : after.machine ≡ space.machine
+
+-- what its pages are asked, by that space
+abbrev pub asked_for : SpaceState → Rebinding → Toucher → Asked
+asked_for space said toucher =
+    asked_by space said.start said.length said.spec.mask toucher.task toucher.cpu
+
+-- the rooms are those that a page of the span finds
+pub record IsFront (asked : Asked) (spots : ℕ → Spot) (room : ℕ → ℕ) (front : Front) : Type 0
+  where
+    pub rooms : AreRooms front.rooms (room_before asked spots room front.page)
+
+-- the pages went
+pub record HasSent (done : Sending) (kept : Kept) (asked : Asked) (at : Lying) : Type 0 where
+  pub spots : (page : ℕ) → spot_at done.placed page ≡ sent_spots asked at page
+  pub copy : done.copy ≡ done.placed
+  pub room : HaveRoom done.rooms (rooms_sent asked at.spots at.room)
+  pub moved : done.moved ≡ (sent_in kept asked at).moved
+  pub left : done.left ≡ (sent_in kept asked at).left
+  pub few : too_many (sent_spots asked at) ≡ false
+
+-- where pages go with a policy, or why they don't
+abbrev pub Sends : Process → Rebinding → Toucher → Lying
+    → Result (Option Sending) PlacedRefusal → Type 0
+Sends process said toucher at (Ok None) = is_some (refusal_of process.machine process.bounds
+    process.history (command_of said)) ≡ true
+Sends process said toucher at (Ok (Some done)) = (refusal_of process.machine process.bounds
+    process.history (command_of said) ≡ None)
+    × HasSent done process.kept (asked_of process said toucher) at
+Sends process said toucher at (Err why) = is_no_memory why ≡ false
+    → (refusal_of process.machine process.bounds process.history (command_of said) ≡ None)
+    × (lack_of false (sent_spots (asked_of process said toucher) at) ≡ Some why)
+
+-- ---- what is kept
+
+-- before the first line about pages nothing is kept
+abbrev pub Lies : Option PageState → Lying → Type 0
+Lies None lying = lying ≡ nothing
+Lies (Some beside) lying = LiesAs beside lying
+
+-- nothing is stated any more of a span, where something was; else all stays
+abbrev pub Forgets : Option PageState → ℕ → ℕ → Result (Option (List (Run Spot))) PlacedRefusal
+    → Type 0
+Forgets beside start bytes (Ok None) =
+    (lying : Lying) → Lies beside lying → has_stated lying.spots start bytes ≡ false
+Forgets beside start bytes (Ok (Some after)) = (lying : Lying) → Lies beside lying
+    → (has_stated lying.spots start bytes ≡ true) × IsSome beside
+    × (lack_of false (forgotten start bytes lying.spots) ≡ None)
+    × ((page : ℕ) → spot_at after page ≡ forgotten start bytes lying.spots page)
+Forgets beside start bytes (Err why) = (lying : Lying) → Lies beside lying
+    → (has_stated lying.spots start bytes ≡ true)
+    × (lack_of (is_no_memory why) (forgotten start bytes lying.spots) ≡ Some why)
+
+-- the pages lie so now, and all else is as it was
+abbrev pub Replaces : Option PageState → List (Run Spot) → Option PageState → Type 0
+Replaces old after new = (lying : Lying) (spots : ℕ → Spot) → Lies old lying → IsSome old
+    → ((page : ℕ) → spot_at after page ≡ spots page)
+    → Lies new (record lying { spots = spots })
+
+-- a change comes to what is done, or to why it is refused, as the outcome says, and the pages lie
+-- as it says; where memory lacked, this came of it, and nothing has changed
+abbrev pub DoesAs : {A : Type 0} → PageState → A → PageState → A → (Bool → Lying → A × Lying)
+    → Type 0
+DoesAs old done new lack outcome = (lying : Lying) → LiesAs old lying → (refused : Bool)
+    × LiesAs new (outcome refused lying).1
+    × ((outcome refused lying).0 ≡ done)
+    × (refused ≡ true → (new ≡ old) × (done ≡ lack))

@@ -1,0 +1,91 @@
+//! Pages that are unmapped: nothing is stated any more of them.
+ghost use Rattle.std.specs.Prelude.{◌≡◌, ℕ, IfErr, IfOk, None, Some, false, true};
+ghost use Rattle.numa_placed.specs.Spots.{spot_at};
+ghost use Rattle.numa_page_state.specs.Outcomes.{forgotten, has_stated, is_no_memory, lack_of};
+ghost use Rattle.numa_page_state.specs.Standing.{Forgets, Replaces};
+
+use crate::binding::stated_astray;
+use crate::state::PageState;
+use numa_mask::NodeMask;
+use numa_placed::Placed;
+use numa_requests::PlacedRefusal;
+use std::mem;
+
+/// Whether pages of a span were stated to lie somewhere: then they lie astray of no nodes at all.
+fn has_stated(placed: &Placed, start: u64, length: u64) -> bool
+    ensures { result ≡ has_stated (spot_at placed.now) start length }
+{
+    stated_astray(placed, start, length, &NodeMask::empty())
+}
+
+/// The pages, with nothing stated of those of a span.
+///
+/// # Errors
+/// `TooManyRuns`, `NoMemory`: as [`Placed::forget`] says.
+fn forgotten(placed: &Placed, start: u64, length: u64) -> Result<Placed, PlacedRefusal>
+    requires { has_stated (spot_at placed.now) start length ≡ true }
+    ensures ok { IfOk result (λ after. (lack_of false (forgotten start length (spot_at placed.now))
+        ≡ None) × ((page : ℕ) → spot_at after page ≡ forgotten start length (spot_at placed.now)
+        page)) }
+    ensures err { IfErr result (λ why. lack_of (is_no_memory why)
+        (forgotten start length (spot_at placed.now)) ≡ Some why) }
+{
+    let Ok(mut after) = placed.copy() else {
+        return Err(PlacedRefusal::NoMemory);
+    };
+    match after.forget(start, length) {
+        Ok(()) => Ok(after),
+        Err(refusal) => Err(refusal),
+    }
+}
+
+impl PageState {
+    /// The pages without those of a span, if some of the span were stated to lie somewhere.
+    ///
+    /// # Errors
+    /// `TooManyRuns`, `NoMemory`: as [`Placed::forget`] says.
+    pub fn without_span(&self, start: u64, length: u64) -> Result<Option<Placed>, PlacedRefusal>
+        ensures { Forgets (Some self.now) start length result }
+    {
+        if !has_stated(&self.placed, start, length) {
+            return Ok(None);
+        }
+        match forgotten(&self.placed, start, length) {
+            Ok(after) => Ok(Some(after)),
+            Err(refusal) => Err(refusal),
+        }
+    }
+
+    /// Pages lie so from now on.
+    pub fn replace(&mut self, after: Placed)
+        ensures { Replaces (Some self.old) after (Some self.new) }
+    {
+        drop(mem::replace(&mut self.placed, after));
+    }
+}
+
+/// The pages without those of a span, if some of the span were stated to lie somewhere.
+///
+/// # Errors
+/// `TooManyRuns`, `NoMemory`: as [`Placed::forget`] says.
+pub fn without_span(
+    state: &Option<PageState>,
+    start: u64,
+    length: u64,
+) -> Result<Option<Placed>, PlacedRefusal>
+    ensures { Forgets state.now start length result }
+{
+    match state {
+        None => Ok(None),
+        Some(kept) => kept.without_span(start, length),
+    }
+}
+
+/// Pages lie so from now on, where any are kept.
+pub fn replace(state: &mut Option<PageState>, after: Placed)
+    ensures { Replaces state.old after state.new }
+{
+    if let Some(kept) = state {
+        kept.replace(after);
+    }
+}
