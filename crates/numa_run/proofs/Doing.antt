@@ -1,5 +1,6 @@
 -- What a running machine does with commands and the lines of workers.
-use Rattle.std.proofs.Common.{◌≡◌, ℕ, Bool, true, false, Some, None, Result, Ok, Err, is_some, refl}
+use Rattle.std.proofs.Common.{◌≡◌, ℕ, Bool, true, false, Option, Some, None, Result, Ok, Err}
+use Rattle.std.proofs.Common.{is_some, refl}
 use Rattle.std.proofs.Common.{sym, ap, subst, ◌∙◌}
 use Rattle.std.specs.Prelude.{is_ok, is_err, if◌then◌else◌}
 use Rattle.numa_core.specs.World.{World, newest_published}
@@ -16,6 +17,8 @@ use Rattle.numa_requests.specs.declared.event.CoreReply.TheVariants as done
 use Rattle.numa_requests.specs.declared.event.CoreRefusal.{CoreRefusal}
 use Rattle.numa_requests.specs.declared.event.CoreRefusal.TheVariants.{NoMemory}
 use Rattle.numa_maps.specs.Residents.{Kept, placed_at, with_placement, without_page}
+use Rattle.numa_page_state.specs.Standing.{Lies}
+use Rattle.numa_page_state.specs.declared.state.PageState.{PageState}
 use Rattle.numa_run.specs.States.{State}
 use Rattle.numa_run.specs.Standing.{IsCoreIn, RunsAs, Does, state_with}
 use Rattle.numa_run.specs.Work.{won_by, event_answer, event_world, event_outcome, not_kept}
@@ -39,20 +42,15 @@ Touches old w request answer new =
     → (answer ≡ (result_of_touch (setup_of old) world w request).answer)
     × CoreStandsFor new (result_of_touch (setup_of old) world w request).world
 
+-- a state with another world and placed pages
+abbrev pub state_at : State → World → Kept → State
+state_at state world kept = record state { world = world; resident = kept }
+
 -- a running machine with another core and placed pages
 pub moved : (old new : Running) (state : State) (world : World) (kept : Kept) → RunsAs old state
     → setup_of new.core ≡ setup_of old.core → CoreStandsFor new.core world → new.resident ≡ kept
-    → RunsAs new
-    (record {
-      bounds = state.bounds;
-      rules = state.rules;
-      cpus = state.cpus;
-      machine =
-          state.machine;
-      world = world;
-      resident = kept;
-    })
-moved old new state world kept stands same reached resident = record {
+    → new.pages ≡ old.pages → RunsAs new (state_at state world kept)
+moved old new state world kept stands same reached resident pages = record {
   core = record {
     bounds = stands.core.bounds ∙ sym (ap (λ s. s.bounds) same);
     machine = stands.core.machine ∙ ap Some (sym (ap (λ s. s.machine) same));
@@ -60,24 +58,26 @@ moved old new state world kept stands same reached resident = record {
     world = reached;
   };
   resident = resident;
+  lies = subst (λ (p : Option PageState). Lies p state.lying) (sym pages) stands.lies;
 }
 
--- the same core and placed pages stand for the same state
+-- the same core and pages stand for the same state
 pub same-core : (old new : Running) (state : State) → new.core ≡ old.core
-    → new.resident ≡ old.resident → RunsAs old state → RunsAs new state
-same-core old new state core resident stands = record {
+    → new.resident ≡ old.resident → new.pages ≡ old.pages → RunsAs old state → RunsAs new state
+same-core old new state core resident pages stands = record {
   core = subst (λ (c : CoreState). IsCoreIn c state) (sym core) stands.core;
   resident = resident ∙ stands.resident;
+  lies = subst (λ (p : Option PageState). Lies p state.lying) (sym pages) stands.lies;
 }
 
 -- ---- one event
 
 pub does-event : (old new : Running) (event : Event) (answer : Result CoreReply CoreRefusal)
     → Steps old.core event answer new.core → setup_of new.core ≡ setup_of old.core
-    → new.resident ≡ old.resident
+    → new.resident ≡ old.resident → new.pages ≡ old.pages
     → Does old (reply_to answer) new
     (λ refused state. event_outcome refused (setup_of old.core) state.world state.resident event)
-does-event old new event answer steps same resident =
+does-event old new event answer steps same resident pages =
     λ state stands.
     let s = setup_of old.core in
     let step = steps state.world stands.core.world in
@@ -88,18 +88,9 @@ does-event old new event answer steps same resident =
       right.0,
       ap reply_to right.1,
       subst (λ (w : World).
-          RunsAs new
-          (record {
-            bounds = state.bounds;
-            rules = state.rules;
-            cpus = state.cpus;
-            machine =
-                state.machine;
-            world = w;
-            resident = state.resident;
-          })) there
+          RunsAs new (state_at state w state.resident)) there
           (moved old new state after state.resident stands same step.1
-          (resident ∙ stands.resident)),
+          (resident ∙ stands.resident) pages),
     )
 
 -- ---- a Give that a line needs
@@ -107,18 +98,10 @@ does-event old new event answer steps same resident =
 given : (old new : Running) (refused : Bool) (w : ℕ) (frame : Frame)
     (answer : Result CoreReply CoreRefusal) (kept : Kept)
     → Steps old.core (Give w frame) answer new.core → setup_of new.core ≡ setup_of old.core
-    → new.resident ≡ kept → (state : State) → RunsAs old state
+    → new.resident ≡ kept → new.pages ≡ old.pages → (state : State) → RunsAs old state
     → RunsAs new
-    (record {
-      bounds = state.bounds;
-      rules = state.rules;
-      cpus = state.cpus;
-      machine =
-          state.machine;
-      world = event_world refused (setup_of old.core) state.world (Give w frame);
-      resident = kept;
-    })
-given old new refused w frame answer kept steps same resident state stands =
+    (state_at state (event_world refused (setup_of old.core) state.world (Give w frame)) kept)
+given old new refused w frame answer kept steps same resident pages state stands =
     let s = setup_of old.core in
     let step = steps state.world stands.core.world in
     let after : World = world_after s state.world (newest_published state.world) (Give w frame)
@@ -127,27 +110,18 @@ given old new refused w frame answer kept steps same resident state stands =
     ap (world_after s state.world (newest_published state.world) (Give w frame))
     (give-told refused s state.world w frame answer step.0) in
     subst (λ (world : World).
-    RunsAs new
-    (record {
-      bounds = state.bounds;
-      rules = state.rules;
-      cpus = state.cpus;
-      machine =
-          state.machine;
-      world = world;
-      resident = kept;
-    })) there
-    (moved old new state after kept stands same step.1 resident)
+    RunsAs new (state_at state world kept)) there
+    (moved old new state after kept stands same step.1 resident pages)
 
 -- ---- a placement that was won
 
 pub keeps : (old new : Running) (w : ℕ) (placement : Placement) → new.core ≡ old.core
     → placed_at old.resident placement.page ≡ None
-    → new.resident ≡ with_placement old.resident placement
+    → new.resident ≡ with_placement old.resident placement → new.pages ≡ old.pages
     → Does old (reply.Won (win_of placement)) new
     (λ refused state. kept_outcome refused (setup_of old.core) state.world state.resident w
     placement)
-keeps old new w placement core free resident =
+keeps old new w placement core free resident pages =
     λ state stands.
     let none : placed_at state.resident placement.page ≡ None =
     subst (λ (kept : Kept). placed_at kept placement.page ≡ None) stands.resident free in
@@ -164,18 +138,19 @@ keeps old new w placement core free resident =
           (moved old new state state.world (with_placement state.resident placement) stands
           (ap setup_of core)
           (subst (λ c. CoreStandsFor c state.world) (sym core) stands.core.world)
-          (resident ∙ ap (λ kept. with_placement kept placement) stands.resident)),
+          (resident ∙ ap (λ kept. with_placement kept placement) stands.resident) pages),
     )
 
 -- the page has a placement already
 pub gives-taken : (old new : Running) (w : ℕ) (placement : Placement)
     (answer : Result CoreReply CoreRefusal) → Steps old.core (Give w placement.frame) answer
     new.core → setup_of new.core ≡ setup_of old.core
-    → new.resident ≡ old.resident → is_some (placed_at old.resident placement.page) ≡ true
+    → new.resident ≡ old.resident → new.pages ≡ old.pages
+    → is_some (placed_at old.resident placement.page) ≡ true
     → Does old (reply.Back placement.frame) new
     (λ refused state. kept_outcome refused (setup_of old.core) state.world state.resident w
     placement)
-gives-taken old new w placement answer steps same resident taken =
+gives-taken old new w placement answer steps same resident pages taken =
     λ state stands.
     let some : is_some (placed_at state.resident placement.page) ≡ true =
     subst (λ (kept : Kept). is_some (placed_at kept placement.page) ≡ true) stands.resident
@@ -187,18 +162,19 @@ gives-taken old new w placement answer steps same resident taken =
       sym (ap (λ o. o.reply) out),
       subst (λ o. RunsAs new (state_with state o)) (sym out)
           (given old new false w placement.frame answer state.resident steps same
-          (resident ∙ stands.resident) state stands),
+          (resident ∙ stands.resident) pages state stands),
     )
 
 -- there is no memory for it
 pub gives-starved : (old new : Running) (w : ℕ) (placement : Placement)
     (answer : Result CoreReply CoreRefusal) → Steps old.core (Give w placement.frame) answer
     new.core → setup_of new.core ≡ setup_of old.core
-    → new.resident ≡ old.resident → placed_at old.resident placement.page ≡ None
+    → new.resident ≡ old.resident → new.pages ≡ old.pages
+    → placed_at old.resident placement.page ≡ None
     → Does old (reply.Refused NoMemory) new
     (λ refused state. kept_outcome refused (setup_of old.core) state.world state.resident w
     placement)
-gives-starved old new w placement answer steps same resident free =
+gives-starved old new w placement answer steps same resident pages free =
     λ state stands.
     let none : placed_at state.resident placement.page ≡ None =
     subst (λ (kept : Kept). placed_at kept placement.page ≡ None) stands.resident free in
@@ -209,7 +185,7 @@ gives-starved old new w placement answer steps same resident free =
       sym (ap (λ o. o.reply) out),
       subst (λ o. RunsAs new (state_with state o)) (sym out)
           (given old new true w placement.frame answer state.resident steps same
-          (resident ∙ stands.resident) state stands),
+          (resident ∙ stands.resident) pages state stands),
     )
 
 -- ---- touch
@@ -230,31 +206,24 @@ none_won done.Given none = refl
 touched-there : (old mid : Running) (w : ℕ) (request : Request)
     (answer : Result CoreReply CoreRefusal) → Touches old.core w request answer mid.core
     → setup_of mid.core ≡ setup_of old.core → mid.resident ≡ old.resident
-    → (state : State) → RunsAs old state
+    → mid.pages ≡ old.pages → (state : State) → RunsAs old state
     → RunsAs mid
-    (record {
-      bounds = state.bounds;
-      rules = state.rules;
-      cpus = state.cpus;
-      machine =
-          state.machine;
-      world = (result_of_touch (setup_of old.core) state.world w request).world;
-      resident = state.resident;
-    })
-touched-there old mid w request answer touches same resident state stands =
+    (state_at state (result_of_touch (setup_of old.core) state.world w request).world
+    state.resident)
+touched-there old mid w request answer touches same resident pages state stands =
     let s = setup_of old.core in
     let touch = touches state.world stands.core.world in
     moved old mid state (result_of_touch s state.world w request).world state.resident stands same
-    touch.1 (resident ∙ stands.resident)
+    touch.1 (resident ∙ stands.resident) pages
 
 pub touches-nothing : (old new : Running) (w : ℕ) (request : Request)
     (answer : Result CoreReply CoreRefusal) → Touches old.core w request answer new.core
     → setup_of new.core ≡ setup_of old.core
-    → new.resident ≡ old.resident → won_by answer ≡ None
+    → new.resident ≡ old.resident → new.pages ≡ old.pages → won_by answer ≡ None
     → Does old (reply_to answer) new
     (λ refused state. touch_outcome refused (setup_of old.core) state.world state.resident w
     request)
-touches-nothing old new w request answer touches same resident lost =
+touches-nothing old new w request answer touches same resident pages lost =
     λ state stands.
     let s = setup_of old.core in
     let t = result_of_touch s state.world w request in
@@ -266,34 +235,26 @@ touches-nothing old new w request answer touches same resident lost =
       false,
       ap reply_to touch.0 ∙ ap (λ o. o.reply) out,
       subst (λ o. RunsAs new (state_with state o)) out
-          (touched-there old new w request answer touches same resident state stands),
+          (touched-there old new w request answer touches same resident pages state stands),
     )
 
 pub touches-won : (old mid new : Running) (w : ℕ) (request : Request)
     (answer : Result CoreReply CoreRefusal) (placement : Placement) (said : Reply)
     → Touches old.core w request answer mid.core → setup_of mid.core ≡ setup_of old.core
-    → mid.resident ≡ old.resident → won_by answer ≡ Some placement
+    → mid.resident ≡ old.resident → mid.pages ≡ old.pages → won_by answer ≡ Some placement
     → Does mid said new (λ refused state. kept_outcome refused (setup_of mid.core) state.world
     state.resident w placement)
     → Does old said new (λ refused state. touch_outcome refused (setup_of old.core) state.world
     state.resident w request)
-touches-won old mid new w request answer placement said touches same resident won keep =
+touches-won old mid new w request answer placement said touches same resident pages won keep =
     λ state stands.
     let s = setup_of old.core in
     let t = result_of_touch s state.world w request in
     let touch = touches state.world stands.core.world in
     let some : won_by t.answer ≡ Some placement = ap won_by (sym touch.0) ∙ won in
     let kept =
-    keep (record {
-      bounds = state.bounds;
-      rules = state.rules;
-      cpus = state.cpus;
-      machine =
-          state.machine;
-      world = t.world;
-      resident = state.resident;
-    })
-    (touched-there old mid w request answer touches same resident state stands) in
+    keep (state_at state t.world state.resident)
+    (touched-there old mid w request answer touches same resident pages state stands) in
     let out : kept_outcome kept.0 (setup_of mid.core) t.world state.resident w placement
     ≡ touch_outcome kept.0 s state.world state.resident w request =
     ap (λ r. kept_outcome kept.0 r t.world state.resident w placement) same
@@ -310,9 +271,10 @@ pub releases : (old new : Running) (w page : ℕ) (placement : Placement)
     new.core → setup_of new.core ≡ setup_of old.core
     → placed_at old.resident page ≡ Some placement
     → new.resident ≡ (if is_ok answer then without_page old.resident page else old.resident)
+    → new.pages ≡ old.pages
     → Does old (reply_to answer) new
     (λ refused state. release_outcome refused (setup_of old.core) state.world state.resident w page)
-releases old new w page placement answer steps same there resident =
+releases old new w page placement answer steps same there resident pages =
     λ state stands.
     let s = setup_of old.core in
     let some : placed_at state.resident page ≡ Some placement =
@@ -331,7 +293,7 @@ releases old new w page placement answer steps same there resident =
       false,
       ap reply_to right ∙ ap (λ o. o.reply) out,
       subst (λ o. RunsAs new (state_with state o)) out
-          (given old new false w placement.frame answer kept steps same is state stands),
+          (given old new false w placement.frame answer kept steps same is pages state stands),
     )
 
 -- the page keeps its placement where the Give is refused, and only there

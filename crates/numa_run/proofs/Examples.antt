@@ -22,7 +22,9 @@ use Rattle.numa_script.specs.Lines.{line_of, keyword_of}
 use Rattle.numa_script.specs.Machines.{distances_of}
 use Rattle.numa_script.specs.Numbers.{number_of, numeral_of, in_64_bits}
 use Rattle.numa_script.specs.Policies.{policy_of, mode_of, form_of_two, form_of_three}
+use Rattle.numa_page_state.specs.Lying.{nothing}
 use Rattle.numa_run.specs.Answers.{State, start, start_by, answer_to, after_bytes}
+use Rattle.numa_run.specs.MovedTexts.{flows_text}
 use Rattle.numa_run.specs.Replies.{outcome_of}
 use Rattle.numa_run.specs.States.{usual_bounds}
 use Rattle.numa_script.specs.Texts.{text_of}
@@ -171,6 +173,7 @@ bound = record {
   machine = Some two_nodes;
   world = world;
   resident = [];
+  lying = nothing;
 }
 
 bound-page : answer_to false bound (codes "place 1 0x10fff 0") ≡ codes "v2: 1\n"
@@ -291,6 +294,7 @@ published = record {
         world.owner;
   };
   resident = [];
+  lying = nothing;
 }
 
 -- the first frame of node 1 is worker 0's, and kept for page 16
@@ -319,6 +323,7 @@ resident = record {
         λ n k. if (n == 1) && (k == 0) then Some 0 else None;
   };
   resident = (16, placed) ∷ [];
+  lying = nothing;
 }
 
 publish-both : answer_to false bound (codes "publish") ≡ codes "published 2\n"
@@ -438,7 +443,7 @@ unfolding line_of keyword_of number_of numeral_of in_64_bits members fallback_or
     result_of_touch outcome_of text_of resident world placed
 try-is_not_kept = refl
 
--- ---- lines of hosts, and of pages that are there
+-- ---- lines of hosts
 
 host-has_no_place : answer_to false start (codes "host") ≡ codes "bad words\n"
 unfolding line_of keyword_of outcome_of text_of
@@ -448,12 +453,37 @@ process-has_no_place : answer_to false bound (codes "in 1 ranges") ≡ codes "ba
 unfolding line_of keyword_of number_of numeral_of in_64_bits outcome_of text_of bound
 process-has_no_place = refl
 
-page-has_no_place : answer_to false bound (codes "at 0x10000 4096 0") ≡ codes "bad words\n"
-unfolding line_of keyword_of number_of numeral_of in_64_bits outcome_of text_of bound
-page-has_no_place = refl
+-- ---- lines about pages that are there
 
-strict-has_no_place : answer_to false bound (codes "mbind 0x10000 4096 default strict")
-    ≡ codes "bad words\n"
+page-before_a_machine : answer_to false start (codes "at 0x10000 4096 0") ≡ codes "bad state\n"
+unfolding line_of keyword_of number_of numeral_of in_64_bits outcome_of text_of
+page-before_a_machine = refl
+
+strict-before_a_machine : answer_to false start (codes "mbind 0x10000 4096 default strict")
+    ≡ codes "bad state\n"
 unfolding line_of keyword_of number_of numeral_of in_64_bits policy_of mode_of outcome_of text_of
-    bound
-strict-has_no_place = refl
+strict-before_a_machine = refl
+
+-- the first change wants memory, whatever it is
+change-without_memory : answer_to true bound (codes "memory-migrate on")
+    ≡ codes "refused NoMemory ENOMEM\n"
+unfolding line_of keyword_of outcome_of text_of bound
+change-without_memory = refl
+
+change-of_how_pages_move : (after_bytes false bound (codes "memory-migrate on")).lying.follows
+    ≡ true
+unfolding line_of keyword_of outcome_of bound
+change-of_how_pages_move = refl
+
+-- what is wrong with a policy is told as without the words behind it
+strict-with_a_faulty_list :
+    answer_to false bound (codes "mbind 0x10000 4096 bind:x strict")
+    ≡ codes "bad list BadDigit\n"
+unfolding line_of keyword_of number_of numeral_of in_64_bits policy_of mode_of form_of_two
+    form_of_three item_of ends_of node_numeral_of digit_of bound world outcome_of text_of
+strict-with_a_faulty_list = refl
+
+-- `moved` wants no memory
+moved-nothing : answer_to true bound (codes "moved") ≡ codes "v2: moved 0 left 0\n"
+unfolding line_of keyword_of digits outcome_of bound world flows_text
+moved-nothing = refl

@@ -1,16 +1,16 @@
 -- What judging a line of each kind comes to.
 use Rattle.std.proofs.Common.{◌≡◌, ℕ, Bool, true, false, Option, Some, None, List, length, refl}
 use Rattle.std.proofs.Common.{sym, ap, subst, ◌∙◌}
-use Rattle.std.specs.Prelude.{◌↔◌, IsSomeAnd, IsTrue, if◌then◌else◌}
+use Rattle.std.specs.Prelude.{◌↔◌, IsSomeAnd, IsTrue, Ok, if◌then◌else◌}
 use Rattle.std.specs.Option.{option_map}
 use Rattle.numa_machine.specs.Machine.{Hardware}
 use Rattle.numa_requests.specs.declared.command.Command.{Command}
 use Rattle.numa_machine.specs.declared.refusal.PlaceRefusal.{PlaceRefusal}
 use Rattle.numa_machine.specs.declared.refusal.PlaceRefusal.TheVariants as place
-use Rattle.numa_requests.specs.declared.event.CoreRefusal.{CoreRefusal}
 use Rattle.numa_core.specs.Standing.{setup_of}
 use Rattle.numa_script.specs.declared.line.Line.{Line}
 use Rattle.numa_script.specs.declared.line.Line.TheVariants as line
+use Rattle.numa_script.specs.declared.page_line.PageLine.TheVariants as page
 use Rattle.numa_script.specs.declared.line.Question.{Question}
 use Rattle.numa_script.specs.declared.line.Question.TheVariants as question
 use Rattle.numa_run.specs.Answers.{State, reply_of}
@@ -18,9 +18,11 @@ use Rattle.numa_script.specs.Replies.{LacksMemory, fault_in, is_fault}
 use Rattle.numa_run.specs.Judged.{fault_or, fault_of, asked_by, asked_fault, cause_at}
 use Rattle.numa_run.specs.Judged.{question_cause, question_refusal, IsStarved}
 use Rattle.numa_run.specs.Questions.{question_text}
-use Rattle.numa_run.specs.Ranges.{listing_of}
+use Rattle.numa_run.specs.Listings.{there_listing}
+use Rattle.numa_run.specs.MovedTexts.{last_line}
 use Rattle.numa_run.specs.Replies.{Served, reply_in, with_text, outcome_of, served_by, served_later}
 use Rattle.numa_run.specs.Standing.{RunsAs}
+use Rattle.numa_run.specs.States.{process_on}
 use Rattle.numa_run.specs.declared.running.Running.{Running}
 use Rattle.numa_script.specs.declared.reply.Reply.{Reply}
 use Rattle.numa_script.specs.declared.reply.Reply.TheVariants as reply
@@ -55,14 +57,29 @@ asked-fault running asked refused state stands =
     sym (ap (λ m. asked_by m refused state.world.history asked) stands.core.machine) in
     asks ∙ ap (λ o. fault_or o (asked_fault refused state (line.Question asked))) none
 
+-- a line that is answered a text has no fault, unless it is a question
+shown-fault : (said : Line) (text : List ℕ) (state : State)
+    → outcome_of false state said ≡ with_text text state → asked_fault false state said ≡ None
+    → None ≡ fault_of false state said
+shown-fault said text state is none =
+    sym none ∙ ap (λ o. fault_or o (asked_fault false state said))
+    (sym (ap (λ (r : Served). reply_in r.answer) is))
+
 -- maps
 pub listed-fault : (running : Running) (task : ℕ) (state : State) → RunsAs running state
     → None ≡ fault_of false state (line.Maps task)
 listed-fault running task state stands =
-    let is : outcome_of false state (line.Maps task)
-    ≡ with_text (listing_of (setup_of running.core).machine state.world.history task
-    state.resident) state = served-is running (line.Maps task) false state stands in
-    ap (λ o. fault_or o None) (sym (ap (λ r. reply_in r.answer) is))
+    shown-fault (line.Maps task)
+    (there_listing (process_on (setup_of running.core).machine state) state.lying.spots task) state
+    (served-is running (line.Maps task) false state stands) refl
+
+-- moved
+pub last-fault : (running : Running) (state : State) → RunsAs running state
+    → None ≡ fault_of false state (line.Pages (Ok page.Moved))
+last-fault running state stands =
+    shown-fault (line.Pages (Ok page.Moved))
+    (last_line (length state.world.history) state.lying.last) state
+    (served-is running (line.Pages (Ok page.Moved)) false state stands) refl
 
 -- with memory, a question is refused by what refuses it
 pub plain-cause : (machine : Hardware) (history : List Command) (asked : Question) →
@@ -169,8 +186,9 @@ asked-starved running asked lacks state stands ranges =
     (asked-fault running asked lacks state stands)
     (cause-starved lacks (setup_of running.core).machine state.world.history asked ranges)
 
-pub listed-starved : (running : Running) (task : ℕ) (state : State) → RunsAs running state
-    → IsTrue false ↔ IsStarved false state (line.Maps task)
-listed-starved running task state stands =
-    subst (λ (o : Option Reply). IsTrue false ↔ IsSomeAnd o LacksMemory)
-    (listed-fault running task state stands) (λ e. cc, λ s. absurd s)
+-- a line without a fault lacks no memory
+pub faultless-starved : (said : Line) (state : State) → None ≡ fault_of false state said
+    → IsTrue false ↔ IsStarved false state said
+faultless-starved said state none =
+    subst (λ (o : Option Reply). IsTrue false ↔ IsSomeAnd o LacksMemory) none
+    (λ e. cc, λ s. absurd s)

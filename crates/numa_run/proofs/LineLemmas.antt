@@ -1,41 +1,43 @@
 -- What serving a line of each kind comes to.
 use Rattle.std.specs.Prelude.{◌≡◌, ℕ, Bool, true, false, Option, Some}
-use Rattle.std.specs.Prelude.{None, List, [], refl, Result, Ok, Err, if◌then◌else◌}
+use Rattle.std.specs.Prelude.{None, List, [], refl, Result, Ok, Err, length, if◌then◌else◌}
 use Rattle.std.proofs.Common.{sym, ◌∙◌, ap, subst}
 use Rattle.numa_mask.specs.declared.list.ListFault.{ListFault}
 use Rattle.numa_machine.specs.Machine.{Hardware}
-use Rattle.numa_machine.specs.Rules.{is_linux}
 use Rattle.numa_machine.specs.Faults.{hardware_fault}
 use Rattle.numa_machine.specs.declared.fault.MachineFault.{MachineFault}
 use Rattle.numa_machine.specs.declared.fault.MachineFault.TheVariants as machine_fault
 use Rattle.numa_machine.specs.declared.rules.Rules.{Rules}
 use Rattle.numa_core.specs.World.{Setup, opening}
 use Rattle.numa_core.specs.Standing.{LeadsTo, setup_of}
-use Rattle.numa_script.specs.Lines.{empty_bind}
-use Rattle.numa_script.specs.declared.policy.WordError.{WordError}
+use Rattle.numa_page_state.specs.Lying.{nothing}
+use Rattle.numa_page_state.specs.Standing.{Lies}
+use Rattle.numa_page_state.specs.declared.state.PageState.{PageState}
 use Rattle.numa_script.specs.declared.policy.WordError.TheVariants as word_fault
 use Rattle.numa_script.specs.declared.line.MachineLine.{MachineLine}
 use Rattle.numa_script.specs.declared.line.Question.{Question}
 use Rattle.numa_script.specs.declared.line.Line.{Line}
 use Rattle.numa_script.specs.declared.line.Line.TheVariants as line
+use Rattle.numa_script.specs.declared.page_line.PageLine.TheVariants as page
 use Rattle.numa_run.specs.Answers.{State, reply_of, after}
+use Rattle.numa_run.specs.Listings.{there_listing}
 use Rattle.numa_run.specs.Machines.{limits_fit, nodes_with_cpus, hardware_of, has_bad_nodes}
 use Rattle.numa_run.specs.Machines.{first_fault}
+use Rattle.numa_run.specs.MovedTexts.{last_line}
 use Rattle.numa_run.specs.Questions.{question_text}
-use Rattle.numa_run.specs.Ranges.{listing_of}
-use Rattle.numa_run.specs.Replies.{reply_in, Served, with_text}
+use Rattle.numa_run.specs.Replies.{Replied, Served, reply_in, with_text}
 use Rattle.numa_run.specs.Replies.{with_reply, cpus_outcome, machine_unless, machine_outcome}
-use Rattle.numa_run.specs.Replies.{served_first, served_later, command_outcome, with_outcome}
+use Rattle.numa_run.specs.Replies.{served_first, served_later, with_outcome}
 use Rattle.numa_run.specs.Replies.{served_by, outcome_of}
-use Rattle.numa_run.specs.Standing.{RunsAs, Stands, Replies, Takes, Does}
-use Rattle.numa_run.specs.States.{setup_with}
-use Rattle.numa_run.specs.Work.{Outcome, event_outcome}
-use Rattle.numa_requests.specs.declared.event.Event.TheVariants.{Accept}
+use Rattle.numa_run.specs.Standing.{RunsAs, Stands, Replies, Serves, Takes, Does}
+use Rattle.numa_run.specs.States.{process_on, setup_with}
+use Rattle.numa_run.specs.Work.{Outcome}
 use Rattle.numa_run.specs.declared.running.Running.{Running}
 use Rattle.numa_run.specs.declared.settings.Settings.{Settings}
 use Rattle.numa_run.specs.declared.running.Taken.TheVariants as taken
 use Rattle.numa_script.specs.declared.reply.Reply.{Reply}
 use Rattle.numa_script.specs.declared.reply.Reply.TheVariants as reply
+use Rattle.numa_run.proofs.Accepting.{setup-is}
 use Rattle.numa_run.proofs.JudgeLemmas.{served-is}
 
 -- ---- before a machine is ready
@@ -71,17 +73,8 @@ pub first_limits : (settings : Settings) (ranges tasks commands : ℕ)
     }) None
 first_limits settings ranges tasks commands fits =
     λ state stands.
-    let taken : State =
-    record {
-      bounds =
-          record { max_ranges = ranges; max_tasks = tasks; max_commands = commands };
-      rules =
-          state.rules;
-      cpus = state.cpus;
-      machine = state.machine;
-      world = state.world;
-      resident =
-          state.resident;
+    let taken : State = record state {
+      bounds = record { max_ranges = ranges; max_tasks = tasks; max_commands = commands };
     } in
     let is : outcome_of false state (line.Limits ranges tasks commands) ≡ with_reply reply.LimitsOk
     taken =
@@ -108,15 +101,7 @@ pub first_rules : (settings : Settings) (rules : Rules) →
     (record { limits = settings.limits; rules = rules; cpus = settings.cpus }) None
 first_rules settings rules =
     λ state stands.
-    let taken : State = record {
-      bounds = state.bounds;
-      rules = rules;
-      cpus = state.cpus;
-      machine =
-          state.machine;
-      world = state.world;
-      resident = state.resident;
-    } in
+    let taken : State = record state { rules = rules } in
     let is : outcome_of false state (line.Rules rules) ≡ with_reply reply.RulesOk taken =
     first_is settings (line.Rules rules) false state stands in
     let after_it : Settings =
@@ -140,14 +125,7 @@ pub first_cpus : (settings : Settings) (said : Result ℕ ListFault) (cpus : ℕ
     (record { limits = settings.limits; rules = settings.rules; cpus = Some cpus }) None
 first_cpus settings said cpus named =
     λ state stands.
-    let taken : State = record {
-      bounds = state.bounds;
-      rules = state.rules;
-      cpus = Some cpus;
-      machine = state.machine;
-      world = state.world;
-      resident = state.resident;
-    } in
+    let taken : State = record state { cpus = Some cpus } in
     let is : outcome_of false state (line.Cpus said) ≡ with_reply reply.CpusOk taken =
     first_is settings (line.Cpus said) false state stands
     ∙ ap (λ m. cpus_outcome m state) named in
@@ -192,18 +170,16 @@ pub first_ready : (settings : Settings) (said : MachineLine) (memory : ℕ) (run
     → said.memory ≡ Ok memory → described_fault false said memory settings.rules settings.cpus
     ≡ None
     → setup_of running.core ≡ setup_with (described said memory settings.rules settings.cpus)
-    settings.limits → LeadsTo [] running.core → running.resident ≡ []
+    settings.limits → LeadsTo [] running.core → running.resident ≡ [] → running.pages ≡ None
     → Replies settings None (line.Machine said) (Some reply.Ready) settings (Some running)
-first_ready settings said memory running named sound setup leads resident =
+first_ready settings said memory running named sound setup leads resident pages =
     λ state stands.
     let hardware : Hardware = described said memory state.rules state.cpus in
-    let ready : State = record {
-      bounds = state.bounds;
-      rules = state.rules;
-      cpus = state.cpus;
+    let ready : State = record state {
       machine = Some hardware;
       world = opening;
       resident = [];
+      lying = nothing;
     } in
     let is : outcome_of false state (line.Machine said) ≡ with_reply reply.Ready ready =
     first_is settings (line.Machine said) false state stands
@@ -220,6 +196,7 @@ first_ready settings said memory running named sound setup leads resident =
         world = leads.stands;
       };
       resident = resident;
+      lies = subst (λ (p : Option PageState). Lies p nothing) (sym pages) refl;
     } in (
       false,
       sym (ap (λ r. reply_in r.answer) is),
@@ -267,126 +244,130 @@ core-starved cpus hardware sound = by_nodes (has_bad_nodes hardware.nodes cpus) 
 
 -- ---- with a machine
 
-setup_is : (running : Running) (state : State) → RunsAs running state
-    → setup_with (setup_of running.core).machine state.bounds ≡ setup_of running.core
-setup_is running state stands = λ i. record {
-  machine = (setup_of running.core).machine;
-  bounds =
-      stands.core.bounds i;
-  workers = sym stands.core.workers i;
-}
-
--- a line that changes nothing on this machine
-pub same_here : (running : Running) (said : Line) (answer : Reply)
-    → ((state : State) → served_later false (setup_of running.core).machine state said
-    ≡ with_reply answer state)
-    → Takes running said (taken.Reply answer) running
-same_here running said answer right =
-    λ state stands.
-    let is : outcome_of false state said ≡ with_reply answer state =
-    served-is running said false state stands ∙ right state in (
-      false,
-      sym (ap (λ r. reply_in r.answer) is),
-      subst (λ (r : Served). RunsAs running r.state)
-          (sym is) stands,
-    )
-
--- and on any
+-- a line that changes nothing, on any machine
 pub later_same : (running : Running) (said : Line) (answer : Reply)
     → ((machine : Hardware) (state : State) → served_later false machine state said
     ≡ with_reply answer state)
     → Takes running said (taken.Reply answer) running
 later_same running said answer right =
-    same_here running said answer (right (setup_of running.core).machine)
+    λ state stands.
+    let is : outcome_of false state said ≡ with_reply answer state =
+    served-is running said false state stands ∙ right (setup_of running.core).machine state in (
+      false,
+      sym (ap (λ (r : Served). reply_in r.answer) is),
+      subst (λ (r : Served). RunsAs running r.state) (sym is) stands,
+    )
 
--- what does something on this machine
-pub done_here : (old new : Running) (said : Line) (answer : Reply) (outcome : Bool → Setup → State
-    → Outcome)
-    → Does old answer new (λ refused state. outcome refused (setup_of old.core) state)
+-- what may change where pages lie
+pub served_here : (old new : Running) (said : Line) (answer : Reply)
+    (serve : Bool → Hardware → State → Served) → Serves old answer new serve
     → ((refused : Bool) (state : State) → served_later refused (setup_of old.core).machine state
-    said ≡ with_outcome state (outcome refused (setup_with (setup_of old.core).machine state.bounds)
-    state))
+    said ≡ serve refused (setup_of old.core).machine state)
     → Takes old said (taken.Reply answer) new
-done_here old new said answer outcome does right =
+served_here old new said answer serve serves right =
+    λ state stands.
+    let s = serves state stands in
+    let is : outcome_of s.0 state said ≡ serve s.0 (setup_of old.core).machine state =
+    served-is old said s.0 state stands ∙ right s.0 state in (
+      s.0,
+      sym (ap (λ (r : Served). reply_in r.answer) is ∙ ap reply_in s.1),
+      subst (λ (r : Served). RunsAs new r.state) (sym is) s.2,
+    )
+
+-- the same, said in other words
+pub serves_as : (old new : Running) (answer : Reply)
+    (serve other : Bool → Hardware → State → Served) → Serves old answer new serve
+    → ((refused : Bool) (state : State) → other refused (setup_of old.core).machine state
+    ≡ serve refused (setup_of old.core).machine state)
+    → Serves old answer new other
+serves_as old new answer serve other serves right =
+    λ state stands.
+    let s = serves state stands in
+    let is = right s.0 state in (
+      s.0,
+      ap (λ (r : Served). r.answer) is ∙ s.1,
+      subst (λ (r : Served). RunsAs new r.state) (sym is) s.2,
+    )
+
+-- what does something on this machine, and leaves where other pages lie
+pub done_here : (old new : Running) (answer : Reply) (outcome : Bool → Setup → State → Outcome)
+    (serve : Bool → Hardware → State → Served)
+    → Does old answer new (λ refused state. outcome refused (setup_of old.core) state)
+    → ((refused : Bool) (state : State) → RunsAs old state
+    → serve refused (setup_of old.core).machine state
+    ≡ with_outcome state (outcome refused (setup_with (setup_of old.core).machine state.bounds)
+    state))
+    → Serves old answer new serve
+done_here old new answer outcome serve does right =
     λ state stands.
     let d = does state stands in
-    let is : outcome_of d.0 state said ≡ with_outcome state
-    (outcome d.0 (setup_of old.core) state) =
-    served-is old said d.0 state stands ∙ right d.0 state
-    ∙ ap (λ s. with_outcome state (outcome d.0 s state)) (setup_is old state stands) in (
+    let is : serve d.0 (setup_of old.core).machine state
+    ≡ with_outcome state (outcome d.0 (setup_of old.core) state) =
+    right d.0 state stands ∙ ap (λ s. with_outcome state (outcome d.0 s state))
+    (setup-is old state stands) in (
       d.0,
-      ap Some d.1 ∙ sym (ap (λ r. reply_in r.answer) is),
+      ap (λ (r : Served). r.answer) is ∙ ap Replied (sym d.1),
       subst (λ (r : Served). RunsAs new r.state) (sym is) d.2,
     )
 
--- a command, or a line of workers
-pub later_done : (old new : Running) (said : Line) (answer : Reply) (outcome : Bool → Setup → State
-    → Outcome)
-    → Does old answer new (λ refused state. outcome refused (setup_of old.core) state)
-    → ((refused : Bool) (machine : Hardware) (state : State)
-    → served_later refused machine state said ≡ with_outcome state
-    (outcome refused (setup_with machine state.bounds) state))
-    → Takes old said (taken.Reply answer) new
-later_done old new said answer outcome does right = done_here old new said answer outcome does
-    (λ refused state. right refused (setup_of old.core).machine state)
+-- a reply that changes nothing
+pub serves_same : (running : Running) (answer : Reply) (serve : Bool → Hardware → State → Served)
+    → ((state : State) → RunsAs running state
+    → serve false (setup_of running.core).machine state ≡ with_reply answer state)
+    → Serves running answer running serve
+serves_same running answer serve right =
+    λ state stands.
+    let is = right state stands in (
+      false,
+      ap (λ (r : Served). r.answer) is,
+      subst (λ (r : Served). RunsAs running r.state) (sym is) stands,
+    )
 
--- an mbind of length 0 whose mode, flag and nodes don't go together: the kernel's rules make it a
--- command
-pub bound_nothing : (old new : Running) (start : ℕ) (fault : WordError) (answer : Reply)
-    → is_linux (setup_of old.core).machine.rules ≡ true
-    → Does old answer new (λ refused state. event_outcome refused (setup_of old.core) state.world
-    state.resident (Accept (empty_bind start)))
-    → Takes old (line.EmptyBind start fault) (taken.Reply answer) new
-bound_nothing old new start fault answer kernels does =
-    done_here old new (line.EmptyBind start fault) answer
-    (λ refused s state. event_outcome refused s state.world state.resident
-    (Accept (empty_bind start))) does
-    (λ refused state.
-    ap (λ (b : Bool). command_outcome refused (setup_of old.core).machine state
-    (if b then Ok (empty_bind start) else Err fault)) kernels)
-
--- and the documents' a fault
-pub bound_by_documents : (running : Running) (start : ℕ) (fault : WordError)
-    → is_linux (setup_of running.core).machine.rules ≡ false
-    → Takes running (line.EmptyBind start fault) (taken.Reply (reply.BadWord fault)) running
-bound_by_documents running start fault documents =
-    same_here running (line.EmptyBind start fault) (reply.BadWord fault)
-    (λ state.
-    ap (λ (b : Bool). command_outcome false (setup_of running.core).machine state
-    (if b then Ok (empty_bind start) else Err fault)) documents)
-
--- ---- a question and `maps` have no reply
+-- ---- a question, `maps` and `moved` have no reply
 
 abbrev pub HasNone : Running → Running → Line → Type 0
 HasNone old new said = (state : State) → RunsAs old state → (refused : Bool)
     × (None ≡ reply_of refused state said) × RunsAs new (after refused state said)
 
+-- a text is answered, and nothing changes
+shown_has_none : (running : Running) (said : Line) (text : State → List ℕ)
+    → ((state : State) → RunsAs running state
+    → outcome_of false state said ≡ with_text (text state) state) → HasNone running running said
+shown_has_none running said text right =
+    λ state stands.
+    let is = right state stands in (
+      false,
+      sym (ap (λ (r : Served). reply_in r.answer) is),
+      subst (λ (r : Served). RunsAs running r.state) (sym is) stands,
+    )
+
+-- of a line that is this one, on a machine that is as it was
+has_none : (old new : Running) (said here : Line) → said ≡ here → new ≡ old
+    → HasNone new new here → HasNone old new said
+has_none old new said here is same none =
+    subst (λ (l : Line). HasNone old new l) (sym is)
+    (subst (λ (r : Running). HasNone r new here) same none)
+
 pub question_has_none : (old new : Running) (said : Line) (asked : Question)
     → said ≡ line.Question asked → new ≡ old → HasNone old new said
 question_has_none old new said asked is same =
-    subst (λ (l : Line). HasNone old new l) (sym is)
-    (subst (λ (r : Running). HasNone r new (line.Question asked)) same
-    (λ state stands.
-    let is : outcome_of false state (line.Question asked)
-    ≡ with_text (question_text false (setup_of new.core).machine state.world.history asked)
-    state = served-is new (line.Question asked) false state stands in (
-      false,
-      sym (ap (λ r. reply_in r.answer) is),
-      subst (λ (r : Served). RunsAs new r.state)
-          (sym is) stands,
-    )))
+    has_none old new said (line.Question asked) is same
+    (shown_has_none new (line.Question asked)
+    (λ state. question_text false (setup_of new.core).machine state.world.history asked)
+    (served-is new (line.Question asked) false))
 
 pub maps_have_none : (old new : Running) (said : Line) (task : ℕ) → said ≡ line.Maps task
     → new ≡ old → HasNone old new said
 maps_have_none old new said task is same =
-    subst (λ (l : Line). HasNone old new l) (sym is)
-    (subst (λ (r : Running). HasNone r new (line.Maps task)) same
-    (λ state stands.
-    let is : outcome_of false state (line.Maps task)
-    ≡ with_text (listing_of (setup_of new.core).machine state.world.history task state.resident)
-    state = served-is new (line.Maps task) false state stands in (
-      false,
-      sym (ap (λ r. reply_in r.answer) is),
-      subst (λ (r : Served). RunsAs new r.state)
-          (sym is) stands,
-    )))
+    has_none old new said (line.Maps task) is same
+    (shown_has_none new (line.Maps task)
+    (λ state. there_listing (process_on (setup_of new.core).machine state) state.lying.spots task)
+    (served-is new (line.Maps task) false))
+
+pub moved_has_none : (old new : Running) (said : Line) → said ≡ line.Pages (Ok page.Moved)
+    → new ≡ old → HasNone old new said
+moved_has_none old new said is same =
+    has_none old new said (line.Pages (Ok page.Moved)) is same
+    (shown_has_none new (line.Pages (Ok page.Moved))
+    (λ state. last_line (length state.world.history) state.lying.last)
+    (served-is new (line.Pages (Ok page.Moved)) false))

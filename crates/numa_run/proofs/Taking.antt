@@ -1,7 +1,7 @@
 -- A line that is taken, and then answered or judged.
-use Rattle.std.proofs.Common.{◌≡◌, ℕ, Bool, true, false, Option, Some, None, List, refl}
+use Rattle.std.proofs.Common.{◌≡◌, ℕ, Bool, false, Option, Some, None, List, refl}
 use Rattle.std.proofs.Common.{sym, ap, subst, ◌∙◌}
-use Rattle.std.specs.Prelude.{◌↔◌, IsSomeAnd, IsTrue}
+use Rattle.std.specs.Prelude.{◌↔◌, IsSomeAnd, IsTrue, Ok, length}
 use Rattle.std.specs.Option.{option_map}
 use Rattle.numa_core.specs.Standing.{setup_of}
 use Rattle.numa_lines.proofs.Adding.{said_same}
@@ -9,30 +9,34 @@ use Rattle.numa_lines.specs.Written.{Said}
 use Rattle.numa_lines.specs.declared.watched.Watched.{Watched}
 use Rattle.numa_machine.specs.Machine.{Hardware}
 use Rattle.numa_requests.specs.declared.event.CoreRefusal.{CoreRefusal}
-use Rattle.numa_script.specs.Replies.{LacksMemory, fault_in}
+use Rattle.numa_script.specs.Replies.{LacksMemory}
 use Rattle.numa_script.specs.Texts.{text_of}
 use Rattle.numa_script.specs.declared.line.Line.{Line}
 use Rattle.numa_script.specs.declared.line.Line.TheVariants as line
 use Rattle.numa_script.specs.declared.line.Question.{Question}
 use Rattle.numa_script.specs.declared.line.Question.TheVariants as question
+use Rattle.numa_script.specs.declared.page_line.PageLine.TheVariants as page
 use Rattle.numa_script.specs.declared.reply.Reply.{Reply}
 use Rattle.numa_script.specs.declared.reply.Reply.TheVariants as reply
 use Rattle.numa_run.specs.Answers.{State, after, answer_of, reply_of}
 use Rattle.numa_run.specs.Judged.{IsStarved, fault_of, question_cause}
 use Rattle.numa_run.specs.Questions.{question_text}
-use Rattle.numa_run.specs.Ranges.{listing_of}
+use Rattle.numa_run.specs.Listings.{there_listing}
+use Rattle.numa_run.specs.MovedTexts.{last_line}
 use Rattle.numa_run.specs.Replies.{Answer, Replied, Shown, Served, bytes_of, outcome_of, reply_in}
-use Rattle.numa_run.specs.Replies.{served_by, with_reply}
+use Rattle.numa_run.specs.Replies.{served_by, served_first, with_reply}
 use Rattle.numa_run.specs.Scripts.{IsTaken, ScriptStandsFor, ScriptTakes, ScriptTells, ScriptWrites}
 use Rattle.numa_run.specs.Standing.{RunsAs, Stands, Takes}
+use Rattle.numa_run.specs.States.{process_on}
 use Rattle.numa_run.specs.declared.running.Running.{Running}
 use Rattle.numa_run.specs.declared.running.Taken.{Taken}
 use Rattle.numa_run.specs.declared.running.Taken.TheVariants as taken
 use Rattle.numa_run.specs.declared.script.Script.{Script}
 use Rattle.numa_run.specs.declared.settings.Settings.{Settings}
-use Rattle.numa_run.proofs.JudgeLemmas.{asked-fault, listed-fault, asked-starved, listed-starved}
-use Rattle.numa_run.proofs.JudgeLemmas.{reply-starved, served-is, told-judged}
-use Rattle.numa_run.proofs.LineLemmas.{first_is, maps_have_none, question_has_none}
+use Rattle.numa_run.proofs.JudgeLemmas.{asked-fault, asked-starved, faultless-starved}
+use Rattle.numa_run.proofs.JudgeLemmas.{last-fault, listed-fault, reply-starved, served-is}
+use Rattle.numa_run.proofs.JudgeLemmas.{told-judged}
+use Rattle.numa_run.proofs.LineLemmas.{first_is, maps_have_none, moved_has_none, question_has_none}
 
 -- ---- taking
 
@@ -46,6 +50,9 @@ taken-later old new said (taken.Question asked) takes = λ state stands.
     (none.0, (none.1, takes.0), none.2)
 taken-later old new said (taken.Maps task) takes = λ state stands.
     let none = maps_have_none old new said task takes.0 takes.1 state stands in
+    (none.0, (none.1, takes.0), none.2)
+taken-later old new said taken.Moved takes = λ state stands.
+    let none = moved_has_none old new said takes.0 takes.1 state stands in
     (none.0, (none.1, takes.0), none.2)
 
 -- a malformed line changes nothing, whether a machine is ready or not
@@ -90,16 +97,23 @@ maps-same refused state task = by_machine state.machine
     by_machine None = refl
     by_machine (Some machine) = refl
 
--- before a machine is ready they are refused
-unready-question : (settings : Settings) (asked : Question) (state : State)
-    → Stands settings None state
-    → outcome_of false state (line.Question asked) ≡ with_reply reply.BadState state
-unready-question settings asked state stands =
-    first_is settings (line.Question asked) false state stands
+pub moved-same : (refused : Bool) (state : State)
+    → after refused state (line.Pages (Ok page.Moved)) ≡ state
+unfolding outcome_of
+moved-same refused state = by_machine state.machine
+  where
+    by_machine : (machine : Option Hardware)
+        → (served_by machine refused state (line.Pages (Ok page.Moved))).state ≡ state
+    by_machine None = refl
+    by_machine (Some machine) = refl
 
-unready-maps : (settings : Settings) (task : ℕ) (state : State) → Stands settings None state
-    → outcome_of false state (line.Maps task) ≡ with_reply reply.BadState state
-unready-maps settings task state stands = first_is settings (line.Maps task) false state stands
+-- before a machine is ready they are refused
+abbrev IsUnready : Line → Type 0
+IsUnready said = (state : State) → served_first false state said ≡ with_reply reply.BadState state
+
+unready : (settings : Settings) (said : Line) → IsUnready said → (state : State)
+    → Stands settings None state → outcome_of false state said ≡ with_reply reply.BadState state
+unready settings said is state stands = first_is settings said false state stands ∙ is state
 
 told-unready : (said : Line) (state : State)
     → outcome_of false state said ≡ with_reply reply.BadState state
@@ -149,50 +163,73 @@ module _ {W : Type 0} (contents : W → Option (List ℕ)) (output output_then :
         asked-starved old asked lacks state stands ranges,
       )
 
-  pub question-unready : (settings : Settings) (asked : Question)
+  -- a line was answered, and nothing changed
+  abbrev pub IsAnswered : (State → Type 0) → Line → State → Type 0
+  IsAnswered reached said state = (refused : Bool) × reached state
+      × Said contents output output_then (answer_of refused state said)
+      × (IsTrue false ↔ IsStarved refused state said)
+
+  -- no machine is ready
+  unready-written : (settings : Settings) (said : Line) → IsUnready said
       → Said contents output output_then (text_of reply.BadState)
-      → (state : State) → Stands settings None state → (refused : Bool)
-      × Stands settings None state
-      × Said contents output output_then (answer_of refused state (line.Question asked))
-      × (IsTrue false ↔ IsStarved refused state (line.Question asked))
-  question-unready settings asked told = λ state stands.
-      let is = unready-question settings asked state stands in (
+      → (state : State) → Stands settings None state
+      → IsAnswered (Stands settings None) said state
+  unready-written settings said bad told = λ state stands.
+      let is = unready settings said bad state stands in (
         false,
         stands,
         said_same contents output output_then _ _
             (ap (λ (r : Served). bytes_of r.answer) (sym is)) told,
-        starved-unready (line.Question asked) state is,
+        starved-unready said state is,
       )
+
+  pub question-unready : (settings : Settings) (asked : Question)
+      → Said contents output output_then (text_of reply.BadState)
+      → (state : State) → Stands settings None state
+      → IsAnswered (Stands settings None) (line.Question asked) state
+  question-unready settings asked =
+      unready-written settings (line.Question asked) (λ state. refl)
+
+  pub maps-unready : (settings : Settings) (task : ℕ)
+      → Said contents output output_then (text_of reply.BadState)
+      → (state : State) → Stands settings None state
+      → IsAnswered (Stands settings None) (line.Maps task) state
+  maps-unready settings task = unready-written settings (line.Maps task) (λ state. refl)
+
+  pub moved-unready : (settings : Settings)
+      → Said contents output output_then (text_of reply.BadState)
+      → (state : State) → Stands settings None state
+      → IsAnswered (Stands settings None) (line.Pages (Ok page.Moved)) state
+  moved-unready settings = unready-written settings (line.Pages (Ok page.Moved)) (λ state. refl)
 
   -- the ranges were listed
   pub maps-written : (running : Running) (task : ℕ)
       → ((state : State) → RunsAs running state → Said contents output output_then
-      (listing_of (setup_of running.core).machine state.world.history task state.resident))
-      → (state : State) → RunsAs running state → (refused : Bool) × RunsAs running state
-      × Said contents output output_then (answer_of refused state (line.Maps task))
-      × (IsTrue false ↔ IsStarved refused state (line.Maps task))
+      (there_listing (process_on (setup_of running.core).machine state) state.lying.spots task))
+      → (state : State) → RunsAs running state
+      → IsAnswered (RunsAs running) (line.Maps task) state
   maps-written running task lists = λ state stands.
       let is = served-is running (line.Maps task) false state stands in (
         false,
         stands,
         said_same contents output output_then _ _
             (ap (λ (r : Served). bytes_of r.answer) (sym is)) (lists state stands),
-        listed-starved running task state stands,
+        faultless-starved (line.Maps task) state (listed-fault running task state stands),
       )
 
-  pub maps-unready : (settings : Settings) (task : ℕ)
-      → Said contents output output_then (text_of reply.BadState)
-      → (state : State) → Stands settings None state → (refused : Bool)
-      × Stands settings None state
-      × Said contents output output_then (answer_of refused state (line.Maps task))
-      × (IsTrue false ↔ IsStarved refused state (line.Maps task))
-  maps-unready settings task told = λ state stands.
-      let is = unready-maps settings task state stands in (
+  -- what the last move did was told
+  pub moved-written : (running : Running)
+      → ((state : State) → RunsAs running state → Said contents output output_then
+      (last_line (length state.world.history) state.lying.last))
+      → (state : State) → RunsAs running state
+      → IsAnswered (RunsAs running) (line.Pages (Ok page.Moved)) state
+  moved-written running tells = λ state stands.
+      let is = served-is running (line.Pages (Ok page.Moved)) false state stands in (
         false,
         stands,
         said_same contents output output_then _ _
-            (ap (λ (r : Served). bytes_of r.answer) (sym is)) told,
-        starved-unready (line.Maps task) state is,
+            (ap (λ (r : Served). bytes_of r.answer) (sym is)) (tells state stands),
+        faultless-starved (line.Pages (Ok page.Moved)) state (last-fault running state stands),
       )
 
   -- a line was taken, and then its answer was written
@@ -236,6 +273,16 @@ module _ {W : Type 0} (contents : W → Option (List ℕ)) (output output_then :
         w.2,
         w.3,
       )
+  served old mid new said taken.Moved lacks takes writes = λ state stands.
+      let t = takes state stands in
+      let same = ap (after t.0 state) t.1.1 ∙ moved-same t.0 state in
+      let w = writes state (subst (ScriptStandsFor mid) same t.2) in
+      subst (λ (l : Line). IsServed old new l lacks state) (sym t.1.1) (
+        w.0,
+        subst (ScriptStandsFor new) (sym (moved-same w.0 state)) w.1,
+        w.2,
+        w.3,
+      )
 
 -- ---- judging
 
@@ -250,30 +297,41 @@ question-told old new asked cause h = λ state stands.
     let a = h state stands in
     (a.0, ap (option_map reply.Refused) a.2 ∙ asked-fault old asked a.0 state stands, a.1)
 
-pub question-bad : (settings : Settings) (asked : Question) (state : State)
+-- nothing changed, and this fault was told of a line
+abbrev pub IsTold : (State → Type 0) → Line → Option Reply → State → Type 0
+IsTold reached said fault state =
+    (refused : Bool) × (fault ≡ fault_of refused state said) × reached state
+
+unready-told : (settings : Settings) (said : Line) → IsUnready said → (state : State)
     → Stands settings None state
-    → (refused : Bool) × (Some reply.BadState ≡ fault_of refused state (line.Question asked))
-    × Stands settings None state
-question-bad settings asked state stands = (
+    → IsTold (Stands settings None) said (Some reply.BadState) state
+unready-told settings said bad state stands = (
   false,
-  told-judged reply.BadState false state (line.Question asked)
-      (told-unready (line.Question asked) state (unready-question settings asked state stands)),
+  told-judged reply.BadState false state said
+      (told-unready said state (unready settings said bad state stands)),
   stands,
 )
 
+pub question-bad : (settings : Settings) (asked : Question) (state : State)
+    → Stands settings None state
+    → IsTold (Stands settings None) (line.Question asked) (Some reply.BadState) state
+question-bad settings asked = unready-told settings (line.Question asked) (λ state. refl)
+
 pub maps-told : (running : Running) (task : ℕ) (state : State) → RunsAs running state
-    → (refused : Bool) × (None ≡ fault_of refused state (line.Maps task)) × RunsAs running state
+    → IsTold (RunsAs running) (line.Maps task) None state
 maps-told running task state stands = (false, listed-fault running task state stands, stands)
 
 pub maps-bad : (settings : Settings) (task : ℕ) (state : State) → Stands settings None state
-    → (refused : Bool) × (Some reply.BadState ≡ fault_of refused state (line.Maps task))
-    × Stands settings None state
-maps-bad settings task state stands = (
-  false,
-  told-judged reply.BadState false state (line.Maps task)
-      (told-unready (line.Maps task) state (unready-maps settings task state stands)),
-  stands,
-)
+    → IsTold (Stands settings None) (line.Maps task) (Some reply.BadState) state
+maps-bad settings task = unready-told settings (line.Maps task) (λ state. refl)
+
+pub moved-told : (running : Running) (state : State) → RunsAs running state
+    → IsTold (RunsAs running) (line.Pages (Ok page.Moved)) None state
+moved-told running state stands = (false, last-fault running state stands, stands)
+
+pub moved-bad : (settings : Settings) (state : State) → Stands settings None state
+    → IsTold (Stands settings None) (line.Pages (Ok page.Moved)) (Some reply.BadState) state
+moved-bad settings = unready-told settings (line.Pages (Ok page.Moved)) (λ state. refl)
 
 -- a line was taken, and then its fault or refusal was told
 abbrev IsJudged : Script → Line → Option Reply → State → Type 0
@@ -299,3 +357,9 @@ judged old mid new said (taken.Maps task) fault takes tells = λ state stands.
     let w = tells state (subst (ScriptStandsFor mid) same t.2) in
     subst (λ (l : Line). IsJudged new l fault state) (sym t.1.1)
     (w.0, w.1, subst (ScriptStandsFor new) (sym (maps-same w.0 state task)) w.2)
+judged old mid new said taken.Moved fault takes tells = λ state stands.
+    let t = takes state stands in
+    let same = ap (after t.0 state) t.1.1 ∙ moved-same t.0 state in
+    let w = tells state (subst (ScriptStandsFor mid) same t.2) in
+    subst (λ (l : Line). IsJudged new l fault state) (sym t.1.1)
+    (w.0, w.1, subst (ScriptStandsFor new) (sym (moved-same w.0 state)) w.2)

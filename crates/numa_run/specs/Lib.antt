@@ -1,6 +1,11 @@
+pub mod Answering
 pub mod Answers
 pub mod Judged
+pub mod Listings
 pub mod Machines
+pub mod MovedTexts
+pub mod Obeying
+pub mod PageLines
 pub mod Questions
 pub mod Ranges
 pub mod Replies

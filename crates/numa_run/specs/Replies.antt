@@ -1,54 +1,25 @@
 -- What each line of a script is answered, and the state after it. `refused` says whether a growth
 -- was refused while the line was served.
-use Rattle.std.specs.Prelude.{ℕ, Bool, Option, Some, None, List, [], if◌then◌else◌, Result, Ok, Err}
+use Rattle.std.specs.Prelude.{ℕ, Bool, Option, Some, None, [], if◌then◌else◌, Result, Ok, Err}
 use Rattle.numa_mask.specs.declared.list.ListFault.{ListFault}
 use Rattle.numa_machine.specs.Machine.{Hardware}
-use Rattle.numa_machine.specs.Rules.{is_linux}
-use Rattle.numa_machine.specs.declared.rules.Rules.{Rules}
 use Rattle.numa_machine.specs.declared.fault.MachineFault.{MachineFault}
-use Rattle.numa_requests.specs.declared.command.Command.{Command}
 use Rattle.numa_core.specs.World.{opening}
-use Rattle.numa_requests.specs.declared.event.Event.TheVariants.{Accept}
-use Rattle.numa_script.specs.Lines.{empty_bind}
-use Rattle.numa_script.specs.declared.policy.WordError.{WordError}
+use Rattle.numa_page_state.specs.Lying.{nothing}
 use Rattle.numa_script.specs.declared.policy.WordError.TheVariants as word_fault
 use Rattle.numa_script.specs.declared.line.MachineLine.{MachineLine}
 use Rattle.numa_script.specs.declared.line.Line.{Line}
 use Rattle.numa_script.specs.declared.line.Line.TheVariants as line
-use Rattle.numa_run.specs.Machines.{limits_fit, nodes_with_cpus, hardware_of, first_fault}
-use Rattle.numa_run.specs.Questions.{question_text}
-use Rattle.numa_run.specs.Ranges.{listing_of}
-use Rattle.numa_run.specs.States.{State, setup_with}
-use Rattle.numa_script.specs.Texts.{text_of}
-use Rattle.numa_run.specs.Work.{Outcome, event_outcome, work_outcome}
-use Rattle.numa_script.specs.declared.reply.Reply.{Reply}
 use Rattle.numa_script.specs.declared.reply.Reply.TheVariants as reply
-
--- an answer: a reply, or the text that a question or `maps` is answered
-pub data Answer : Type 0 where
-  Replied : Reply → Answer
-  Shown : List ℕ → Answer
-
--- the bytes of an answer, and its reply, where it is one
-abbrev pub bytes_of : Answer → List ℕ
-bytes_of (Replied answer) = text_of answer
-bytes_of (Shown text) = text
-
-abbrev pub reply_in : Answer → Option Reply
-reply_in (Replied answer) = Some answer
-reply_in (Shown text) = None
-
--- what serving a line comes to: the answer, and the state after it
-pub record Served : Type 0 where
-  pub answer : Answer
-  pub state : State
-
--- an answer that changes nothing
-abbrev pub with_reply : Reply → State → Served
-with_reply answer state = record { answer = Replied answer; state = state }
-
-abbrev pub with_text : List ℕ → State → Served
-with_text text state = record { answer = Shown text; state = state }
+pub use Rattle.numa_run.specs.Answering.{Answer, Replied, Shown, Served, bytes_of, reply_in}
+pub use Rattle.numa_run.specs.Answering.{with_outcome, with_reply, with_text}
+use Rattle.numa_run.specs.Listings.{there_listing}
+use Rattle.numa_run.specs.Machines.{limits_fit, nodes_with_cpus, hardware_of, first_fault}
+pub use Rattle.numa_run.specs.Obeying.{bind_nothing}
+use Rattle.numa_run.specs.Obeying.{bound_command, bound_outcome, command_outcome}
+use Rattle.numa_run.specs.PageLines.{pages_outcome, work_served}
+use Rattle.numa_run.specs.Questions.{question_text}
+use Rattle.numa_run.specs.States.{State, process_on}
 
 -- ---- before a machine is ready
 
@@ -76,6 +47,7 @@ machine_unless None hardware state =
       machine = Some hardware;
       world = opening;
       resident = [];
+      lying = nothing;
     })
 machine_unless (Some fault) hardware state = with_reply (reply.BadMachine fault) state
 
@@ -103,29 +75,12 @@ served_first refused state (line.EmptyBind start fault) = with_reply reply.BadSt
 served_first refused state (line.Question said) = with_reply reply.BadState state
 served_first refused state (line.Maps task) = with_reply reply.BadState state
 served_first refused state (line.Work said) = with_reply reply.BadState state
-served_first refused state (line.Pages said) = with_reply reply.BadWords state
-served_first refused state (line.Bind start bytes policy pages) = with_reply reply.BadWords state
+served_first refused state (line.Pages said) = with_reply reply.BadState state
+served_first refused state (line.Bind start bytes policy pages) = with_reply reply.BadState state
 served_first refused state line.Host = with_reply reply.BadWords state
 served_first refused state (line.HostCommand said) = with_reply reply.BadWords state
 
 -- ---- with a machine
-
-abbrev pub with_outcome : State → Outcome → Served
-with_outcome state outcome =
-    with_reply outcome.reply (record state { world = outcome.world; resident = outcome.resident })
-
--- map, unmap, mbind, home, task, weight, mems: a fault of a list or a policy comes before every
--- refusal
-abbrev pub command_outcome : Bool → Hardware → State → Result Command WordError → Served
-command_outcome refused machine state (Err fault) = with_reply (reply.BadWord fault) state
-command_outcome refused machine state (Ok command) =
-    with_outcome state (event_outcome refused (setup_with machine state.bounds) state.world
-    state.resident (Accept command))
-
--- an mbind of length 0 whose mode, flag and nodes don't go together is a fault by the documents. A
--- kernel returns before it judges them
-abbrev pub bind_nothing : Rules → ℕ → WordError → Result Command WordError
-bind_nothing rules start fault = if is_linux rules then Ok (empty_bind start) else Err fault
 
 abbrev pub served_later : Bool → Hardware → State → Line → Served
 served_later refused machine state line.Silent = with_reply reply.Silent state
@@ -141,13 +96,11 @@ served_later refused machine state (line.EmptyBind start fault) =
 served_later refused machine state (line.Question said) =
     with_text (question_text refused machine state.world.history said) state
 served_later refused machine state (line.Maps task) =
-    with_text (listing_of machine state.world.history task state.resident) state
-served_later refused machine state (line.Work said) =
-    with_outcome state (work_outcome refused (setup_with machine state.bounds) state.world
-    state.resident said)
-served_later refused machine state (line.Pages said) = with_reply reply.BadWords state
+    with_text (there_listing (process_on machine state) state.lying.spots task) state
+served_later refused machine state (line.Work said) = work_served refused machine state said
+served_later refused machine state (line.Pages said) = pages_outcome refused machine state said
 served_later refused machine state (line.Bind start bytes policy pages) =
-    with_reply reply.BadWords state
+    bound_outcome refused machine state pages (bound_command machine.rules start bytes policy)
 served_later refused machine state line.Host = with_reply reply.BadWords state
 served_later refused machine state (line.HostCommand said) = with_reply reply.BadWords state
 

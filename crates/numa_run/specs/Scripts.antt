@@ -1,12 +1,13 @@
 -- Which states a running script stands for, and what it replies.
 use Rattle.std.specs.Prelude.{◌≡◌, ◌↔◌, ℕ, Bool, List, Option, Some, None, IsSome, IsSomeAnd}
-use Rattle.std.specs.Prelude.{IsTrue}
+use Rattle.std.specs.Prelude.{IsTrue, Ok}
 use Rattle.numa_lines.specs.Written.{Said}
 use Rattle.numa_lines.specs.declared.watched.Watched.{Watched}
 use Rattle.numa_maps.specs.Residents.{Kept}
 use Rattle.numa_script.specs.Replies.{LacksMemory, fault_in}
 use Rattle.numa_script.specs.declared.line.Line.{Line}
 use Rattle.numa_script.specs.declared.line.Line.TheVariants as line
+use Rattle.numa_script.specs.declared.page_line.PageLine.TheVariants as page
 use Rattle.numa_run.specs.Judged.{fault_of}
 use Rattle.numa_run.specs.Replies.{Answer, Replied, bytes_of, outcome_of}
 pub use Rattle.numa_run.specs.Standing.{IsCoreIn}
@@ -52,6 +53,8 @@ IsTaken refused state said (taken.Question asked) =
     (None ≡ reply_of refused state said) × (said ≡ line.Question asked)
 IsTaken refused state said (taken.Maps task) =
     (None ≡ reply_of refused state said) × (said ≡ line.Maps task)
+IsTaken refused state said taken.Moved =
+    (None ≡ reply_of refused state said) × (said ≡ line.Pages (Ok page.Moved))
 
 -- the line was carried out, and the state that the definition says is reached
 abbrev pub ScriptTakes : Script → Line → Taken → Script → Type 0
@@ -66,11 +69,14 @@ answer_left refused state (taken.Reply answer) = Replied answer
 answer_left refused state (taken.Question asked) =
     (outcome_of refused state (line.Question asked)).answer
 answer_left refused state (taken.Maps task) = (outcome_of refused state (line.Maps task)).answer
+answer_left refused state taken.Moved =
+    (outcome_of refused state (line.Pages (Ok page.Moved))).answer
 
 abbrev pub fault_left : Bool → State → Taken → Option Reply
 fault_left refused state (taken.Reply answer) = fault_in answer
 fault_left refused state (taken.Question asked) = fault_of refused state (line.Question asked)
 fault_left refused state (taken.Maps task) = fault_of refused state (line.Maps task)
+fault_left refused state taken.Moved = fault_of refused state (line.Pages (Ok page.Moved))
 
 -- the answer was said, and nothing else changed; and whether it tells lack of memory
 abbrev pub ScriptWrites : {W : Type 0} → (W → Option (List ℕ)) → Script → Watched W → Taken → Bool

@@ -1,8 +1,12 @@
 -- Which states a running machine stands for, and what it does with lines.
-use Rattle.std.specs.Prelude.{◌≡◌, Bool, Option, Some, None}
+use Rattle.std.specs.Prelude.{◌≡◌, Bool, Option, Some, None, Ok}
+use Rattle.numa_machine.specs.Machine.{Hardware}
+use Rattle.numa_page_state.specs.Standing.{Lies}
 use Rattle.numa_core.specs.Standing.{CoreState, CoreStandsFor, setup_of}
 use Rattle.numa_script.specs.declared.line.Line.{Line}
 use Rattle.numa_script.specs.declared.line.Line.TheVariants as line
+use Rattle.numa_script.specs.declared.page_line.PageLine.TheVariants as page
+use Rattle.numa_run.specs.Answering.{Replied, Served}
 use Rattle.numa_run.specs.Answers.{reply_of, after}
 use Rattle.numa_run.specs.States.{State}
 use Rattle.numa_run.specs.Work.{Outcome}
@@ -20,10 +24,12 @@ pub record IsCoreIn (core : CoreState) (state : State) : Type 0 where
   pub workers : (setup_of core).workers ≡ 4
   pub world : CoreStandsFor core state.world
 
--- a running machine stands for the state: its core is the state's, and the same pages are placed
+-- a running machine stands for the state: its core is the state's, the same pages are placed, and
+-- other pages lie alike
 pub record RunsAs (running : Running) (state : State) : Type 0 where
   pub core : IsCoreIn running.core state
   pub resident : running.resident ≡ state.resident
+  pub lies : Lies running.pages state.lying
 
 -- without a running machine the limits, the rules and the nodes with CPUs are those of the machine
 -- to come
@@ -44,6 +50,13 @@ Does old answer new outcome =
     → (refused : Bool) × (answer ≡ (outcome refused state).reply)
     × RunsAs new (state_with state (outcome refused state))
 
+-- the same of a line that may change where pages lie
+abbrev pub Serves : Running → Reply → Running → (Bool → Hardware → State → Served) → Type 0
+Serves old answer new serve =
+    (state : State) → RunsAs old state
+    → (refused : Bool) × ((serve refused old.core.space.machine state).answer ≡ Replied answer)
+    × RunsAs new (serve refused old.core.space.machine state).state
+
 -- the line has the reply that the definition says, and the state that it says is reached
 abbrev pub Replies : Settings → Option Running → Line → Option Reply → Settings → Option Running
     → Type 0
@@ -52,7 +65,8 @@ Replies settings running said answer settings_then running_then =
     → (refused : Bool) × (answer ≡ reply_of refused state said)
     × Stands settings_then running_then (after refused state said)
 
--- the same where a machine is ready; a question and a line `maps` are passed on, and change nothing
+-- the same where a machine is ready; a question and the lines `maps` and `moved` are passed on, and
+-- change nothing
 abbrev pub Takes : Running → Line → Taken → Running → Type 0
 Takes old said (taken.Reply answer) new =
     (state : State) → RunsAs old state
@@ -60,3 +74,4 @@ Takes old said (taken.Reply answer) new =
     × RunsAs new (after refused state said)
 Takes old said (taken.Question asked) new = (said ≡ line.Question asked) × (new ≡ old)
 Takes old said (taken.Maps task) new = (said ≡ line.Maps task) × (new ≡ old)
+Takes old said taken.Moved new = (said ≡ line.Pages (Ok page.Moved)) × (new ≡ old)

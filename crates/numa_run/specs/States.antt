@@ -1,15 +1,17 @@
 -- What the lines of a script so far have brought about.
-use Rattle.std.specs.Prelude.{ℕ, Option, None, []}
+use Rattle.std.specs.Prelude.{◌≡◌, ℕ, Option, None, []}
 use Rattle.numa_machine.specs.Machine.{Hardware}
 use Rattle.numa_machine.specs.declared.rules.Rules.{Rules}
 use Rattle.numa_machine.specs.declared.rules.Rules.TheVariants.{Document}
 use Rattle.numa_space.specs.Limited.{Bounds}
 use Rattle.numa_core.specs.World.{Setup, World, opening}
 use Rattle.numa_maps.specs.Residents.{Kept}
+use Rattle.numa_placed.specs.declared.spot.Spot.TheVariants.{Nowhere}
+use Rattle.numa_page_state.specs.Lying.{Lying, Process, nothing}
 
 -- the limits; whose rules count on the machine to come, and the set of its nodes with CPUs, where a
--- line named them; the machine, once it is ready; the core's world, with the accepted commands; and
--- the pages that `touch` has placed
+-- line named them; the machine, once it is ready; the core's world, with the accepted commands; the
+-- pages that `touch` has placed; and where other pages lie
 pub record State : Type 0 where
   pub bounds : Bounds
   pub rules : Rules
@@ -17,6 +19,7 @@ pub record State : Type 0 where
   pub machine : Option Hardware
   pub world : World
   pub resident : Kept
+  pub lying : Lying
 
 -- the limits where no line gives others
 abbrev pub usual_bounds : Bounds
@@ -31,12 +34,26 @@ start_by rules = record {
   machine = None;
   world = opening;
   resident = [];
+  lying = nothing;
 }
 
 -- the same by the rules of the documents
 abbrev pub start : State
 start = start_by Document
 
+-- no page was stated to lie anywhere
+abbrev pub LieNowhere : State → Type 0
+LieNowhere state = (page : ℕ) → state.lying.spots page ≡ Nowhere
+
 -- a core has 4 workers
 abbrev pub setup_with : Hardware → Bounds → Setup
 setup_with machine bounds = record { machine = machine; bounds = bounds; workers = 4 }
+
+-- the process, on a machine that is ready
+abbrev pub process_on : Hardware → State → Process
+process_on machine state = record {
+  machine = machine;
+  bounds = state.bounds;
+  history = state.world.history;
+  kept = state.resident;
+}

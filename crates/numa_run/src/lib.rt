@@ -1,8 +1,13 @@
 //! Running scripts: from a line to its reply or its answer.
 #![tactic(auto)]
 
+mod binding;
 mod build;
 pub mod judging;
+mod listing;
+mod moved;
+mod obeying;
+mod paging;
 pub mod questions;
 mod running;
 mod script;

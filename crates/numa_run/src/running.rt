@@ -1,25 +1,33 @@
 //! Running machines.
-ghost use Rattle.std.specs.Prelude.{◌≡◌, Bool, List, [], None, Some, true, false, MatchResult};
+ghost use Rattle.std.specs.Prelude.{◌≡◌, Bool, List, [], None, Some, true, false, length};
+ghost use Rattle.std.specs.Prelude.{MatchResult};
 ghost use Rattle.numa_lines.specs.Written.{Said};
 ghost use Rattle.numa_core.specs.Standing.{setup_of};
-ghost use Rattle.numa_core.specs.Steps.{accept_answer, version_of};
 ghost use Rattle.numa_space.specs.Standing.{StandsFor};
 ghost use Rattle.numa_requests.specs.declared.command.Command.{Command};
 ghost use Rattle.numa_run.specs.Answers.{State};
 ghost use Rattle.numa_run.specs.Judged.{question_cause};
 ghost use Rattle.numa_run.specs.Questions.{question_text};
-ghost use Rattle.numa_run.specs.Ranges.{listing_of};
-ghost use Rattle.numa_run.specs.Standing.{Does, RunsAs, Takes};
-ghost use Rattle.numa_run.specs.Work.{kept_outcome, release_outcome, touch_outcome, work_outcome};
+ghost use Rattle.numa_run.specs.Listings.{there_listing};
+ghost use Rattle.numa_run.specs.MovedTexts.{last_line};
+ghost use Rattle.numa_run.specs.Obeying.{bind_nothing, command_outcome};
+ghost use Rattle.numa_run.specs.PageLines.{work_served};
+ghost use Rattle.numa_run.specs.Standing.{Does, RunsAs, Serves, Takes};
+ghost use Rattle.numa_run.specs.States.{process_on};
+ghost use Rattle.numa_run.specs.Work.{kept_outcome, release_outcome, touch_outcome};
 ghost use Rattle.numa_run.specs.Work.{won_by};
 ghost use Rattle.numa_script.specs.Replies.{reply_to};
 
 use crate::judging::{cause_at, refusal_by_plan};
+use crate::listing::say_there;
+use crate::moved::{say_last, say_told};
 use crate::questions::{fault_at, say_pages, say_place, say_place_in, say_span};
-use numa_core::{Acceptance, Core};
+use numa_core::Core;
 use numa_lines::Watched;
-use numa_maps::{RecordRefusal, Resident, say_maps};
-use numa_requests::{CoreRefusal, CoreReply, Event, Placement, Refusal, Request};
+use numa_maps::{RecordRefusal, Resident};
+use numa_page_state::PageState;
+use numa_page_state::state::{is_there, still};
+use numa_requests::{Command, CoreRefusal, CoreReply, Event, Placement, Request};
 use numa_script::commands::empty_bind;
 use numa_script::tell::{say_ranges, say_starved};
 use numa_script::{Line, Question, Reply, Win, WordError, Work};
@@ -79,16 +87,6 @@ fn answered_by_space<W: Write>(core: &mut Core, question: Question, output: &mut
     true
 }
 
-/// The reply to a command, from the core's answer.
-fn command_reply(answer: Result<Acceptance, Refusal>) -> Reply
-    ensures { result ≡ reply_to (accept_answer (version_of answer)) }
-{
-    match answer {
-        Ok(acceptance) => Reply::Accepted(acceptance.version),
-        Err(refusal) => Reply::Refused(CoreRefusal::Command(refusal)),
-    }
-}
-
 /// What a line came to: it has been carried out, or its answer shows what is.
 #[derive(Drop)]
 pub enum Taken {
@@ -98,13 +96,17 @@ pub enum Taken {
     Question(Question),
     /// The ranges are still to be listed, for a task.
     Maps(u32),
+    /// What the last move did is still to be told.
+    Moved,
 }
 
-/// A running machine: its core, which keeps the plan that answers questions, and the placed pages.
+/// A running machine: its core, which keeps the plan that answers questions, the placed pages, and
+/// where other pages lie, once a line says so.
 #[derive(Drop)]
 pub(crate) struct Running {
     pub core: Core,
     pub resident: Resident,
+    pub pages: Option<PageState>,
 }
 
 impl Running {
@@ -112,10 +114,12 @@ impl Running {
     pub fn new(alloc: Global, core: Core) -> Running
         ensures core { result.core ≡ core }
         ensures resident { result.resident ≡ [] }
+        ensures pages { result.pages ≡ None }
     {
         Running {
             core,
             resident: Resident::new(alloc),
+            pages: None,
         }
     }
 
@@ -171,17 +175,22 @@ impl Running {
         Reply::to_event(&answer)
     }
 
-    /// Carries out a line of workers.
+    /// Carries out a line of workers. A page that is there isn't touched for the first time.
     pub fn work(&mut self, work: Work) -> Reply
-        ensures { Does self.old result self.new (λ refused state.
-            work_outcome refused (setup_of self.old.core) state.world state.resident work) }
+        ensures { Serves self.old result self.new (λ refused machine state.
+            work_served refused machine state work) }
     {
         match work {
             Work::Event(event) => {
                 let answer = self.core.step(event);
                 Reply::to_event(&answer)
             }
-            Work::Touch(worker, request) => self.touch(worker, request),
+            Work::Touch(worker, request) => {
+                if is_there(&self.pages, request.page) {
+                    return Reply::Placed;
+                }
+                self.touch(worker, request)
+            }
             Work::Release(worker, page) => self.release(worker, page),
         }
     }
@@ -251,31 +260,58 @@ impl Running {
         }
     }
 
-    /// Lists the ranges, with their policies for a task and the placed pages.
+    /// Lists the ranges, with their policies for a task, the placed pages and those that are there.
     pub fn list<W: Write>(&self, task: u32, output: &mut Watched<W>)
         ensures { (state : State) → RunsAs self.now state
-            → Said W.contents output.old output.new (listing_of self.now.core.space.machine
-            state.world.history task state.resident) }
+            → Said W.contents output.old output.new (there_listing
+            (process_on self.now.core.space.machine state) state.lying.spots task) }
     {
         let space = self.core.space();
         // Tells the proof that the ranges are in ascending order and maximal.
         let _ = space.range_iter();
-        say_maps(space, task, &self.resident, output);
+        say_there(space, task, &self.resident, &self.pages, output);
+    }
+
+    /// Writes what the last move did.
+    #[inline(never)]
+    pub fn tell_last<W: Write>(&self, output: &mut Watched<W>)
+        ensures { (state : State) → RunsAs self.now state
+            → Said W.contents output.old output.new
+            (last_line (length state.world.history) state.lying.last) }
+    {
+        let version = self.core.space().version();
+        match &self.pages {
+            Some(kept) => say_last(output, version, kept.last()),
+            None => say_told(output, version, &still()),
+        }
+    }
+
+    /// Carries out a command, or tells what is wrong with its list or its policy.
+    #[inline(always)]
+    pub(crate) fn command(&mut self, said: &Result<Command, WordError>) -> Reply
+        ensures { Serves self.old result self.new (λ refused machine state.
+            command_outcome refused machine state said.now) }
+    {
+        match said {
+            Ok(command) => self.obey(command),
+            Err(fault) => Reply::BadWord(*fault),
+        }
     }
 
     /// Carries out an `mbind` of length 0 whose mode, flag and nodes are refused together.
     fn bind_nothing(&mut self, start: u64, fault: WordError) -> Reply
-        ensures { Takes self.old (Line.EmptyBind start fault) (Taken.Reply result) self.new }
+        ensures { Serves self.old result self.new (λ refused machine state.
+            command_outcome refused machine state (bind_nothing machine.rules start fault)) }
     {
         if self.core.space().machine().rules().is_linux() {
-            return command_reply(self.core.accept(&empty_bind(start)));
+            return self.accept(&empty_bind(start));
         }
         Reply::BadWord(fault)
     }
 
-    /// Carries out a line. The answer to a question or a line `maps` is still to be written.
+    /// Carries out a line. The answer to a question, `maps` or `moved` is still to be written.
     #[inline(always)]
-    pub fn take(&mut self, line: &Line<'_>) -> Taken
+    pub fn take(&mut self, alloc: Global, line: &Line<'_>) -> Taken
         ensures { Takes self.old line.now result self.new }
     {
         match line {
@@ -285,16 +321,18 @@ impl Running {
             Line::Rules(_) => Taken::Reply(Reply::BadState),
             Line::Cpus(_) => Taken::Reply(Reply::BadState),
             Line::Machine(_) => Taken::Reply(Reply::BadState),
-            Line::Command(said) => match said {
-                Ok(command) => Taken::Reply(command_reply(self.core.accept(command))),
-                Err(fault) => Taken::Reply(Reply::BadWord(*fault)),
-            },
+            Line::Command(said) => Taken::Reply(self.command(said)),
             Line::EmptyBind { start, fault } => Taken::Reply(self.bind_nothing(*start, *fault)),
             Line::Work(work) => Taken::Reply(self.work(*work)),
             Line::Question(question) => Taken::Question(*question),
             Line::Maps(task) => Taken::Maps(*task),
-            Line::Pages(_) => Taken::Reply(Reply::BadWords),
-            Line::Bind { .. } => Taken::Reply(Reply::BadWords),
+            Line::Pages(said) => self.page(alloc, said),
+            Line::Bind {
+                start,
+                length,
+                policy,
+                pages,
+            } => Taken::Reply(self.bind(alloc, *start, *length, policy, pages)),
             Line::Host => Taken::Reply(Reply::BadWords),
             Line::HostCommand(_) => Taken::Reply(Reply::BadWords),
         }

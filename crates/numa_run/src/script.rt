@@ -82,7 +82,7 @@ impl Script {
         ensures { ScriptTakes self.old line.now result self.new }
     {
         if let Some(running) = &mut self.running {
-            return running.take(line);
+            return running.take(alloc, line);
         }
         Taken::Reply(self.reply_first(alloc, line))
     }
@@ -112,6 +112,10 @@ impl Script {
             Taken::Question(question) => self.answer(alloc, question, output),
             Taken::Maps(task) => {
                 self.list(task, output);
+                false
+            }
+            Taken::Moved => {
+                self.tell_last(output);
                 false
             }
         }
@@ -147,6 +151,18 @@ impl Script {
         running.list(task, output);
     }
 
+    /// Writes what the last move did.
+    fn tell_last<W: Write>(&self, output: &mut Watched<W>)
+        ensures { ScriptWrites W.contents self.now output.old Taken.Moved false
+            self.now output.new }
+    {
+        let Some(running) = &self.running else {
+            say_reply(output, &Reply::BadState);
+            return;
+        };
+        running.tell_last(output);
+    }
+
     /// The error or the refusal of a line that was taken; `None` if its answer is neither. A
     /// question is judged and not answered.
     pub fn fault(&mut self, taken: Taken) -> Option<Reply>
@@ -155,7 +171,8 @@ impl Script {
         match taken {
             Taken::Reply(reply) => reply.fault(),
             Taken::Question(question) => self.question_fault(question),
-            Taken::Maps(_) => self.list_fault(),
+            Taken::Maps(_) => self.text_fault(),
+            Taken::Moved => self.text_fault(),
         }
     }
 
@@ -172,9 +189,10 @@ impl Script {
         Some(Reply::BadState)
     }
 
-    /// The error of a listing.
-    fn list_fault(&self) -> Option<Reply>
-        ensures { (task : ℕ) → ScriptTells self.now (Taken.Maps task) result self.now }
+    /// The error of a line that is answered by a text that no cause refuses.
+    fn text_fault(&self) -> Option<Reply>
+        ensures maps { (task : ℕ) → ScriptTells self.now (Taken.Maps task) result self.now }
+        ensures moved { ScriptTells self.now Taken.Moved result self.now }
     {
         match &self.running {
             Some(_) => None,
@@ -182,8 +200,8 @@ impl Script {
         }
     }
 
-    /// Carries out a line and returns its reply. A question to a ready machine and a line `maps`
-    /// have none, and change nothing: their answers are texts, which `serve` writes.
+    /// Carries out a line and returns its reply. A question to a ready machine and lines `maps` and
+    /// `moved` have none, and change nothing: their answers are texts, which `serve` writes.
     pub fn reply(&mut self, alloc: Global, line: &Line<'_>) -> Option<Reply>
         ensures { ScriptReplies self.old line.now result self.new }
     {
@@ -191,6 +209,7 @@ impl Script {
             Taken::Reply(reply) => Some(reply),
             Taken::Question(_) => None,
             Taken::Maps(_) => None,
+            Taken::Moved => None,
         }
     }
 
@@ -314,8 +333,8 @@ impl Script {
             Line::Question(_) => Reply::BadState,
             Line::Maps(_) => Reply::BadState,
             Line::Work(_) => Reply::BadState,
-            Line::Pages(_) => Reply::BadWords,
-            Line::Bind { .. } => Reply::BadWords,
+            Line::Pages(_) => Reply::BadState,
+            Line::Bind { .. } => Reply::BadState,
             Line::Host => Reply::BadWords,
             Line::HostCommand(_) => Reply::BadWords,
         }

@@ -1,4 +1,4 @@
-use Rattle.std.proofs.Common.{ap, refl, subst, sym}
+use Rattle.std.proofs.Common.{ap, refl, subst}
 use Rattle.numa_lines.proofs.Adding.{said_same}
 use Rattle.numa_lines.specs.Written.{Said}
 use Rattle.numa_core.specs.Standing.{CoreState}
@@ -11,8 +11,8 @@ pub returns-then-answered_by_space-clause-answer :
 returns-then-answered_by_space-clause-answer g c =
     λ state stands. (
       same-core c.args.self.now
-          (record { core = c.answered_by_space.new.core; resident = c.args.self.now.resident })
-          state c.answered_by_space.ensures.same refl stands,
+          (record c.args.self.now { core = c.answered_by_space.new.core })
+          state c.answered_by_space.ensures.same refl refl stands,
       c.answered_by_space.ensures.answer c.if-answered_by_space.true state.world.history
           stands.core.world.space,
     )
@@ -22,8 +22,8 @@ returns-clause-answer g c =
     λ state stands.
     let ready =
     same-core c.args.self.now
-    (record { core = c.answered_by_space.new.core; resident = c.args.self.now.resident }) state
-    c.answered_by_space.ensures.same refl stands in
+    (record c.args.self.now { core = c.answered_by_space.new.core }) state
+    c.answered_by_space.ensures.same refl refl stands in
     let rest = c.answer_by_plan.ensures.answer state ready in
     let history = state.world.history in
     let text = ap (λ (core : CoreState). question_text c.answer_by_plan.result core.space.machine

@@ -28,8 +28,8 @@ returns-in-Place-clause-answer g c =
     λ state stands.
     let ready =
     same-core c.args.self.now
-    (record { core = c.prepare.new.core; resident = c.args.self.now.resident }) state
-    c.prepare.ensures refl stands in
+    (record c.args.self.now { core = c.prepare.new.core }) state
+    c.prepare.ensures refl refl stands in
     let machine = c.prepare.new.core.space.machine in
     let history = state.world.history in
     let plan = c.in-Some.ensures.meaning state.world ready.core.world in
@@ -48,8 +48,8 @@ returns-in-Span-clause-answer g c =
     λ state stands.
     let ready =
     same-core c.args.self.now
-    (record { core = c.prepare.new.core; resident = c.args.self.now.resident }) state
-    c.prepare.ensures refl stands in
+    (record c.args.self.now { core = c.prepare.new.core }) state
+    c.prepare.ensures refl refl stands in
     let machine = c.prepare.new.core.space.machine in
     let history = state.world.history in
     let plan = c.in-Some.ensures.meaning state.world ready.core.world in
@@ -71,8 +71,8 @@ returns-in-Counts-clause-answer g c =
     λ state stands.
     let ready =
     same-core c.args.self.now
-    (record { core = c.prepare.new.core; resident = c.args.self.now.resident }) state
-    c.prepare.ensures refl stands in
+    (record c.args.self.now { core = c.prepare.new.core }) state
+    c.prepare.ensures refl refl stands in
     let machine = c.prepare.new.core.space.machine in
     let history = state.world.history in
     let plan = c.in-Some.ensures.meaning state.world ready.core.world in

@@ -1,44 +1,42 @@
-use Rattle.std.specs.Prelude.{◌≡◌, true, false}
-use Rattle.std.proofs.Common.{◌∙◌, ap, sym, subst, refl}
-use Rattle.numa_core.specs.Standing.{setup_of}
-use Rattle.numa_core.specs.Steps.{accept_answer, version_of}
+use Rattle.std.specs.Prelude.{◌≡◌, Bool, Ok, Err, true, false, if◌then◌else◌}
+use Rattle.std.proofs.Common.{◌∙◌, ap, sym}
 use Rattle.numa_machine.specs.Machine.{Hardware}
 use Rattle.numa_machine.specs.Rules.{is_linux}
 use Rattle.numa_space.specs.Standing.{SpaceState}
 use Rattle.numa_requests.specs.declared.command.Command.{Command}
-use Rattle.numa_requests.specs.declared.event.Event.TheVariants.{Accept}
-use Rattle.numa_script.specs.Replies.{reply_to}
-use Rattle.numa_run.specs.Standing.{Does}
-use Rattle.numa_run.specs.Work.{event_outcome}
-use Rattle.numa_run.specs.declared.running.Running.{Running}
-use Rattle.numa_run.proofs.Doing.{does-event}
-use Rattle.numa_run.proofs.LineLemmas.{bound_nothing, bound_by_documents}
+use Rattle.numa_script.specs.Lines.{empty_bind}
+use Rattle.numa_script.specs.declared.reply.Reply.TheVariants as reply
+use Rattle.numa_run.specs.Obeying.{accepted_outcome, bind_nothing, command_outcome}
+use Rattle.numa_run.proofs.LineLemmas.{serves_as, serves_same}
 use Rattle.numa_run.proofs.running.Running.bind_nothing.Goals as goal
 
 pub returns-then-is_linux : goal.returns-then-is_linux
 returns-then-is_linux c =
-    let stepped : Running = record {
-      core = c.accept.new.self;
-      resident = c.args.self.now.resident;
-    } in
-    let kernels : is_linux c.args.self.now.core.space.machine.rules ≡ true =
+    let machine : Hardware = c.args.self.now.core.space.machine in
+    let kernels : is_linux machine.rules ≡ true =
     ap (λ (s : SpaceState). is_linux s.machine.rules) (sym c.space.ensures.space)
     ∙ ap (λ (m : Hardware). is_linux m.rules) (sym c.machine.ensures)
     ∙ ap is_linux (sym c.rules.ensures) ∙ sym c.is_linux.ensures ∙ c.if-is_linux.true in
-    rw c.command_reply.ensures
-    (bound_nothing c.args.self.now stepped c.args.start c.args.fault
-    (reply_to (accept_answer (version_of c.accept.result))) kernels
-    (subst (λ (command : Command). Does c.args.self.now
-    (reply_to (accept_answer (version_of c.accept.result))) stepped
-    (λ refused state. event_outcome refused (setup_of c.args.self.now.core) state.world
-    state.resident (Accept command))) c.empty_bind.ensures
-    (does-event c.args.self.now stepped (Accept c.empty_bind.result)
-    (accept_answer (version_of c.accept.result)) c.accept.ensures.answer c.accept.ensures.setup refl)))
+    serves_as c.args.self.now c.accept.new.self c.accept.result
+    (λ refused machine state. accepted_outcome refused machine state c.empty_bind.result)
+    (λ refused machine state. command_outcome refused machine state
+    (bind_nothing machine.rules c.args.start c.args.fault)) c.accept.ensures
+    (λ refused state.
+    ap (λ (b : Bool). command_outcome refused machine state
+    (if b then Ok (empty_bind c.args.start) else Err c.args.fault)) kernels
+    ∙ sym (ap (λ (command : Command). accepted_outcome refused machine state command)
+    c.empty_bind.ensures))
 
 pub returns : goal.returns
 returns c =
-    let documents : is_linux c.args.self.now.core.space.machine.rules ≡ false =
+    let machine : Hardware = c.args.self.now.core.space.machine in
+    let documents : is_linux machine.rules ≡ false =
     ap (λ (s : SpaceState). is_linux s.machine.rules) (sym c.space.ensures.space)
     ∙ ap (λ (m : Hardware). is_linux m.rules) (sym c.machine.ensures)
     ∙ ap is_linux (sym c.rules.ensures) ∙ sym c.is_linux.ensures ∙ c.if-is_linux.false in
-    bound_by_documents c.args.self.now c.args.start c.args.fault documents
+    serves_same c.args.self.now (reply.BadWord c.args.fault)
+    (λ refused machine state. command_outcome refused machine state
+    (bind_nothing machine.rules c.args.start c.args.fault))
+    (λ state stands.
+    ap (λ (b : Bool). command_outcome false machine state
+    (if b then Ok (empty_bind c.args.start) else Err c.args.fault)) documents)

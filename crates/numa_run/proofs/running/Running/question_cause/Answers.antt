@@ -11,8 +11,8 @@ returns-in-None c =
     λ state stands.
     let ready =
     same-core c.args.self.now
-    (record { core = c.prepare.new.core; resident = c.args.self.now.resident }) state
-    c.prepare.ensures refl stands in
+    (record c.args.self.now { core = c.prepare.new.core }) state
+    c.prepare.ensures refl refl stands in
     let machine = c.prepare.new.core.space.machine in
     let history = state.world.history in
     let plan = c.in-Some.ensures.meaning state.world ready.core.world in
@@ -30,8 +30,8 @@ returns-in-Some-refusal_by_plan c =
     λ state stands.
     let ready =
     same-core c.args.self.now
-    (record { core = c.prepare.new.core; resident = c.args.self.now.resident }) state
-    c.prepare.ensures refl stands in
+    (record c.args.self.now { core = c.prepare.new.core }) state
+    c.prepare.ensures refl refl stands in
     let machine = c.prepare.new.core.space.machine in
     let history = state.world.history in
     let plan = c.in-Some.ensures.meaning state.world ready.core.world in

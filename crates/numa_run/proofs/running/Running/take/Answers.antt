@@ -1,14 +1,9 @@
 use Rattle.std.proofs.Common.{refl}
-use Rattle.std.specs.Prelude.{Ok, Err}
-use Rattle.numa_requests.specs.declared.event.Event.TheVariants.{Accept}
-use Rattle.numa_core.specs.Steps.{accept_answer, version_of}
-use Rattle.numa_run.specs.Work.{event_outcome, work_outcome}
-use Rattle.numa_script.specs.Replies.{reply_to}
+use Rattle.numa_run.specs.Obeying.{bind_nothing, bound_command, bound_outcome, command_outcome}
+use Rattle.numa_run.specs.PageLines.{work_served}
 use Rattle.numa_script.specs.declared.reply.Reply.TheVariants as reply
 use Rattle.numa_script.specs.declared.line.Line.TheVariants as line
-use Rattle.numa_run.specs.declared.running.Running.{Running}
-use Rattle.numa_run.proofs.Doing.{does-event}
-use Rattle.numa_run.proofs.LineLemmas.{later_same, later_done}
+use Rattle.numa_run.proofs.LineLemmas.{later_same, served_here}
 use Rattle.numa_run.proofs.running.Running.take.Goals as goal
 
 pub returns-in-Silent : goal.returns-in-Silent
@@ -36,42 +31,38 @@ pub returns-in-Machine : goal.returns-in-Machine
 returns-in-Machine c =
     rw c.in-Machine.is (later_same c.args.self.now _ reply.BadState (λ machine state. refl))
 
-pub returns-in-Ok : goal.returns-in-Ok
-returns-in-Ok c =
-    let stepped : Running =
-    record { core = c.accept.new.self; resident = c.args.self.now.resident } in
-    rw (c.in-Command.is, c.in-Ok.is, c.command_reply.ensures)
-    (later_done c.args.self.now stepped (line.Command (Ok c.in-Ok.command))
-    (reply_to (accept_answer (version_of c.accept.result)))
-    (λ refused s state. event_outcome refused s state.world state.resident (Accept c.in-Ok.command))
-    (does-event c.args.self.now stepped (Accept c.in-Ok.command) (accept_answer (version_of c.accept.result))
-    c.accept.ensures.answer c.accept.ensures.setup refl)
-    (λ refused machine state. refl))
-
-pub returns-in-Err : goal.returns-in-Err
-returns-in-Err c =
-    rw (c.in-Command.is, c.in-Err.is)
-    (later_same c.args.self.now (line.Command (Err c.in-Err.fault)) (reply.BadWord c.in-Err.fault)
-    (λ machine state. refl))
+pub returns-in-Command : goal.returns-in-Command
+returns-in-Command c =
+    rw c.in-Command.is
+    (served_here c.args.self.now c.command.new.self _ c.command.result
+    (λ refused machine state. command_outcome refused machine state c.in-Command.said)
+    c.command.ensures (λ refused state. refl))
 
 pub returns-in-EmptyBind : goal.returns-in-EmptyBind
-returns-in-EmptyBind c = rw c.in-EmptyBind.is c.bind_nothing.ensures
+returns-in-EmptyBind c =
+    rw c.in-EmptyBind.is
+    (served_here c.args.self.now c.bind_nothing.new.self _ c.bind_nothing.result
+    (λ refused machine state. command_outcome refused machine state
+    (bind_nothing machine.rules c.in-EmptyBind.start c.in-EmptyBind.fault))
+    c.bind_nothing.ensures (λ refused state. refl))
 
 pub returns-in-Work : goal.returns-in-Work
 returns-in-Work c =
     rw c.in-Work.is
-    (later_done c.args.self.now c.work.new.self (line.Work c.in-Work.work) c.work.result
-    (λ refused s state. work_outcome refused s state.world state.resident c.in-Work.work)
-    c.work.ensures
-    (λ refused machine state. refl))
+    (served_here c.args.self.now c.work.new.self _ c.work.result
+    (λ refused machine state. work_served refused machine state c.in-Work.work)
+    c.work.ensures (λ refused state. refl))
 
 pub returns-in-Pages : goal.returns-in-Pages
-returns-in-Pages c =
-    rw c.in-Pages.is (later_same c.args.self.now _ reply.BadWords (λ machine state. refl))
+returns-in-Pages c = rw c.in-Pages.is c.page.ensures
 
 pub returns-in-Bind : goal.returns-in-Bind
 returns-in-Bind c =
-    rw c.in-Bind.is (later_same c.args.self.now _ reply.BadWords (λ machine state. refl))
+    rw c.in-Bind.is
+    (served_here c.args.self.now c.bind.new.self _ c.bind.result
+    (λ refused machine state. bound_outcome refused machine state c.in-Bind.pages
+    (bound_command machine.rules c.in-Bind.start c.in-Bind.length c.in-Bind.policy))
+    c.bind.ensures (λ refused state. refl))
 
 pub returns-in-Host : goal.returns-in-Host
 returns-in-Host c =

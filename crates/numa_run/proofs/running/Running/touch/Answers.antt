@@ -5,14 +5,14 @@ use Rattle.numa_run.proofs.running.Running.touch.Goals as goal
 pub returns-in-Ok : goal.returns-in-Ok
 returns-in-Ok c =
     touches-won c.args.self.now
-    (record { core = c.touch.new.self; resident = c.args.self.now.resident }) c.keep.new.self
+    (record c.args.self.now { core = c.touch.new.self }) c.keep.new.self
     c.args.worker c.args.request c.touch.result c.in-Ok.placement c.keep.result
-    c.touch.ensures.answer c.touch.ensures.setup refl c.in-Ok.ensures c.keep.ensures
+    c.touch.ensures.answer c.touch.ensures.setup refl refl c.in-Ok.ensures c.keep.ensures
 
 pub returns-in-Err : goal.returns-in-Err
 returns-in-Err c =
     rw c.in-Err.ensures.1
     (touches-nothing c.args.self.now
-    (record { core = c.touch.new.self; resident = c.args.self.now.resident }) c.args.worker
+    (record c.args.self.now { core = c.touch.new.self }) c.args.worker
     c.args.request c.touch.result
-    c.touch.ensures.answer c.touch.ensures.setup refl c.in-Err.ensures.0)
+    c.touch.ensures.answer c.touch.ensures.setup refl refl c.in-Err.ensures.0)

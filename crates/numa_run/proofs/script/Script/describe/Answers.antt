@@ -37,6 +37,8 @@ returns-in-Ok-new c =
     let core = c.new-in-Ok-new.ensures.core in
     let setup = ap setup_of core ∙ c.in-Ok-new.ensures.setup
     ∙ ap (λ machine. setup_with machine settings.limits) made.0 in
-    rw c.replace.ensures.after (first_ready settings c.args.said.now c.in-Ok.memory c.new-in-Ok-new.result c.in-Ok.is
+    rw c.replace.ensures.after
+    (first_ready settings c.args.said.now c.in-Ok.memory c.new-in-Ok-new.result c.in-Ok.is
     (ap (first_fault false cpus) (sym made.0) ∙ made.1) setup
-    (subst (LeadsTo []) (sym core) c.in-Ok-new.ensures.opens) c.new-in-Ok-new.ensures.resident)
+    (subst (LeadsTo []) (sym core) c.in-Ok-new.ensures.opens)
+    c.new-in-Ok-new.ensures.resident c.new-in-Ok-new.ensures.pages)

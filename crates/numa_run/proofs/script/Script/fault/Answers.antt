@@ -8,4 +8,7 @@ pub returns-in-Question : goal.returns-in-Question
 returns-in-Question c = rw c.in-Question.is c.question_fault.ensures
 
 pub returns-in-Maps : goal.returns-in-Maps
-returns-in-Maps c = rw c.in-Maps.is (c.list_fault.ensures c.in-Maps.field-0)
+returns-in-Maps c = rw c.in-Maps.is (c.text_fault.ensures.maps c.in-Maps.field-0)
+
+pub returns-in-Moved : goal.returns-in-Moved
+returns-in-Moved c = rw c.in-Moved.is c.text_fault-in-Moved.ensures.moved

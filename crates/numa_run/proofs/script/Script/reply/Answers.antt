@@ -10,3 +10,7 @@ returns-in-Question c = λ state stands.
 pub returns-in-Maps : goal.returns-in-Maps
 returns-in-Maps c = λ state stands.
     let t = c.in-Maps.ensures state stands in (t.0, t.1.0, t.2)
+
+pub returns-in-Moved : goal.returns-in-Moved
+returns-in-Moved c = λ state stands.
+    let t = c.in-Moved.ensures state stands in (t.0, t.1.0, t.2)

@@ -53,12 +53,12 @@ returns-in-Machine c = rw c.in-Machine.is c.describe.ensures
 pub returns-in-Pages : goal.returns-in-Pages
 returns-in-Pages c =
     rw (c.in-Pages.is, c.requires)
-    (first_same c.args.self.now.settings _ reply.BadWords false (λ state. refl))
+    (first_same c.args.self.now.settings _ reply.BadState false (λ state. refl))
 
 pub returns-in-Bind : goal.returns-in-Bind
 returns-in-Bind c =
     rw (c.in-Bind.is, c.requires)
-    (first_same c.args.self.now.settings _ reply.BadWords false (λ state. refl))
+    (first_same c.args.self.now.settings _ reply.BadState false (λ state. refl))
 
 pub returns-in-Host : goal.returns-in-Host
 returns-in-Host c =

@@ -12,3 +12,6 @@ returns-in-Question g c = rw c.in-Question.is c.answer.ensures
 
 pub returns-in-Maps : goal.returns-in-Maps
 returns-in-Maps g c = rw c.in-Maps.is c.list.ensures
+
+pub returns-in-Moved : goal.returns-in-Moved
+returns-in-Moved g c = rw c.in-Moved.is c.tell_last.ensures

@@ -1,0 +1,245 @@
+-- What `mems` and `unmap` make of a running machine, and of where its pages lie.
+use Rattle.std.proofs.Common.{◌≡◌, ◌≢◌, ℕ, Bool, true, false, Option, Some, None, Result, Ok, Err}
+use Rattle.std.proofs.Common.{List, ◌∷◌, refl, sym, ap, subst, ◌∙◌, inl, inr}
+use Rattle.std.specs.Prelude.{is_err}
+use Rattle.numa_machine.specs.Machine.{Hardware}
+use Rattle.numa_maps.specs.Residents.{Kept}
+use Rattle.numa_placed.specs.declared.spot.Spot.{Spot}
+use Rattle.numa_ranges.specs.declared.run.Run.{Run}
+use Rattle.numa_requests.specs.declared.command.Command.{Command}
+use Rattle.numa_requests.specs.declared.command.Command.TheVariants.{Map, Unmap, Mbind, SetTask}
+use Rattle.numa_requests.specs.declared.command.Command.TheVariants.{Inherit, SetHome, SetWeight}
+use Rattle.numa_requests.specs.declared.command.Command.TheVariants.{SetMems}
+use Rattle.numa_requests.specs.declared.event.CoreRefusal.{CoreRefusal}
+use Rattle.numa_requests.specs.declared.event.CoreReply.{CoreReply}
+use Rattle.numa_requests.specs.declared.event.Event.TheVariants.{Accept}
+use Rattle.numa_requests.specs.declared.page_refusal.PlacedRefusal.{PlacedRefusal}
+use Rattle.numa_requests.specs.declared.page_refusal.PlacedRefusal.TheVariants as cause
+use Rattle.numa_requests.specs.declared.refusal.Refusal.{Refusal}
+use Rattle.numa_core.specs.World.{Setup, World, newest_published}
+use Rattle.numa_core.specs.Steps.{IsAnswer, accept_answer, version_of}
+use Rattle.numa_core.specs.declared.acceptance.Acceptance.{Acceptance}
+use Rattle.numa_core.specs.Standing.{CoreState, setup_of}
+use Rattle.numa_space.specs.Policies.{allowed_nodes}
+use Rattle.numa_page_state.specs.Lying.{Lying}
+use Rattle.numa_page_state.specs.Outcomes.{followed, forgotten, is_no_memory}
+use Rattle.numa_page_state.specs.Standing.{Forgets, Lies, Replaces}
+use Rattle.numa_page_state.specs.declared.state.PageState.{PageState}
+use Rattle.numa_script.specs.Replies.{reply_to}
+use Rattle.numa_script.specs.declared.reply.Reply.{Reply}
+use Rattle.numa_run.specs.Answering.{Served, with_reply}
+use Rattle.numa_run.specs.Obeying.{accepted_outcome, command_reply, lying_so, mems_outcome}
+use Rattle.numa_run.specs.Obeying.{obeyed, unmap_outcome}
+use Rattle.numa_run.specs.Standing.{RunsAs, Serves}
+use Rattle.numa_run.specs.States.{State}
+use Rattle.numa_run.specs.Work.{event_answer}
+use Rattle.numa_run.specs.declared.running.Running.{Running}
+use Rattle.numa_run.proofs.Accepting.{Accepts, laid-is, runs-then, served, serves-by}
+use Rattle.numa_run.proofs.Accepting.{starved-or, state_then, told}
+
+-- ---- mems
+
+-- it wants no memory
+mems-told : (refused : Bool) (s : Setup) (world : World) (mask : ℕ)
+    (answer : Result CoreReply CoreRefusal)
+    → IsAnswer s world (newest_published world) (Accept (SetMems mask)) answer
+    → answer ≡ event_answer refused s world (Accept (SetMems mask))
+mems-told true s world mask answer (inl is) = is
+mems-told false s world mask answer (inl is) = is
+mems-told refused s world mask answer (inr want) = absurd want.1.1
+
+-- what `follow_where` promises
+abbrev pub Follows : Running → ℕ → ℕ → Option PageState → Type 0
+Follows old before later pages = (lying : Lying) (kept : Kept) → Lies old.pages lying
+    → old.resident ≡ kept → (refused : Bool) × Lies pages (followed refused before later kept lying)
+
+module _ (old : Running) (mask : ℕ) (core : CoreState)
+    (same : setup_of core ≡ setup_of old.core) where
+  abbrev pub MemsServed : Reply → Option PageState → Type 0
+  MemsServed answer pages = Serves old answer
+      (record { core = core; resident = old.resident; pages = pages })
+      (λ refused machine state. mems_outcome refused machine state mask)
+
+  mems-refused : (refusal : Refusal)
+      → Accepts old.core (SetMems mask) (Err refusal) core
+      → MemsServed (reply_to (accept_answer (Err refusal))) old.pages
+  mems-refused refusal accepts = λ state stands.
+      let here = told old (SetMems mask) (Err refusal) core accepts same state stands in
+      served old (record { core = core; resident = old.resident; pages = old.pages })
+      (reply_to (accept_answer (Err refusal)))
+      (λ refused machine s. mems_outcome refused machine s mask) state state here.0
+      (laid-is old (SetMems mask) (Err refusal) core accepts same state stands here.0 here.1
+      (followed here.0 (allowed_nodes old.core.space.machine state.world.history)
+      (allowed_nodes old.core.space.machine (SetMems mask ∷ state.world.history)) state.resident
+      state.lying))
+      (runs-then old (SetMems mask) (Err refusal) core accepts same state stands old.pages
+      state.lying stands.lies)
+
+  mems-followed : (version : ℕ) (pages : Option PageState)
+      → Accepts old.core (SetMems mask) (Ok version) core
+      → Follows old old.core.space.allowed core.space.allowed pages
+      → MemsServed (reply_to (accept_answer (Ok version))) pages
+  mems-followed version pages accepts follows = λ state stands.
+      let gone = follows state.lying state.resident stands.lies stands.resident in
+      let took = accepts state.world stands.core.world in
+      let is = mems-told gone.0 (setup_of old.core) state.world mask (accept_answer (Ok version))
+      took.0 in
+      let before : ℕ = allowed_nodes old.core.space.machine state.world.history in
+      let later : ℕ = allowed_nodes old.core.space.machine (SetMems mask ∷ state.world.history) in
+      let to : core.space.allowed ≡ later = took.1.space.allowed
+      ∙ ap (λ (s : Setup). allowed_nodes s.machine (SetMems mask ∷ state.world.history)) same in
+      let lying : Lying = followed gone.0 before later state.resident state.lying in
+      let lies : Lies pages lying =
+      subst (λ (n : ℕ). Lies pages (followed gone.0 before n state.resident state.lying)) to
+      (subst (λ (n : ℕ). Lies pages (followed gone.0 n core.space.allowed state.resident
+      state.lying)) stands.core.world.space.allowed gone.1) in
+      served old (record { core = core; resident = old.resident; pages = pages })
+      (reply_to (accept_answer (Ok version)))
+      (λ refused machine s. mems_outcome refused machine s mask) state
+      (record (state_then old (SetMems mask) (Ok version) core accepts same state stands) {
+        lying = lying;
+      }) gone.0
+      (laid-is old (SetMems mask) (Ok version) core accepts same state stands gone.0 is lying)
+      (runs-then old (SetMems mask) (Ok version) core accepts same state stands pages lying lies)
+
+  pub mems-stays : (result : Result Acceptance Refusal) → is_err result ≡ true
+      → Accepts old.core (SetMems mask) (version_of result) core
+      → MemsServed (reply_to (accept_answer (version_of result))) old.pages
+  mems-stays (Ok acceptance) e accepts = cc
+  mems-stays (Err refusal) e accepts = mems-refused refusal accepts
+
+  pub mems-goes : (result : Result Acceptance Refusal) → is_err result ≡ false
+      → (pages : Option PageState) → Accepts old.core (SetMems mask) (version_of result) core
+      → (before later : ℕ) → before ≡ old.core.space.allowed → later ≡ core.space.allowed
+      → Follows old before later pages
+      → MemsServed (reply_to (accept_answer (version_of result))) pages
+  mems-goes (Ok acceptance) e pages accepts before later from to follows =
+      mems-followed acceptance.version pages accepts
+      (subst (λ (n : ℕ). Follows old old.core.space.allowed n pages) to
+      (subst (λ (n : ℕ). Follows old n later pages) from follows))
+  mems-goes (Err refusal) e pages accepts before later from to follows = cc
+
+-- ---- unmap
+
+module _ (old : Running) (start bytes : ℕ) where
+  abbrev pub unmaps : Bool → Hardware → State → Served
+  unmaps refused machine state = unmap_outcome refused machine state start bytes
+
+  -- pages stand against it
+  pub unmap-denied : (why : PlacedRefusal) → Forgets old.pages start bytes (Err why)
+      → Serves old (command_reply why) old unmaps
+  unmap-denied why forgets = λ state stands.
+      let f = forgets state.lying stands.lies in
+      let is : unmaps (is_no_memory why) old.core.space.machine state
+      ≡ with_reply (command_reply why) state = rw (f.0, f.1) refl in
+      served old old (command_reply why) unmaps state state (is_no_memory why) is stands
+
+  -- nothing was stated of the span
+  pub unmap-plain : (new : Running) (answer : Reply) → Forgets old.pages start bytes (Ok None)
+      → Serves old answer new (λ refused machine state.
+      accepted_outcome refused machine state (Unmap start bytes))
+      → Serves old answer new unmaps
+  unmap-plain new answer forgets serves = serves-by old new answer
+      (λ refused machine state. accepted_outcome refused machine state (Unmap start bytes)) unmaps
+      (λ state stands refused. rw (forgets state.lying stands.lies) refl) serves
+
+  module _ (core : CoreState) (same : setup_of core ≡ setup_of old.core)
+      (after : List (Run Spot)) (forgets : Forgets old.pages start bytes (Ok (Some after))) where
+    abbrev pub UnmapServed : Reply → Option PageState → Type 0
+    UnmapServed answer pages = Serves old answer
+        (record { core = core; resident = old.resident; pages = pages }) unmaps
+
+    abbrev lying_then : State → Lying
+    lying_then state = record state.lying { spots = forgotten start bytes state.lying.spots }
+
+    -- what it comes to, with memory or without
+    enough : (state : State) → RunsAs old state
+        → unmaps false old.core.space.machine state
+        ≡ lying_so false old.core.space.machine state (Unmap start bytes) (lying_then state)
+    enough state stands =
+        let f = forgets state.lying stands.lies in rw (f.0, f.2) refl
+
+    lacks : (state : State) → RunsAs old state
+        → unmaps true old.core.space.machine state
+        ≡ with_reply (command_reply cause.NoMemory) state
+    lacks state stands =
+        let f = forgets state.lying stands.lies in rw f.0 refl
+
+    unmap-refused : (refusal : Refusal) → Accepts old.core (Unmap start bytes) (Err refusal) core
+        → UnmapServed (reply_to (accept_answer (Err refusal))) old.pages
+    unmap-refused refusal accepts = λ state stands.
+        let new : Running = record { core = core; resident = old.resident; pages = old.pages } in
+        let runs : RunsAs new state = runs-then old (Unmap start bytes) (Err refusal) core accepts
+        same state stands old.pages state.lying stands.lies in
+        elim (starved-or old (Unmap start bytes) (Err refusal) core accepts same state stands) [
+          | inl is ↦ served old new (reply_to (accept_answer (Err refusal))) unmaps state state
+              false (enough state stands ∙ laid-is old (Unmap start bytes) (Err refusal) core
+              accepts same state stands false is (lying_then state)) runs
+          | inr lack ↦ served old new (reply_to (accept_answer (Err refusal))) unmaps state state
+              true (lacks state stands
+              ∙ ap (λ (r : Reply). with_reply r state) (sym lack.0)) runs
+        ]
+
+    unmap-done : (version : ℕ) (pages : Option PageState)
+        → Accepts old.core (Unmap start bytes) (Ok version) core
+        → Replaces old.pages after pages
+        → UnmapServed (reply_to (accept_answer (Ok version))) pages
+    unmap-done version pages accepts replaces = λ state stands.
+        let f = forgets state.lying stands.lies in
+        let new : Running = record { core = core; resident = old.resident; pages = pages } in
+        let answer : Reply = reply_to (accept_answer (Ok version)) in
+        let lies : Lies pages (lying_then state) = replaces state.lying
+        (forgotten start bytes state.lying.spots) stands.lies f.1 f.3 in
+        elim (starved-or old (Unmap start bytes) (Ok version) core accepts same state stands) [
+          | inl is ↦ served old new answer unmaps state (record (state_then old
+              (Unmap start bytes) (Ok version) core accepts same state stands) {
+                lying = lying_then state;
+              }) false
+              (enough state stands ∙ laid-is old (Unmap start bytes) (Ok version) core accepts
+              same state stands false is (lying_then state))
+              (runs-then old (Unmap start bytes) (Ok version) core accepts same state stands pages
+              (lying_then state) lies)
+          | inr lack ↦ cc
+        ]
+
+    pub unmap-stays : (result : Result Acceptance Refusal) → is_err result ≡ true
+        → Accepts old.core (Unmap start bytes) (version_of result) core
+        → UnmapServed (reply_to (accept_answer (version_of result))) old.pages
+    unmap-stays (Ok acceptance) e accepts = cc
+    unmap-stays (Err refusal) e accepts = unmap-refused refusal accepts
+
+    pub unmap-goes : (result : Result Acceptance Refusal) → is_err result ≡ false
+        → (pages : Option PageState)
+        → Accepts old.core (Unmap start bytes) (version_of result) core
+        → Replaces old.pages after pages
+        → UnmapServed (reply_to (accept_answer (version_of result))) pages
+    unmap-goes (Ok acceptance) e pages accepts replaces =
+        unmap-done acceptance.version pages accepts replaces
+    unmap-goes (Err refusal) e pages accepts replaces = cc
+
+-- ---- every other command
+
+obeyed-is : (command : Command) → ((mask : ℕ) → command ≢ SetMems mask)
+    → ((start bytes : ℕ) → command ≢ Unmap start bytes)
+    → (refused : Bool) (machine : Hardware) (state : State)
+    → obeyed refused machine state command ≡ accepted_outcome refused machine state command
+obeyed-is (SetMems mask) no_mems no_unmap refused machine state = absurd (no_mems mask refl)
+obeyed-is (Unmap start bytes) no_mems no_unmap refused machine state =
+    absurd (no_unmap start bytes refl)
+obeyed-is (Map start bytes offset) no_mems no_unmap refused machine state = refl
+obeyed-is (Mbind start bytes spec) no_mems no_unmap refused machine state = refl
+obeyed-is (SetTask task spec) no_mems no_unmap refused machine state = refl
+obeyed-is (Inherit task from) no_mems no_unmap refused machine state = refl
+obeyed-is (SetHome start bytes node) no_mems no_unmap refused machine state = refl
+obeyed-is (SetWeight node weight) no_mems no_unmap refused machine state = refl
+
+pub obeyed-plainly : (old new : Running) (answer : Reply) (command : Command)
+    → ((mask : ℕ) → command ≢ SetMems mask) → ((start bytes : ℕ) → command ≢ Unmap start bytes)
+    → Serves old answer new (λ refused machine state.
+    accepted_outcome refused machine state command)
+    → Serves old answer new (λ refused machine state. obeyed refused machine state command)
+obeyed-plainly old new answer command no_mems no_unmap serves = serves-by old new answer
+    (λ refused machine state. accepted_outcome refused machine state command)
+    (λ refused machine state. obeyed refused machine state command)
+    (λ state stands refused.
+    obeyed-is command no_mems no_unmap refused old.core.space.machine state) serves

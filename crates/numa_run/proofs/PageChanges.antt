@@ -1,0 +1,171 @@
+-- What a line about pages makes of a running machine, and of where its pages lie.
+use Rattle.std.proofs.Common.{◌≡◌, ◌≢◌, Bool, true, false, Option, Some, None, Ok, Err}
+use Rattle.std.proofs.Common.{refl, sym, ap, subst, ◌∙◌, inl, inr}
+use Rattle.std.proofs.lemmas.Bool.{and_parts, both_ways, cases_Bool}
+use Rattle.std.specs.Prelude.{◌&&◌, if◌then◌else◌, IsSomeAnd, not}
+use Rattle.numa_machine.specs.Machine.{Hardware}
+use Rattle.numa_mask.specs.declared.list.ListFault.{ListFault}
+use Rattle.numa_page_state.specs.Lying.{Ground, Lying, ground_in, nothing}
+use Rattle.numa_page_state.specs.Standing.{DoesAs, Lies, LiesAs}
+use Rattle.numa_page_state.specs.declared.state.PageState.{PageState}
+use Rattle.numa_script.specs.declared.line.Line.TheVariants as line
+use Rattle.numa_script.specs.declared.page_line.PageLine.{PageLine}
+use Rattle.numa_script.specs.declared.page_line.PageLine.TheVariants as page
+use Rattle.numa_script.specs.declared.policy.WordError.TheVariants as word_fault
+use Rattle.numa_script.specs.declared.reply.Reply.{Reply}
+use Rattle.numa_script.specs.declared.reply.Reply.TheVariants as reply
+use Rattle.numa_run.specs.Answering.{Served, with_reply}
+use Rattle.numa_run.specs.PageLines.{change_of, changed, lack_reply, pages_outcome, with_change}
+use Rattle.numa_run.specs.Standing.{RunsAs, Serves, Takes}
+use Rattle.numa_run.specs.States.{State}
+use Rattle.numa_run.specs.declared.running.Running.{Running}
+use Rattle.numa_run.specs.declared.running.Taken.TheVariants as taken
+use Rattle.numa_run.proofs.Accepting.{kept-pages, served}
+use Rattle.numa_run.proofs.Processes.{ground-same}
+use Rattle.numa_run.proofs.LineLemmas.{later_same, served_here}
+
+-- ---- the pages
+
+-- what is done is told by a reply
+pub replied : {A : Type 0} (old new : PageState) (done lack : A)
+    (outcome : Bool → Lying → A × Lying) (told : A → Reply) → DoesAs old done new lack outcome
+    → DoesAs old (told done) new (told lack)
+    (λ refused at. (told (outcome refused at).0, (outcome refused at).1))
+replied old new done lack outcome told does = λ lying lies.
+    let d = does lying lies in (
+      d.0,
+      d.1,
+      ap told d.2,
+      λ t. let lacks = d.3 t in (lacks.0, ap told lacks.1),
+    )
+
+-- what always succeeds
+pub succeeds : (old new : PageState) (told lack : Reply) (outcome : Lying → Lying)
+    → ((lying : Lying) → LiesAs old lying → LiesAs new (outcome lying))
+    → DoesAs old told new lack (λ refused at. (told, outcome at))
+succeeds old new told lack outcome lies = λ lying before. (
+  false,
+  lies lying before,
+  refl,
+  λ t. absurd (both_ways false refl t),
+)
+
+-- ---- the machine
+
+-- before the first line about pages none was accepted
+nothing-begun : (pages : Option PageState) (lying : Lying) → pages ≡ None → Lies pages lying
+    → lying.begun ≡ false
+nothing-begun pages lying none lies =
+    let is : lying ≡ nothing = subst (λ (p : Option PageState). Lies p lying) none lies in
+    ap (λ (l : Lying). l.begun) is
+
+module _ (old : Running) (said : PageLine) where
+  abbrev pub changes : Bool → Hardware → State → Served
+  changes refused machine state = changed refused machine state said
+
+  -- there is no memory to begin
+  pub change-starved : (pages : Option PageState) → (pages ≡ old.pages) × (old.pages ≡ None)
+      → Serves old (lack_reply said)
+      (record { core = old.core; resident = old.resident; pages = pages }) changes
+  change-starved pages same = λ state stands.
+      let early = nothing-begun old.pages state.lying same.1 stands.lies in
+      let is : changes true old.core.space.machine state ≡ with_reply (lack_reply said) state =
+      rw early refl in
+      served old (record { core = old.core; resident = old.resident; pages = pages })
+      (lack_reply said) changes state state true is
+      (kept-pages old state pages stands
+      (subst (λ (p : Option PageState). Lies p state.lying) (sym same.0) stands.lies))
+
+  module _ (kept new : PageState) (told : Reply)
+      (begins : (lying : Lying) → Lies old.pages lying → LiesAs kept lying)
+      (does : DoesAs kept told new (lack_reply said) (λ refused at. change_of refused
+      (ground_in old.core.space old.resident) said at)) where
+    abbrev here : Running
+    here = record { core = old.core; resident = old.resident; pages = Some new }
+
+    abbrev by_ground : State → Bool → Ground → Served
+    by_ground state refused basis = if not state.lying.begun && refused
+        then with_reply (lack_reply said) state
+        else with_change state (change_of refused basis said
+        (record state.lying { begun = true }))
+
+    is-by : (refused : Bool) (state : State) → RunsAs old state
+        → changes refused old.core.space.machine state
+        ≡ by_ground state refused (ground_in old.core.space old.resident)
+    is-by refused state stands = ap (by_ground state refused) (ground-same old state stands)
+
+    pub change-done : Serves old told here changes
+    change-done = λ state stands.
+        let before = begins state.lying stands.lies in
+        let begun : LiesAs kept (record state.lying { begun = true }) = record {
+          spots = before.spots;
+          room = before.room;
+          follows = before.follows;
+          last = before.last;
+        } in
+        let d = does (record state.lying { begun = true }) begun in
+        let basis = ground_in old.core.space old.resident in
+        let done = change_of d.0 basis said (record state.lying { begun = true }) in
+        elim (cases_Bool (not state.lying.begun && d.0)) [
+          | inl t ↦
+              let lack = d.3 (and_parts (not state.lying.begun) d.0 t).1 in
+              served old here told changes state state d.0
+              (is-by d.0 state stands
+              ∙ ap (λ (b : Bool). if b then with_reply (lack_reply said) state
+              else with_change state done) t
+              ∙ ap (λ (r : Reply). with_reply r state) (sym lack.1))
+              (kept-pages old state (Some new) stands
+              (subst (λ (p : PageState). LiesAs p state.lying) (sym lack.0) before))
+          | inr e ↦
+              served old here told changes state (record state { lying = done.1 }) d.0
+              (is-by d.0 state stands
+              ∙ ap (λ (b : Bool). if b then with_reply (lack_reply said) state
+              else with_change state done) e
+              ∙ ap (λ (r : Reply). with_reply r (record state { lying = done.1 })) d.2)
+              (record {
+                core = record {
+                  bounds = stands.core.bounds;
+                  machine = stands.core.machine;
+                  workers = stands.core.workers;
+                  world = stands.core.world;
+                };
+                resident = stands.resident;
+                lies = d.1;
+              })
+        ]
+
+-- ---- the line
+
+-- what is kept, where a line begins to keep it
+pub begun-pages : (pages then_pages : Option PageState) (kept : PageState)
+    → then_pages ≡ Some kept
+    → IsSomeAnd then_pages (λ k. (lying : Lying) → Lies pages lying → LiesAs k lying)
+    → (lying : Lying) → Lies pages lying → LiesAs kept lying
+begun-pages pages then_pages kept is all lying lies =
+    subst (λ (p : Option PageState). IsSomeAnd p (λ k. (l : Lying) → Lies pages l → LiesAs k l)) is
+    all lying lies
+
+changes-pages : (said : PageLine) → said ≢ page.Moved → (refused : Bool) (machine : Hardware)
+    (state : State)
+    → pages_outcome refused machine state (Ok said) ≡ changed refused machine state said
+changes-pages (page.At start bytes node) other refused machine state = refl
+changes-pages (page.Room node pages) other refused machine state = refl
+changes-pages (page.MemoryMigrate follows) other refused machine state = refl
+changes-pages (page.Migrate from to) other refused machine state = refl
+changes-pages (page.Move address node) other refused machine state = refl
+changes-pages page.Moved other refused machine state = absurd (other refl)
+
+pub page-changed : (old new : Running) (said : PageLine) (answer : Reply) → said ≢ page.Moved
+    → Serves old answer new (λ refused machine state. changed refused machine state said)
+    → Takes old (line.Pages (Ok said)) (taken.Reply answer) new
+page-changed old new said answer other serves =
+    served_here old new (line.Pages (Ok said)) answer
+    (λ refused machine state. changed refused machine state said) serves
+    (λ refused state. changes-pages said other refused old.core.space.machine state)
+
+-- a fault of its list
+pub page-fault : (old : Running) (fault : ListFault)
+    → Takes old (line.Pages (Err fault)) (taken.Reply (reply.BadWord (word_fault.List fault))) old
+page-fault old fault =
+    later_same old (line.Pages (Err fault)) (reply.BadWord (word_fault.List fault))
+    (λ machine state. refl)

@@ -1,0 +1,95 @@
+-- What lines of workers and lines about pages are answered, and the state after them. `refused`
+-- says whether a growth was refused while the line was served.
+use Rattle.std.specs.Prelude.{ℕ, ◌&&◌, not, Bool, true, length, if◌then◌else◌, Result, Ok, Err}
+use Rattle.numa_machine.specs.Machine.{Hardware}
+use Rattle.numa_mask.specs.declared.list.ListFault.{ListFault}
+use Rattle.numa_placed.specs.Spots.{is_placed}
+use Rattle.numa_requests.specs.declared.page_refusal.MoveRefusal.{MoveRefusal}
+use Rattle.numa_requests.specs.declared.page_refusal.MoveRefusal.TheVariants as move
+use Rattle.numa_requests.specs.declared.page_refusal.PlacedRefusal.{PlacedRefusal}
+use Rattle.numa_requests.specs.declared.page_refusal.PlacedRefusal.TheVariants as cause
+use Rattle.numa_page_state.specs.Lying.{Ground, Lying, ground_of}
+use Rattle.numa_page_state.specs.Outcomes.{at_outcome, migrate_outcome, move_outcome, room_outcome}
+use Rattle.numa_page_state.specs.declared.shift.Shift.{Shift}
+use Rattle.numa_script.specs.declared.page_line.PageLine.{PageLine}
+use Rattle.numa_script.specs.declared.page_line.PageLine.TheVariants as page
+use Rattle.numa_script.specs.declared.policy.WordError.TheVariants as word_fault
+use Rattle.numa_script.specs.declared.reply.Reply.{Reply}
+use Rattle.numa_script.specs.declared.reply.Reply.TheVariants as reply
+use Rattle.numa_script.specs.declared.work.Work.{Work}
+use Rattle.numa_script.specs.declared.work.Work.TheVariants as work
+use Rattle.numa_run.specs.Answering.{Served, with_outcome, with_reply, with_text}
+use Rattle.numa_run.specs.MovedTexts.{last_line}
+use Rattle.numa_run.specs.States.{State, process_on, setup_with}
+use Rattle.numa_run.specs.Work.{work_outcome}
+
+-- ---- lines of workers
+
+-- a page that is there isn't touched for the first time
+abbrev pub worked : Bool → Hardware → State → Work → Served
+worked refused machine state said = with_outcome state (work_outcome refused
+    (setup_with machine state.bounds) state.world state.resident said)
+
+abbrev pub work_served : Bool → Hardware → State → Work → Served
+work_served refused machine state (work.Touch w request) =
+    if is_placed (state.lying.spots request.page) then with_reply reply.Placed state
+    else worked refused machine state (work.Touch w request)
+work_served refused machine state (work.Event event) =
+    worked refused machine state (work.Event event)
+work_served refused machine state (work.Release w page) =
+    worked refused machine state (work.Release w page)
+
+-- ---- lines about pages
+
+abbrev pub page_reply : Reply → Result (Unit {0}) PlacedRefusal → Reply
+page_reply told (Ok done) = told
+page_reply told (Err why) = reply.PlacedRefused why
+
+abbrev pub migrate_reply : Result Shift PlacedRefusal → Reply
+migrate_reply (Ok shift) = reply.Moved shift.moved shift.left
+migrate_reply (Err why) = reply.PlacedRefused why
+
+abbrev pub move_reply : ℕ → Result (Unit {0}) MoveRefusal → Reply
+move_reply node (Ok done) = reply.MovedTo node
+move_reply node (Err why) = reply.MoveRefused why
+
+-- what a line changes, and its reply; `moved` changes nothing, and its answer is a text
+abbrev pub change_of : Bool → Ground → PageLine → Lying → Reply × Lying
+change_of refused basis (page.At start bytes node) at =
+    let done = at_outcome refused basis start bytes node at in
+    (page_reply reply.AtOk done.0, done.1)
+change_of refused basis (page.Room node pages) at =
+    let done = room_outcome basis.machine node pages at in (page_reply reply.RoomOk done.0, done.1)
+change_of refused basis (page.MemoryMigrate follows) at =
+    (reply.MemoryMigrateOk, record at { follows = follows })
+change_of refused basis (page.Migrate from to) at =
+    let done = migrate_outcome refused basis from to at in (migrate_reply done.0, done.1)
+change_of refused basis (page.Move address node) at =
+    let done = move_outcome refused basis address node at in (move_reply node done.0, done.1)
+change_of refused basis page.Moved at = (reply.Silent, at)
+
+-- that memory lacks for it
+abbrev pub lack_reply : PageLine → Reply
+lack_reply (page.Move address node) = reply.MoveRefused move.NoMemory
+lack_reply _ = reply.PlacedRefused cause.NoMemory
+
+abbrev pub with_change : State → Reply × Lying → Served
+with_change state done = with_reply done.0 (record state { lying = done.1 })
+
+-- the first change wants memory, whatever it is
+abbrev pub changed : Bool → Hardware → State → PageLine → Served
+changed refused machine state said =
+    if not state.lying.begun && refused then with_reply (lack_reply said) state
+    else with_change state (change_of refused (ground_of (process_on machine state)) said
+    (record state.lying { begun = true }))
+
+abbrev pub page_outcome : Bool → Hardware → State → PageLine → Served
+page_outcome refused machine state page.Moved =
+    with_text (last_line (length state.world.history) state.lying.last) state
+page_outcome refused machine state said = changed refused machine state said
+
+-- what is wrong with a list of nodes comes before every refusal
+abbrev pub pages_outcome : Bool → Hardware → State → Result PageLine ListFault → Served
+pages_outcome refused machine state (Err wrong) =
+    with_reply (reply.BadWord (word_fault.List wrong)) state
+pages_outcome refused machine state (Ok said) = page_outcome refused machine state said

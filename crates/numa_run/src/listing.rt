@@ -1,0 +1,81 @@
+//! `maps`, where pages were stated to lie somewhere.
+ghost use Rattle.std.specs.Prelude.{◌≡◌, ◌+◌, ◌<◌, ◌≤◌, ◌^◌, ℕ, slice_index};
+ghost use Rattle.numa_lines.specs.Written.{Said};
+ghost use Rattle.numa_placed.specs.Shifts.{sum_below};
+ghost use Rattle.numa_run.specs.Listings.{stated_in, there_line, there_lines};
+ghost use Rattle.numa_page_state.specs.Lying.{Lying};
+ghost use Rattle.numa_page_state.specs.Standing.{Lies};
+ghost use Rattle.numa_ranges.specs.Runs.{end_of};
+ghost use Rattle.numa_space.specs.Standing.{policy_in};
+
+use numa_lines::Watched;
+use numa_maps::{Resident, say_counted};
+use numa_page_state::{PageState, add};
+use numa_ranges::Run;
+use numa_space::{RangeRecord, Space};
+use std::io::Write;
+
+/// The number of stated pages of a range on each node.
+fn stated_in(pages: &Option<PageState>, range: &Run<RangeRecord>) -> [u64; 256]
+    requires { end_of range.now ≤ 2 ^ 35 }
+    ensures counts { (lying : Lying) → Lies pages.now lying → (node : ℕ) → node < 256
+        → slice_index result node ≡ stated_in lying.spots range.now node }
+    ensures few { (node : ℕ) → node < 256 → slice_index result node ≤ 2 ^ 35 }
+{
+    match pages {
+        None => [0; 256],
+        Some(kept) => kept.placed().counts_in(range.first, range.pages),
+    }
+}
+
+/// The sum of the pages on all nodes.
+fn total(pages: &[u64; 256]) -> u64
+    requires { (node : ℕ) → node < 256 → slice_index pages.now node ≤ 2 ^ 35 }
+    ensures sum { result ≡ sum_below 256 (slice_index pages.now) }
+    ensures few { result < 2 ^ 44 }
+{
+    let mut total = 0;
+    for node in 0..256usize {
+        total += pages[node];
+    }
+    total
+}
+
+/// Writes the line of a range.
+fn say_range<W: Write>(
+    space: &Space,
+    task: u32,
+    resident: &Resident,
+    pages: &Option<PageState>,
+    range: &Run<RangeRecord>,
+    output: &mut Watched<W>,
+)
+    requires { end_of range.now ≤ 2 ^ 35 }
+    ensures { (lying : Lying) → Lies pages.now lying → Said W.contents output.old output.new
+        (there_line (policy_in space.now task range.now.first) resident.now lying.spots
+        range.now) }
+{
+    let stated = stated_in(pages, range);
+    let held = resident.count_in(range);
+    let more = total(&stated);
+    let by_node = resident.pages_by_node(range);
+    let both = add(by_node, &stated);
+    let policy = space.policy_at(task, range.first);
+    say_counted(policy, range.first, held as u64 + more, &both, output);
+}
+
+/// Writes a line for each range of the space, in ascending order.
+pub(crate) fn say_there<W: Write>(
+    space: &Space,
+    task: u32,
+    resident: &Resident,
+    pages: &Option<PageState>,
+    output: &mut Watched<W>,
+)
+    ensures { (lying : Lying) → Lies pages.now lying → Said W.contents output.old output.new
+        (there_lines (policy_in space.now task) resident.now lying.spots space.now.ranges) }
+{
+    for range in space.range_iter() {
+        say_range(space, task, resident, pages, &range, output);
+    }
+}
