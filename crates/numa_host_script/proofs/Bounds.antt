@@ -5,29 +5,23 @@ use Rattle.numa_machine.specs.Machine.{Hardware}
 use Rattle.numa_machine.specs.declared.fault.MachineFault.{MachineFault}
 use Rattle.numa_mask.specs.declared.list.ListFault.{ListFault}
 use Rattle.numa_space.specs.Limited.{Bounds}
-use Rattle.numa_requests.specs.declared.command.Command.{Command}
 use Rattle.numa_script.specs.declared.line.Line.{Line}
 use Rattle.numa_script.specs.declared.line.Line.TheVariants as line
 use Rattle.numa_script.specs.declared.line.MachineLine.{MachineLine}
-use Rattle.numa_script.specs.declared.policy.WordError.{WordError}
 use Rattle.numa_script.specs.declared.reply.Reply.TheVariants as reply
 use Rattle.numa_run.specs.Answers.{State, after}
 use Rattle.numa_run.specs.Machines.{first_fault, hardware_of, limits_fit, nodes_with_cpus}
-use Rattle.numa_run.specs.Replies.{bind_nothing, command_outcome, cpus_outcome}
+use Rattle.numa_run.specs.Obeying.{bound_command}
+use Rattle.numa_run.specs.Replies.{bind_nothing, cpus_outcome}
 use Rattle.numa_run.specs.Replies.{machine_outcome, machine_unless, outcome_of, served_by}
 use Rattle.numa_run.specs.Replies.{with_reply}
+use Rattle.numa_run.proofs.Bounded.{bound-keeps, command-keeps, pages-keep, work-keeps}
 use Rattle.numa_host_script.specs.Sessions.{bounds_after}
 
 -- limits, where they fit
 limits-kept : (fit : Bool) (given : Bounds) (state : State)
-    → (if fit then with_reply reply.LimitsOk (record {
-      bounds = given;
-      rules = state.rules;
-      cpus = state.cpus;
-      machine = state.machine;
-      world = state.world;
-      resident = state.resident;
-    }) else with_reply reply.BadLimits state).state.bounds
+    → (if fit then with_reply reply.LimitsOk (record state { bounds = given })
+    else with_reply reply.BadLimits state).state.bounds
     ≡ (if fit then given else state.bounds)
 limits-kept true given state = refl
 limits-kept false given state = refl
@@ -49,12 +43,6 @@ machine-kept refused said (Ok memory) state =
     let cpus = nodes_with_cpus said.nodes state.cpus in
     let hardware = hardware_of said memory state.rules cpus in
     unless-kept (first_fault refused cpus hardware) hardware state
-
-command-kept : (refused : Bool) (machine : Hardware) (state : State)
-    (said : Result Command WordError)
-    → (command_outcome refused machine state said).state.bounds ≡ state.bounds
-command-kept refused machine state (Ok said) = refl
-command-kept refused machine state (Err fault) = refl
 
 by-machine : (machine : Option Hardware) (refused : Bool) (state : State) (said : Line)
     → (served_by machine refused state said).state.bounds
@@ -83,14 +71,15 @@ by-machine (Some machine) refused state (line.Rules rules) = refl
 by-machine (Some machine) refused state (line.Cpus said) = refl
 by-machine (Some machine) refused state (line.Machine said) = refl
 by-machine (Some machine) refused state (line.Command said) =
-    command-kept refused machine state said
+    command-keeps refused machine state said
 by-machine (Some machine) refused state (line.EmptyBind start fault) =
-    command-kept refused machine state (bind_nothing machine.rules start fault)
+    command-keeps refused machine state (bind_nothing machine.rules start fault)
 by-machine (Some machine) refused state (line.Question said) = refl
 by-machine (Some machine) refused state (line.Maps task) = refl
-by-machine (Some machine) refused state (line.Work said) = refl
-by-machine (Some machine) refused state (line.Pages said) = refl
-by-machine (Some machine) refused state (line.Bind start bytes policy pages) = refl
+by-machine (Some machine) refused state (line.Work said) = work-keeps refused machine state said
+by-machine (Some machine) refused state (line.Pages said) = pages-keep refused machine state said
+by-machine (Some machine) refused state (line.Bind start bytes policy pages) =
+    bound-keeps pages refused machine state (bound_command machine.rules start bytes policy)
 by-machine (Some machine) refused state line.Host = refl
 by-machine (Some machine) refused state (line.HostCommand said) = refl
 

@@ -18,7 +18,7 @@ use Rattle.numa_run.specs.Replies.{Answer, Replied, Shown, Served as Played, rep
 use Rattle.numa_run.specs.Scripts.{answer_left as own_answer_left, fault_left as own_fault_left}
 use Rattle.numa_run.specs.declared.running.Taken.{Taken}
 use Rattle.numa_run.specs.declared.running.Taken.TheVariants as own
-use Rattle.numa_run.proofs.Taking.{malformed-is, maps-same, question-same}
+use Rattle.numa_run.proofs.Taking.{malformed-is, maps-same, moved-same, question-same}
 use Rattle.numa_host_script.specs.Judged.{Starves, refused_where, session_fault}
 use Rattle.numa_host_script.specs.Judged.{session_refused}
 use Rattle.numa_host_script.specs.Sessions.{Hosted, Hosting, Session, Single}
@@ -73,6 +73,7 @@ unfolding session_served
 own-answer refused state (own.Reply answer) = refl
 own-answer refused state (own.Question asked) = refl
 own-answer refused state (own.Maps task) = refl
+own-answer refused state own.Moved = refl
 
 pub own-fault : (refused : Bool) (state : State) (found : Taken)
     → own_fault_left refused state found
@@ -81,6 +82,7 @@ unfolding session_served
 own-fault refused state (own.Reply answer) = refl
 own-fault refused state (own.Question asked) = refl
 own-fault refused state (own.Maps task) = refl
+own-fault refused state own.Moved = refl
 
 -- and as a host does
 pub misplaced-answer : (refused : Bool) (at : Hosting) (found : Taken)
@@ -90,6 +92,7 @@ unfolding session_served
 misplaced-answer refused at (own.Reply answer) = refl
 misplaced-answer refused at (own.Question asked) = refl
 misplaced-answer refused at (own.Maps task) = refl
+misplaced-answer refused at own.Moved = refl
 
 pub misplaced-fault : (refused : Bool) (at : Hosting) (found : Taken)
     → fault_in (misplaced_reply found)
@@ -98,6 +101,7 @@ unfolding session_served
 misplaced-fault refused at (own.Reply answer) = refl
 misplaced-fault refused at (own.Question asked) = refl
 misplaced-fault refused at (own.Maps task) = refl
+misplaced-fault refused at own.Moved = refl
 
 -- a question of a process, where it is there or not
 asked-answer : (refused : Bool) (at : Hosting) (process : ℕ) (asked : Question)
@@ -168,12 +172,14 @@ stays refused (Single state) (taken.Own (own.Question asked)) =
     ap Single (question-same refused state asked)
 stays refused (Single state) (taken.Own (own.Maps task)) =
     ap Single (maps-same refused state task)
+stays refused (Single state) (taken.Own own.Moved) = ap Single (moved-same refused state)
 stays refused (Single state) (taken.Asked process asked) =
     ap Single (malformed-same refused state)
 stays refused (Single state) (taken.Listed process task) =
     ap Single (malformed-same refused state)
 stays refused (Hosted at) (taken.Own (own.Question asked)) = refl
 stays refused (Hosted at) (taken.Own (own.Maps task)) = refl
+stays refused (Hosted at) (taken.Own own.Moved) = refl
 stays refused (Hosted at) (taken.Asked process asked) = ap (with-history at)
     (asked-still (is_there (members_of at.history) process) refused at process asked)
 stays refused (Hosted at) (taken.Listed process task) = ap (with-history at)

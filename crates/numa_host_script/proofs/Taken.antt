@@ -1,7 +1,7 @@
 -- What taking a line comes to, before a host and in one.
 use Rattle.std.proofs.Common.{◌≡◌, ℕ, Bool, true, false, Option, Some, None, List, [], refl}
 use Rattle.std.proofs.Common.{sym, ap, subst, ◌∙◌}
-use Rattle.std.specs.Prelude.{if◌then◌else◌, is_some, Result}
+use Rattle.std.specs.Prelude.{if◌then◌else◌, is_some, Result, Ok}
 use Rattle.numa_machine.specs.Machine.{Hardware}
 use Rattle.numa_space.specs.Limited.{Bounds}
 use Rattle.numa_host.specs.Processes.{is_there, members_of}
@@ -13,6 +13,7 @@ use Rattle.numa_script.specs.declared.line.Line.{Line}
 use Rattle.numa_script.specs.declared.line.Line.TheVariants as line
 use Rattle.numa_script.specs.declared.line.Question.{Question}
 use Rattle.numa_script.specs.declared.line.ScriptLine.{ScriptLine}
+use Rattle.numa_script.specs.declared.page_line.PageLine.TheVariants as page
 use Rattle.numa_script.specs.declared.policy.WordError.{WordError}
 use Rattle.numa_script.specs.declared.reply.Reply.{Reply}
 use Rattle.numa_script.specs.declared.reply.Reply.TheVariants as reply
@@ -226,6 +227,8 @@ module _ (script : Script) (limits : Bounds) where
       says-alone said.process said.line (line.Question asked) (λ e. cc) left.1
   left-alone refused state said (own.Maps task) same left =
       says-alone said.process said.line (line.Maps task) (λ e. cc) left.1
+  left-alone refused state said own.Moved same left =
+      says-alone said.process said.line (line.Pages (Ok page.Moved)) (λ e. cc) left.1
 
   -- a line that is told to a process has no place
   pub taken-foreign : (said : ScriptLine) (process : ℕ) (session : Session)

@@ -65,7 +65,7 @@ page-of_a_host : session_answer_to false (Hosted run) (codes "moved") ≡ codes 
 unfolding session_served line_of keyword_of text_of
 page-of_a_host = refl
 
--- and neither have pages, where none are kept
+-- where pages lie is not kept of its processes
 page-of_a_process : session_answer_to false (Hosted run) (codes "in 1 moved")
     ≡ codes "bad words\n"
 unfolding session_served line_of keyword_of number_of numeral_of in_64_bits text_of

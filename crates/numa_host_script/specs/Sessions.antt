@@ -107,7 +107,7 @@ listed_where false at process task = with_reply (reply.HostRefused NoSuchProcess
 listed_where true at process task =
     with_text (listing_of at.machine (commands_of at.machine at.history process) task []) at
 
--- a process has no pages here: where they are kept, their lines are not handed on
+-- where pages lie is not kept of a process of a host: lines about them are none of its lines
 abbrev pub in_outcome : Bool → Hosting → ℕ → Line → Outcome
 in_outcome refused at process (line.Command said) = given_outcome refused at process said
 in_outcome refused at process (line.EmptyBind start fault) =

@@ -1,17 +1,21 @@
 -- A line that is taken, and then answered or judged.
-use Rattle.std.specs.Prelude.{◌≡◌, Bool, Option, Some}
+use Rattle.std.specs.Prelude.{◌≡◌, ◌↔◌, ℕ, Bool, List, Option, Some, Ok, IsSomeAnd, IsTrue}
+use Rattle.numa_lines.specs.Written.{Said}
+use Rattle.numa_lines.specs.declared.watched.Watched.{Watched}
 use Rattle.numa_script.specs.Lines.{alone}
-use Rattle.numa_script.specs.Replies.{fault_in}
+use Rattle.numa_script.specs.Replies.{LacksMemory, fault_in}
 use Rattle.numa_script.specs.declared.line.Line.TheVariants as line
 use Rattle.numa_script.specs.declared.line.ScriptLine.{ScriptLine}
+use Rattle.numa_script.specs.declared.page_line.PageLine.TheVariants as page
 use Rattle.numa_script.specs.declared.reply.Reply.{Reply}
 use Rattle.numa_script.specs.declared.reply.Reply.TheVariants as reply
-use Rattle.numa_run.specs.Replies.{Answer, Replied, reply_in}
+use Rattle.numa_run.specs.Replies.{Answer, Replied, bytes_of, reply_in}
 use Rattle.numa_run.specs.declared.running.Taken.{Taken}
 use Rattle.numa_run.specs.declared.running.Taken.TheVariants as own
-use Rattle.numa_host_script.specs.Judged.{session_fault}
-use Rattle.numa_host_script.specs.Sessions.{Session, session_served}
-use Rattle.numa_host_script.specs.Standing.{told}
+use Rattle.numa_host_script.specs.Judged.{Starves, session_fault}
+use Rattle.numa_host_script.specs.Sessions.{Session, session_after, session_answer, session_served}
+use Rattle.numa_host_script.specs.Standing.{StandsIn, told}
+use Rattle.numa_host_script.specs.declared.script.HostScript.{HostScript}
 use Rattle.numa_host_script.specs.declared.taking.HostTaken.{HostTaken}
 use Rattle.numa_host_script.specs.declared.taking.HostTaken.TheVariants as taken
 
@@ -25,6 +29,7 @@ abbrev pub left_in : HostTaken → Left
 left_in (taken.Own (own.Reply answer)) = Told answer
 left_in (taken.Own (own.Question asked)) = Open (alone (line.Question asked))
 left_in (taken.Own (own.Maps task)) = Open (alone (line.Maps task))
+left_in (taken.Own own.Moved) = Open (alone (line.Pages (Ok page.Moved)))
 left_in (taken.Reply answer) = Told answer
 left_in (taken.Asked process asked) = Open (told process (line.Question asked))
 left_in (taken.Listed process task) = Open (told process (line.Maps task))
@@ -49,3 +54,47 @@ abbrev pub misplaced_reply : Taken → Reply
 misplaced_reply (own.Reply answer) = answer
 misplaced_reply (own.Question asked) = reply.BadState
 misplaced_reply (own.Maps task) = reply.BadState
+misplaced_reply own.Moved = reply.BadState
+
+-- ---- what a script does with a line
+
+abbrev pub SessionStandsFor : HostScript → Session → Type 0
+SessionStandsFor script session = StandsIn script.script script.limits script.host session
+
+-- the line was carried out, and the session that the definition says is reached
+abbrev pub SessionTakes : HostScript → ScriptLine → HostTaken → HostScript → Type 0
+SessionTakes old said found new =
+    (session : Session) → SessionStandsFor old session → (refused : Bool)
+    × SessionStandsFor new (session_after refused session said)
+    × IsLeft refused session said (left_in found)
+
+-- the answer was said, and nothing else changed; and whether it tells lack of memory
+abbrev pub SessionWrites : {W : Type 0} → (W → Option (List ℕ)) → HostScript → Watched W
+    → HostTaken → Bool → HostScript → Watched W → Type 0
+SessionWrites contents old output found starved new output_then =
+    (session : Session) → SessionStandsFor old session → (refused : Bool)
+    × SessionStandsFor new session
+    × Said contents output output_then (bytes_of (answer_left refused session (left_in found)))
+    × (IsTrue starved ↔ IsSomeAnd (fault_left refused session (left_in found)) LacksMemory)
+
+-- the fault or the refusal was told, and nothing changed
+abbrev pub SessionTells : HostScript → HostTaken → Option Reply → HostScript → Type 0
+SessionTells old found fault new =
+    (session : Session) → SessionStandsFor old session → (refused : Bool)
+    × SessionStandsFor new session × (fault ≡ fault_left refused session (left_in found))
+
+-- the line was served, and whether its answer tells lack of memory
+abbrev pub SessionServes : {W : Type 0} → (W → Option (List ℕ)) → HostScript → Watched W
+    → ScriptLine → Bool → HostScript → Watched W → Type 0
+SessionServes contents old output said starved new output_then =
+    (session : Session) → SessionStandsFor old session → (refused : Bool)
+    × SessionStandsFor new (session_after refused session said)
+    × Said contents output output_then (session_answer refused session said)
+    × (IsTrue starved ↔ Starves refused session said)
+
+-- the line was judged: its fault or its refusal is given, or none where its answer is neither
+abbrev pub SessionJudges : HostScript → ScriptLine → Option Reply → HostScript → Type 0
+SessionJudges old said fault new =
+    (session : Session) → SessionStandsFor old session → (refused : Bool)
+    × SessionStandsFor new (session_after refused session said)
+    × (fault ≡ session_fault refused session said)

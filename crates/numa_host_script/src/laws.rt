@@ -5,6 +5,7 @@ ghost use Rattle.numa_host.specs.Processes.{commands_of, is_there, members_of};
 ghost use Rattle.numa_run.specs.Answers.{State, after, answer_of, own_line};
 ghost use Rattle.numa_run.specs.Judged.{fault_of};
 ghost use Rattle.numa_run.specs.Replies.{outcome_of};
+ghost use Rattle.numa_run.specs.States.{LieNowhere};
 ghost use Rattle.numa_script.specs.declared.line.Line.{Line};
 ghost use Rattle.numa_script.specs.declared.line.Question.{Question};
 ghost use Rattle.numa_script.specs.declared.line.ScriptLine.{ScriptLine};
@@ -24,8 +25,8 @@ pub fn without_host()
         ≡ Single (after refused state (own_line said))) }
 {}
 
-/// A process answers a question, and `maps`, as a script does that has accepted its commands and
-/// has placed no page.
+/// A process answers a question, and `maps`, as a script does that has accepted its commands, has
+/// placed no page, and was told of none where it lies.
 pub fn process_answers()
     ensures asked { (refused : Bool) (at : Hosting) (process : ℕ) (state : State)
         (question : Question) → state.machine ≡ Some at.machine
@@ -36,7 +37,8 @@ pub fn process_answers()
     ensures listed { (refused : Bool) (at : Hosting) (process : ℕ) (state : State) (task : ℕ)
         → state.machine ≡ Some at.machine
         → state.world.history ≡ commands_of at.machine at.history process
-        → state.resident ≡ [] → is_there (members_of at.history) process ≡ true
+        → state.resident ≡ [] → LieNowhere state
+        → is_there (members_of at.history) process ≡ true
         → (in_outcome refused at process (Line.Maps task)).answer
         ≡ (outcome_of refused state (Line.Maps task)).answer }
 {}

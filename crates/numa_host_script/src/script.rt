@@ -1,18 +1,16 @@
 //! Running scripts that may become a host's.
-ghost use Rattle.std.specs.Prelude.{◌≡◌, ◌↔◌, ℕ, Bool, true, false, IsSomeAnd, IsTrue};
-ghost use Rattle.std.specs.Prelude.{MatchOption, Some};
+ghost use Rattle.std.specs.Prelude.{◌≡◌, ◌↔◌, ℕ, Bool, true, false, IsTrue, MatchOption, Some};
 ghost use Rattle.numa_lines.specs.Written.{Said};
 ghost use Rattle.numa_host_script.specs.Sessions.{Session, begun, bounds_after, is_begin, is_fresh};
-ghost use Rattle.numa_host_script.specs.Sessions.{session_after, session_answer, session_by};
+ghost use Rattle.numa_host_script.specs.Sessions.{session_answer, session_by};
 ghost use Rattle.numa_host_script.specs.Judged.{Starves, session_fault};
-ghost use Rattle.numa_host_script.specs.Standing.{IsAlone, IsHost, IsHostIn, IsScriptIn, StandsIn};
-ghost use Rattle.numa_host_script.specs.Standing.{told};
-ghost use Rattle.numa_host_script.specs.Taking.{IsLeft, answer_left, fault_left, left_in};
+ghost use Rattle.numa_host_script.specs.Standing.{IsAlone, IsHost, IsHostIn, IsScriptIn, told};
+ghost use Rattle.numa_host_script.specs.Taking.{SessionJudges, SessionServes, SessionStandsFor};
+ghost use Rattle.numa_host_script.specs.Taking.{SessionTakes, SessionTells, SessionWrites};
 ghost use Rattle.numa_host_script.specs.Taking.{misplaced_reply};
 ghost use Rattle.numa_run.specs.Answers.{State};
-ghost use Rattle.numa_run.specs.Replies.{bytes_of, reply_in};
+ghost use Rattle.numa_run.specs.Replies.{reply_in};
 ghost use Rattle.numa_run.specs.Scripts.{ScriptStandsFor};
-ghost use Rattle.numa_script.specs.Replies.{LacksMemory};
 
 use crate::asking::{ask, list, question_cause};
 use crate::taking::{HostTaken, take};
@@ -94,6 +92,7 @@ fn misplaced(taken: Taken) -> Reply
         Taken::Reply(reply) => reply,
         Taken::Question(_) => Reply::BadState,
         Taken::Maps(_) => Reply::BadState,
+        Taken::Moved => Reply::BadState,
     }
 }
 
@@ -101,7 +100,7 @@ impl HostScript {
     /// The state before the first line; these rules apply unless a line says otherwise. It doesn't
     /// allocate.
     pub fn by(rules: Rules) -> HostScript
-        ensures { StandsIn result.script result.limits result.host (session_by rules) }
+        ensures { SessionStandsFor result (session_by rules) }
     {
         HostScript {
             script: Script::by(rules),
@@ -112,9 +111,8 @@ impl HostScript {
 
     /// Carries out a line `host`.
     fn begin(&mut self, alloc: Global) -> Reply
-        ensures { (session : Session) → StandsIn self.old.script self.old.limits self.old.host
-            session → (refused : Bool)
-            × StandsIn self.new.script self.new.limits self.new.host (begun refused session).session
+        ensures { (session : Session) → SessionStandsFor self.old session → (refused : Bool)
+            × SessionStandsFor self.new (begun refused session).session
             × (Some result ≡ reply_in (begun refused session).answer) }
     {
         if let Some(_) = &self.host {
@@ -134,11 +132,7 @@ impl HostScript {
     /// ([`HostScript::fault`]).
     #[inline(always)]
     pub fn take(&mut self, alloc: Global, said: &ScriptLine<'_>) -> HostTaken
-        ensures { (session : Session) → StandsIn self.old.script self.old.limits self.old.host
-            session → (refused : Bool)
-            × StandsIn self.new.script self.new.limits self.new.host
-            (session_after refused session said.now)
-            × IsLeft refused session said.now (left_in result) }
+        ensures { SessionTakes self.old said.now result self.new }
     {
         if is_begin(said) {
             return HostTaken::Reply(self.begin(alloc));
@@ -162,13 +156,7 @@ impl HostScript {
         taken: HostTaken,
         output: &mut Watched<W>,
     ) -> bool
-        ensures { (session : Session) → StandsIn self.old.script self.old.limits self.old.host
-            session → (refused : Bool)
-            × StandsIn self.new.script self.new.limits self.new.host session
-            × Said W.contents output.old output.new
-            (bytes_of (answer_left refused session (left_in taken)))
-            × (IsTrue result ↔ (IsSomeAnd (fault_left refused session (left_in taken))
-            LacksMemory)) }
+        ensures { SessionWrites W.contents self.old output.old taken result self.new output.new }
     {
         match taken {
             HostTaken::Own(taken) => self.write_own(alloc, taken, output),
@@ -189,13 +177,8 @@ impl HostScript {
     /// Writes the answer of a line of one process.
     #[inline(always)]
     fn write_own<W: Write>(&mut self, alloc: Global, taken: Taken, output: &mut Watched<W>) -> bool
-        ensures { (session : Session) → StandsIn self.old.script self.old.limits self.old.host
-            session → (refused : Bool)
-            × StandsIn self.new.script self.new.limits self.new.host session
-            × Said W.contents output.old output.new
-            (bytes_of (answer_left refused session (left_in (HostTaken.Own taken))))
-            × (IsTrue result ↔ (IsSomeAnd (fault_left refused session
-            (left_in (HostTaken.Own taken))) LacksMemory)) }
+        ensures { SessionWrites W.contents self.old output.old (HostTaken.Own taken) result
+            self.new output.new }
     {
         if let Some(_) = &self.host {
             let reply = misplaced(taken);
@@ -213,8 +196,8 @@ impl HostScript {
         question: Question,
         output: &mut Watched<W>,
     ) -> bool
-        ensures { (session : Session) → StandsIn self.now.script self.now.limits self.now.host
-            session → (refused : Bool) × Said W.contents output.old output.new
+        ensures { (session : Session) → SessionStandsFor self.now session → (refused : Bool)
+            × Said W.contents output.old output.new
             (session_answer refused session (told process (Line.Question question)))
             × (IsTrue result ↔ (Starves refused session (told process (Line.Question question)))) }
     {
@@ -231,8 +214,8 @@ impl HostScript {
 
     /// Lists the ranges of a process.
     fn list<W: Write>(&self, alloc: Global, process: u32, task: u32, output: &mut Watched<W>)
-        ensures { (session : Session) → StandsIn self.now.script self.now.limits self.now.host
-            session → Said W.contents output.old output.new
+        ensures { (session : Session) → SessionStandsFor self.now session
+            → Said W.contents output.old output.new
             (session_answer false session (told process (Line.Maps task))) }
     {
         let Some(host) = &self.host else {
@@ -249,10 +232,7 @@ impl HostScript {
     /// The error or the refusal of a line that was taken; `None` if its answer is neither. A
     /// question is judged and not answered.
     pub fn fault(&mut self, alloc: Global, taken: HostTaken) -> Option<Reply>
-        ensures { (session : Session) → StandsIn self.old.script self.old.limits self.old.host
-            session → (refused : Bool)
-            × StandsIn self.new.script self.new.limits self.new.host session
-            × (result ≡ fault_left refused session (left_in taken)) }
+        ensures { SessionTells self.old taken result self.new }
     {
         match taken {
             HostTaken::Own(taken) => self.own_fault(taken),
@@ -264,10 +244,7 @@ impl HostScript {
 
     /// The error or the refusal of a line of one process.
     fn own_fault(&mut self, taken: Taken) -> Option<Reply>
-        ensures { (session : Session) → StandsIn self.old.script self.old.limits self.old.host
-            session → (refused : Bool)
-            × StandsIn self.new.script self.new.limits self.new.host session
-            × (result ≡ fault_left refused session (left_in (HostTaken.Own taken))) }
+        ensures { SessionTells self.old (HostTaken.Own taken) result self.new }
     {
         if let Some(_) = &self.host {
             return misplaced(taken).fault();
@@ -277,8 +254,7 @@ impl HostScript {
 
     /// The error or the refusal of a question of a process.
     fn asked_fault(&self, alloc: Global, process: u32, question: Question) -> Option<Reply>
-        ensures { (session : Session) → StandsIn self.now.script self.now.limits self.now.host
-            session → (refused : Bool)
+        ensures { (session : Session) → SessionStandsFor self.now session → (refused : Bool)
             × (result ≡ session_fault refused session (told process (Line.Question question))) }
     {
         let Some(host) = &self.host else {
@@ -295,8 +271,7 @@ impl HostScript {
 
     /// The error or the refusal of a listing of a process.
     fn listed_fault(&self, process: u32) -> Option<Reply>
-        ensures { (session : Session) (task : ℕ) → StandsIn self.now.script self.now.limits
-            self.now.host session
+        ensures { (session : Session) (task : ℕ) → SessionStandsFor self.now session
             → result ≡ session_fault false session (told process (Line.Maps task)) }
     {
         let Some(host) = &self.host else {
@@ -316,12 +291,8 @@ impl HostScript {
         said: &ScriptLine<'_>,
         output: &mut Watched<W>,
     ) -> bool
-        ensures { (session : Session) → StandsIn self.old.script self.old.limits self.old.host
-            session → (refused : Bool)
-            × StandsIn self.new.script self.new.limits self.new.host
-            (session_after refused session said.now)
-            × Said W.contents output.old output.new (session_answer refused session said.now)
-            × (IsTrue result ↔ (Starves refused session said.now)) }
+        ensures { SessionServes W.contents self.old output.old said.now result self.new
+            output.new }
     {
         let taken = self.take(alloc, said);
         self.write(alloc, taken, output)
@@ -329,9 +300,8 @@ impl HostScript {
 
     /// The script, while it is one process's.
     pub fn script(&self) -> Option<&Script>
-        ensures { (session : Session) → StandsIn self.now.script self.now.limits self.now.host
-            session → MatchOption result (IsHost session)
-            (λ script. IsScriptIn script.now session) }
+        ensures { (session : Session) → SessionStandsFor self.now session
+            → MatchOption result (IsHost session) (λ script. IsScriptIn script.now session) }
     {
         if let Some(_) = &self.host {
             return None;
@@ -341,8 +311,8 @@ impl HostScript {
 
     /// The host, once the script is a host's.
     pub fn host(&self) -> Option<&Host>
-        ensures { (session : Session) → StandsIn self.now.script self.now.limits self.now.host
-            session → MatchOption result (IsAlone session) (λ host. IsHostIn host.now session) }
+        ensures { (session : Session) → SessionStandsFor self.now session
+            → MatchOption result (IsAlone session) (λ host. IsHostIn host.now session) }
     {
         self.host.as_ref()
     }
@@ -351,11 +321,7 @@ impl HostScript {
     /// its answer is an error or a refusal, and then that one. A question is judged and not
     /// answered.
     pub fn judge(&mut self, alloc: Global, said: &ScriptLine<'_>) -> Option<Reply>
-        ensures { (session : Session) → StandsIn self.old.script self.old.limits self.old.host
-            session → (refused : Bool)
-            × StandsIn self.new.script self.new.limits self.new.host
-            (session_after refused session said.now)
-            × (result ≡ session_fault refused session said.now) }
+        ensures { SessionJudges self.old said.now result self.new }
     {
         let taken = self.take(alloc, said);
         self.fault(alloc, taken)
@@ -365,12 +331,11 @@ impl HostScript {
 impl Serve for HostScript {
     ghost use Rattle.numa_host_script.specs.Sessions.{Session, session_after_bytes};
     ghost use Rattle.numa_host_script.specs.Sessions.{session_answer_to};
-    ghost use Rattle.numa_host_script.specs.Standing.{StandsIn};
+    ghost use Rattle.numa_host_script.specs.Taking.{SessionStandsFor};
 
     ghost State = { Session };
 
-    ghost stands_for = { λ server session. StandsIn server.script server.limits server.host
-        session };
+    ghost stands_for = { SessionStandsFor };
 
     ghost answer_of = { session_answer_to };
 

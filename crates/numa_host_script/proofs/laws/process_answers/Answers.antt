@@ -1,5 +1,10 @@
-use Rattle.std.proofs.Common.{refl}
-use Rattle.numa_run.specs.Replies.{outcome_of}
+use Rattle.std.proofs.Common.{Bool, Option, refl, sym, ap, ◌∙◌}
+use Rattle.numa_machine.specs.Machine.{Hardware}
+use Rattle.numa_script.specs.declared.line.Line.TheVariants as line
+use Rattle.numa_run.specs.Ranges.{listing_of}
+use Rattle.numa_run.specs.Replies.{Shown, outcome_of, served_by}
+use Rattle.numa_run.proofs.Nowhere.{listing-alone}
+use Rattle.numa_host_script.specs.Sessions.{listed_where}
 use Rattle.numa_host_script.proofs.laws.process_answers.Goals as goal
 
 pub returns-clause-asked : goal.returns-clause-asked
@@ -9,5 +14,9 @@ returns-clause-asked c = λ refused at process state question machine history th
 
 pub returns-clause-listed : goal.returns-clause-listed
 unfolding outcome_of
-returns-clause-listed c = λ refused at process state task machine history placed there.
-    rw (there, machine, history, placed) refl
+returns-clause-listed c = λ refused at process state task machine history placed nowhere there.
+    ap (λ (b : Bool). (listed_where b at process task).answer) there
+    ∙ (λ i. Shown (listing_of at.machine (sym history i) task (sym placed i)))
+    ∙ ap Shown (sym (listing-alone at.machine state task nowhere))
+    ∙ sym (ap (λ (m : Option Hardware). (served_by m refused state (line.Maps task)).answer)
+    machine)
