@@ -1,7 +1,7 @@
 //! Answering a script line by line, into texts.
+use numa_host_script::HostScript;
 use numa_lines::{Respond, Watched};
 use numa_machine::Rules;
-use numa_placed_script::PlacedScript;
 use numa_script::line::parse;
 use std::alloc::{AllocError, Global};
 use std::io::Write;
@@ -13,7 +13,7 @@ pub struct Answering {
     alloc: Global,
     // The rules that apply unless a line says otherwise.
     rules: Rules,
-    script: PlacedScript,
+    script: HostScript,
 }
 
 impl Answering {
@@ -22,7 +22,7 @@ impl Answering {
         Answering {
             alloc,
             rules,
-            script: PlacedScript::by(rules),
+            script: HostScript::by(rules),
         }
     }
 }
@@ -30,7 +30,7 @@ impl Answering {
 /// Answers a line, and returns whether memory ran out. (It is a function of its own so that the
 /// contract of `serve_line`, which isn't needed here, stays out of every goal.)
 fn serve<W: Write>(
-    script: &mut PlacedScript,
+    script: &mut HostScript,
     alloc: Global,
     line: &[u8],
     output: &mut Watched<W>,
@@ -44,7 +44,7 @@ impl Respond for Answering {
     ghost is_fault = { says_fault };
 
     fn begin(&mut self) {
-        drop(mem::replace(&mut self.script, PlacedScript::by(self.rules)));
+        drop(mem::replace(&mut self.script, HostScript::by(self.rules)));
     }
 
     fn respond(&mut self, line: &[u8], answer: &mut Vec<u8>) -> Result<(), AllocError> {

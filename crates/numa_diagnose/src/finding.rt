@@ -5,7 +5,6 @@ ghost use Rattle.numa_diagnose.specs.Checks.{Checks};
 use crate::details::detail_of;
 use crate::host_details::host_detail;
 use numa_host_script::HostScript;
-use numa_placed_script::PlacedScript;
 use numa_script::{Malformed, Reply, ScriptLine};
 use std::alloc::Global;
 
@@ -106,7 +105,7 @@ fn finding_of(script: &HostScript, line: &[u8], said: &ScriptLine<'_>, fault: Re
 /// judged and not answered.
 pub fn judge(
     alloc: Global,
-    script: &mut PlacedScript,
+    script: &mut HostScript,
     line: &[u8],
     said: &ScriptLine<'_>,
 ) -> Option<Finding>
@@ -114,6 +113,6 @@ pub fn judge(
 {
     match script.judge(alloc, said) {
         None => None,
-        Some(fault) => Some(finding_of(script.session(), line, said, fault)),
+        Some(fault) => Some(finding_of(script, line, said, fault)),
     }
 }

@@ -6,8 +6,8 @@ ghost use Rattle.numa_diagnose.specs.Checks.{Judged};
 ghost use Rattle.numa_diagnose.specs.Hints.{hint_for, rules_instead, turned};
 
 use numa_host::{Host, Process};
+use numa_host_script::HostScript;
 use numa_machine::{NoMemory, Rules};
-use numa_placed_script::PlacedScript;
 use numa_requests::{Command, HostCommand};
 use numa_rules::{Otherwise, other_rules, otherwise_of, otherwise_of_empty_bind};
 use numa_script::{Line, Reply, ScriptLine};
@@ -163,7 +163,7 @@ fn rules_line<'a>(rules: Rules) -> ScriptLine<'a>
 /// one by `judge` and one by this, each follows its own set of rules.
 pub fn judge_by_other(
     alloc: Global,
-    script: &mut PlacedScript,
+    script: &mut HostScript,
     said: &ScriptLine<'_>,
 ) -> Option<Reply>
     ensures { Judged script.old (turned said.now) result script.new }

@@ -12,7 +12,6 @@ use numa_host_script::HostScript;
 use numa_lines::{RunFault, TakeLine, Watched};
 use numa_machine::Rules;
 use numa_mask::parts::first_place;
-use numa_placed_script::PlacedScript;
 use numa_reports::Format;
 use numa_requests::{CoreRefusal, HostRefusal, Refusal};
 use numa_rules::{Text, other_rules};
@@ -74,9 +73,9 @@ pub const PLAIN: Look = Look {
 #[derive(Drop)]
 pub struct Findings<W> {
     alloc: Global,
-    script: PlacedScript,
+    script: HostScript,
     // The same script by the other rules, if requested.
-    other: Option<PlacedScript>,
+    other: Option<HostScript>,
     look: Look,
     // What lines name.
     named: Named,
@@ -93,11 +92,11 @@ pub struct Findings<W> {
 }
 
 /// A script by the rules other than these, if requested.
-fn other_script(rules: Rules, twin: Twin) -> Option<PlacedScript> {
+fn other_script(rules: Rules, twin: Twin) -> Option<HostScript> {
     match twin {
         Twin::None => None,
         Twin::UnlessChosen if rules.is_linux() => None,
-        _ => Some(PlacedScript::by(other_rules(rules))),
+        _ => Some(HostScript::by(other_rules(rules))),
     }
 }
 
@@ -110,7 +109,7 @@ impl<W: Write> Findings<W> {
         let _ = output.gather(alloc);
         Findings {
             alloc,
-            script: PlacedScript::by(rules),
+            script: HostScript::by(rules),
             other: other_script(rules, look.other),
             look,
             named: Named::new(None, None),
@@ -125,10 +124,7 @@ impl<W: Write> Findings<W> {
 
     /// The script that the lines led to by the other rules, if they are played by those.
     pub fn other(&self) -> Option<&HostScript> {
-        match &self.other {
-            Some(other) => Some(other.session()),
-            None => None,
-        }
+        self.other.as_ref()
     }
 
     /// The same, where this process of a host and this task are asked for, if they are given.
@@ -158,7 +154,7 @@ impl<W: Write> Findings<W> {
 
     /// The script after the lines so far.
     pub fn script(&self) -> &HostScript {
-        self.script.session()
+        &self.script
     }
 
     /// Whether something was wrong with a line so far.

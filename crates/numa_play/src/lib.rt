@@ -1,6 +1,6 @@
 //! Playing scripts to their end, and telling what is wrong with their lines.
 //!
-//! Every line of the language is played (`numa_placed_script`). Scripts may be a host's: then an
+//! Every line of the language is played (`numa_host_script`). Scripts may be a host's: then an
 //! answer is about one process, or about each and all together ([`Subject`]). Lines about pages
 //! that are there change no answer: these are about first touches.
 //!

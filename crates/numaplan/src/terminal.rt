@@ -2,8 +2,8 @@
 use crate::shell::{SHELL_LINES, answer_to, asked_of};
 use numa_console::{Answering, StandardError, fail};
 use numa_diagnose::{judge, say_line};
+use numa_host_script::HostScript;
 use numa_lines::{Lines, Respond, RunFault, TakeLine, read_all};
-use numa_placed_script::PlacedScript;
 use numa_play::Scripts;
 use numa_script::line::parse;
 use std::alloc::Global;
@@ -70,7 +70,7 @@ struct Typed<W, T> {
     process: Option<u32>,
     answering: Answering,
     // The same script, for finding what is wrong with a line.
-    judged: PlacedScript,
+    judged: HostScript,
     // The texts for standard output and standard error.
     text: Vec<u8>,
     output: W,
@@ -88,7 +88,7 @@ fn put<W: Write>(output: &mut W, bytes: &[u8]) -> Result<(), RunFault> {
 /// Appends what is wrong with a line, if anything.
 fn find(
     alloc: Global,
-    script: &mut PlacedScript,
+    script: &mut HostScript,
     name: &str,
     place: u64,
     line: &[u8],
@@ -139,7 +139,7 @@ impl<W: Write, T: Write> Typed<W, T> {
         let Some(asked) = asked else {
             return Ok(false);
         };
-        match answer_to(self.alloc, self.judged.session(), asked) {
+        match answer_to(self.alloc, &self.judged, asked) {
             Ok(text) => put(&mut self.output, text.as_slice())?,
             Err(Some(message)) => {
                 put(&mut self.told, message.as_bytes())?;
@@ -215,7 +215,7 @@ where
         has_quit: false,
         process,
         answering: Answering::new(alloc, rules),
-        judged: PlacedScript::by(rules),
+        judged: HostScript::by(rules),
         text: Vec::new(alloc),
         output,
         told: StandardError { rt },

@@ -2,7 +2,7 @@
 use Rattle.std.specs.Prelude.{◌≡◌, ℕ, Bool, List, Result, Ok, Err}
 use Rattle.numa_lines.specs.Output.{output_of}
 use Rattle.numa_machine.specs.declared.rules.Rules.TheVariants.{Document}
-use Rattle.numa_placed_script.specs.Scenes.{scene_after_bytes, scene_answer_to, scene_by}
+use Rattle.numa_host_script.specs.Sessions.{session_after_bytes, session_answer_to, session_by}
 use Rattle.numaplan_handles.specs.declared.dialog.LineRefusal.{LineRefusal}
 use Rattle.numaplan_handles.specs.declared.dialog.LineRefusal.TheVariants as refused
 
@@ -10,8 +10,8 @@ use Rattle.numaplan_handles.specs.declared.dialog.LineRefusal.TheVariants as ref
 abbrev pub AreAnswers : List ℕ → List ℕ → Type 0
 AreAnswers script answers =
     (growth_refused : ℕ → Bool)
-    × (answers ≡ output_of scene_answer_to scene_after_bytes (scene_by Document) growth_refused
-    script)
+    × (answers ≡ output_of session_answer_to session_after_bytes (session_by Document)
+    growth_refused script)
 
 abbrev pub line_code : Result ℕ LineRefusal → ℕ
 line_code (Ok count) = 0

@@ -14,9 +14,9 @@ use crate::codes::Code;
 use crate::keeping::{ensure_closed, memory_code};
 use crate::options::rules_of;
 use crate::texts::{copy_code, length_copied, write};
+use numa_host_script::run_by;
 use numa_lines::Watched;
 use numa_machine::Rules;
-use numa_placed_script::run_by;
 use numaplan_handles::{LineRefusal, ScriptHandle};
 use std::alloc::Global;
 

@@ -2,28 +2,30 @@
 use Rattle.std.specs.Prelude.{◌≡◌, ◌<◌, ℕ, Bool, List, [], length, take, drop}
 use Rattle.std.specs.Prelude.{Option, Some, None, Result, Ok, Err}
 use Rattle.numa_machine.specs.declared.rules.Rules.{Rules}
-use Rattle.numa_placed_script.specs.Scenes.{Scene, scene_after_bytes, scene_answer_to, scene_by}
-use Rattle.numa_placed_script.specs.Standing.{StandsIn}
-use Rattle.numa_placed_script.specs.declared.script.PlacedScript.{PlacedScript}
+use Rattle.numa_host_script.specs.Sessions.{Session, session_after_bytes, session_answer_to}
+use Rattle.numa_host_script.specs.Sessions.{session_by}
+use Rattle.numa_host_script.specs.Standing.{StandsIn}
+use Rattle.numa_host_script.specs.declared.script.HostScript.{HostScript}
 use Rattle.numaplan_handles.specs.declared.dialog.Dialog.{Dialog}
 use Rattle.numaplan_handles.specs.declared.dialog.LineRefusal.{LineRefusal}
 use Rattle.numaplan_handles.specs.declared.dialog.LineRefusal.TheVariants as refused
 
 -- the script stands for what its lines so far have led to
-abbrev pub IsAt : PlacedScript → Scene → Type 0
-IsAt script scene = StandsIn script.script script.beside scene
+abbrev pub IsAt : HostScript → Session → Type 0
+IsAt script session = StandsIn script.script script.limits script.host session
 
 -- before the first line, where these rules count unless a line gives others
 abbrev pub IsFresh : Rules → Dialog → Type 0
-IsFresh rules dialog = IsAt dialog.script (scene_by rules) × (dialog.answer.items ≡ [])
+IsFresh rules dialog = IsAt dialog.script (session_by rules) × (dialog.answer.items ≡ [])
 
--- the script stands for the scene after the line, where it stood for a scene before it, and `told`
+-- the script stands for what the line leads to, where it stood for a session before it, and `told`
 -- is what the line is answered there
 abbrev pub IsServed : Dialog → List ℕ → Dialog → (List ℕ → Type 0) → Type 0
 IsServed before line later told =
-    (scene : Scene) → IsAt before.script scene
-    → (growth_refused : Bool) × IsAt later.script (scene_after_bytes growth_refused scene line)
-    × told (scene_answer_to growth_refused scene line)
+    (session : Session) → IsAt before.script session
+    → (growth_refused : Bool)
+    × IsAt later.script (session_after_bytes growth_refused session line)
+    × told (session_answer_to growth_refused session line)
 
 -- the line was served, and its answer is kept, which is so long; or there was no memory for it and
 -- nothing has changed; or it was served, there was no memory for the whole answer, and none is kept

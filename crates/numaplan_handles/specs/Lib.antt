@@ -11,7 +11,7 @@ pub mod Plans
 pub mod Seats
 pub mod Steps
 pub use Rattle.numa_core.specs.Standing
+pub use Rattle.numa_host_script.specs.Sessions
+pub use Rattle.numa_host_script.specs.Standing as SessionStanding
 pub use Rattle.numa_pages.specs.Changes
 pub use Rattle.numa_plan.specs.Meaning
-pub use Rattle.numa_placed_script.specs.Scenes
-pub use Rattle.numa_placed_script.specs.Standing as SceneStanding

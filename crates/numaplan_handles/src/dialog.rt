@@ -1,13 +1,14 @@
 //! Scripts that are given line by line.
 ghost use Rattle.std.specs.Prelude.{◌≡◌, [], Ok, Err, Bool, MatchOption};
-ghost use Rattle.numa_placed_script.specs.Scenes.{Scene, scene_after_bytes, scene_answer_to};
-ghost use Rattle.numa_placed_script.specs.Standing.{StandsIn};
+ghost use Rattle.numa_host_script.specs.Sessions.{Session, session_after_bytes};
+ghost use Rattle.numa_host_script.specs.Sessions.{session_answer_to};
+ghost use Rattle.numa_host_script.specs.Standing.{StandsIn};
 ghost use Rattle.numaplan_handles.specs.Dialogs.{IsFresh, Serves, Copies};
 
 use crate::room::copy_bytes;
+use numa_host_script::HostScript;
 use numa_lines::{Serve, Watched};
 use numa_machine::Rules;
-use numa_placed_script::PlacedScript;
 use std::alloc::Global;
 
 /// The bytes of an answer for which memory is reserved before its line is served: enough for any
@@ -26,17 +27,19 @@ pub enum LineRefusal {
 /// A script, and the answer to its last line.
 #[derive(Drop)]
 pub struct Dialog {
-    pub(crate) script: PlacedScript,
+    pub(crate) script: HostScript,
     pub(crate) answer: Vec<u8>,
 }
 
 /// Serves a line, and returns its answer, if there is memory for it.
-fn serve(script: &mut PlacedScript, alloc: Global, line: &[u8], room: Vec<u8>) -> Option<Vec<u8>>
+fn serve(script: &mut HostScript, alloc: Global, line: &[u8], room: Vec<u8>) -> Option<Vec<u8>>
     requires empty { room.items ≡ [] }
-    ensures { (scene : Scene) → StandsIn script.old.script script.old.beside scene
-        → (refused : Bool) × StandsIn script.new.script script.new.beside
-        (scene_after_bytes refused scene line.now) × MatchOption result (Unit {0}) (λ answer.
-        answer.items ≡ scene_answer_to refused scene line.now) }
+    ensures { (session : Session) → StandsIn script.old.script script.old.limits script.old.host
+        session → (refused : Bool)
+        × StandsIn script.new.script script.new.limits script.new.host
+        (session_after_bytes refused session line.now)
+        × MatchOption result (Unit {0})
+        (λ answer. answer.items ≡ session_answer_to refused session line.now) }
 {
     let mut output = Watched::new(room);
     script.serve(alloc, line, &mut output);
@@ -52,7 +55,7 @@ impl Dialog {
         ensures { IsFresh rules result }
     {
         Dialog {
-            script: PlacedScript::by(rules),
+            script: HostScript::by(rules),
             answer: Vec::new(alloc),
         }
     }

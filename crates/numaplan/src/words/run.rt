@@ -2,8 +2,8 @@
 use numa_answers::Answers;
 use numa_command_line::without_names;
 use numa_console::{Answering, Notice, fail, noticed_by};
+use numa_host_script::run_by;
 use numa_lines::{Echo, Joined, Lines, RunFault, Watched, read_all};
-use numa_placed_script::run_by;
 use numa_play::Scripts;
 use numa_reports::Format;
 use std::alloc::{AllocError, Global};

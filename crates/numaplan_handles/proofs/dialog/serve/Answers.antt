@@ -1,5 +1,5 @@
 use Rattle.std.proofs.Common.{Some, ap, refl, ◌∙◌}
-use Rattle.numa_placed_script.specs.Scenes.{scene_answer_to}
+use Rattle.numa_host_script.specs.Sessions.{session_answer_to}
 use Rattle.numaplan_handles.proofs.Answered.{all-kept}
 use Rattle.numaplan_handles.proofs.dialog.serve.Goals as goal
 
@@ -10,7 +10,7 @@ returns-in-Ok c state stands =
       served.0,
       served.1,
       all-kept c.new-output.result c.serve.new.output c.hand_over.new.self (λ v. Some v.items)
-          c.hand_over.new.self.inner.items (scene_answer_to served.0 state c.args.line.now)
+          c.hand_over.new.self.inner.items (session_answer_to served.0 state c.args.line.now)
           (ap (λ v. Some v.items) c.new-output.ensures.inner ∙ ap Some c.requires.empty) refl
           c.new-output.ensures.well c.new-output.ensures.empty c.in-Ok.ensures.ok
           c.hand_over.ensures.empty served.2 c.hand_over.ensures.says,
