@@ -59,10 +59,9 @@ impl<T: Copy + Drop> Keep<T> for Group<T> {
     }
 
     fn copied(&self, _alloc: Global) -> Result<Group<T>, AllocError> {
-        let Ok(list) = Arc::try_clone(&self.list) else {
-            return Err(AllocError);
-        };
-        Ok(Group { list })
+        Ok(Group {
+            list: Arc::try_clone(&self.list)?,
+        })
     }
 
     fn replace(&mut self, alloc: Global, span: Range<usize>, rows: &[T]) -> Result<(), AllocError> {

@@ -35,10 +35,9 @@ impl<T: Copy + Drop> Keep<T> for Owned<T> {
     }
 
     fn keep(alloc: Global, rows: &[T]) -> Result<Owned<T>, AllocError> {
-        let Ok(rows) = with_room(alloc, MOST_OWNED, rows) else {
-            return Err(AllocError);
-        };
-        Ok(Owned { rows })
+        Ok(Owned {
+            rows: with_room(alloc, MOST_OWNED, rows)?,
+        })
     }
 
     #[inline]

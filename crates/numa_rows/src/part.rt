@@ -5,9 +5,9 @@ ghost use Rattle.std.specs.Bool.{OnTrue};
 ghost use Rattle.numa_rows.specs.Parts.{flat, HasRank, IsTable};
 ghost use Rattle.numa_rows.specs.Searches.{IsChunkOf, HasRow, PartData};
 
-use crate::chunk::Chunk;
+use crate::chunk::{Chunk, Place};
 use crate::keep::Keep;
-use crate::table::{Place, place_of};
+use crate::table::place_of;
 use std::marker::Model;
 
 /// Consecutive rows of one chunk of a list, or no rows, and the rank of the first.

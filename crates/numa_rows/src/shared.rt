@@ -29,9 +29,7 @@ impl<T: Copy + Drop> Keep<T> for Shared<T> {
     }
 
     fn keep(alloc: Global, rows: &[T]) -> Result<Shared<T>, AllocError> {
-        let Ok(rows) = with_room(alloc, MOST_SHARED, rows) else {
-            return Err(AllocError);
-        };
+        let rows = with_room(alloc, MOST_SHARED, rows)?;
         let rows = Arc::new(alloc, rows)?;
         Ok(Shared { rows })
     }
@@ -53,10 +51,9 @@ impl<T: Copy + Drop> Keep<T> for Shared<T> {
     }
 
     fn copied(&self, _alloc: Global) -> Result<Shared<T>, AllocError> {
-        let Ok(rows) = Arc::try_clone(&self.rows) else {
-            return Err(AllocError);
-        };
-        Ok(Shared { rows })
+        Ok(Shared {
+            rows: Arc::try_clone(&self.rows)?,
+        })
     }
 
     fn replace(&mut self, alloc: Global, span: Range<usize>, rows: &[T]) -> Result<(), AllocError> {

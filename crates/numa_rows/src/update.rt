@@ -2,10 +2,10 @@
 ghost use Rattle.std.specs.Prelude.{◌≡◌, ◌+◌, ◌<◌, slice_set, take};
 ghost use Rattle.numa_rows.specs.Parts.{HasRank, IsTable, flat};
 
-use crate::chunk::Chunk;
+use crate::chunk::{Chunk, Place};
 use crate::owned::Owned;
 use crate::starts::guess_at;
-use crate::table::{Place, place_of};
+use crate::table::place_of;
 
 /// Replaces the row at a rank.
 pub(crate) fn put_row<T: Copy + Drop>(

@@ -1,18 +1,18 @@
 //! The chunks that an edit changes.
 ghost use Rattle.std.specs.Prelude.{◌≡◌, true, false, ◌+◌, ◌-◌, ◌<◌, ◌≤◌, ◌^◌, length, take};
+ghost use Rattle.std.specs.Prelude.{IfSome};
 ghost use Rattle.numa_rows.specs.Parts.{IsTable, HasRank, IsWindow, StaysPart, flat};
 
-use crate::chunk::{Chunk, LEAST};
+use crate::chunk::{Chunk, LEAST, Place};
 use crate::keep::Keep;
-use crate::table::{Place, place_of};
+use crate::table::place_of;
 
-/// The chunks that an edit changes: the one at `low`, which `stays` of a valid size, or else those
-/// from `low` to `high`, which are made anew. The first of their rows has the rank `start`.
+/// The chunks that an edit changes: the one at `place`, which `stays` of a valid size, or else
+/// those from there to `high`, which are made anew.
 #[derive(Clone, Copy)]
 pub(crate) struct Window {
-    pub(crate) low: usize,
+    pub(crate) place: Place,
     pub(crate) high: usize,
-    pub(crate) start: usize,
     pub(crate) stays: bool,
 }
 
@@ -32,134 +32,106 @@ pub(crate) fn changed<T, K: Keep<T>>(
     requires within { to ≤ len }
     requires few { len - (to - from) + added < 2 ^ 32 }
     ensures stays { result.stays ≡ true
-        → StaysPart 6144 chunks.now result.low result.start from to added }
+        → StaysPart 6144 chunks.now result.place.chunk result.place.start from to added }
     ensures window { result.stays ≡ false
-        → IsWindow chunks.now result.low result.high from to added }
+        → IsWindow chunks.now result.place.chunk result.high from to added }
     ensures start { result.stays ≡ false
-        → result.start ≡ length (flat (take result.low chunks.now)) }
+        → result.place.start ≡ length (flat (take result.place.chunk chunks.now)) }
 {
     if len == 0 {
         return Window {
-            low: 0,
+            place: Place { chunk: 0, start: 0 },
             high: 0,
-            start: 0,
             stays: false,
         };
     }
     let rank = from.min(len - 1);
     let first = place_of(chunks, starts, len, rank, guess);
-    if stays(chunks, first, rank, len, from, to, added) {
-        return Window {
-            low: first.chunk,
-            high: first.chunk,
-            start: first.start,
-            stays: true,
-        };
+    if let Some(window) = within_one(chunks, first, rank, len, from, to, added) {
+        return window;
     }
     around(chunks, starts, len, first, rank, from, to, added)
 }
 
-/// The chunks that are re-cut for an edit, which the chunk at `place` doesn't take in: that chunk
-/// if it grows too long, or else those around both ends of the edit.
+/// The chunk at `place`, if it has all rows from one rank to another, and either stays of a valid
+/// size with the new number in their place or grows too long, so that it alone is made anew.
+#[inline]
+fn within_one<T, K: Keep<T>>(
+    chunks: &[Chunk<T, K>],
+    place: Place,
+    _rank: usize,
+    _len: usize,
+    from: usize,
+    to: usize,
+    added: usize,
+) -> Option<Window>
+    requires has { HasRank chunks.now place.chunk place.start _rank }
+    requires from { _rank ≤ from }
+    requires rises { from ≤ to }
+    requires count { _len ≡ length (flat chunks.now) }
+    requires small { _len < 2 ^ 32 }
+    requires few { _len - (to - from) + added < 2 ^ 32 }
+    ensures stays { IfSome result (λ window. window.stays ≡ true
+        → StaysPart 6144 chunks.now window.place.chunk window.place.start from to added) }
+    ensures window { IfSome result (λ window. window.stays ≡ false
+        → IsWindow chunks.now window.place.chunk window.high from to added) }
+    ensures start { IfSome result (λ window. window.stays ≡ false
+        → window.place.start ≡ length (flat (take window.place.chunk chunks.now))) }
+{
+    let size = chunks[place.chunk].len();
+    if to > place.start + size {
+        return None;
+    }
+    let left = size - (to - from) + added;
+    let next = place.chunk + 1;
+    if left > K::most() {
+        return Some(Window {
+            place,
+            high: next,
+            stays: false,
+        });
+    }
+    if left == 0 || (left < LEAST && next != chunks.len()) {
+        return None;
+    }
+    Some(Window {
+        place,
+        high: next,
+        stays: true,
+    })
+}
+
+/// The chunks around both ends of an edit, which are made anew where the one at `place` doesn't
+/// take it in.
 fn around<T, K: Keep<T>>(
     chunks: &[Chunk<T, K>],
     starts: &[u32],
     len: usize,
     place: Place,
-    rank: usize,
-    from: usize,
+    _rank: usize,
+    _from: usize,
     to: usize,
-    added: usize,
+    _added: usize,
 ) -> Window
     requires table { IsTable 6144 chunks.now starts.now len }
-    requires has { HasRank chunks.now place.chunk place.start rank }
-    requires rank { rank < len }
-    requires from { rank ≤ from }
-    requires rises { from ≤ to }
+    requires has { HasRank chunks.now place.chunk place.start _rank }
+    requires rank { _rank < len }
+    requires from { _rank ≤ _from }
+    requires rises { _from ≤ to }
     requires within { to ≤ len }
-    requires few { len - (to - from) + added < 2 ^ 32 }
     ensures anew { result.stays ≡ false }
-    ensures window { IsWindow chunks.now result.low result.high from to added }
-    ensures start { result.start ≡ length (flat (take result.low chunks.now)) }
+    ensures window { IsWindow chunks.now result.place.chunk result.high _from to _added }
+    ensures start { result.place.start ≡ length (flat (take result.place.chunk chunks.now)) }
 {
-    if outgrows(chunks, place, rank, len, from, to, added) {
-        return Window {
-            low: place.chunk,
-            high: place.chunk + 1,
-            start: place.start,
-            stays: false,
-        };
-    }
     let end = to.min(len - 1);
     let last = place_of(chunks, starts, len, end, place.chunk);
     let low = place.chunk.saturating_sub(1);
     Window {
-        low,
+        place: Place {
+            chunk: low,
+            start: starts[low] as usize,
+        },
         high: chunks.len().min(last.chunk + 2),
-        start: starts[low] as usize,
         stays: false,
     }
-}
-
-/// Whether one chunk has all rows from one rank to another, and has too many with the new number in
-/// their place.
-#[inline]
-fn outgrows<T, K: Keep<T>>(
-    chunks: &[Chunk<T, K>],
-    place: Place,
-    _rank: usize,
-    _len: usize,
-    from: usize,
-    to: usize,
-    added: usize,
-) -> bool
-    requires has { HasRank chunks.now place.chunk place.start _rank }
-    requires from { _rank ≤ from }
-    requires rises { from ≤ to }
-    requires count { _len ≡ length (flat chunks.now) }
-    requires small { _len < 2 ^ 32 }
-    requires few { _len - (to - from) + added < 2 ^ 32 }
-    ensures { result ≡ true → IsWindow chunks.now place.chunk (place.chunk + 1) from to added }
-{
-    let size = chunks[place.chunk].len();
-    if to > place.start + size {
-        return false;
-    }
-    let left = size - (to - from) + added;
-    if left > K::most() {
-        return true;
-    }
-    false
-}
-
-/// Whether one chunk has all rows from one rank to another, and keeps a valid size with the new
-/// number in their place.
-#[inline]
-fn stays<T, K: Keep<T>>(
-    chunks: &[Chunk<T, K>],
-    place: Place,
-    _rank: usize,
-    _len: usize,
-    from: usize,
-    to: usize,
-    added: usize,
-) -> bool
-    requires has { HasRank chunks.now place.chunk place.start _rank }
-    requires from { _rank ≤ from }
-    requires rises { from ≤ to }
-    requires count { _len ≡ length (flat chunks.now) }
-    requires small { _len < 2 ^ 32 }
-    requires few { _len - (to - from) + added < 2 ^ 32 }
-    ensures { result ≡ true → StaysPart 6144 chunks.now place.chunk place.start from to added }
-{
-    let size = chunks[place.chunk].len();
-    if to > place.start + size {
-        return false;
-    }
-    let left = size - (to - from) + added;
-    let is_last = place.chunk + 1 == chunks.len();
-    if left <= K::most() && left > 0 && (left >= LEAST || is_last) {
-        return true;
-    }
-    false
 }

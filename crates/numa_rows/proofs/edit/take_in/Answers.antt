@@ -24,7 +24,7 @@ refill-requires-clause-room g c =
       length-starts 0 parts,
       ap length c.deref.ensures.value,
       ap length c.in_default-replace.ensures.ok,
-      length-placed parts c.args.pieces.items c.args.window.low c.args.window.high
+      length-placed parts c.args.pieces.items c.args.window.place.chunk c.args.window.high
           c.requires.places c.requires.within,
     )
 
@@ -43,7 +43,7 @@ refill-requires-clause-places g c = (
     arith,
     ap length c.deref.ensures.value,
     ap length c.in_default-replace.ensures.ok,
-    length-placed c.args.chunks.now.items c.args.pieces.items c.args.window.low
+    length-placed c.args.chunks.now.items c.args.pieces.items c.args.window.place.chunk
         c.args.window.high c.requires.places c.requires.within,
     c.requires.places,
     c.requires.within,
@@ -61,7 +61,7 @@ refill-requires-clause-places g c = (
 pub refill-requires-clause-before : goal.refill-requires-clause-before
 refill-requires-clause-before g c =
     let parts = c.args.chunks.now.items in
-    let low = c.args.window.low in
+    let low = c.args.window.place.chunk in
     ap (take low) (c.reserve.ensures.items ∙ c.requires.ranks)
     ∙ (same-starts parts c.replace.new.items.items
     (c.args.pieces.items ++ drop c.args.window.high parts) low
@@ -72,7 +72,7 @@ refill-requires-clause-before g c =
 pub refill-requires-clause-start : goal.refill-requires-clause-start
 refill-requires-clause-start g c =
     let parts = c.args.chunks.now.items in
-    let low = c.args.window.low in
+    let low = c.args.window.place.chunk in
     let front = same-front parts c.replace.new.items.items
     (c.args.pieces.items ++ drop c.args.window.high parts) low
     (omega (arith, c.requires.places, c.requires.within))

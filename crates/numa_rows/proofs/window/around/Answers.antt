@@ -5,12 +5,6 @@ use Rattle.numa_rows.proofs.InParts.{length-starts}
 use Rattle.numa_rows.proofs.Windows.{few-parts}
 use Rattle.numa_rows.proofs.window.around.Goals as goal
 
-pub outgrows-requires-clause-count : goal.outgrows-requires-clause-count
-outgrows-requires-clause-count g c = c.requires.table.count
-
-pub outgrows-requires-clause-small : goal.outgrows-requires-clause-small
-outgrows-requires-clause-small g c = c.requires.table.small
-
 pub place_of-last-requires-clause-rank : goal.place_of-last-requires-clause-rank
 place_of-last-requires-clause-rank g c = omega (arith, c.requires.rank)
 
@@ -26,9 +20,11 @@ overflow_add-last g c =
 
 pub returns-clause-window : goal.returns-clause-window
 returns-clause-window g c =
-    window-around 6144 c.args.chunks.now c.args.place.chunk c.place_of-last.result.chunk c.args.from
-    c.args.to c.args.added c.saturating_sub-low.result c.min.result c.args.place.start
-    c.place_of-last.result.start c.args.rank c.min-end.result c.requires.has c.place_of-last.ensures
+    window-around 6144 c.args.chunks.now c.args.place.chunk c.place_of-last.result.chunk
+    c.args._from
+    c.args.to c.args._added c.saturating_sub-low.result c.min.result c.args.place.start
+    c.place_of-last.result.start c.args._rank c.min-end.result c.requires.has
+    c.place_of-last.ensures
     c.requires.from c.requires.rises (omega (arith, c.requires.within))
     (omega arith) (omega arith)
     (omega (arith, c.requires.rank, c.requires.from, c.requires.rises)) c.requires.table.filled
@@ -52,19 +48,6 @@ bounds-starts-low g c =
       c.requires.has.within,
     )
 
-pub returns-then-outgrows-clause-window : goal.returns-then-outgrows-clause-window
-returns-then-outgrows-clause-window g c = c.outgrows.ensures c.if-outgrows.true
-
-pub overflow_add-result : goal.overflow_add-result
-overflow_add-result g c =
-    omega (
-      arith,
-      c.requires.has.within,
-      few-parts 6144 c.args.chunks.now c.requires.table.filled,
-      c.requires.table.count,
-      c.requires.table.small,
-    )
-
 pub returns-clause-start : goal.returns-clause-start
 returns-clause-start g c = window-start 6144 c.args.chunks.now c.args.starts.now c.args.len
     c.saturating_sub-low.result c.requires.table (omega (
@@ -73,6 +56,3 @@ returns-clause-start g c = window-start 6144 c.args.chunks.now c.args.starts.now
       length-starts 0 c.args.chunks.now,
       c.requires.has.within,
     ))
-
-pub returns-then-outgrows-clause-start : goal.returns-then-outgrows-clause-start
-returns-then-outgrows-clause-start g c = c.requires.has.before

@@ -7,14 +7,14 @@ use Rattle.numa_rows.proofs.window.changed.Goals as goal
 pub place_of-first-requires-clause-rank : goal.place_of-first-requires-clause-rank
 place_of-first-requires-clause-rank g c = omega (arith, c.if-len-eq0.false)
 
-pub stays-requires-clause-from : goal.stays-requires-clause-from
-stays-requires-clause-from g c = omega arith
+pub within_one-requires-clause-from : goal.within_one-requires-clause-from
+within_one-requires-clause-from g c = omega arith
 
-pub stays-requires-clause-count : goal.stays-requires-clause-count
-stays-requires-clause-count g c = c.requires.table.count
+pub within_one-requires-clause-count : goal.within_one-requires-clause-count
+within_one-requires-clause-count g c = c.requires.table.count
 
-pub stays-requires-clause-small : goal.stays-requires-clause-small
-stays-requires-clause-small g c = c.requires.table.small
+pub within_one-requires-clause-small : goal.within_one-requires-clause-small
+within_one-requires-clause-small g c = c.requires.table.small
 
 pub around-requires-clause-rank : goal.around-requires-clause-rank
 around-requires-clause-rank g c = omega (arith, c.if-len-eq0.false)
@@ -28,20 +28,11 @@ returns-then-len-eq0-clause-window g c anew = window-none 6144 c.args.chunks.now
     (omega (arith, c.requires.table.count, c.if-len-eq0.true)) c.requires.rises
     (omega (arith, c.requires.within, c.if-len-eq0.true))
 
-pub stays-requires-clause-has : goal.stays-requires-clause-has
-stays-requires-clause-has g c = c.place_of-first.ensures
+pub within_one-requires-clause-has : goal.within_one-requires-clause-has
+within_one-requires-clause-has g c = c.place_of-first.ensures
 
 pub around-requires-clause-has : goal.around-requires-clause-has
 around-requires-clause-has g c = c.place_of-first.ensures
-
-pub returns-then-stays-clause-stays : goal.returns-then-stays-clause-stays
-returns-then-stays-clause-stays g c same = c.stays.ensures c.if-stays.true
-
-pub returns-then-stays-clause-window : goal.returns-then-stays-clause-window
-returns-then-stays-clause-window g c odd = absurd (false≢true (sym odd))
-
-pub returns-then-stays-clause-start : goal.returns-then-stays-clause-start
-returns-then-stays-clause-start g c odd = absurd (false≢true (sym odd))
 
 pub returns-then-len-eq0-clause-stays : goal.returns-then-len-eq0-clause-stays
 returns-then-len-eq0-clause-stays g c odd = absurd (false≢true odd)
@@ -54,3 +45,12 @@ returns-clause-window g c anew = c.around.ensures.window
 
 pub returns-clause-start : goal.returns-clause-start
 returns-clause-start g c anew = c.around.ensures.start
+
+pub returns-in-Some-clause-stays : goal.returns-in-Some-clause-stays
+returns-in-Some-clause-stays g c = c.in-Some.ensures.stays
+
+pub returns-in-Some-clause-window : goal.returns-in-Some-clause-window
+returns-in-Some-clause-window g c = c.in-Some.ensures.window
+
+pub returns-in-Some-clause-start : goal.returns-in-Some-clause-start
+returns-in-Some-clause-start g c = c.in-Some.ensures.start

@@ -1,8 +1,7 @@
 -- The chunk's rows are rows of the list.
 use Rattle.std.proofs.Common.{arith}
 use Rattle.numa_rows.proofs.InParts.{part-within}
-use Rattle.numa_rows.proofs.Editing.{window-alone}
-use Rattle.numa_rows.proofs.window.outgrows.Goals as goal
+use Rattle.numa_rows.proofs.window.within_one.Goals as goal
 
 pub overflow_add-place : goal.overflow_add-place
 overflow_add-place g c =
@@ -25,10 +24,3 @@ overflow_add-left g c =
       c.requires.count,
       c.requires.few,
     )
-
-pub returns-then-left-most : goal.returns-then-left-most
-returns-then-left-most g c h =
-    window-alone c.args.chunks.now c.index-chunks-place.result c.args.place.chunk c.args.place.start
-    c.args._rank c.args.from c.args.to c.args.added c.requires.has c.index-chunks-place.is
-    c.requires.from c.requires.rises (omega (arith, c.len-size.ensures))
-    (omega (arith, c.len-size.ensures, c.most.ensures.low))
