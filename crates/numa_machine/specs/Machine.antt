@@ -8,6 +8,7 @@ use Rattle.numa_mask.specs.NodeSet.{has, members}
 use Rattle.numa_machine.specs.declared.fallback.Fallback.{Fallback}
 use Rattle.numa_machine.specs.declared.fallback.Fallback.TheVariants.{Nearest, Kernel}
 use Rattle.numa_machine.specs.declared.rules.Rules.{Rules}
+use Rattle.numa_machine.specs.declared.rules.Rules.TheVariants.{Document}
 
 -- a machine as it was described: how many nodes, the set of those with memory, the distances row by
 -- row, the frames of each node; whose rules count on it, and whose orders it has
@@ -18,6 +19,17 @@ pub record Hardware : Type 0 where
   pub frames : List ℕ
   pub rules : Rules
   pub fallback : Fallback
+
+-- a machine by its parts, in this order
+abbrev pub described : ℕ → ℕ → List ℕ → List ℕ → Rules → Fallback → Hardware
+described nodes memory distances frames rules fallback = record {
+  nodes = nodes;
+  memory = memory;
+  distances = distances;
+  frames = frames;
+  rules = rules;
+  fallback = fallback;
+}
 
 -- the entry of a table of distances, row by row, in the row of one node and the column of another
 abbrev pub table_entry : ℕ → List ℕ → ℕ → ℕ → ℕ
@@ -122,3 +134,8 @@ pub record IsFallbackOrder (hardware : Hardware) (from : ℕ) (order : List ℕ)
 -- the orders of nodes 0, 1, .., one after the other
 abbrev pub all_orders : Hardware → List ℕ
 all_orders hardware = flat_map (fallback_order hardware) (range_with_len 0 hardware.nodes)
+
+-- the same for machines of which this much is known: neither frames nor rules have a part in it
+abbrev pub orders_by_table : ℕ → ℕ → List ℕ → Fallback → List ℕ
+orders_by_table nodes memory table fallback =
+    all_orders (described nodes memory table [] Document fallback)

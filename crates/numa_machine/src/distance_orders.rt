@@ -1,9 +1,8 @@
 //! Fallback orders by distance.
-ghost use Rattle.std.specs.Prelude.{◌≡◌, ℕ, ◌+◌, ◌*◌, ◌<◌, ◌≤◌, [], All, IfOk, slice_index};
+ghost use Rattle.std.specs.Prelude.{◌≡◌, ℕ, ◌+◌, ◌*◌, ◌<◌, ◌≤◌, All, IfOk, slice_index};
 ghost use Rattle.numa_mask.specs.NodeSet.{members};
-ghost use Rattle.numa_machine.specs.Machine.{all_orders};
+ghost use Rattle.numa_machine.specs.Machine.{orders_by_table};
 ghost use Rattle.numa_machine.specs.declared.fallback.Fallback.TheVariants.{Nearest};
-ghost use Rattle.numa_machine.specs.declared.rules.Rules.TheVariants.{Document};
 
 use crate::orders::{NODES, append_order, entry};
 use numa_mask::NodeMask;
@@ -31,14 +30,7 @@ pub(crate) fn distance_orders(
     requires nodes { nodes ≤ 256 }
     requires memory { All (λ node. node < nodes) (members memory.now) }
     ensures { IfOk result (λ orders. orders.items
-        ≡ all_orders (record {
-          nodes = nodes;
-          memory = memory.now;
-          distances = table.now;
-          frames = [];
-          rules = Document;
-          fallback = Nearest;
-        })) }
+        ≡ orders_by_table nodes memory.now table.now Nearest) }
 {
     let nodes = nodes as usize;
     let mut orders = Vec::with_capacity(alloc, nodes * memory.weight() as usize)?;

@@ -1,10 +1,9 @@
 //! Fallback orders as a kernel builds them.
-ghost use Rattle.std.specs.Prelude.{◌≡◌, ℕ, ◌+◌, ◌*◌, ◌<◌, ◌≤◌, [], All, IfOk, nat_lt, ◌==◌};
+ghost use Rattle.std.specs.Prelude.{◌≡◌, ℕ, ◌+◌, ◌*◌, ◌<◌, ◌≤◌, All, IfOk, nat_lt, ◌==◌};
 ghost use Rattle.std.specs.Prelude.{if◌then◌else◌, fold, length, slice_index};
 ghost use Rattle.numa_mask.specs.NodeSet.{has, members};
-ghost use Rattle.numa_machine.specs.Machine.{all_orders, one_if, one_more_at, turns};
+ghost use Rattle.numa_machine.specs.Machine.{one_if, one_more_at, turns, orders_by_table};
 ghost use Rattle.numa_machine.specs.declared.fallback.Fallback.TheVariants.{Kernel};
-ghost use Rattle.numa_machine.specs.declared.rules.Rules.TheVariants.{Document};
 
 use crate::orders::{NODES, append_order, entry};
 use numa_mask::NodeMask;
@@ -84,14 +83,7 @@ pub(crate) fn kernel_orders(
     requires nodes { nodes ≤ 256 }
     requires memory { All (λ node. node < nodes) (members memory.now) }
     ensures { IfOk result (λ orders. orders.items
-        ≡ all_orders (record {
-          nodes = nodes;
-          memory = memory.now;
-          distances = table.now;
-          frames = [];
-          rules = Document;
-          fallback = Kernel cpus.now;
-        })) }
+        ≡ orders_by_table nodes memory.now table.now (Kernel cpus.now)) }
 {
     let nodes = nodes as usize;
     let mut orders = Vec::with_capacity(alloc, nodes * memory.weight() as usize)?;

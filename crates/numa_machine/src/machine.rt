@@ -7,13 +7,15 @@ ghost use Rattle.numa_machine.specs.Machine.{fallback_order, IsFallbackOrder, al
 ghost use Rattle.numa_machine.specs.Faults.{machine_fault, hardware_fault, fallback_fault};
 
 use crate::description::{fault_of, fault_of_fallback};
-use crate::fallback::{Fallback, orders_of};
+use crate::distance_orders::distance_orders;
+use crate::fallback::Fallback;
 use crate::fault::MachineFault;
+use crate::kernel_orders::kernel_orders;
 use crate::no_memory::NoMemory;
 use crate::orders::entry;
 use crate::rules::Rules;
 use numa_mask::NodeMask;
-use std::alloc::Global;
+use std::alloc::{AllocError, Global};
 use std::marker::Model;
 
 /// A machine of 1 to 256 nodes, some of which have memory. The distances between nodes are those of
@@ -32,29 +34,17 @@ pub struct Machine {
 }
 
 impl Model for Machine {
-    ghost use Rattle.numa_machine.specs.Machine.{Hardware};
+    ghost use Rattle.numa_machine.specs.Machine.{Hardware, described};
     ghost use Rattle.numa_machine.specs.Sound.{IsSound};
 
     ghost Value = { Hardware };
 
-    ghost view = { λ m. record {
-      nodes = m.nodes;
-      memory = m.memory;
-      distances = m.distances.items;
-      frames = m.frames.items;
-      rules = m.rules;
-      fallback = m.fallback;
-    } };
+    ghost view = { λ m.
+        described m.nodes m.memory m.distances.items m.frames.items m.rules m.fallback };
 
     ghost invariant = { λ m.
-        IsSound (record {
-          nodes = m.nodes;
-          memory = m.memory;
-          distances = m.distances.items;
-          frames = m.frames.items;
-          rules = m.rules;
-          fallback = m.fallback;
-        }) m.orders.items };
+        IsSound (described m.nodes m.memory m.distances.items m.frames.items m.rules m.fallback)
+        m.orders.items };
 }
 
 impl Machine {
@@ -98,7 +88,7 @@ impl Machine {
         if let Some(fault) = fault_of(nodes, &memory, distances, frames) {
             return Err(fault);
         }
-        let orders = orders_of(alloc, nodes, &memory, distances, &Fallback::Nearest)?;
+        let orders = distance_orders(alloc, nodes, &memory, distances)?;
         let distances = Vec::from_slice(alloc, distances)?;
         let frames = Vec::from_slice(alloc, frames)?;
         Ok(Machine {
@@ -127,6 +117,18 @@ impl Machine {
         }
     }
 
+    /// The orders of nodes 0, 1, .., concatenated, where they fall back in this way.
+    fn orders_by(&self, alloc: Global, fallback: &Fallback) -> Result<Vec<u8>, AllocError>
+        ensures { IfOk result (λ orders. orders.items
+            ≡ all_orders (record self.now { fallback = fallback.now })) }
+    {
+        let table = self.distances.as_slice();
+        match fallback {
+            Fallback::Nearest => distance_orders(alloc, self.nodes, &self.memory, table),
+            Fallback::Kernel(cpus) => kernel_orders(alloc, self.nodes, &self.memory, table, cpus),
+        }
+    }
+
     /// The machine with these fallback orders instead of its own.
     ///
     /// # Errors
@@ -141,7 +143,7 @@ impl Machine {
         if let Some(fault) = fault_of_fallback(self.nodes, &fallback) {
             return Err(fault);
         }
-        let orders = orders_of(alloc, self.nodes, &self.memory, &self.distances, &fallback)?;
+        let orders = self.orders_by(alloc, &fallback)?;
         Ok(Machine {
             nodes: self.nodes,
             memory: self.memory,

@@ -7,12 +7,12 @@ use Rattle.numa_machine.proofs.Stored.{all_orders-same}
 use Rattle.numa_machine.proofs.NoFault.{few_nodes, memory_within}
 use Rattle.numa_machine.proofs.machine.Machine.new.Goals as goal
 
-pub orders_of-requires-clause-nodes : goal.orders_of-requires-clause-nodes
-orders_of-requires-clause-nodes c = few_nodes c.args.nodes c.args.memory c.args.distances.now
+pub distance_orders-requires-clause-nodes : goal.distance_orders-requires-clause-nodes
+distance_orders-requires-clause-nodes c = few_nodes c.args.nodes c.args.memory c.args.distances.now
     c.args.frames.now (sym c.fault_of.ensures ∙ c.in_default.is)
 
-pub orders_of-requires-clause-memory : goal.orders_of-requires-clause-memory
-orders_of-requires-clause-memory c = memory_within c.args.nodes c.args.memory c.args.distances.now
+pub distance_orders-requires-clause-memory : goal.distance_orders-requires-clause-memory
+distance_orders-requires-clause-memory c = memory_within c.args.nodes c.args.memory c.args.distances.now
     c.args.frames.now (sym c.fault_of.ensures ∙ c.in_default.is)
 
 pub invariant_of-result : goal.invariant_of-result
