@@ -22,12 +22,18 @@ pub(crate) fn host<'a>(mut words: Words<'a>) -> Option<Line<'a>>
     }
 }
 
+/// The line of a command that is well formed.
+fn of_host<'a>(command: HostCommand) -> Line<'a>
+    ensures { result ≡ Line.HostCommand (Ok command) }
+{
+    Line::HostCommand(Ok(command))
+}
+
 /// `cgroup G PARENT`
 pub(crate) fn group<'a>(words: Words<'a>) -> Option<Line<'a>>
     ensures { result ≡ group_line words.entry }
 {
-    let (group, parent) = two(words)?;
-    Some(Line::HostCommand(Ok(HostCommand::NewGroup { group, parent })))
+    two(words).map(|(group, parent)| of_host(HostCommand::NewGroup { group, parent }))
 }
 
 /// The line that gives a group a list of nodes, or none.
@@ -58,8 +64,7 @@ pub(crate) fn group_mems<'a>(words: Words<'a>) -> Option<Line<'a>>
 pub(crate) fn process<'a>(words: Words<'a>) -> Option<Line<'a>>
     ensures { result ≡ process_line words.entry }
 {
-    let (process, group) = two(words)?;
-    Some(Line::HostCommand(Ok(HostCommand::NewProcess { process, group })))
+    two(words).map(|(process, group)| of_host(HostCommand::NewProcess { process, group }))
 }
 
 /// `exit P`
@@ -74,8 +79,7 @@ pub(crate) fn exit<'a>(words: Words<'a>) -> Option<Line<'a>>
 pub(crate) fn attach<'a>(words: Words<'a>) -> Option<Line<'a>>
     ensures { result ≡ attach_line words.entry }
 {
-    let (process, group) = two(words)?;
-    Some(Line::HostCommand(Ok(HostCommand::Attach { process, group })))
+    two(words).map(|(process, group)| of_host(HostCommand::Attach { process, group }))
 }
 
 /// `fork P Q TASK CHILD`: in Q the task CHILD has the policy that TASK has in P

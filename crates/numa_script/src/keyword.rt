@@ -163,32 +163,16 @@ fn is(word: &[u8], name: &[u8]) -> bool
     true
 }
 
-/// The keyword of two letters with this name.
-fn of_two(first: &[u8]) -> Option<Keyword>
-    requires { length first.now ≡ 2 }
-    ensures { result ≡ keyword_among (keywords_of 2) first.now }
-{
-    if is(first, b"in") {
-        return Some(Keyword::In);
-    }
-    if is(first, b"at") {
-        return Some(Keyword::At);
-    }
-    None
-}
-
-/// The keyword of three letters with this name.
-fn of_three(first: &[u8]) -> Option<Keyword>
-    requires { length first.now ≡ 3 }
-    ensures { result ≡ keyword_among (keywords_of 3) first.now }
-{
-    if is(first, b"try") {
-        return Some(Keyword::Try);
-    }
-    if is(first, b"map") {
-        return Some(Keyword::Map);
-    }
-    None
+/// The keyword of the word's name, of names that are as long as the word: `otherwise` has the rest.
+macro_rules! named {
+    ($word:ident, $($name:literal $keyword:ident),+; $otherwise:expr) => {{
+        $(
+            if is($word, $name) {
+                return Some(Keyword::$keyword);
+            }
+        )+
+        $otherwise
+    }};
 }
 
 /// The keyword of four letters with this name.
@@ -196,31 +180,8 @@ fn of_four(first: &[u8]) -> Option<Keyword>
     requires { length first.now ≡ 4 }
     ensures { result ≡ keyword_among (keywords_of 4) first.now }
 {
-    if is(first, b"span") {
-        return Some(Keyword::Span);
-    }
-    if is(first, b"look") {
-        return Some(Keyword::Look);
-    }
-    if is(first, b"give") {
-        return Some(Keyword::Give);
-    }
-    if is(first, b"maps") {
-        return Some(Keyword::Maps);
-    }
-    if is(first, b"home") {
-        return Some(Keyword::Home);
-    }
-    if is(first, b"task") {
-        return Some(Keyword::Task);
-    }
-    if is(first, b"mems") {
-        return Some(Keyword::Mems);
-    }
-    if is(first, b"cpus") {
-        return Some(Keyword::Cpus);
-    }
-    of_four_later(first)
+    named!(first, b"span" Span, b"look" Look, b"give" Give, b"maps" Maps, b"home" Home,
+        b"task" Task, b"mems" Mems, b"cpus" Cpus; of_four_later(first))
 }
 
 /// The same, of those that come less often.
@@ -228,22 +189,7 @@ fn of_four_later(first: &[u8]) -> Option<Keyword>
     requires { length first.now ≡ 4 }
     ensures { result ≡ keyword_among later_of_four first.now }
 {
-    if is(first, b"exit") {
-        return Some(Keyword::Exit);
-    }
-    if is(first, b"fork") {
-        return Some(Keyword::Fork);
-    }
-    if is(first, b"move") {
-        return Some(Keyword::Move);
-    }
-    if is(first, b"room") {
-        return Some(Keyword::Room);
-    }
-    if is(first, b"host") {
-        return Some(Keyword::Host);
-    }
-    None
+    named!(first, b"exit" Exit, b"fork" Fork, b"move" Move, b"room" Room, b"host" Host; None)
 }
 
 /// The keyword of five letters with this name.
@@ -251,28 +197,8 @@ fn of_five(first: &[u8]) -> Option<Keyword>
     requires { length first.now ≡ 5 }
     ensures { result ≡ keyword_among (keywords_of 5) first.now }
 {
-    if is(first, b"place") {
-        return Some(Keyword::Place);
-    }
-    if is(first, b"begin") {
-        return Some(Keyword::Begin);
-    }
-    if is(first, b"touch") {
-        return Some(Keyword::Touch);
-    }
-    if is(first, b"mbind") {
-        return Some(Keyword::Mbind);
-    }
-    if is(first, b"unmap") {
-        return Some(Keyword::Unmap);
-    }
-    if is(first, b"rules") {
-        return Some(Keyword::Rules);
-    }
-    if is(first, b"moved") {
-        return Some(Keyword::Moved);
-    }
-    None
+    named!(first, b"place" Place, b"begin" Begin, b"touch" Touch, b"mbind" Mbind,
+        b"unmap" Unmap, b"rules" Rules, b"moved" Moved; None)
 }
 
 /// The keyword of six letters with this name.
@@ -280,25 +206,8 @@ fn of_six(first: &[u8]) -> Option<Keyword>
     requires { length first.now ≡ 6 }
     ensures { result ≡ keyword_among (keywords_of 6) first.now }
 {
-    if is(first, b"counts") {
-        return Some(Keyword::Counts);
-    }
-    if is(first, b"ranges") {
-        return Some(Keyword::Ranges);
-    }
-    if is(first, b"weight") {
-        return Some(Keyword::Weight);
-    }
-    if is(first, b"limits") {
-        return Some(Keyword::Limits);
-    }
-    if is(first, b"attach") {
-        return Some(Keyword::Attach);
-    }
-    if is(first, b"cgroup") {
-        return Some(Keyword::Group);
-    }
-    None
+    named!(first, b"counts" Counts, b"ranges" Ranges, b"weight" Weight, b"limits" Limits,
+        b"attach" Attach, b"cgroup" Group; None)
 }
 
 /// The keyword of seven letters with this name.
@@ -306,47 +215,8 @@ fn of_seven(first: &[u8]) -> Option<Keyword>
     requires { length first.now ≡ 7 }
     ensures { result ≡ keyword_among (keywords_of 7) first.now }
 {
-    if is(first, b"publish") {
-        return Some(Keyword::Publish);
-    }
-    if is(first, b"release") {
-        return Some(Keyword::Release);
-    }
-    if is(first, b"machine") {
-        return Some(Keyword::Machine);
-    }
-    if is(first, b"inherit") {
-        return Some(Keyword::Inherit);
-    }
-    if is(first, b"process") {
-        return Some(Keyword::Process);
-    }
-    if is(first, b"migrate") {
-        return Some(Keyword::Migrate);
-    }
-    None
-}
-
-/// The keyword of eleven letters with this name.
-fn of_eleven(first: &[u8]) -> Option<Keyword>
-    requires { length first.now ≡ 11 }
-    ensures { result ≡ keyword_among (keywords_of 11) first.now }
-{
-    if is(first, b"cgroup-mems") {
-        return Some(Keyword::GroupMems);
-    }
-    None
-}
-
-/// The keyword of fourteen letters with this name.
-fn of_fourteen(first: &[u8]) -> Option<Keyword>
-    requires { length first.now ≡ 14 }
-    ensures { result ≡ keyword_among (keywords_of 14) first.now }
-{
-    if is(first, b"memory-migrate") {
-        return Some(Keyword::MemoryMigrate);
-    }
-    None
+    named!(first, b"publish" Publish, b"release" Release, b"machine" Machine,
+        b"inherit" Inherit, b"process" Process, b"migrate" Migrate; None)
 }
 
 /// The keyword with this name.
@@ -355,14 +225,14 @@ pub fn read_keyword(first: &[u8]) -> Option<Keyword>
     ensures { result ≡ keyword_of first.now }
 {
     match first.len() {
-        2 => of_two(first),
-        3 => of_three(first),
+        2 => named!(first, b"in" In, b"at" At; None),
+        3 => named!(first, b"try" Try, b"map" Map; None),
         4 => of_four(first),
         5 => of_five(first),
         6 => of_six(first),
         7 => of_seven(first),
-        11 => of_eleven(first),
-        14 => of_fourteen(first),
+        11 => named!(first, b"cgroup-mems" GroupMems; None),
+        14 => named!(first, b"memory-migrate" MemoryMigrate; None),
         _ => None,
     }
 }

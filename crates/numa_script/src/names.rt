@@ -82,6 +82,29 @@ static ERRNO_NAMES: [&[u8]; 7] = [
 /// The names of the refusals of questions.
 static PLACE_NAMES: [&[u8]; 2] = [b"BadCpu", b"Unmapped"];
 
+/// The names of the refusals of lines about pages, with their error numbers.
+static PLACED_CAUSES: [&[u8]; 8] = [
+    b"Unaligned EINVAL",
+    b"OutOfSpace ENOMEM",
+    b"NoSuchNode EINVAL",
+    b"Occupied EEXIST",
+    b"NodesNotAllowed EINVAL",
+    b"Astray EIO",
+    b"TooManyRuns ENOMEM",
+    b"NoMemory ENOMEM",
+];
+
+/// The names of why pages aren't moved, with their error numbers.
+static MOVE_CAUSES: [&[u8]; 7] = [
+    b"NoSuchNode ENODEV",
+    b"NodesNotAllowed EACCES",
+    b"Unmapped EFAULT",
+    b"NotPlaced ENOENT",
+    b"NoRoom ENOMEM",
+    b"TooManyRuns ENOMEM",
+    b"NoMemory ENOMEM",
+];
+
 impl Named {
     /// Its name.
     pub fn name(self) -> &'static [u8]
@@ -137,29 +160,12 @@ pub fn host_errno_name(errno: HostErrno) -> &'static [u8]
 pub fn placed_cause(refusal: PlacedRefusal) -> &'static [u8]
     ensures { result.now ≡ placed_cause refusal }
 {
-    match refusal {
-        PlacedRefusal::Unaligned => b"Unaligned EINVAL",
-        PlacedRefusal::OutOfSpace => b"OutOfSpace ENOMEM",
-        PlacedRefusal::NoSuchNode => b"NoSuchNode EINVAL",
-        PlacedRefusal::Occupied => b"Occupied EEXIST",
-        PlacedRefusal::NodesNotAllowed => b"NodesNotAllowed EINVAL",
-        PlacedRefusal::Astray => b"Astray EIO",
-        PlacedRefusal::TooManyRuns => b"TooManyRuns ENOMEM",
-        PlacedRefusal::NoMemory => b"NoMemory ENOMEM",
-    }
+    PLACED_CAUSES[refusal as usize]
 }
 
 /// The name of why a page isn't moved, with its error number.
 pub fn move_cause(refusal: MoveRefusal) -> &'static [u8]
     ensures { result.now ≡ move_cause refusal }
 {
-    match refusal {
-        MoveRefusal::NoSuchNode => b"NoSuchNode ENODEV",
-        MoveRefusal::NodesNotAllowed => b"NodesNotAllowed EACCES",
-        MoveRefusal::Unmapped => b"Unmapped EFAULT",
-        MoveRefusal::NotPlaced => b"NotPlaced ENOENT",
-        MoveRefusal::NoRoom => b"NoRoom ENOMEM",
-        MoveRefusal::TooManyRuns => b"TooManyRuns ENOMEM",
-        MoveRefusal::NoMemory => b"NoMemory ENOMEM",
-    }
+    MOVE_CAUSES[refusal as usize]
 }

@@ -139,27 +139,17 @@ fn say_win<W: Write>(output: &mut Watched<W>, win: &Win)
     output.say(line.bytes());
 }
 
-/// Writes a frame that was given back.
-fn say_back<W: Write>(output: &mut Watched<W>, frame: Frame)
+/// Writes what became of a frame, and the frame.
+#[inline(always)]
+fn say_frame<W: Write>(output: &mut Watched<W>, word: &[u8], frame: Frame)
+    requires { length word.now ≤ 16 }
     ensures { Said W.contents output.old output.new
-        (codes "back" ++ frame_text frame.node frame.number ++ codes "\n") }
+        (word.now ++ frame_text frame.node frame.number ++ codes "\n") }
 {
     let mut line = ShortText::new();
     line.put(b"\n");
     put_frame(&mut line, frame.node, frame.number);
-    line.put(b"back");
-    output.say(line.bytes());
-}
-
-/// Writes a frame that was found on a node.
-fn say_found<W: Write>(output: &mut Watched<W>, frame: Frame)
-    ensures { Said W.contents output.old output.new
-        (codes "found" ++ frame_text frame.node frame.number ++ codes "\n") }
-{
-    let mut line = ShortText::new();
-    line.put(b"\n");
-    put_frame(&mut line, frame.node, frame.number);
-    line.put(b"found");
+    line.put(word);
     output.say(line.bytes());
 }
 
@@ -318,10 +308,10 @@ pub fn say_reply<W: Write>(output: &mut Watched<W>, reply: &Reply)
         Reply::Still => output.say(b"still\n"),
         Reply::Exhausted(version) => say_count(output, b"exhausted v", *version),
         Reply::Won(win) => say_win(output, win),
-        Reply::Found(frame) => say_found(output, *frame),
+        Reply::Found(frame) => say_frame(output, b"found", *frame),
         Reply::Full => output.say(b"full\n"),
         Reply::Given => output.say(b"given\n"),
-        Reply::Back(frame) => say_back(output, *frame),
+        Reply::Back(frame) => say_frame(output, b"back", *frame),
         Reply::Refused(cause) => say_cause(output, *cause),
         _ => say_wider(output, reply),
     }

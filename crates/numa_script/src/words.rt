@@ -10,36 +10,15 @@ use numa_mask::parts::first_place;
 use std::marker::Model;
 use std::simd::prelude::*;
 
-/// The spaces among 8 bytes.
+/// The spaces among as many bytes as there are lanes.
 #[inline(always)]
-fn spaces_of_8(line: &[u8], at: usize) -> u64
-    requires { at + 8 ≤ length line.now }
-    ensures { MarksFrom line.now at 8 result }
+fn spaces_of<const LANES: usize>(line: &[u8], at: usize) -> u64
+    requires some { at + LANES ≤ length line.now }
+    requires lanes { LANES ≤ 32 }
+    ensures { MarksFrom line.now at LANES result }
 {
-    u8x8::from_slice(&line[at..])
-        .simd_eq(u8x8::splat(b' '))
-        .to_bitmask()
-}
-
-/// The spaces among 16 bytes.
-#[inline(always)]
-fn spaces_of_16(line: &[u8], at: usize) -> u64
-    requires { at + 16 ≤ length line.now }
-    ensures { MarksFrom line.now at 16 result }
-{
-    u8x16::from_slice(&line[at..])
-        .simd_eq(u8x16::splat(b' '))
-        .to_bitmask()
-}
-
-/// The spaces among 32 bytes.
-#[inline(always)]
-fn spaces_of_32(line: &[u8], at: usize) -> u64
-    requires { at + 32 ≤ length line.now }
-    ensures { MarksFrom line.now at 32 result }
-{
-    u8x32::from_slice(&line[at..])
-        .simd_eq(u8x32::splat(b' '))
+    Simd::<u8, LANES>::from_slice(&line[at..])
+        .simd_eq(Simd::splat(b' '))
         .to_bitmask()
 }
 
@@ -56,6 +35,19 @@ fn joined(line: &[u8], lanes: usize, front: u64, back: u64) -> u64
     front | back << (line.len() - lanes)
 }
 
+/// The spaces of a line that two vectors of so many lanes cover.
+#[inline(always)]
+fn spaces_by<const LANES: usize>(line: &[u8]) -> u64
+    requires some { LANES ≤ length line.now }
+    requires few { length line.now ≤ 2 * LANES }
+    requires lanes { LANES ≤ 32 }
+    ensures { Marks line.now result }
+{
+    let front = spaces_of::<LANES>(line, 0);
+    let back = spaces_of::<LANES>(line, line.len() - LANES);
+    joined(line, LANES, front, back)
+}
+
 /// The spaces of a line of 8 to 64 bytes.
 #[inline(always)]
 fn spaces(line: &[u8]) -> Option<u64>
@@ -66,22 +58,12 @@ fn spaces(line: &[u8]) -> Option<u64>
         return None;
     }
     if len <= 16 {
-        return Some(joined(line, 8, spaces_of_8(line, 0), spaces_of_8(line, len - 8)));
+        return Some(spaces_by::<8>(line));
     }
     if len <= 32 {
-        return Some(joined(
-            line,
-            16,
-            spaces_of_16(line, 0),
-            spaces_of_16(line, len - 16),
-        ));
+        return Some(spaces_by::<16>(line));
     }
-    Some(joined(
-        line,
-        32,
-        spaces_of_32(line, 0),
-        spaces_of_32(line, len - 32),
-    ))
+    Some(spaces_by::<32>(line))
 }
 
 /// The first of the spaces.
@@ -189,9 +171,9 @@ impl<'a> Words<'a> {
             ((word : List ℕ) → self.entry ≡ (word ∷ []) → ⊥)
             (λ word. self.entry ≡ (word.now ∷ [])) }
     {
-        let word = self.next()?;
+        let word = self.next();
         match self.next() {
-            None => Some(word),
+            None => word,
             Some(_) => None,
         }
     }

@@ -1,6 +1,0 @@
-use Rattle.std.proofs.Common.{arith}
-use Rattle.numa_script.proofs.Spaces.{lanes_marked}
-use Rattle.numa_script.proofs.words.spaces_of_8.Goals as goal
-
-pub returns : goal.returns
-returns c = lanes_marked c.args.line.now c.args.at 8 c.requires (omega arith)
