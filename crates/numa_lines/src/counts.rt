@@ -1,6 +1,6 @@
 //! How many answers of worked scripts were compared.
 ghost use Rattle.std.specs.Prelude.{◌≡◌, ◌↔◌, IsTrue};
-ghost use Rattle.numa_lines.specs.Counts.{one_more, with_different, with_idle};
+ghost use Rattle.numa_lines.specs.Counts.{one_more};
 
 /// How many lines of answers were compared; a long answer has several. Counts stop at 2^64 - 1.
 #[derive(Clone, Copy)]
@@ -16,6 +16,13 @@ pub struct Counts {
     pub idle: u64,
 }
 
+/// Counts one more.
+pub(crate) fn add_one(count: &mut u64)
+    ensures { count.new ≡ one_more count.old }
+{
+    *count = count.saturating_add(1);
+}
+
 impl Counts {
     /// All counts are 0.
     pub fn new() -> Counts
@@ -27,34 +34,6 @@ impl Counts {
             uncompared: 0,
             idle: 0,
         }
-    }
-
-    /// Counts an answer that is as expected.
-    pub(crate) fn add_same(&mut self)
-        ensures { self.new ≡ record self.old { same = one_more self.old.same } }
-    {
-        self.same = self.same.saturating_add(1);
-    }
-
-    /// Counts an answer that isn't as expected.
-    pub(crate) fn add_different(&mut self)
-        ensures { self.new ≡ with_different self.old }
-    {
-        self.different = self.different.saturating_add(1);
-    }
-
-    /// Counts an answer other than an error, for which the worked script expects nothing.
-    pub(crate) fn add_uncompared(&mut self)
-        ensures { self.new ≡ record self.old { uncompared = one_more self.old.uncompared } }
-    {
-        self.uncompared = self.uncompared.saturating_add(1);
-    }
-
-    /// Counts a worked script that expects no answer.
-    pub(crate) fn add_idle(&mut self)
-        ensures { self.new ≡ with_idle self.old }
-    {
-        self.idle = self.idle.saturating_add(1);
     }
 
     /// Whether each worked script expects an answer, and all that were compared are as expected.

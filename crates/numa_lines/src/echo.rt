@@ -79,12 +79,9 @@ pub struct Echo<A, W> {
 impl<A: Respond, W: Write> Echo<A, W> {
     /// Before the first line.
     pub fn new(alloc: Global, answerer: A, output: W) -> Echo<A, W> {
-        let mut output = Watched::new(output);
-        // If that fails, each text is written at once.
-        let _ = output.gather(alloc);
         Echo {
             answerer,
-            output,
+            output: Watched::gathering(alloc, output),
             answer: Vec::new(alloc),
             text: Vec::new(alloc),
         }
@@ -92,13 +89,7 @@ impl<A: Respond, W: Write> Echo<A, W> {
 }
 
 impl<A: Respond, W: Write> TakeLine<()> for Echo<A, W> {
-    fn take(
-        &mut self,
-        _name: &str,
-        _place: u64,
-        line: &[u8],
-        _output: &mut (),
-    ) -> Result<(), RunFault> {
+    fn take(&mut self, _: &str, _: u64, line: &[u8], _: &mut ()) -> Result<(), RunFault> {
         self.answer.clear();
         self.text.clear();
         let Ok(()) = self.answerer.respond(line, &mut self.answer) else {
@@ -111,7 +102,7 @@ impl<A: Respond, W: Write> TakeLine<()> for Echo<A, W> {
         Ok(())
     }
 
-    fn hand_over(&mut self, _output: &mut ()) -> Result<(), RunFault> {
+    fn hand_over(&mut self, _: &mut ()) -> Result<(), RunFault> {
         self.output.hand_over()
     }
 }

@@ -3,7 +3,7 @@ ghost use Rattle.std.specs.Prelude.{◌≡◌, ℕ, ◌≤◌, Bool, List, lengt
 ghost use Rattle.numa_lines.specs.Counts.{with_different, with_end, with_idle, with_rest};
 
 use crate::answer::LatestAnswer;
-use crate::counts::Counts;
+use crate::counts::{Counts, add_one};
 use crate::fault::RunFault;
 use crate::reading::TakeText;
 use crate::watched::Watched;
@@ -105,7 +105,7 @@ impl<W: Write> LineComparison<W> {
     fn tell_given(&mut self)
         ensures { self.new.counts ≡ with_different self.old.counts }
     {
-        self.counts.add_different();
+        add_one(&mut self.counts.different);
         tell_given(&mut self.told, self.answer.is_over(), self.answer.line());
     }
 
@@ -127,7 +127,7 @@ impl<W: Write> LineComparison<W> {
     fn end_wanted(&mut self) {
         if let Reading::Same = self.reading {
             if self.answer.end_line() {
-                self.counts.add_same();
+                add_one(&mut self.counts.same);
                 return;
             }
             self.tell_wanted();
@@ -159,7 +159,7 @@ impl<W: Write> LineComparison<W> {
         if answerer.tells_fault(self.answer.text.as_slice()) {
             return self.tell_rest(b"no fault");
         }
-        self.counts.add_uncompared();
+        add_one(&mut self.counts.uncompared);
     }
 
     /// Ends the answer to the latest script line.
@@ -182,7 +182,7 @@ impl<W: Write> LineComparison<W> {
             None => false,
         };
         if is_same {
-            self.counts.add_same();
+            add_one(&mut self.counts.same);
             self.answer.clear();
             self.reading = Reading::Passed;
         }
@@ -197,7 +197,7 @@ impl<W: Write> LineComparison<W> {
         if self.is_worked {
             return;
         }
-        self.counts.add_idle();
+        add_one(&mut self.counts.idle);
         self.told.say(self.name.as_str().as_bytes());
         self.told.say(NOTHING);
     }
@@ -252,11 +252,8 @@ impl<W: Write> LineComparison<W> {
 impl<A: Respond, W: Write> Expect<A, W> {
     /// The state before the first text; differences go to the writer.
     pub fn new(alloc: Global, answerer: A, output: W) -> Expect<A, W> {
-        let mut told = Watched::new(output);
-        // If that fails, each text is written at once.
-        let _ = told.gather(alloc);
         let comparison = LineComparison {
-            told,
+            told: Watched::gathering(alloc, output),
             lacks_memory: false,
             counts: Counts::new(),
             name: String::new(alloc),

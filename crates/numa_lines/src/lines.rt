@@ -87,7 +87,8 @@ impl<T> Lines<T> {
         ensures err { IfErr result T.fails }
     {
         if bytes.len() > LIMIT || !self.line.bytes().is_empty() {
-            return self.end_held(bytes, output);
+            self.line.hold(bytes);
+            return self.end_held(output);
         }
         let taken = self
             .taker
@@ -96,18 +97,17 @@ impl<T> Lines<T> {
         taken
     }
 
-    /// Does so for a line that is held as far as it was read before, or is long.
+    /// Hands on the open line as far as it is held, and opens the next.
     #[cold]
     #[inline(never)]
-    fn end_held<O>(&mut self, bytes: &[u8], output: &mut O) -> Result<(), RunFault>
+    fn end_held<O>(&mut self, output: &mut O) -> Result<(), RunFault>
     where
         T: TakeLine<O>,
-        requires piece { IsPiece bytes.now }
-        ensures ok { OnOk result (Takes (HasCut T.has_taken)
-            self.old output.old self.new output.new (bytes.now ++ 10 ∷ [])) }
+        ensures line { self.new.line ≡ [] }
+        ensures ok { OnOk result (Takes T.has_taken
+            self.old.taker output.old self.new.taker output.new (self.old.line ∷ [])) }
         ensures err { IfErr result T.fails }
     {
-        self.line.hold(bytes);
         let taken = self
             .taker
             .take(self.name.as_str(), self.place, self.line.bytes(), output);

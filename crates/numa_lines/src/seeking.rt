@@ -26,13 +26,7 @@ struct Seeking {
 }
 
 impl TakeLine<()> for Seeking {
-    fn take(
-        &mut self,
-        _name: &str,
-        _place: u64,
-        line: &[u8],
-        _output: &mut (),
-    ) -> Result<(), RunFault>
+    fn take(&mut self, _: &str, _: u64, line: &[u8], _: &mut ()) -> Result<(), RunFault>
         ensures { self.new.is_found ≡ self.old.is_found || wants_answer (form_of line.now) }
     {
         if wants_answer(line) {
@@ -41,7 +35,7 @@ impl TakeLine<()> for Seeking {
         Ok(())
     }
 
-    fn hand_over(&mut self, _output: &mut ()) -> Result<(), RunFault> {
+    fn hand_over(&mut self, _: &mut ()) -> Result<(), RunFault> {
         Ok(())
     }
 }

@@ -125,6 +125,18 @@ impl<W: Write> Watched<W> {
         Ok(())
     }
 
+    /// Wraps a writer whose texts are gathered; each is written at once where there is no memory to
+    /// gather them.
+    pub(crate) fn gathering(alloc: Global, inner: W) -> Watched<W>
+        ensures inner { result.inner ≡ inner }
+        ensures well { has_failed result ≡ false }
+        ensures empty { unsent result ≡ [] }
+    {
+        let mut writer = Watched::new(inner);
+        let _ = writer.gather(alloc);
+        writer
+    }
+
     /// Holds a text back if there is room for it, and returns whether there is.
     #[inline(always)]
     fn keep(&mut self, text: &[u8]) -> bool

@@ -19,3 +19,15 @@ returns-clause-ok g c =
     c.args.bytes.now front c.args.bytes.now c.requires.piece front_of
     (λ lines had. takes first.taker begun lines had) h in
     (cut.0, none ∙ cut.1)) c.take-taken.ensures.ok
+
+pub returns-then-bytes-gt-LIMIT-clause-ok : goal.returns-then-bytes-gt-LIMIT-clause-ok
+returns-then-bytes-gt-LIMIT-clause-ok g c =
+    let has = g.T.TakeLine.has_taken in
+    rw c.end_held.ensures.line
+    (on_ok_weaker c.end_held.result
+    (λ takes first begun front h.
+    cut_line (has first.taker begun c.args.self.now.taker c.args.output.now)
+    (has first.taker begun c.end_held.new.self.taker c.end_held.new.output) c.args.self.now.line
+    c.hold.new.self
+    front c.args.bytes.now c.requires.piece c.hold.ensures
+    (λ lines had. takes first.taker begun lines had) h) c.end_held.ensures.ok)
