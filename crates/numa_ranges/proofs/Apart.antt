@@ -53,6 +53,13 @@ module _ {T : Type 0} where
   apart-bounds from (run ∷ runs) (suc i) d apart l = apart-bounds (end_of run) runs i d apart.3
       (omega arith)
 
+  pub apart-some : (from : ℕ) (runs : List (Run T)) (i : ℕ) (d : Run T) → AreApart from runs
+      → i < length runs → 0 < (get_or runs i d).pages
+  apart-some from [] i d apart l = absurd (omega arith)
+  apart-some from (run ∷ runs) zero d apart l = apart.1
+  apart-some from (run ∷ runs) (suc i) d apart l = apart-some (end_of run) runs i d apart.3
+      (omega arith)
+
   -- no page before the first run is mapped
   pub page_at-before : (from : ℕ) (runs : List (Run T)) (page : ℕ) → AreApart from runs
       → page < from → page_at runs page ≡ None

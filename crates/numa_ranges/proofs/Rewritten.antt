@@ -2,15 +2,16 @@
 use Rattle.std.proofs.Common.{◌≡◌, ℕ, zero, suc, ◌+◌, ◌<◌, ◌≤◌, Bool, true, false, Option, Some}
 use Rattle.std.proofs.Common.{None}
 use Rattle.std.proofs.Common.{List, [], ◌∷◌, ◌++◌, length, take, get_or, refl, sym, ap, subst, ◌∙◌}
+use Rattle.std.proofs.Common.{inl, inr}
 use Rattle.std.proofs.Common.{arith, append_assoc, drop, length-append, length-take, ◌-◌, min, max}
 use Rattle.std.specs.Prelude.{All, slice_get}
 use Rattle.std.specs.List.{slice_range}
-use Rattle.std.proofs.lemmas.Bool.{le-ltb}
+use Rattle.std.proofs.lemmas.Bool.{cases_lt, le-ltb, lt-ltb}
 use Rattle.std.proofs.lemmas.Option.{slice_get_within}
 use Rattle.std.proofs.lemmas.List.{get_or_default, get_or-take}
 use Rattle.numa_ranges.specs.Runs.{Continues, end_of}
 use Rattle.numa_ranges.specs.Edits.{IsInRange, maximal_runs, joined_after, run_and_next, edit_of}
-use Rattle.numa_ranges.specs.Edits.{part_within}
+use Rattle.numa_ranges.specs.Edits.{part_before, part_within, part_from}
 use Rattle.numa_ranges.specs.Edited.{IsPlaced, IsEditedRow, AreEditedRows, IsOpen, value_of_row}
 use Rattle.numa_ranges.specs.Edited.{edited_value}
 use Rattle.numa_ranges.specs.Gathered.{AreGathered}
@@ -26,6 +27,7 @@ use Rattle.numa_ranges.proofs.Moves.{any-run}
 use Rattle.numa_ranges.proofs.Numbered.{length-runs, number-at, numbered-more, one-run, run-at}
 use Rattle.numa_ranges.proofs.Numbered.{runs-drop, runs-more, some-value}
 use Rattle.numa_ranges.proofs.Walked.{step-read, step-short}
+use Rattle.numa_ranges.proofs.Window.{within-some}
 
 module _ {T : Type 0} where
   -- what a row with a value has
@@ -100,6 +102,15 @@ module _ {T : Type 0} where
       (subst IsInRange (get_or-take n runs k there.run below ∙ sym there.is)
       (all k there.run (omega (arith, length-take n runs, there.within, below))))
 
+  pub there-some : (values : List T) (rows : List Row) (k n : ℕ) (row : Row)
+      (there : RunThere values rows k row) → k < n
+      → All (λ run. 0 < run.pages) (take n (runs_of values rows)) → 0 < there.run.pages
+  there-some values rows k n row there below all =
+      let runs = runs_of values rows in
+      subst (λ (run : Run T). 0 < run.pages)
+      (get_or-take n runs k there.run below ∙ sym there.is)
+      (all k there.run (omega (arith, length-take n runs, there.within, below)))
+
   -- no part of a run is inside a span that it doesn't meet
   pub within-out : (first end start stop : ℕ) (change : T → Option T) (run : Run T)
       → start ≡ max first run.first → stop ≡ min end (end_of run) → stop ≤ start
@@ -107,6 +118,37 @@ module _ {T : Type 0} where
   within-out first end start stop change run a b out =
       let c : min end (end_of run) ≤ max first run.first = omega (arith, a, b, out) in
       rw (le-ltb _ _ c) refl
+
+  -- the part between the first page and another is the part before that
+  pub kept-before : (page : ℕ) (run : Run T) → 0 < run.pages
+      → part_within 0 page (λ value. Some value) run ≡ part_before page run
+  kept-before page run some = elim (cases_lt run.first page) [
+    | inl below ↦
+        let pages : min page (end_of run) - run.first ≡ min run.pages (page - run.first) =
+        omega (arith, some, below) in
+        let index : run.index + (run.first - run.first) ≡ run.index = omega arith in
+        within-some 0 page run.first (min page (end_of run)) (λ value. Some value) run run.value
+        (omega arith) refl (omega (arith, some, below)) refl
+        ∙ rw (lt-ltb _ _ below, pages, index) refl
+    | inr above ↦
+        within-out 0 page run.first (min page (end_of run)) (λ value. Some value) run
+        (omega arith) refl (omega (arith, above))
+        ∙ sym (rw (le-ltb _ _ above) refl)
+  ]
+
+  -- the part between a page and one behind a run is the part from that page on
+  pub kept-from : (page top : ℕ) (run : Run T) → 0 < run.pages → end_of run ≤ top
+      → part_within page top (λ value. Some value) run ≡ part_from page run
+  kept-from page top run some inside = elim (cases_lt page (end_of run)) [
+    | inl below ↦
+        within-some page top (max page run.first) (end_of run) (λ value. Some value) run run.value
+        refl (omega (arith, inside)) (omega (arith, some, below)) refl
+        ∙ rw (lt-ltb _ _ below) refl
+    | inr above ↦
+        within-out page top (max page run.first) (end_of run) (λ value. Some value) run
+        refl (omega (arith, inside)) (omega (arith, above))
+        ∙ sym (rw (le-ltb _ _ above) refl)
+  ]
 
 module _ {T : Type 0} (change : T → Option T) where
   -- ---- one more row

@@ -14,7 +14,7 @@ use Rattle.numa_ranges.specs.Maps.{IsRefusal, changed_page, changed_span, withou
 use Rattle.numa_ranges.specs.Maps.{count_refusal}
 use Rattle.numa_ranges.specs.Edits.{IsInRange, edit_of, maximal_runs, edited_span, edited_page}
 use Rattle.numa_ranges.specs.declared.run.Run.{Run}
-use Rattle.numa_ranges.proofs.Apart.{apart-bounds}
+use Rattle.numa_ranges.proofs.Apart.{apart-bounds, apart-some}
 use Rattle.numa_ranges.proofs.Joined.{page_at-joined, apart-joined, maximal-joined}
 use Rattle.numa_ranges.proofs.Counted.{range_count-length}
 
@@ -28,6 +28,16 @@ module _ {T : Type 0} where
       get_or-take (to - from) (drop from runs) k d (omega arith) ∙ get_or-drop from runs k d in
       let bounds = apart-bounds 0 runs (from + k) d apart (omega arith) in
       subst IsInRange (sym same) (record { end = bounds.0; index = bounds.1 })
+
+  pub some-window : (runs : List (Run T)) (from to : ℕ) → AreApart 0 runs → from ≤ to
+      → to ≤ length runs → All (λ run. 0 < run.pages) (slice_range runs from to)
+  some-window runs from to apart le within k d l =
+      let size : length (slice_range runs from to) ≤ to - from =
+      omega (arith, length-take (to - from) (drop from runs)) in
+      let same : get_or (slice_range runs from to) k d ≡ get_or runs (from + k) d =
+      get_or-take (to - from) (drop from runs) k d (omega arith) ∙ get_or-drop from runs k d in
+      subst (λ (run : Run T). 0 < run.pages) (sym same)
+      (apart-some 0 runs (from + k) d apart (omega arith))
 
 module _ {T : Type 0} (same : T → T → Bool) (exact : (a b : T) → same a b ≡ true → a ≡ b)
     (itself : (a : T) → same a a ≡ true) where

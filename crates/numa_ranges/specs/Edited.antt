@@ -18,6 +18,10 @@ edited_value change is_edited None = None
 edited_value change true (Some value) = change value
 edited_value change false (Some value) = Some value
 
+-- what an edit makes of a value, or else the value
+abbrev pub edited_or_kept : {T : Type 0} → (T → Option T) → Bool → T → Option T
+edited_or_kept change is_edited value = edited_value change is_edited (Some value)
+
 -- the value of a row
 abbrev pub value_of_row : {T : Type 0} → (T → Option T) → List T → EditedRow → Option T
 value_of_row change values row = edited_value change row.is_edited (slice_get values row.number)

@@ -5,9 +5,9 @@ ghost use Rattle.std.specs.List.{slice_range};
 ghost use Rattle.std.specs.Prelude.{Option, None, All};
 ghost use Rattle.numa_rows.specs.Changes.{Makes};
 ghost use Rattle.numa_ranges.specs.Runs.{AreApart};
-ghost use Rattle.numa_ranges.specs.Edits.{IsInRange, part_before, part_within, part_from};
+ghost use Rattle.numa_ranges.specs.Edits.{IsInRange, part_within};
 ghost use Rattle.numa_ranges.specs.Edits.{edit_of};
-ghost use Rattle.numa_ranges.specs.Edited.{IsPlaced};
+ghost use Rattle.numa_ranges.specs.Edited.{IsPlaced, edited_or_kept};
 ghost use Rattle.numa_ranges.specs.Gathered.{AreGathered, Gathered};
 ghost use Rattle.numa_ranges.specs.Numbered.{AreNumbered, run_of, runs_of};
 
@@ -41,6 +41,7 @@ pub(crate) fn gather_edited<T: Exact, F: Fn(&T) -> Option<T>>(
     requires within { count ≤ length rest.old }
     requires len { count ≤ 2 ^ 32 }
     requires in_range { All IsInRange (take count (runs_of values.now rest.old)) }
+    requires some { All (λ run. 0 < run.pages) (take count (runs_of values.now rest.old)) }
     ensures gathered { (change : T → Option T) → Makes F.Fn edit.now change
         → AreGathered T.eq change values.now rows.new
         (edit_of first end change (take count (runs_of values.now rest.old))) }
@@ -51,9 +52,9 @@ pub(crate) fn gather_edited<T: Exact, F: Fn(&T) -> Option<T>>(
             unreachable!()
         };
         let row: Row = *seen;
-        add_before(rows, values, row, first, edit);
-        add_within(rows, values, row, first, end, edit);
-        add_from(rows, values, row, end, edit);
+        add_part(rows, values, row, 0, first, false, edit);
+        add_part(rows, values, row, first, end, true, edit);
+        add_part(rows, values, row, end, u64::MAX, false, edit);
     }
 }
 
@@ -106,77 +107,16 @@ fn add_all<T: Exact>(pieces: &mut Pieces<T>, rest: &mut RangeIter<'_, T>, count:
     }
 }
 
-/// Adds the part of a row before a page.
+/// Adds the part of a row between two pages: as it is, or with the value that `edit` returns, if
+/// any.
 #[inline]
-fn add_before<T: Exact, F: Fn(&T) -> Option<T>>(
-    rows: &mut EditedRows,
-    values: &[T],
-    row: Row,
-    page: u64,
-    edit: &F,
-)
-    requires callable { F.IsAlwaysCallable edit.now }
-    requires placed { IsPlaced row.first row.pages row.index }
-    requires room { rows.old.count < 2 ^ 63 }
-    ensures gathered { (change : T → Option T) → Makes F.Fn edit.now change
-        → (added : List (Run T)) (run : Run T) → run_of values.now row ≡ run ∷ []
-        → AreGathered T.eq change values.now rows.old added
-        → AreGathered T.eq change values.now rows.new (added ++ part_before page run) }
-    ensures count { rows.new.count ≤ rows.old.count + 1 }
-{
-    if row.first < page {
-        let kept = EditedRow {
-            first: row.first,
-            pages: row.pages.min(page - row.first),
-            index: row.index,
-            number: row.number,
-            is_edited: false,
-        };
-        rows.add(values, kept, edit);
-    }
-}
-
-/// Adds the part of a row from a page on.
-#[inline]
-fn add_from<T: Exact, F: Fn(&T) -> Option<T>>(
-    rows: &mut EditedRows,
-    values: &[T],
-    row: Row,
-    page: u64,
-    edit: &F,
-)
-    requires callable { F.IsAlwaysCallable edit.now }
-    requires placed { IsPlaced row.first row.pages row.index }
-    requires room { rows.old.count < 2 ^ 63 }
-    ensures gathered { (change : T → Option T) → Makes F.Fn edit.now change
-        → (added : List (Run T)) (run : Run T) → run_of values.now row ≡ run ∷ []
-        → AreGathered T.eq change values.now rows.old added
-        → AreGathered T.eq change values.now rows.new (added ++ part_from page run) }
-    ensures count { rows.new.count ≤ rows.old.count + 1 }
-{
-    let end = row.first + row.pages;
-    if page < end {
-        let start = page.max(row.first);
-        let passed = start - row.first;
-        let kept = EditedRow {
-            first: start,
-            pages: end - start,
-            index: row.index + passed,
-            number: row.number,
-            is_edited: false,
-        };
-        rows.add(values, kept, edit);
-    }
-}
-
-/// Adds the part of a row between two pages, with the value that `edit` returns, if any.
-#[inline]
-fn add_within<T: Exact, F: Fn(&T) -> Option<T>>(
+fn add_part<T: Exact, F: Fn(&T) -> Option<T>>(
     rows: &mut EditedRows,
     values: &[T],
     row: Row,
     first: u64,
     end: u64,
+    is_edited: bool,
     edit: &F,
 )
     requires callable { F.IsAlwaysCallable edit.now }
@@ -186,7 +126,7 @@ fn add_within<T: Exact, F: Fn(&T) -> Option<T>>(
         → (added : List (Run T)) (run : Run T) → run_of values.now row ≡ run ∷ []
         → AreGathered T.eq change values.now rows.old added
         → AreGathered T.eq change values.now rows.new
-        (added ++ part_within first end change run) }
+        (added ++ part_within first end (edited_or_kept change is_edited) run) }
     ensures count { rows.new.count ≤ rows.old.count + 1 }
 {
     let start = first.max(row.first);
@@ -197,7 +137,7 @@ fn add_within<T: Exact, F: Fn(&T) -> Option<T>>(
             pages: stop - start,
             index: row.index + (start - row.first),
             number: row.number,
-            is_edited: true,
+            is_edited,
         };
         if let Some(_value) = value_of(values, &made, edit) {
             rows.add(values, made, edit);

@@ -155,7 +155,7 @@ impl EditedRows {
         let Ok(()) = number_rows(numbered, values, &self.closed, edit) else {
             return Err(RangeError::NoMemory);
         };
-        let Ok(()) = splice_rows(rows, from, to, numbered.as_slice(), near) else {
+        let Ok(()) = splice_rows(rows, from..to, numbered.as_slice(), near) else {
             return Err(RangeError::NoMemory);
         };
         Ok(())

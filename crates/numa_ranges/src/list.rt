@@ -8,6 +8,7 @@ ghost use Rattle.numa_rows.specs.Searches.{HasRow, IsChunkOf};
 use crate::row::Row;
 use numa_rows::{Owned, Part, Rows};
 use std::alloc::AllocError;
+use std::ops::Range;
 
 /// The rows of a map, each chunk with rows of its own.
 pub(crate) type RowList = Rows<Row, Owned<Row>>;
@@ -82,15 +83,14 @@ pub(crate) fn row_in(rows: &RowList, part: &Part<'_, Row>, rank: usize) -> Row
 #[inline(always)]
 pub(crate) fn splice_rows(
     rows: &mut RowList,
-    from: usize,
-    to: usize,
+    ranks: Range<usize>,
     others: &[Row],
     guess: usize,
 ) -> Result<(), AllocError>
-    requires rises { from ≤ to }
-    requires within { to ≤ length rows.old }
-    ensures ok { OnOk result (rows.new ≡ splice rows.old from to others.now) }
+    requires rises { ranks.start ≤ ranks.end }
+    requires within { ranks.end ≤ length rows.old }
+    ensures ok { OnOk result (rows.new ≡ splice rows.old ranks.start ranks.end others.now) }
     ensures unchanged { OnErr result (rows.new ≡ rows.old) }
 {
-    rows.splice_near(from, to, others, guess)
+    rows.splice_near(ranks.start, ranks.end, others, guess)
 }

@@ -82,11 +82,8 @@ impl<T: Exact> RangeMap<T> {
     pub fn copy(&self) -> Result<RangeMap<T>, AllocError>
         ensures { IfOk result (λ copy. copy ≡ self.now) }
     {
-        let Ok(runs) = self.runs.copy() else {
-            return Err(AllocError);
-        };
         Ok(RangeMap {
-            runs,
+            runs: self.runs.copy()?,
             alloc: self.alloc,
             max_ranges: self.max_ranges,
             near: self.near,

@@ -219,6 +219,7 @@ impl<T: Exact> Runs<T> {
     ) -> Result<(), RangeError>
         requires window { (from ≤ to) × (to ≤ length self.old) }
         requires in_range { All IsInRange (slice_range self.old from to) }
+        requires some { All (λ run. 0 < run.pages) (slice_range self.old from to) }
         requires callable { F.IsAlwaysCallable edit.now }
         requires function { (change : T → Option T) × Makes F.Fn edit.now change }
         ensures ok { (change : T → Option T) → Makes F.Fn edit.now change

@@ -3,7 +3,8 @@ use Rattle.std.proofs.Common.{◌+◌, ◌≤◌, length, arith, ap, refl, ◌�
 use Rattle.numa_ranges.specs.Runs.{page_at}
 use Rattle.numa_ranges.specs.Edits.{edit_of, edited_span}
 use Rattle.numa_ranges.proofs.Cut.{page_at-edited, apart-edited}
-use Rattle.numa_ranges.proofs.Spans.{in-range-window, stands-joined, refused-joined, window-edited}
+use Rattle.numa_ranges.proofs.Spans.{in-range-window, some-window, stands-joined, refused-joined}
+use Rattle.numa_ranges.proofs.Spans.{window-edited}
 use Rattle.numa_ranges.proofs.Spans.{window-refused}
 use Rattle.numa_ranges.proofs.Window.{edited-around, around-rises}
 use Rattle.numa_ranges.proofs.range_map.RangeMap.edit_span.Goals as goal
@@ -31,6 +32,17 @@ edit_near-edited-requires-clause-in_range g c =
     omega (arith, places.1, ap (λ v. length v.runs) c.self.view_is) in
     rw (c.tidy.ensures)
     (in-range-window c.self.inside.runs c.args.window.0 c.args.window.1 c.self.invariant.0 places.0
+    within)
+
+pub edit_near-edited-requires-clause-some : goal.edit_near-edited-requires-clause-some
+edit_near-edited-requires-clause-some g c =
+    let places = around-rises c.args.self.now.runs c.args.place c.args.first
+    (c.args.first + c.args.pages) c.args.window.0 c.args.window.1 (omega arith) c.requires.within
+    c.requires.parts c.requires.window in
+    let within : c.args.window.1 ≤ length c.self.inside.runs =
+    omega (arith, places.1, ap (λ v. length v.runs) c.self.view_is) in
+    rw (c.tidy.ensures)
+    (some-window c.self.inside.runs c.args.window.0 c.args.window.1 c.self.invariant.0 places.0
     within)
 
 pub edit_near-edited-requires-clause-function : goal.edit_near-edited-requires-clause-function

@@ -1,5 +1,6 @@
 -- What is gathered of the rows is of the runs that they have.
-use Rattle.std.proofs.Common.{◌≡◌, ◌-◌, ◌≤◌, List, length, take, drop, ap, sym, subst, ◌∙◌, arith}
+use Rattle.std.proofs.Common.{◌≡◌, ◌-◌, ◌≤◌, ◌<◌, List, length, take, drop, ap, sym, subst, ◌∙◌}
+use Rattle.std.proofs.Common.{arith}
 use Rattle.std.specs.Prelude.{All, OnOk, IfErr, if◌then◌else◌, nat_lt}
 use Rattle.std.specs.List.{slice_range, splice}
 use Rattle.std.proofs.lemmas.List.{length-drop}
@@ -64,6 +65,19 @@ gather_edited-requires-clause-in_range g c =
     subst (λ (l : List (Run g.row.T.Denot)). All IsInRange (take (c.args.to - c.args.from) l))
     (sym same) c.requires.in_range
 
+pub gather_edited-requires-clause-some :
+    goal.gather_edited-requires-clause-some
+gather_edited-requires-clause-some g c =
+    let values = c.self.inside.values in
+    let rows = c.self.inside.rows in
+    let same : runs_of c.items-values.result.now c.iter_near-rest.result ≡ drop c.args.from
+    c.args.self.now =
+    (λ i. runs_of (c.items-values.ensures i) (c.iter_near-rest.ensures i))
+    ∙ (runs-drop values c.args.from rows c.self.invariant ∙ ap (drop c.args.from) c.self.view_is) in
+    subst (λ (l : List (Run g.row.T.Denot)). All (λ run. 0 < run.pages) (take (c.args.to -
+    c.args.from) l))
+    (sym same) c.requires.some
+
 pub put-outcome-requires-clause-window : goal.put-outcome-requires-clause-window
 put-outcome-requires-clause-window g c = (
   c.requires.window.0,
@@ -118,10 +132,12 @@ returns-clause-ok g c change gives =
     c.items-values.ensures c.iter_near-rest.ensures
     (c.gather_edited.ensures.gathered change gives)) in
     subst (λ (l : List (Run g.row.T.Denot)).
-    OnOk c.put-outcome.result ((runs_of c.put-outcome.new.values c.put-outcome.new.rows ≡ splice l c.args.from c.args.to
+    OnOk c.put-outcome.result ((runs_of c.put-outcome.new.values c.put-outcome.new.rows ≡ splice l
+    c.args.from c.args.to
     (maximal_runs g.T.PartialEq.eq
     (edit_of c.args.first c.args.end change (slice_range l c.args.from c.args.to))))
-    × (length (runs_of c.put-outcome.new.values c.put-outcome.new.rows) ≤ c.args.limit))) c.self.view_is
+    × (length (runs_of c.put-outcome.new.values c.put-outcome.new.rows) ≤ c.args.limit)))
+    c.self.view_is
     (on_ok c.put-outcome.result (λ h. (h.0, omega (arith, h.1, ap length h.0))) put)
 
 pub returns-clause-err : goal.returns-clause-err
