@@ -58,19 +58,19 @@ fn edit(
     alloc: Global,
     plan: &mut Plan,
     space: &Space,
-    change: &Change,
+    change: Change,
     steps: &mut Steps,
 ) -> Result<(), NoMemory>
-    requires lacks { LacksChange space.now change.now plan.old }
+    requires lacks { LacksChange space.now change plan.old }
     requires ready { IsReady space.now }
     requires rising { AreApart 0 space.now.ranges }
     requires maximal { AreMaximal space.now.ranges }
     ensures follows { OnOk result (Follows space.now plan.new) }
     ensures unchanged { OnErr result (plan.new ≡ plan.old) }
-    ensures few { WritesFew change.now plan.old steps.old steps.new }
-    ensures others { KeepsOthers change.now plan.old plan.new }
+    ensures few { WritesFew change plan.old steps.old steps.new }
+    ensures others { KeepsOthers change plan.old plan.new }
 {
-    match *change {
+    match change {
         Change::Nothing => {
             take_version(plan, space);
             Ok(())
@@ -130,5 +130,5 @@ pub fn recompile(
     ensures others { KeepsOthers change.now plan.old plan.new }
 {
     survey(space);
-    edit(alloc, plan, space, change, steps)
+    edit(alloc, plan, space, *change, steps)
 }

@@ -144,21 +144,17 @@ fn preferred_rule(alloc: Global, space: &Space, set: &NodeMask) -> Result<Rule, 
     fixed_rule(alloc, space, Reach::Only(space.allowed()), node)
 }
 
-/// The rule of preferred-many: the allowed nodes of the set before the other allowed nodes.
-fn many_rule(
-    alloc: Global,
-    space: &Space,
-    set: &NodeMask,
-    home: Option<u8>,
-) -> Result<Rule, NoMemory>
+/// The rule of preferred-many: the allowed nodes of its set before the other allowed nodes.
+fn many_rule(alloc: Global, space: &Space, policy: &Record) -> Result<Rule, NoMemory>
     requires ready { IsReady space.now }
-    requires home { ForSome home (λ node. node < space.now.machine.nodes) }
+    requires home { ForSome policy.now.home (λ node. node < space.now.machine.nodes) }
     ensures { IfOk result (λ rule. GivesRows space.now.machine.nodes rule
-        (λ cpu index. before_others (setting_in space.now) (both set.now space.now.allowed)
-        (unwrap_or home cpu))) }
+        (λ cpu index. before_others (setting_in space.now)
+        (both policy.now.effective space.now.allowed) (unwrap_or policy.now.home cpu))) }
 {
+    let set = policy.effective();
     let first = set.and(&space.allowed());
-    rule_by_home(alloc, space, Reach::First(first), home)
+    rule_by_home(alloc, space, Reach::First(first), policy.home())
 }
 
 /// The rule of local allocation: the allowed nodes, the nearest to the faulting node first.
@@ -183,7 +179,7 @@ pub(crate) fn rule_of(alloc: Global, space: &Space, policy: &Record) -> Result<R
         Mode::Local => rule_by_home(alloc, space, near, policy.home()),
         Mode::Preferred => preferred_rule(alloc, space, &set),
         Mode::Bind => rule_by_home(alloc, space, Reach::Only(set), policy.home()),
-        Mode::PreferredMany => many_rule(alloc, space, &set, policy.home()),
+        Mode::PreferredMany => many_rule(alloc, space, policy),
         Mode::Interleave => interleave_rule(alloc, space, &set),
         Mode::WeightedInterleave => weighted_rule(alloc, space, &set),
     }

@@ -59,12 +59,12 @@ few-more old new runs rules few_runs few_rules few = writes-both old old new run
 -- ---- what each arm calls
 
 pub take_version-requires-clause-behind : goal.take_version-requires-clause-behind
-take_version-requires-clause-behind c = change-as c.args.space.now c.args.plan.now c.args.change.now
+take_version-requires-clause-behind c = change-as c.args.space.now c.args.plan.now c.args.change
     Nothing c.requires.lacks c.in-Nothing.is
 
 pub mapped_window-window-requires : goal.mapped_window-window-requires
 mapped_window-window-requires c = record {
-  behind = change-as c.args.space.now c.args.plan.now c.args.change.now (Mapped c.in-Mapped.pages)
+  behind = change-as c.args.space.now c.args.plan.now c.args.change (Mapped c.in-Mapped.pages)
       c.requires.lacks c.in-Mapped.is;
 }
 
@@ -77,7 +77,7 @@ rewrite_window-requires-clause-inside c = c.mapped_window-window.ensures.inside
 pub open_window-window-requires : goal.open_window-window-requires
 open_window-window-requires c = record {
   behind = unmap-span c.args.space.now c.args.plan.now c.in-Unmapped.pages
-      (change-as c.args.space.now c.args.plan.now c.args.change.now (Unmapped c.in-Unmapped.pages)
+      (change-as c.args.space.now c.args.plan.now c.args.change (Unmapped c.in-Unmapped.pages)
       c.requires.lacks c.in-Unmapped.is);
 }
 
@@ -91,7 +91,7 @@ rewrite_window-requires-in-Unmapped-clause-inside c =
     let space = c.args.space.now in
     let plan = c.args.plan.now in
     let found = c.open_window-window in
-    let b = change-as space plan c.args.change.now (Unmapped c.in-Unmapped.pages) c.requires.lacks
+    let b = change-as space plan c.args.change (Unmapped c.in-Unmapped.pages) c.requires.lacks
     c.in-Unmapped.is in
     unmap-inside space plan found.result b.start b.bytes (found.ensures.first ∙ sym b.begins)
     (found.ensures.end ∙ sym b.ends) (open-within space plan found.result found.ensures.open).1
@@ -100,7 +100,7 @@ rewrite_window-requires-in-Unmapped-clause-inside c =
 pub open_window-window-requires-in-Bound : goal.open_window-window-requires-in-Bound
 open_window-window-requires-in-Bound c = record {
   behind = bound-span c.args.space.now c.args.plan.now c.in-Bound.pages c.in-Bound.policy
-      (change-as c.args.space.now c.args.plan.now c.args.change.now
+      (change-as c.args.space.now c.args.plan.now c.args.change
       (Bound c.in-Bound.pages c.in-Bound.policy) c.requires.lacks c.in-Bound.is);
 }
 
@@ -113,7 +113,7 @@ rewrite_bound-requires-clause-of c = c.open_window-window-in-Bound.ensures.open
 pub rewrite_bound-requires-clause-in_force : goal.rewrite_bound-requires-clause-in_force
 rewrite_bound-requires-clause-in_force c =
     bound-in_force c.args.space.now c.args.plan.now c.in-Bound.pages c.in-Bound.policy
-    (change-as c.args.space.now c.args.plan.now c.args.change.now
+    (change-as c.args.space.now c.args.plan.now c.args.change
     (Bound c.in-Bound.pages c.in-Bound.policy) c.requires.lacks c.in-Bound.is)
     c.requires.ready.sound.allowed_memory
 
@@ -122,7 +122,7 @@ rewrite_bound-requires-clause-inside c =
     let space = c.args.space.now in
     let plan = c.args.plan.now in
     let found = c.open_window-window-in-Bound in
-    let b = change-as space plan c.args.change.now (Bound c.in-Bound.pages c.in-Bound.policy)
+    let b = change-as space plan c.args.change (Bound c.in-Bound.pages c.in-Bound.policy)
     c.requires.lacks c.in-Bound.is in
     mbind-policy space plan found.result b.start b.bytes (found.ensures.first ∙ sym b.begins)
     (found.ensures.end ∙ sym b.ends) (open-within space plan found.result found.ensures.open).1
@@ -130,7 +130,7 @@ rewrite_bound-requires-clause-inside c =
 
 pub open_window-window-requires-in-Homed : goal.open_window-window-requires-in-Homed
 open_window-window-requires-in-Homed c = record {
-  behind = change-as c.args.space.now c.args.plan.now c.args.change.now
+  behind = change-as c.args.space.now c.args.plan.now c.args.change
       (Homed c.in-Homed.pages c.in-Homed.node) c.requires.lacks c.in-Homed.is;
 }
 
@@ -142,13 +142,13 @@ rewrite_homes-requires-clause-of c = c.open_window-window-in-Homed.ensures.open
 
 pub recompile_task-requires : goal.recompile_task-requires
 recompile_task-requires c =
-    let comes = change-as c.args.space.now c.args.plan.now c.args.change.now
+    let comes = change-as c.args.space.now c.args.plan.now c.args.change
     (TaskSet c.in-TaskSet.task c.in-TaskSet.policy) c.requires.lacks c.in-TaskSet.is in
     record { set = comes.0; behind = comes.1 }
 
 pub recompile_weight-requires : goal.recompile_weight-requires
 recompile_weight-requires c = record {
-  behind = change-as c.args.space.now c.args.plan.now c.args.change.now
+  behind = change-as c.args.space.now c.args.plan.now c.args.change
       (Weighed c.in-Weighed.node c.in-Weighed.weight) c.requires.lacks c.in-Weighed.is;
 }
 
@@ -156,14 +156,14 @@ recompile_weight-requires c = record {
 
 pub returns-in-Bound-clause-few : goal.returns-in-Bound-clause-few
 returns-in-Bound-clause-few c =
-    few-as c.args.plan.now c.args.steps.now c.rewrite_bound.new.steps c.args.change.now
+    few-as c.args.plan.now c.args.steps.now c.rewrite_bound.new.steps c.args.change
     (Bound c.in-Bound.pages c.in-Bound.policy) c.in-Bound.is
     (few-more c.args.steps.now c.rewrite_bound.new.steps _ _ _ _ c.rewrite_bound.ensures.few
     c.open_window-window-in-Bound.ensures.few (omega arith))
 
 pub returns-in-Homed-clause-few : goal.returns-in-Homed-clause-few
 returns-in-Homed-clause-few c =
-    few-as c.args.plan.now c.args.steps.now c.rewrite_homes.new.steps c.args.change.now
+    few-as c.args.plan.now c.args.steps.now c.rewrite_homes.new.steps c.args.change
     (Homed c.in-Homed.pages c.in-Homed.node) c.in-Homed.is
     (few-more c.args.steps.now c.rewrite_homes.new.steps _ _ _ _ c.rewrite_homes.ensures.few
     c.open_window-window-in-Homed.ensures.few c.open_window-window-in-Homed.ensures.begun)

@@ -55,9 +55,7 @@ rule_by_home-requires-in-Bind-clause-home c =
     (sym c.home-in-Bind.ensures.home) c.requires.in_force.home
 
 pub many_rule-requires-clause-home : goal.many_rule-requires-clause-home
-many_rule-requires-clause-home c =
-    subst (λ (h : Option ℕ). ForSome h (λ node. node < c.args.space.now.machine.nodes))
-    (sym c.home-in-PreferredMany.ensures.home) c.requires.in_force.home
+many_rule-requires-clause-home c = c.requires.in_force.home
 
 pub preferred_rule-requires-clause-some : goal.preferred_rule-requires-clause-some
 preferred_rule-requires-clause-some c = filled-by c.args.policy.now c.spec.result c.mode.result
@@ -130,9 +128,8 @@ returns-in-PreferredMany c =
     IfOk-weaker c.many_rule.result _ _
     (λ rule gives.
     gives-policy (setting_in c.args.space.now) rule c.args.policy.now c.spec.result c.mode.result
-    PreferredMany c.effective-set.result c.home-in-PreferredMany.result c.spec.ensures.spec
-    c.mode.ensures c.in-PreferredMany.is c.effective-set.ensures.effective
-    c.home-in-PreferredMany.ensures.home
+    PreferredMany c.args.policy.now.effective c.args.policy.now.home c.spec.ensures.spec
+    c.mode.ensures c.in-PreferredMany.is refl refl
     gives) c.many_rule.ensures
 
 pub returns-in-Preferred : goal.returns-in-Preferred
