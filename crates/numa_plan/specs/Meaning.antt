@@ -44,6 +44,11 @@ abbrev pub planned_list : PlanData → ℕ → ℕ → ℕ → Option (List ℕ)
 planned_list plan task page cpu = option_map (λ at. row_of (rule_for plan task at.1) cpu at.0)
     (page_at plan.runs page)
 
+-- the list is that one, and the plan has the node
+abbrev pub IsListFor : PlanData → ℕ → ℕ → ℕ → List ℕ → Type 0
+IsListFor plan task page cpu nodes =
+    (cpu < plan.nodes) × (planned_list plan task page cpu ≡ Some nodes)
+
 -- the first node of that list
 abbrev pub planned_first : PlanData → ℕ → ℕ → ℕ → Option ℕ
 planned_first plan task page cpu =

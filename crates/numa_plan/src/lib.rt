@@ -27,7 +27,7 @@ mod steps;
 mod tally;
 mod task_numbers;
 
-pub use plan::Plan;
+pub use plan::{ListAnswer, Plan};
 pub use rule::Rule;
 pub use shared_rule::SharedRule;
 pub use steps::Steps;

@@ -105,8 +105,8 @@ impl<'a> RunInPlace<'a> {
         if far < self.run.pages {
             Some(Found {
                 index: self.run.index + far,
-                rule: self.run.value,
                 left: self.run.pages - far,
+                rule: self.run.value,
             })
         } else {
             None

@@ -6,7 +6,7 @@ ghost use Rattle.numa_ranges.specs.Runs.{AreApart};
 ghost use Rattle.numa_plan.specs.Found.{IsFound, IsMapped};
 ghost use Rattle.numa_plan.specs.Rows.{HasRows};
 ghost use Rattle.numa_plan.specs.Slots.{rule_in};
-ghost use Rattle.numa_plan.specs.Meaning.{PlanData, planned_list, place_refusal, rule_for};
+ghost use Rattle.numa_plan.specs.Meaning.{PlanData, IsListFor, place_refusal, rule_for};
 ghost use Rattle.numa_plan.specs.Meaning.{number_for, planned_first, CountsFirsts, RefusesSpan};
 
 mod build;
@@ -25,6 +25,9 @@ use crate::task_numbers::TaskNumbers;
 use numa_machine::{NoMemory, PlaceRefusal};
 use std::alloc::Global;
 use std::marker::Model;
+
+/// What is answered to the question for a page's fallback list, which the plan lends.
+pub type ListAnswer<'a> = Result<&'a [u8], PlaceRefusal>;
 
 /// The fallback lists of a space's pages: runs of pages, each with the number of its rule or none,
 /// rules in numbered slots, each with its policy, the number of a rule for some tasks, and a local
@@ -138,24 +141,13 @@ impl Plan {
     /// # Errors
     /// `BadCpu`: the plan has no node `cpu`; else `Unmapped`: no run has the page.
     #[inline(always)]
-    pub fn choice(
-        &self,
-        task: u32,
-        page: u64,
-        cpu: u32,
-        steps: &mut Steps,
-    ) -> Result<&[u8], PlaceRefusal>
-        ensures ok { IfOk result (λ row. (cpu < self.now.nodes)
-            × (planned_list self.now task page cpu ≡ Some row.now)) }
+    pub fn choice(&self, task: u32, page: u64, cpu: u32, steps: &mut Steps) -> ListAnswer<'_>
+        ensures ok { IfOk result (λ row. IsListFor self.now task page cpu row.now) }
         ensures sized { IfOk result (λ row. (0 < length row.now) × (length row.now ≤ 256)) }
         ensures err { IfErr result (λ refusal. place_refusal self.now page cpu ≡ Some refusal) }
         ensures quick { FindsQuickly steps.old steps.new (length self.now.runs) }
     {
-        if cpu >= self.nodes {
-            return Err(PlaceRefusal::BadCpu);
-        }
-        let found = self.runs.find(page, steps);
-        self.list_of(task, page, cpu, found)
+        self.list_of(task, page, cpu, self.runs.find(page, steps))
     }
 
     /// The list of [`Plan::choice`], found faster where the runs are evenly spread: it first looks
@@ -172,36 +164,27 @@ impl Plan {
         page: u64,
         cpu: u32,
         steps: &mut Steps,
-    ) -> Result<&[u8], PlaceRefusal>
-        ensures ok { IfOk result (λ row. (cpu < self.now.nodes)
-            × (planned_list self.now task page cpu ≡ Some row.now)) }
+    ) -> ListAnswer<'_>
+        ensures ok { IfOk result (λ row. IsListFor self.now task page cpu row.now) }
         ensures sized { IfOk result (λ row. (0 < length row.now) × (length row.now ≤ 256)) }
         ensures err { IfErr result (λ refusal. place_refusal self.now page cpu ≡ Some refusal) }
         ensures quick { FindsByInterpolation steps.old steps.new (length self.now.runs) }
     {
-        if cpu >= self.nodes {
-            return Err(PlaceRefusal::BadCpu);
-        }
         let found = self.runs.find_by_interpolation(page, steps);
         self.list_of(task, page, cpu, found)
     }
 
     /// The fallback list of a page, of which the runs say this.
     #[inline(always)]
-    fn list_of(
-        &self,
-        task: u32,
-        _page: u64,
-        cpu: u32,
-        found: Option<Found>,
-    ) -> Result<&[u8], PlaceRefusal>
-        requires cpu { cpu < self.now.nodes }
-        requires found { IsFound self.now.runs _page found }
-        ensures ok { IfOk result (λ row. (cpu < self.now.nodes)
-            × (planned_list self.now task _page cpu ≡ Some row.now)) }
+    fn list_of(&self, task: u32, _page: u64, cpu: u32, found: Option<Found>) -> ListAnswer<'_>
+        requires { IsFound self.now.runs _page found }
+        ensures ok { IfOk result (λ row. IsListFor self.now task _page cpu row.now) }
         ensures sized { IfOk result (λ row. (0 < length row.now) × (length row.now ≤ 256)) }
         ensures err { IfErr result (λ refusal. place_refusal self.now _page cpu ≡ Some refusal) }
     {
+        if cpu >= self.nodes {
+            return Err(PlaceRefusal::BadCpu);
+        }
         let Some(found) = found else {
             return Err(PlaceRefusal::Unmapped);
         };

@@ -17,13 +17,13 @@ use numa_rows::{Part, SharedRows};
 use std::alloc::{AllocError, Global};
 use std::marker::Model;
 
-/// What a run says of a page: its index, the number of its rule (`None`: the task's rule), and the
-/// number of pages of the run from it on.
+/// What a run says of a page: its index, the number of pages of the run from it on, and the number
+/// of its rule (`None`: the task's rule).
 #[derive(Clone, Copy)]
 pub(crate) struct Found {
     pub(crate) index: u64,
-    pub(crate) rule: Option<u32>,
     pub(crate) left: u64,
+    pub(crate) rule: Option<u32>,
 }
 
 /// A span's window: its first place, the one after its last, and a guess at its chunk.
@@ -170,7 +170,7 @@ impl PlanRuns {
     }
 
     /// The runs of a window, in a new vector.
-    fn gathered(
+    pub(crate) fn gathered(
         &self,
         alloc: Global,
         window: Beside,
@@ -216,27 +216,23 @@ impl PlanRuns {
         Ok(())
     }
 
-    /// Replaces the runs of a window, and returns them; `looks` counts these.
+    /// Replaces the runs of a window.
     pub(crate) fn splice(
         &mut self,
-        alloc: Global,
         window: Beside,
         runs: &[Run<Option<u32>>],
         steps: &mut Steps,
-        looks: &mut Steps,
-    ) -> Result<Vec<Run<Option<u32>>>, NoMemory>
+    ) -> Result<(), NoMemory>
         requires rises { window.from ≤ window.to }
         requires within { window.to ≤ length self.old }
         requires apart { AreApart 0 (splice self.old window.from window.to runs.now) }
-        ensures ok { IfOk result (λ gone. (gone.items ≡ slice_range self.old window.from window.to)
-            × (self.new ≡ splice self.old window.from window.to runs.now)
+        ensures ok { OnOk result ((self.new ≡ splice self.old window.from window.to runs.now)
             × (steps.new ≡ more_runs (length runs.now) steps.old)) }
         ensures err { OnErr result ((self.new ≡ self.old) × (steps.new ≡ steps.old)) }
     {
-        let gone = self.gathered(alloc, window, looks)?;
         let Beside { from, to, near } = window;
         self.items.splice_near(from, to, runs, near)?;
         steps.runs_written(runs.len());
-        Ok(gone)
+        Ok(())
     }
 }

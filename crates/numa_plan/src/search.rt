@@ -133,7 +133,7 @@ impl PlanRuns {
     {
         let start = self.interpolated(page, steps);
         let mut walk = self.walk(start);
-        if let Some(found) = self.found_beside(page, &mut walk, steps) {
+        if let Some(found) = self.found_ahead(page, &mut walk, steps) {
             return Some(found);
         }
         self.find(page, steps)
@@ -215,7 +215,7 @@ impl PlanRuns {
         ensures part { IsChunkOf self.now walk.new.part }
         ensures found { IsFound self.now page result }
     {
-        if let Some(found) = self.found_beside(page, walk, steps) {
+        if let Some(found) = self.found_ahead(page, walk, steps) {
             return Some(found);
         }
         let at = self.find_first(page, steps);
@@ -225,12 +225,7 @@ impl PlanRuns {
 
     /// What the next run says of a page; `None` if it doesn't have the page.
     #[inline(always)]
-    fn found_beside<'a>(
-        &'a self,
-        page: u64,
-        walk: &mut Walk<'a>,
-        steps: &mut Steps,
-    ) -> Option<Found>
+    fn found_ahead<'a>(&'a self, page: u64, walk: &mut Walk<'a>, steps: &mut Steps) -> Option<Found>
         requires part { IsChunkOf self.now walk.old.part }
         ensures part { IsChunkOf self.now walk.new.part }
         ensures found { IfSome result (λ found. IsAt self.now page found) }

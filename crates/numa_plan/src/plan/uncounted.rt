@@ -102,7 +102,8 @@ pub(super) fn run_at(runs: &PlanRuns, place: usize) -> Option<Run<Option<u32>>>
     runs.at(place, &mut Steps::new())
 }
 
-/// `PlanRuns::splice`; `steps` counts the runs that are written.
+/// `PlanRuns::splice`, which also returns the runs that it replaces; `steps` counts those that it
+/// writes.
 pub(super) fn spliced(
     runs: &mut PlanRuns,
     alloc: Global,
@@ -118,5 +119,7 @@ pub(super) fn spliced(
         × (steps.new ≡ more_runs (length written.now) steps.old)) }
     ensures err { OnErr result ((runs.new ≡ runs.old) × (steps.new ≡ steps.old)) }
 {
-    runs.splice(alloc, window, written, steps, &mut Steps::new())
+    let gone = runs.gathered(alloc, window, &mut Steps::new())?;
+    runs.splice(window, written, steps)?;
+    Ok(gone)
 }

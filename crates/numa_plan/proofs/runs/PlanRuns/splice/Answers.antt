@@ -4,12 +4,6 @@ use Rattle.numa_ranges.specs.Runs.{AreApart}
 use Rattle.numa_ranges.specs.declared.run.Run.{Run}
 use Rattle.numa_plan.proofs.runs.PlanRuns.splice.Goals as goal
 
-pub gathered-requires-clause-rises : goal.gathered-requires-clause-rises
-gathered-requires-clause-rises c = c.requires.rises
-
-pub gathered-requires-clause-within : goal.gathered-requires-clause-within
-gathered-requires-clause-within c = c.requires.within
-
 pub splice_near-requires-clause-rises : goal.splice_near-requires-clause-rises
 splice_near-requires-clause-rises c = c.requires.rises
 
@@ -30,7 +24,6 @@ invariant_of-self-2 c = subst (λ (runs : List (Run (Option ℕ))). AreApart 0 r
 
 pub returns-clause-ok : goal.returns-clause-ok
 returns-clause-ok c = (
-  c.in_ok-gone.ensures,
   c.in_ok-splice_near.ensures.ok ∙ ap
       (λ (runs : List (Run (Option ℕ))). splice runs c.args.window.from c.args.window.to
       c.args.runs.now) c.self.view_is,

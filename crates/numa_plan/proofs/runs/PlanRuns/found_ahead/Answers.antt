@@ -3,7 +3,7 @@ use Rattle.numa_ranges.specs.declared.run.Run.{Run}
 use Rattle.numa_ranges.proofs.Apart.{run-bounds}
 use Rattle.numa_plan.specs.Found.{IsPartOf}
 use Rattle.numa_plan.proofs.Searching.{beside_found}
-use Rattle.numa_plan.proofs.runs.PlanRuns.found_beside.Goals as goal
+use Rattle.numa_plan.proofs.runs.PlanRuns.found_ahead.Goals as goal
 
 pub found-requires : goal.found-requires
 found-requires c =
