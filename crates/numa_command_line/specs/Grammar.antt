@@ -122,6 +122,11 @@ pub record Choices : Type 0 where
 abbrev pub AreNames : List Text → Names → Type 0
 AreNames texts names = map (λ name. name.now) names.now ≡ texts
 
+-- a word that reads lines of scripts, with these formats among its arguments
+abbrev pub IsReader : Text → (Names → List Rule) → List Text → SubcommandHelp → Type 0
+IsReader name arguments texts word =
+    (formats : Names) × AreNames texts formats × IsWord name (arguments formats) true word
+
 pub record AreChoices (c : Choices) : Type 0 where
   pub run : AreNames plain_formats c.run
   pub check : AreNames plain_formats c.check

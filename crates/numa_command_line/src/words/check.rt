@@ -1,7 +1,6 @@
 //! `numaplan check [FILE]..`: reports what is wrong with scripts.
-ghost use Rattle.std.specs.Prelude.{codes, true};
-ghost use Rattle.numa_command_line.specs.Grammar.{AreNames, IsWord, check_arguments, plain_formats};
-ghost use Rattle.numa_command_line.specs.Usage.{Names};
+ghost use Rattle.std.specs.Prelude.{codes};
+ghost use Rattle.numa_command_line.specs.Grammar.{IsReader, check_arguments, plain_formats};
 
 use crate::usage::{FILES, SubcommandHelp};
 use crate::words::format::PLAIN;
@@ -26,8 +25,7 @@ The status is 3 if anything was reported, else 0.",
 
 /// The subcommand.
 pub fn word() -> &'static SubcommandHelp
-    ensures { (formats : Names) × AreNames plain_formats formats
-        × IsWord (codes "check") (check_arguments formats) true result.now }
+    ensures { IsReader (codes "check") check_arguments plain_formats result.now }
 {
     &WORD
 }

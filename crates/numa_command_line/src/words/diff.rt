@@ -1,8 +1,7 @@
 //! `numaplan diff --task T --node N --then LINE [FILE]..`: reports which pages would go elsewhere.
-ghost use Rattle.std.specs.Prelude.{◌≡◌, codes, map, true};
+ghost use Rattle.std.specs.Prelude.{◌≡◌, codes, map};
 ghost use Rattle.std.specs.String.{string_bytes};
-ghost use Rattle.numa_command_line.specs.Grammar.{AreNames, IsWord, diff_arguments, diff_formats};
-ghost use Rattle.numa_command_line.specs.Usage.{Names};
+ghost use Rattle.numa_command_line.specs.Grammar.{IsReader, diff_arguments, diff_formats};
 ghost use Rattle.clap.specs.Words.{found_of, rows_of};
 ghost use Rattle.numa_command_line.specs.Asked.{diff_by, is_drawn, work_asked};
 ghost use Rattle.numa_command_line.specs.Jobs.{IsMade, question_of, work_of};
@@ -14,7 +13,7 @@ use crate::usage::{Argument, FILES, SubcommandHelp, Takes};
 use crate::words::asked;
 use crate::words::asked::{NODE, TASK};
 use crate::words::at::AT;
-use crate::words::format::{LARGEST, format_in};
+use crate::words::format::{LARGEST, format_in, format_option};
 use crate::words::lenient::LENIENT;
 use crate::words::process::PROCESS;
 use clap::ArgMatches;
@@ -34,13 +33,7 @@ const THEN: Argument = Argument {
 };
 
 /// The option `--format FORMAT`.
-const FORMAT: Argument = Argument {
-    name: "format",
-    value: "FORMAT",
-    help: "How the answer is written",
-    is_required: false,
-    takes: Takes::OneOf("text", &["text", "json", "svg", "html"]),
-};
+const FORMAT: Argument = format_option!["json", "svg", "html"];
 
 /// The help of the subcommand.
 static WORD: SubcommandHelp = SubcommandHelp {
@@ -71,8 +64,7 @@ standard error says so.",
 
 /// The subcommand.
 pub fn word() -> &'static SubcommandHelp
-    ensures { (formats : Names) × AreNames diff_formats formats
-        × IsWord (codes "diff") (diff_arguments formats) true result.now }
+    ensures { IsReader (codes "diff") diff_arguments diff_formats result.now }
 {
     &WORD
 }

@@ -1,9 +1,9 @@
 //! `numaplan expect FILE..`: compares worked scripts with the answers to their lines.
-ghost use Rattle.std.specs.Prelude.{codes, true};
-ghost use Rattle.numa_command_line.specs.Grammar.{AreNames, IsWord, expect_arguments, test_formats};
-ghost use Rattle.numa_command_line.specs.Usage.{Names};
+ghost use Rattle.std.specs.Prelude.{codes};
+ghost use Rattle.numa_command_line.specs.Grammar.{IsReader, expect_arguments, test_formats};
 
 use crate::usage::{Argument, SubcommandHelp, Takes};
+use crate::words::format::format_option;
 
 /// The argument `FILE..`.
 const WORKED: Argument = Argument {
@@ -15,13 +15,7 @@ const WORKED: Argument = Argument {
 };
 
 /// The option `--format FORMAT`.
-const FORMAT: Argument = Argument {
-    name: "format",
-    value: "FORMAT",
-    help: "How the answer is written",
-    is_required: false,
-    takes: Takes::OneOf("text", &["text", "json", "tap"]),
-};
+const FORMAT: Argument = format_option!["json", "tap"];
 
 /// The option `--ignore-versions`.
 const ANY_VERSION: Argument = Argument {
@@ -65,8 +59,7 @@ status is 0 if each file holds answers and all are as wanted, or are written ane
 
 /// The subcommand.
 pub fn word() -> &'static SubcommandHelp
-    ensures { (formats : Names) × AreNames test_formats formats
-        × IsWord (codes "expect") (expect_arguments formats) true result.now }
+    ensures { IsReader (codes "expect") expect_arguments test_formats result.now }
 {
     &WORD
 }

@@ -1,8 +1,7 @@
 //! `numaplan explain --task T --node N ADDRESS [FILE]..`: says why a page goes where it goes.
-ghost use Rattle.std.specs.Prelude.{codes, true};
-ghost use Rattle.numa_command_line.specs.Grammar.{AreNames, IsWord, explain_arguments};
+ghost use Rattle.std.specs.Prelude.{codes};
+ghost use Rattle.numa_command_line.specs.Grammar.{IsReader, explain_arguments};
 ghost use Rattle.numa_command_line.specs.Grammar.{plain_formats};
-ghost use Rattle.numa_command_line.specs.Usage.{Names};
 ghost use Rattle.clap.specs.Words.{found_of, rows_of};
 ghost use Rattle.numa_command_line.specs.Asked.{work_asked};
 ghost use Rattle.numa_command_line.specs.Jobs.{IsMade, work_of};
@@ -70,8 +69,7 @@ machine is ready after the scripts.",
 
 /// The subcommand.
 pub fn word() -> &'static SubcommandHelp
-    ensures { (formats : Names) × AreNames plain_formats formats
-        × IsWord (codes "explain") (explain_arguments formats) true result.now }
+    ensures { IsReader (codes "explain") explain_arguments plain_formats result.now }
 {
     &WORD
 }

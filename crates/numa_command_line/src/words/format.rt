@@ -8,14 +8,23 @@ use crate::usage::{Argument, Takes};
 use clap::ArgMatches;
 use numa_reports::{DRAWN, Format, LISTED};
 
+/// The option `--format FORMAT` of a subcommand that answers as text or in one of these formats.
+macro_rules! format_option {
+    ($($name:literal),*) => {
+        $crate::usage::Argument {
+            name: "format",
+            value: "FORMAT",
+            help: "How the answer is written",
+            is_required: false,
+            takes: $crate::usage::Takes::OneOf("text", &["text", $($name),*]),
+        }
+    };
+}
+
+pub(crate) use format_option;
+
 /// The option `--format FORMAT` of a subcommand that answers as text or JSON.
-pub const PLAIN: Argument = Argument {
-    name: "format",
-    value: "FORMAT",
-    help: "How the answer is written",
-    is_required: false,
-    takes: Takes::OneOf("text", &["text", "json"]),
-};
+pub const PLAIN: Argument = format_option!["json"];
 
 /// The option `--largest N` of a subcommand that answers by a picture or a page.
 pub const LARGEST: Argument = Argument {

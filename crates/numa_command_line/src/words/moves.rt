@@ -1,7 +1,6 @@
 //! `numaplan moves --then LINE [FILE]..`: reports what becomes of pages that are there.
-ghost use Rattle.std.specs.Prelude.{codes, true};
-ghost use Rattle.numa_command_line.specs.Grammar.{AreNames, IsWord, moves_arguments, moves_formats};
-ghost use Rattle.numa_command_line.specs.Usage.{Names};
+ghost use Rattle.std.specs.Prelude.{codes};
+ghost use Rattle.numa_command_line.specs.Grammar.{IsReader, moves_arguments, moves_formats};
 ghost use Rattle.clap.specs.Words.{found_of, rows_of};
 ghost use Rattle.numa_command_line.specs.Asked.{work_asked};
 ghost use Rattle.numa_command_line.specs.Jobs.{IsMade, work_of};
@@ -12,7 +11,7 @@ use crate::jobs::{JobFault, ScriptJob};
 use crate::usage::{Argument, FILES, SubcommandHelp, Takes};
 use crate::words::asked::one_touch_in;
 use crate::words::at::AT;
-use crate::words::format::{LARGEST, format_in};
+use crate::words::format::{LARGEST, format_in, format_option};
 use crate::words::free::named;
 use crate::words::lenient::LENIENT;
 use crate::words::process::PROCESS;
@@ -60,13 +59,7 @@ bytes",
 };
 
 /// The option `--format FORMAT`.
-const FORMAT: Argument = Argument {
-    name: "format",
-    value: "FORMAT",
-    help: "How the answer is written",
-    is_required: false,
-    takes: Takes::OneOf("text", &["text", "json", "svg"]),
-};
+const FORMAT: Argument = format_option!["json", "svg"];
 
 /// The help of the subcommand.
 static WORD: SubcommandHelp = SubcommandHelp {
@@ -99,8 +92,7 @@ on standard error says so.",
 
 /// The subcommand.
 pub fn word() -> &'static SubcommandHelp
-    ensures { (formats : Names) × AreNames moves_formats formats
-        × IsWord (codes "moves") (moves_arguments formats) true result.now }
+    ensures { IsReader (codes "moves") moves_arguments moves_formats result.now }
 {
     &WORD
 }

@@ -1,10 +1,9 @@
 //! `numaplan predict --task T --node N [--free NODE=PAGES,..] [FILE]..`: reports where pages would
 //! go after scripts.
-ghost use Rattle.std.specs.Prelude.{◌≡◌, codes, map, true};
+ghost use Rattle.std.specs.Prelude.{◌≡◌, codes, map};
 ghost use Rattle.std.specs.String.{string_bytes};
-ghost use Rattle.numa_command_line.specs.Grammar.{AreNames, IsWord, predict_arguments};
+ghost use Rattle.numa_command_line.specs.Grammar.{IsReader, predict_arguments};
 ghost use Rattle.numa_command_line.specs.Grammar.{predict_formats};
-ghost use Rattle.numa_command_line.specs.Usage.{Names};
 ghost use Rattle.clap.specs.Words.{found_of, rows_of};
 ghost use Rattle.numa_command_line.specs.Asked.{is_page, predict_by, work_asked};
 ghost use Rattle.numa_command_line.specs.Jobs.{IsMade, question_of, work_of};
@@ -12,10 +11,10 @@ ghost use Rattle.numa_command_line.specs.declared.command.Subcommand.TheVariants
 
 use crate::found::texts_at;
 use crate::jobs::{JobFault, PageQuestion, ScriptJob};
-use crate::usage::{Argument, FILES, SubcommandHelp, Takes};
+use crate::usage::{Argument, FILES, SubcommandHelp};
 use crate::words::asked::{NODE, TASK};
 use crate::words::at::AT;
-use crate::words::format::{LARGEST, format_in};
+use crate::words::format::{LARGEST, format_in, format_option};
 use crate::words::free::FREE;
 use crate::words::lenient::LENIENT;
 use crate::words::process::PROCESS;
@@ -28,13 +27,7 @@ use std::alloc::Global;
 const NO_PAGE: &str = "error: '--at <FILE>' doesn't go with '--format html'\n";
 
 /// The option `--format FORMAT`.
-const FORMAT: Argument = Argument {
-    name: "format",
-    value: "FORMAT",
-    help: "How the answer is written",
-    is_required: false,
-    takes: Takes::OneOf("text", &["text", "json", "csv", "svg", "html"]),
-};
+const FORMAT: Argument = format_option!["json", "csv", "svg", "html"];
 
 /// The help of the subcommand.
 static WORD: SubcommandHelp = SubcommandHelp {
@@ -66,8 +59,7 @@ error says so.",
 
 /// The subcommand.
 pub fn word() -> &'static SubcommandHelp
-    ensures { (formats : Names) × AreNames predict_formats formats
-        × IsWord (codes "predict") (predict_arguments formats) true result.now }
+    ensures { IsReader (codes "predict") predict_arguments predict_formats result.now }
 {
     &WORD
 }

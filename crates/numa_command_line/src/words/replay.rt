@@ -1,8 +1,7 @@
 //! `numaplan replay --trace TRACE [FILE]..`: replays a trace of accesses.
-ghost use Rattle.std.specs.Prelude.{codes, true};
-ghost use Rattle.numa_command_line.specs.Grammar.{AreNames, IsWord, replay_arguments};
+ghost use Rattle.std.specs.Prelude.{codes};
+ghost use Rattle.numa_command_line.specs.Grammar.{IsReader, replay_arguments};
 ghost use Rattle.numa_command_line.specs.Grammar.{replay_formats};
-ghost use Rattle.numa_command_line.specs.Usage.{Names};
 ghost use Rattle.clap.specs.Words.{found_of, rows_of};
 ghost use Rattle.numa_command_line.specs.Asked.{work_asked};
 ghost use Rattle.numa_command_line.specs.Jobs.{IsMade, work_of};
@@ -11,7 +10,7 @@ ghost use Rattle.numa_command_line.specs.declared.command.Subcommand.TheVariants
 use crate::found::{is_on, texts_at};
 use crate::jobs::{JobFault, ScriptJob};
 use crate::usage::{Argument, FILES, SubcommandHelp, Takes};
-use crate::words::format::{LARGEST, format_in};
+use crate::words::format::{LARGEST, format_in, format_option};
 use crate::words::lenient::LENIENT;
 use crate::words::process::PROCESS;
 use clap::ArgMatches;
@@ -27,13 +26,7 @@ const TRACE: Argument = Argument {
 };
 
 /// The option `--format FORMAT`.
-const FORMAT: Argument = Argument {
-    name: "format",
-    value: "FORMAT",
-    help: "How the answer is written",
-    is_required: false,
-    takes: Takes::OneOf("text", &["text", "json", "html"]),
-};
+const FORMAT: Argument = format_option!["json", "html"];
 
 /// The help of the subcommand.
 static WORD: SubcommandHelp = SubcommandHelp {
@@ -62,8 +55,7 @@ would give another answer, a line on standard error says so.",
 
 /// The subcommand.
 pub fn word() -> &'static SubcommandHelp
-    ensures { (formats : Names) × AreNames replay_formats formats
-        × IsWord (codes "replay") (replay_arguments formats) true result.now }
+    ensures { IsReader (codes "replay") replay_arguments replay_formats result.now }
 {
     &WORD
 }

@@ -1,7 +1,6 @@
 //! `numaplan run [FILE]..`: answers scripts.
-ghost use Rattle.std.specs.Prelude.{codes, true};
-ghost use Rattle.numa_command_line.specs.Grammar.{AreNames, IsWord, plain_formats, run_arguments};
-ghost use Rattle.numa_command_line.specs.Usage.{Names};
+ghost use Rattle.std.specs.Prelude.{codes};
+ghost use Rattle.numa_command_line.specs.Grammar.{IsReader, plain_formats, run_arguments};
 
 use crate::usage::{Argument, FILES, SubcommandHelp, Takes};
 use crate::words::format::PLAIN;
@@ -35,8 +34,7 @@ them.\n\ndocs/SCRIPT.md of the repository describes the language of scripts.",
 
 /// The subcommand.
 pub fn word() -> &'static SubcommandHelp
-    ensures { (formats : Names) × AreNames plain_formats formats
-        × IsWord (codes "run") (run_arguments formats) true result.now }
+    ensures { IsReader (codes "run") run_arguments plain_formats result.now }
 {
     &WORD
 }
