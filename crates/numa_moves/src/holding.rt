@@ -8,9 +8,8 @@ use crate::at_lines::AtLine;
 use crate::moving::{ShareMove, moves_within, shares_behind};
 use crate::share::Share;
 use crate::shares::{stated_shares, touched_shares};
-use crate::stating::{RefusedAt, Scene, note_lacking, placed_of};
+use crate::stating::{Member, RefusedAt, Scene, note_lacking, placed_of};
 use numa_compile::compile;
-use numa_host::Process;
 use numa_mask::NodeMask;
 use numa_placed::Rooms;
 use numa_reports::{FreePages, ReportError, Touch};
@@ -60,14 +59,12 @@ fn touched(alloc: Global, space: &Space, touch: Touch) -> Result<Vec<Share>, Rep
 /// Where pages of a process lie, as lines state it.
 fn stated(
     alloc: Global,
-    scene: Scene<'_>,
-    space: &Space,
-    process: u32,
+    member: Member<'_>,
     lines: &[AtLine],
     refused: &mut Vec<RefusedAt>,
 ) -> Result<Vec<Share>, AllocError> {
-    let placed = placed_of(alloc, scene, space, process, lines, refused)?;
-    let shares = stated_shares(alloc, space, &placed);
+    let placed = placed_of(alloc, member, lines, refused)?;
+    let shares = stated_shares(alloc, member.space, &placed);
     drop(placed);
     shares
 }
@@ -75,57 +72,17 @@ fn stated(
 /// Where pages of a process lie.
 fn shares_by(
     alloc: Global,
-    scene: Scene<'_>,
-    space: &Space,
-    process: u32,
+    member: Member<'_>,
     origin: Origin<'_>,
     refused: &mut Vec<RefusedAt>,
 ) -> Result<Vec<Share>, ReportError> {
     match origin {
-        Origin::Touched(touch) => touched(alloc, space, touch),
-        Origin::Stated(lines) => match stated(alloc, scene, space, process, lines, refused) {
+        Origin::Touched(touch) => touched(alloc, member.space, touch),
+        Origin::Stated(lines) => match stated(alloc, member, lines, refused) {
             Ok(shares) => Ok(shares),
             Err(_) => Err(ReportError::Memory),
         },
     }
-}
-
-/// Appends what a process holds.
-fn add_holding(
-    alloc: Global,
-    scene: Scene<'_>,
-    space: &Space,
-    process: u32,
-    origin: Origin<'_>,
-    refused: &mut Vec<RefusedAt>,
-    holdings: &mut Vec<Holding>,
-) -> Result<(), ReportError> {
-    let shares = shares_by(alloc, scene, space, process, origin, refused)?;
-    let holding = Holding {
-        process,
-        allowed: space.allowed(),
-        shares,
-    };
-    match holdings.push(holding) {
-        Ok(()) => Ok(()),
-        Err(_) => Err(ReportError::Memory),
-    }
-}
-
-/// Appends what processes of a host hold.
-fn add_holdings(
-    alloc: Global,
-    scene: Scene<'_>,
-    processes: &[Process],
-    origin: Origin<'_>,
-    refused: &mut Vec<RefusedAt>,
-    holdings: &mut Vec<Holding>,
-) -> Result<(), ReportError> {
-    for process in processes {
-        let space = &process.space;
-        add_holding(alloc, scene, space, process.id, origin, refused, holdings)?;
-    }
-    Ok(())
 }
 
 /// Appends what the one space holds, or each process of a host.
@@ -141,15 +98,20 @@ fn add_all(
             return Err(ReportError::Memory);
         }
     }
-    match scene {
-        Scene::One(process, space) => {
-            let process = process.unwrap_or(0);
-            add_holding(alloc, scene, space, process, origin, refused, holdings)
-        }
-        Scene::Each(host) => {
-            add_holdings(alloc, scene, host.processes(), origin, refused, holdings)
+    for place in 0..scene.members() {
+        if let Some(member) = scene.member(place) {
+            let shares = shares_by(alloc, member, origin, refused)?;
+            let holding = Holding {
+                process: member.process,
+                allowed: member.space.allowed(),
+                shares,
+            };
+            if let Err(_) = holdings.push(holding) {
+                return Err(ReportError::Memory);
+            }
         }
     }
+    Ok(())
 }
 
 /// Moves pages of a process from one set of nodes to another, and notes where they lie then.

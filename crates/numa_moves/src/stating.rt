@@ -1,7 +1,7 @@
 //! Where pages lie, as lines state it.
 
 use crate::at_lines::{AtLine, LinePlace};
-use numa_host::{Host, Process};
+use numa_host::Host;
 use numa_mask::NodeMask;
 use numa_placed::Placed;
 use numa_requests::PlacedRefusal;
@@ -15,6 +15,40 @@ pub enum Scene<'a> {
     One(Option<u32>, &'a Space),
     /// All processes of a host.
     Each(&'a Host),
+}
+
+/// One process of what is told of; number 0 where there is one space.
+#[derive(Clone, Copy)]
+pub(crate) struct Member<'a> {
+    pub(crate) scene: Scene<'a>,
+    pub(crate) process: u32,
+    pub(crate) space: &'a Space,
+}
+
+impl<'a> Scene<'a> {
+    /// How many processes are told of.
+    pub(crate) fn members(&self) -> usize {
+        match self {
+            Scene::One(..) => 1,
+            Scene::Each(host) => host.processes().len(),
+        }
+    }
+
+    /// One of the processes, in the order in which they were made.
+    pub(crate) fn member(&self, place: usize) -> Option<Member<'a>> {
+        let (process, space) = match self {
+            Scene::One(process, space) => (process.unwrap_or(0), *space),
+            Scene::Each(host) => {
+                let process = host.processes().get(place)?;
+                (process.id, &process.space)
+            }
+        };
+        Some(Member {
+            scene: *self,
+            process,
+            space,
+        })
+    }
 }
 
 impl Scene<'_> {
@@ -120,15 +154,13 @@ fn state_line(
 /// States where the pages of a process lie, by its lines.
 fn state_lines(
     placed: &mut Placed,
-    scene: Scene<'_>,
-    space: &Space,
-    process: u32,
+    member: Member<'_>,
     lines: &[AtLine],
     refused: &mut Vec<RefusedAt>,
 ) -> Result<(), AllocError> {
     for line in lines {
-        if scene.is_of(process, line) {
-            state_line(placed, space, line, refused)?;
+        if member.scene.is_of(member.process, line) {
+            state_line(placed, member.space, line, refused)?;
         }
     }
     Ok(())
@@ -137,16 +169,14 @@ fn state_lines(
 /// Where pages of a process lie.
 pub(crate) fn placed_of(
     alloc: Global,
-    scene: Scene<'_>,
-    space: &Space,
-    process: u32,
+    member: Member<'_>,
     lines: &[AtLine],
     refused: &mut Vec<RefusedAt>,
 ) -> Result<Placed, AllocError> {
     let Ok(mut placed) = Placed::new(alloc) else {
         return Err(AllocError);
     };
-    match state_lines(&mut placed, scene, space, process, lines, refused) {
+    match state_lines(&mut placed, member, lines, refused) {
         Ok(()) => Ok(placed),
         Err(fault) => {
             drop(placed);
@@ -172,37 +202,6 @@ pub(crate) fn note_lacking(
     Ok(())
 }
 
-/// Appends where pages of a process lie.
-fn add_placed(
-    alloc: Global,
-    scene: Scene<'_>,
-    space: &Space,
-    process: u32,
-    lines: &[AtLine],
-    refused: &mut Vec<RefusedAt>,
-    all: &mut Vec<Placed>,
-) -> Result<(), AllocError> {
-    let placed = placed_of(alloc, scene, space, process, lines, refused)?;
-    all.push(placed)?;
-    Ok(())
-}
-
-/// Appends where pages of processes lie.
-fn add_each(
-    alloc: Global,
-    scene: Scene<'_>,
-    processes: &[Process],
-    lines: &[AtLine],
-    refused: &mut Vec<RefusedAt>,
-    all: &mut Vec<Placed>,
-) -> Result<(), AllocError> {
-    for process in processes {
-        let space = &process.space;
-        add_placed(alloc, scene, space, process.id, lines, refused, all)?;
-    }
-    Ok(())
-}
-
 /// Appends where the pages lie of the one space, or of each process, in the order in which they
 /// were made. Lines that are refused are noted.
 ///
@@ -218,11 +217,11 @@ pub fn add_stated(
     if let Err(fault) = note_lacking(scene, lines, refused) {
         return Err(fault);
     }
-    match scene {
-        Scene::One(process, space) => {
-            let process = process.unwrap_or(0);
-            add_placed(alloc, scene, space, process, lines, refused, all)
+    for place in 0..scene.members() {
+        if let Some(member) = scene.member(place) {
+            let placed = placed_of(alloc, member, lines, refused)?;
+            all.push(placed)?;
         }
-        Scene::Each(host) => add_each(alloc, scene, host.processes(), lines, refused, all),
     }
+    Ok(())
 }
