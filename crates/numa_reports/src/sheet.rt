@@ -15,6 +15,7 @@ mod lines;
 mod moved_objects;
 mod moved_parts;
 mod moved_pictures;
+mod node_moves;
 mod nodes;
 mod object;
 mod objects;

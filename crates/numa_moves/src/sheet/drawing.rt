@@ -131,15 +131,7 @@ impl Drawing {
             b"<text class=\"total\" x=\"16\" y=\"$\">total placed=$ moved=$",
             &[self.row.saturating_add(14), sum.placed, sum.moved],
         );
-        if self.others > 0 {
-            text.put_form(b", of them $ in ", &[self.moved]);
-            text.put_number(self.others);
-            text.put(if self.others == 1 {
-                b" range that isn't drawn".as_slice()
-            } else {
-                b" ranges that aren't drawn"
-            });
-        }
+        text.put_undrawn(b"range", self.others, self.moved);
         text.put(b"</text>\n");
         self.row = self.row.saturating_add(LINE_ROWS);
     }
@@ -153,16 +145,10 @@ impl Drawing {
             text.lack();
         }
         let body = text.take()?;
-        let height = self.row.saturating_add(16);
-        text.put_form(
-            b"<?xml version=\"1.0\" encoding=\"UTF-8\"?>\n\
-            <svg xmlns=\"http://www.w3.org/2000/svg\" version=\"1.1\" \
-            width=\"920\" height=\"$\" viewBox=\"0 0 920 $\" \
-            font-family=\"monospace\" font-size=\"12\">\n\
-            <rect width=\"920\" height=\"100%\" fill=\"#ffffff\"/>\n\
-            <text x=\"16\" y=\"24\" font-size=\"14\">Where pages lie, and below it where they lie \
+        text.begin_picture(self.row.saturating_add(16));
+        text.put(
+            b"<text x=\"16\" y=\"24\" font-size=\"14\">Where pages lie, and below it where they lie \
             after the line; a thick frame shows those that moved</text>\n",
-            &[height, height],
         );
         text.put(body.as_slice());
         drop(body);

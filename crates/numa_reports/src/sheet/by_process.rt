@@ -3,8 +3,9 @@
 use crate::account::Account;
 use crate::filling::FreePages;
 use crate::moves::{ENTRIES, empty_table};
-use crate::sheet::changes::{moved, put_moves};
+use crate::sheet::changes::put_moves;
 use crate::sheet::fields::{PlacedPages, placed_of};
+use crate::sheet::node_moves::NodeMoves;
 use crate::sheet::nodes::{NodePages, list_nodes};
 use crate::sheet::parts::left_on;
 use crate::sheet::sections::{Section, put_moved, put_placed, put_section};
@@ -244,15 +245,15 @@ impl ByProcess {
     /// Ends with the pages of all processes that go from each node to each other.
     pub fn end_moves(&mut self, sum: &MoveSum, nodes: u32) {
         self.begin_all();
-        let table = sum.table.as_slice();
+        let counts = NodeMoves::all(sum.table.as_slice(), nodes);
         match self.format {
             Format::Json | Format::Html(_) => {
-                moved_objects::put_total(&mut self.text, table, nodes);
+                moved_objects::put_total(&mut self.text, counts);
             }
-            Format::Svg(_) => self.end_moved_picture(moved(table, &[], nodes)),
+            Format::Svg(_) => self.end_moved_picture(counts.moved()),
             _ => {
                 self.text.put(b"total");
-                put_moves(&mut self.text, table, &[], nodes);
+                put_moves(&mut self.text, counts);
             }
         }
     }

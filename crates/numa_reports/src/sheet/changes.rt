@@ -15,6 +15,7 @@ use crate::outlook::{Outlook, PageSpan, common_spans};
 use crate::sheet::by_process::MoveSum;
 use crate::sheet::fields::bytes;
 use crate::sheet::moved_parts::SpanTexts;
+use crate::sheet::node_moves::NodeMoves;
 use crate::sheet::scale::Scale;
 use crate::sheet::written::Written;
 use crate::sheet::{Format, moved_objects, moved_pictures};
@@ -24,79 +25,47 @@ use numa_machine::PlaceRefusal;
 use numa_plan::Plan;
 use std::alloc::{AllocError, Global};
 
-/// The number of pages that go from a node to another, without those already reported.
-pub(crate) fn entry(table: &[u64], told: &[u64], from: u32, to: u32) -> u64 {
-    let place = from as usize * 256 + to as usize;
-    let Some(pages) = table.get(place) else {
-        return 0;
-    };
-    match told.get(place) {
-        Some(before) => pages.saturating_sub(*before),
-        None => *pages,
-    }
-}
-
 /// Writes the number of pages that go from a node to each other node, where it isn't 0.
-fn put_from(text: &mut Written, table: &[u64], told: &[u64], nodes: u32, from: u32) {
-    for to in 0..nodes {
-        let pages = entry(table, told, from, to);
+fn put_from(text: &mut Written, counts: NodeMoves<'_>, from: u32) {
+    for to in 0..counts.nodes {
+        let pages = counts.between(from, to);
         if from != to && pages > 0 {
             text.put_form(b" N$->N$=$", &[from as u64, to as u64, pages]);
         }
     }
 }
 
-/// The number of pages that go from a node to another one.
-fn moved_from(table: &[u64], told: &[u64], nodes: u32, from: u32) -> u64 {
-    let mut sum = 0u64;
-    for to in 0..nodes {
-        if from != to {
-            sum = sum.saturating_add(entry(table, told, from, to));
-        }
-    }
-    sum
-}
-
-/// The number of pages that go to another node.
-pub(crate) fn moved(table: &[u64], told: &[u64], nodes: u32) -> u64 {
-    let mut sum = 0u64;
-    for from in 0..nodes {
-        sum = sum.saturating_add(moved_from(table, told, nodes, from));
-    }
-    sum
-}
-
 /// Writes the end of a line: the number of pages that go to another node, and from each node to
 /// each other, where it isn't 0.
-pub(crate) fn put_moves(text: &mut Written, table: &[u64], told: &[u64], nodes: u32) {
-    text.put_form(b" differs=$", &[moved(table, told, nodes)]);
-    for from in 0..nodes {
-        put_from(text, table, told, nodes, from);
+pub(crate) fn put_moves(text: &mut Written, counts: NodeMoves<'_>) {
+    text.put_form(b" differs=$", &[counts.moved()]);
+    for from in 0..counts.nodes {
+        put_from(text, counts, from);
     }
     text.put(b"\n");
 }
 
 /// Writes the line of a span.
-fn put_line(text: &mut Written, span: PageSpan, table: &[u64], told: &[u64], nodes: u32) {
+fn put_line(text: &mut Written, span: PageSpan, counts: NodeMoves<'_>) {
     let end = span.first.saturating_add(span.pages);
     text.put_addresses(bytes(span.first), bytes(end));
-    put_moves(text, table, told, nodes);
+    put_moves(text, counts);
 }
 
 /// Notes that the pages that go from a node to others are reported.
-fn note_from(told: &mut Vec<u64>, table: &[u64], nodes: u32, from: u32) {
-    for to in 0..nodes {
+fn note_from(told: &mut Vec<u64>, counts: NodeMoves<'_>, from: u32) {
+    for to in 0..counts.nodes {
         let place = from as usize * 256 + to as usize;
         if let Some(note) = told.get_mut(place) {
-            *note = entry(table, &[], from, to);
+            *note = counts.between(from, to);
         }
     }
 }
 
 /// Notes that the pages that go from each node to others are reported.
-fn note_all(told: &mut Vec<u64>, table: &[u64], nodes: u32) {
-    for from in 0..nodes {
-        note_from(told, table, nodes, from);
+fn note_all(told: &mut Vec<u64>, counts: NodeMoves<'_>) {
+    for from in 0..counts.nodes {
+        note_from(told, counts, from);
     }
 }
 
@@ -153,25 +122,23 @@ impl Difference {
         ensures left { self.new.left ≡ self.old.left }
     {
         let table = self.total.as_slice();
-        let told = self.told.as_slice();
-        let pages = moved(table, told, nodes);
+        let counts = NodeMoves::new(table, self.told.as_slice(), nodes);
+        let pages = counts.moved();
         if pages > 0 {
             let text = &mut self.text;
             match self.format {
                 Format::Json => {
                     moved_objects::begin_span(text, self.spans == 0);
-                    moved_objects::put_span(text, span, table, told, nodes);
+                    moved_objects::put_span(text, span, counts);
                 }
-                Format::Html(_) => moved_objects::put_span(text, span, table, told, nodes),
-                Format::Svg(_) => {
-                    moved_pictures::put_span(text, span, table, told, nodes, &self.scale);
-                }
-                _ => put_line(text, span, table, told, nodes),
+                Format::Html(_) => moved_objects::put_span(text, span, counts),
+                Format::Svg(_) => moved_pictures::put_span(text, span, counts, &self.scale),
+                _ => put_line(text, span, counts),
             }
             self.spans = self.spans.saturating_add(1);
             self.texts.add(pages, self.text.len())?;
         }
-        note_all(&mut self.told, table, nodes);
+        note_all(&mut self.told, NodeMoves::all(table, nodes));
         self.text.checked()
     }
 
@@ -181,7 +148,7 @@ impl Difference {
         let text = &mut self.text;
         moved_pictures::put_head(text, self.touch, self.texts.rows(number), &self.scale);
         let shown = self.texts.put_largest(text, &spans, number, true);
-        moved_pictures::put_total(text, shown, &self.total, nodes);
+        moved_pictures::put_total(text, shown, NodeMoves::all(&self.total, nodes));
         Ok(())
     }
 
@@ -193,7 +160,7 @@ impl Difference {
         let shown = self.texts.put_largest(text, &spans, number, false);
         moved_objects::end_spans(text);
         moved_objects::put_others(text, shown);
-        moved_objects::put_total(text, &self.total, nodes);
+        moved_objects::put_total(text, NodeMoves::all(&self.total, nodes));
         Ok(())
     }
 
@@ -202,13 +169,14 @@ impl Difference {
         match self.format {
             Format::Json => {
                 moved_objects::end_spans(&mut self.text);
-                moved_objects::put_total(&mut self.text, self.total.as_slice(), nodes);
+                let counts = NodeMoves::all(self.total.as_slice(), nodes);
+                moved_objects::put_total(&mut self.text, counts);
             }
             Format::Svg(number) => self.end_picture(nodes, number)?,
             Format::Html(number) => self.end_page(nodes, number)?,
             _ => {
                 self.text.put(b"total");
-                put_moves(&mut self.text, self.total.as_slice(), &[], nodes);
+                put_moves(&mut self.text, NodeMoves::all(self.total.as_slice(), nodes));
             }
         }
         self.text.take()

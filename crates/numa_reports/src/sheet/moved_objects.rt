@@ -1,10 +1,10 @@
 //! Differences as JSON.
 
 use crate::outlook::PageSpan;
-use crate::sheet::changes::{entry, moved};
 use crate::sheet::fields::bytes;
 use crate::sheet::items::Items;
 use crate::sheet::moved_parts::ShownSpans;
+use crate::sheet::node_moves::NodeMoves;
 use crate::sheet::object::Object;
 use crate::sheet::written::Written;
 use crate::touch::Touch;
@@ -28,9 +28,9 @@ fn put_move(items: &mut Items, from: u32, to: u32, pages: u64) {
 }
 
 /// Adds the pages that go from a node to each other node, where there are some.
-fn put_from(items: &mut Items, table: &[u64], told: &[u64], nodes: u32, from: u32) {
-    for to in 0..nodes {
-        let pages = entry(table, told, from, to);
+fn put_from(items: &mut Items, counts: NodeMoves<'_>, from: u32) {
+    for to in 0..counts.nodes {
+        let pages = counts.between(from, to);
         if from != to && pages > 0 {
             put_move(items, from, to, pages);
         }
@@ -38,12 +38,12 @@ fn put_from(items: &mut Items, table: &[u64], told: &[u64], nodes: u32, from: u3
 }
 
 /// Adds the number of pages that go to another node, and the list from which to which.
-fn put_moves(object: &mut Object, table: &[u64], told: &[u64], nodes: u32) {
+fn put_moves(object: &mut Object, counts: NodeMoves<'_>) {
     let mut items = Items::new(object.alloc());
-    for from in 0..nodes {
-        put_from(&mut items, table, told, nodes, from);
+    for from in 0..counts.nodes {
+        put_from(&mut items, counts, from);
     }
-    object.put_number("differs", moved(table, told, nodes));
+    object.put_number("differs", counts.moved());
     object.put_items("differences", items);
 }
 
@@ -54,17 +54,11 @@ pub(crate) fn begin_span(text: &mut Written, is_first: bool) {
 }
 
 /// The object of a span.
-pub(crate) fn put_span(
-    text: &mut Written,
-    span: PageSpan,
-    table: &[u64],
-    told: &[u64],
-    nodes: u32,
-) {
+pub(crate) fn put_span(text: &mut Written, span: PageSpan, counts: NodeMoves<'_>) {
     let mut object = Object::new(text.alloc());
     object.put_number("start", bytes(span.first));
     object.put_number("end", bytes(span.first.saturating_add(span.pages)));
-    put_moves(&mut object, table, told, nodes);
+    put_moves(&mut object, counts);
     text.put_object(object);
 }
 
@@ -84,10 +78,10 @@ pub(crate) fn put_others(text: &mut Written, shown: ShownSpans) {
 }
 
 /// Ends the object, with all pages.
-pub(crate) fn put_total(text: &mut Written, table: &[u64], nodes: u32) {
+pub(crate) fn put_total(text: &mut Written, counts: NodeMoves<'_>) {
     text.put(b",\"total\":");
     let mut object = Object::new(text.alloc());
-    put_moves(&mut object, table, &[], nodes);
+    put_moves(&mut object, counts);
     text.put_object(object);
     text.put(b"}\n");
 }

@@ -6,9 +6,9 @@
 
 use crate::outlook::PageSpan;
 use crate::sheet::bars::{Rectangle, put_part};
-use crate::sheet::changes::{entry, moved};
 use crate::sheet::fields::bytes;
 use crate::sheet::moved_parts::ShownSpans;
+use crate::sheet::node_moves::NodeMoves;
 use crate::sheet::scale::{Scale, share};
 use crate::sheet::written::Written;
 use crate::touch::Touch;
@@ -25,15 +25,7 @@ fn below(spans: u64) -> u64 {
 
 /// Begins the picture of this many spans.
 pub(crate) fn put_head(text: &mut Written, touch: Touch, spans: u64, scale: &Scale) {
-    let height = below(spans).saturating_add(40);
-    text.put_form(
-        b"<?xml version=\"1.0\" encoding=\"UTF-8\"?>\n\
-        <svg xmlns=\"http://www.w3.org/2000/svg\" version=\"1.1\" \
-        width=\"920\" height=\"$\" viewBox=\"0 0 920 $\" \
-        font-family=\"monospace\" font-size=\"12\">\n\
-        <rect width=\"920\" height=\"100%\" fill=\"#ffffff\"/>\n",
-        &[height, height],
-    );
+    text.begin_picture(below(spans).saturating_add(40));
     text.put_form(
         b"<text x=\"16\" y=\"24\" font-size=\"14\">Pages that would go elsewhere, if task $ \
         touched them on node $: before, and below it after</text>\n",
@@ -63,17 +55,15 @@ fn put_pages(text: &mut Written, place: Rectangle, from: u64, to: u64, node: u64
 /// `all` pages are drawn; returns how many are then.
 fn put_from(
     text: &mut Written,
-    table: &[u64],
-    told: &[u64],
-    nodes: u32,
+    counts: NodeMoves<'_>,
     from: u32,
     width: u64,
     before: u64,
     all: u64,
 ) -> u64 {
     let mut done = before;
-    for to in 0..nodes {
-        let pages = entry(table, told, from, to);
+    for to in 0..counts.nodes {
+        let pages = counts.between(from, to);
         if pages > 0 {
             let left = share(width, done, all);
             done = done.saturating_add(pages);
@@ -107,46 +97,25 @@ pub(crate) fn begin_span(text: &mut Written, before: u64) {
 }
 
 /// Draws a span that was begun.
-pub(crate) fn put_span(
-    text: &mut Written,
-    span: PageSpan,
-    table: &[u64],
-    told: &[u64],
-    nodes: u32,
-    scale: &Scale,
-) {
+pub(crate) fn put_span(text: &mut Written, span: PageSpan, counts: NodeMoves<'_>, scale: &Scale) {
     text.put(b"<text y=\"11\">");
     let end = span.first.saturating_add(span.pages);
     text.put_addresses(bytes(span.first), bytes(end));
-    text.put_form(
-        b" differs=$ of $</text>",
-        &[moved(table, told, nodes), span.pages],
-    );
+    text.put_form(b" differs=$ of $</text>", &[counts.moved(), span.pages]);
     let width = scale.width(span.pages);
     let mut done = 0u64;
-    for from in 0..nodes {
-        done = put_from(text, table, told, nodes, from, width, done, span.pages);
+    for from in 0..counts.nodes {
+        done = put_from(text, counts, from, width, done, span.pages);
     }
     text.put(b"</g>\n");
 }
 
 /// Ends the picture, behind these spans, with all pages.
-pub(crate) fn put_total(text: &mut Written, shown: ShownSpans, table: &[u64], nodes: u32) {
+pub(crate) fn put_total(text: &mut Written, shown: ShownSpans, counts: NodeMoves<'_>) {
     text.put_form(
         b"<text class=\"total\" x=\"16\" y=\"$\">total differs=$",
-        &[
-            below(shown.rows).saturating_add(20),
-            moved(table, &[], nodes),
-        ],
+        &[below(shown.rows).saturating_add(20), counts.moved()],
     );
-    if shown.others > 0 {
-        text.put_form(b", of them $ in ", &[shown.moved]);
-        text.put_number(shown.others);
-        text.put(if shown.others == 1 {
-            b" span that isn't drawn".as_slice()
-        } else {
-            b" spans that aren't drawn"
-        });
-    }
+    text.put_undrawn(b"span", shown.others, shown.moved);
     text.put(b"</text>\n</svg>\n");
 }

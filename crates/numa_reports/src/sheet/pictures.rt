@@ -48,17 +48,9 @@ pub(crate) fn put_head(
     nodes: usize,
     scale: &Scale,
 ) {
-    let height = height(rows, nodes);
+    text.begin_picture(height(rows, nodes));
     text.put_form(
-        b"<?xml version=\"1.0\" encoding=\"UTF-8\"?>\n\
-        <svg xmlns=\"http://www.w3.org/2000/svg\" version=\"1.1\" \
-        width=\"920\" height=\"$\" viewBox=\"0 0 920 $\" \
-        font-family=\"monospace\" font-size=\"12\">\n",
-        &[height, height],
-    );
-    text.put_form(
-        b"<rect width=\"920\" height=\"100%\" fill=\"#ffffff\"/>\n\
-        <text x=\"16\" y=\"24\" font-size=\"14\">Where pages would go that \
+        b"<text x=\"16\" y=\"24\" font-size=\"14\">Where pages would go that \
         task $ touched on node $ (version $)</text>\n",
         &[touch.task as u64, touch.cpu as u64, version],
     );

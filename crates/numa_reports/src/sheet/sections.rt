@@ -84,23 +84,11 @@ pub(crate) fn put_section(text: &mut Written, section: Section, picture: &[u8]) 
     below.saturating_add(height_of(picture))
 }
 
-/// Begins a picture with this many rows of pixels.
-fn put_head(text: &mut Written, height: u64) {
-    text.put_form(
-        b"<?xml version=\"1.0\" encoding=\"UTF-8\"?>\n\
-        <svg xmlns=\"http://www.w3.org/2000/svg\" version=\"1.1\" \
-        width=\"920\" height=\"$\" viewBox=\"0 0 920 $\" \
-        font-family=\"monospace\" font-size=\"12\">\n\
-        <rect width=\"920\" height=\"100%\" fill=\"#ffffff\"/>\n",
-        &[height, height],
-    );
-}
-
 /// Begins a picture with its sections, which end at a row of pixels, and the heading of all;
 /// returns at which row that ends. Behind it are `rows` more.
 fn put_sections(text: &mut Written, sections: &[u8], end: u64, rows: u64) -> u64 {
     let below = end.saturating_add(HEADING);
-    put_head(text, below.saturating_add(rows).saturating_add(MARGIN));
+    text.begin_picture(below.saturating_add(rows).saturating_add(MARGIN));
     text.put(sections);
     begin_heading(text, end);
     text.put(b"all processes</text>\n");

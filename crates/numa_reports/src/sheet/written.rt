@@ -104,6 +104,33 @@ impl Written {
         }
     }
 
+    /// Begins a picture with this many rows of pixels.
+    pub fn begin_picture(&mut self, height: u64) {
+        self.put_form(
+            b"<?xml version=\"1.0\" encoding=\"UTF-8\"?>\n\
+            <svg xmlns=\"http://www.w3.org/2000/svg\" version=\"1.1\" \
+            width=\"920\" height=\"$\" viewBox=\"0 0 920 $\" \
+            font-family=\"monospace\" font-size=\"12\">\n\
+            <rect width=\"920\" height=\"100%\" fill=\"#ffffff\"/>\n",
+            &[height, height],
+        );
+    }
+
+    /// Writes how many of a picture's pages that move are in parts of this kind that aren't drawn,
+    /// if there are such parts.
+    pub fn put_undrawn(&mut self, kind: &[u8], parts: u64, moved: u64) {
+        if parts == 0 {
+            return;
+        }
+        self.put_form(b", of them $ in $ ", &[moved, parts]);
+        self.put(kind);
+        self.put(if parts == 1 {
+            b" that isn't drawn".as_slice()
+        } else {
+            b"s that aren't drawn"
+        });
+    }
+
     /// Writes a JSON object.
     pub fn put_object(&mut self, object: Object) {
         let Ok(value) = object.made() else {
