@@ -18,6 +18,6 @@ mod versions;
 
 pub use answers::Answers;
 pub use comparing::{Comparing, Comparison, Updated};
-pub use page::{PageData, page_of, shared_view_text, view_text};
+pub use page::{PageData, page_of, shared_answer, view_text};
 pub use reasons::{put_fields, shown, text_of};
 pub use stretches::{PageInterval, stretches_of};

@@ -1,17 +1,13 @@
 //! Answers as a page to explore in a browser.
-ghost use Rattle.std.specs.Prelude.{◌≡◌, ◌≢◌, ◌^◌, [], List, OnOk};
-ghost use Rattle.numa_compile.specs.Standing.{PlanStandsFor};
-ghost use Rattle.numa_space.specs.Standing.{StandsFor};
-ghost use Rattle.numa_requests.specs.declared.command.Command.{Command};
-ghost use Rattle.numa_reports.specs.Filled.{free_behind, nodes_of};
+ghost use Rattle.std.specs.Prelude.{◌≢◌, []};
+ghost use Rattle.numa_reports.specs.Lying.{LeavesFree};
 
 use crate::page_head::head;
 use crate::page_script::script;
 use crate::stretches::stretches_text;
-use numa_plan::Plan;
 use numa_reports::{
-    Account, Format, FreePages, Largest, ReportError, Touch, Watch, Written, cycles_text,
-    filling_text, shared_text,
+    Account, Format, FreePages, Largest, PredictionRequest, ReportError, Touch, Watch, Written,
+    cycles_text, lying_text, shared_text,
 };
 use numa_rules::ReasonError;
 use numa_space::Space;
@@ -21,18 +17,15 @@ use std::alloc::{AllocError, Global};
 /// depends on those before it.
 fn cycles_of(
     alloc: Global,
-    space: &Space,
-    plan: &Plan,
-    asked: Touch,
-    free: &[FreePages],
+    asked: PredictionRequest<'_>,
     shown: Largest,
 ) -> Result<Vec<u8>, ReportError> {
-    if !free.is_empty() {
+    if !asked.free.is_empty() {
         let mut none = Written::new(alloc);
         none.put(b"[]");
         return Ok(none.take()?);
     }
-    cycles_text(alloc, space, plan, asked, shown)
+    cycles_text(alloc, asked.space, asked.plan, asked.touch, shown)
 }
 
 /// By which rules the ranges' pages go.
@@ -52,16 +45,13 @@ fn rules_of(
 /// The object of a state, with where its pages would go, in the largest `number` ranges.
 fn view_with(
     alloc: Global,
-    space: &Space,
-    plan: &Plan,
-    asked: Touch,
-    free: &[FreePages],
+    asked: PredictionRequest<'_>,
     number: u32,
     prediction: &[u8],
 ) -> Result<Vec<u8>, ReportError> {
-    let shown = Largest::of_ranges(alloc, space, number)?;
-    let stretches = rules_of(alloc, space, asked, shown)?;
-    let cycles = cycles_of(alloc, space, plan, asked, free, shown)?;
+    let shown = Largest::of_ranges(alloc, asked.space, number)?;
+    let stretches = rules_of(alloc, asked.space, asked.touch, shown)?;
+    let cycles = cycles_of(alloc, asked, shown)?;
     let mut text = Written::new(alloc);
     text.put(b"{\"prediction\":");
     text.put(prediction);
@@ -73,49 +63,46 @@ fn view_with(
     Ok(text.take()?)
 }
 
-/// The object of a state: where its pages would go, by which rules, and each page's node, of the
-/// largest `number` ranges, and the sum of the others. The plan is that of the space. Counting free
-/// pages is watched.
+/// The object of a state: where its pages would go, none of which is there, by which rules, and
+/// each page's node, of the largest `number` ranges, and the sum of the others. The plan is that of
+/// the space. Counting free pages is watched.
 ///
 /// # Errors
-/// As [`filling_text`].
+/// As [`lying_text`].
 pub fn view_text<W: Watch>(
     alloc: Global,
-    space: &Space,
-    plan: &Plan,
-    asked: Touch,
-    free: &[FreePages],
+    asked: PredictionRequest<'_>,
     number: u32,
     watch: &mut W,
 ) -> Result<Vec<u8>, ReportError> {
-    let html = Format::Html(number);
-    let prediction = filling_text(alloc, space, plan, asked, html, free, watch)?;
-    view_with(alloc, space, plan, asked, free, number, &prediction)
+    let prediction = lying_text(alloc, asked, Format::Html(number), watch)?;
+    view_with(alloc, asked, number, &prediction)
 }
 
-/// The same of one of several processes: if nodes are named in `free`, its pages take those that
-/// the ones before have left.
+/// One of several predictions, as [`shared_text`], but in place of a page its data, where no page
+/// is there: the object of the state as its member `before`.
 ///
 /// # Errors
-/// As [`filling_text`].
-pub fn shared_view_text<W: Watch>(
+/// As [`shared_text`].
+pub fn shared_answer<W: Watch>(
     alloc: Global,
-    space: &Space,
-    plan: &Plan,
-    asked: Touch,
-    free: &[FreePages],
-    number: u32,
+    asked: PredictionRequest<'_>,
+    format: Format,
+    told: &[FreePages],
     account: &mut Account,
     watch: &mut W,
 ) -> Result<Vec<u8>, ReportError>
-    ensures free { (history : List Command) → StandsFor space.now history
-        → PlanStandsFor space.now.machine plan.now history → free.now ≢ [] → OnOk result
-        (account.new.free ≡ free_behind (nodes_of space.now.machine history asked.task asked.cpu)
-        account.old.free 0 (2 ^ 35)) }
+    ensures free { asked.entry.free.now ≢ []
+        → LeavesFree asked.entry account.old.free account.new.free result }
 {
-    let html = Format::Html(number);
-    let prediction = shared_text(alloc, space, plan, None, asked, html, free, account, watch)?;
-    view_with(alloc, space, plan, asked, free, number, &prediction)
+    let text = shared_text(alloc, asked, format, told, account, watch)?;
+    let (None, Format::Html(number)) = (asked.placed, format) else {
+        return Ok(text);
+    };
+    let view = view_with(alloc, asked, number, &text)?;
+    let mut data = PageData::new(alloc);
+    data.put("before", view.as_slice());
+    Ok(data.end()?)
 }
 
 /// The data of a page, or of one process in it: an object, member by member.

@@ -1,20 +1,23 @@
 -- Where pages lie once a task has touched them all: those that are there stay where they lie, and
 -- the others go where the touch puts them.
-use Rattle.std.specs.Prelude.{◌≡◌, ℕ, ◌<◌, ◌==◌, ◌&&◌, Bool, Option, Some, None, List, unwrap_or}
-use Rattle.std.specs.Prelude.{[], is_some, slice_index, if◌then◌else◌}
+use Rattle.std.specs.Prelude.{◌≡◌, ℕ, ◌<◌, ◌^◌, ◌==◌, ◌&&◌, Bool, Option, Some, None, List, OnOk}
+use Rattle.std.specs.Prelude.{Result, [], is_some, slice_index, unwrap_or, if◌then◌else◌}
 use Rattle.std.specs.Borrow.{Bor}
 use Rattle.std.specs.Option.{option_or}
 use Rattle.numa_machine.specs.Machine.{Hardware}
 use Rattle.numa_ranges.specs.Counts.{count_pages}
 use Rattle.numa_ranges.specs.declared.run.Run.{Run}
 use Rattle.numa_space.specs.Pages.{is_mapped}
+use Rattle.numa_space.specs.Standing.{StandsFor}
 use Rattle.numa_requests.specs.declared.command.Command.{Command}
 use Rattle.numa_plan.specs.Meaning.{PlanData, is_number, planned_count, planned_first}
 use Rattle.numa_compile.specs.Spans.{first_node}
+use Rattle.numa_compile.specs.Standing.{PlanStandsFor}
 use Rattle.numa_placed.specs.Spots.{is_on, node_of, pages_if, pages_within, spot_at}
 use Rattle.numa_placed.specs.declared.spot.Spot.{Spot}
 use Rattle.numa_placed.specs.declared.spot.Spot.TheVariants.{Nowhere}
-use Rattle.numa_reports.specs.Filled.{free_behind}
+use Rattle.numa_reports.specs.Filled.{free_behind, nodes_of}
+use Rattle.numa_reports.specs.declared.sheet.parts.PredictionRequest.{PredictionRequest}
 
 -- where pages lie, if some are there
 abbrev pub spots_in : Option (Bor (List (Run Spot))) → ℕ → Spot
@@ -52,6 +55,14 @@ there_on (Some placed) first pages node =
 abbrev pub alike_left : Option ℕ → (ℕ → List ℕ) → List ℕ → ℕ → ℕ → List ℕ
 alike_left None nodes free first pages = free_behind nodes free first pages
 alike_left (Some there) nodes free first pages = free
+
+-- by a plan of the space, what is free after a request is what its pages leave that aren't there
+abbrev pub LeavesFree : {T E : Type 0} → PredictionRequest → List ℕ → List ℕ → Result T E → Type 0
+LeavesFree asked before after result = (history : List Command)
+    → StandsFor asked.space.now history
+    → PlanStandsFor asked.space.now.machine asked.plan.now history
+    → OnOk result (after ≡ free_behind (absent_nodes (spots_in asked.placed)
+    (nodes_of asked.space.now.machine history asked.touch.task asked.touch.cpu)) before 0 (2 ^ 35))
 
 -- ---- by a plan
 

@@ -36,18 +36,8 @@ pub struct FreePages {
     pub pages: u64,
 }
 
-/// The most pages that a space can map.
-const ALL_PAGES: u64 = 1 << 35;
-
 /// The number of free pages of each node: for named nodes the given one (the last counts), for
-/// others as many as a space can map, so that they never run out.
-pub(crate) fn free_of(named: &[FreePages]) -> [u64; 256]
-    ensures { result ≡ with_named (replicate 256 (2 ^ 35)) named.now }
-{
-    free_from(ALL_PAGES, named)
-}
-
-/// The same, with `others` free pages on nodes that aren't named.
+/// others `others`.
 pub(crate) fn free_from(others: u64, named: &[FreePages]) -> [u64; 256]
     ensures { result ≡ with_named (replicate 256 others) named.now }
 {

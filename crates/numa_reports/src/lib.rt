@@ -30,8 +30,8 @@ pub use filling::{FreePages, fill_all};
 pub use outlook::{Outlook, PageSpan, common_spans, outlook_of};
 pub use prediction::{RangePrediction, TakeRange, predict_all, predict_range};
 pub use sheet::{
-    ByProcess, DRAWN, Format, Items, LISTED, Largest, MoveSum, Object, Written, cycles_text,
-    difference_more, difference_text, filling_text, lying_text, prediction_text, shared_text,
+    ByProcess, DRAWN, Format, Items, LISTED, Largest, MoveSum, Object, PredictionRequest, Written,
+    cycles_text, difference_more, difference_text, lying_text, prediction_text, shared_text,
 };
 pub use touch::Touch;
 pub use watch::Watch;

@@ -22,10 +22,10 @@ mod objects;
 mod parts;
 mod pictures;
 mod policies;
+mod prediction_texts;
 mod records;
 mod scale;
 mod sections;
-mod shared;
 mod written;
 
 pub use by_process::{ByProcess, MoveSum};
@@ -34,8 +34,8 @@ pub use cycles::cycles_text;
 pub use items::Items;
 pub use largest::Largest;
 pub use object::Object;
-pub use parts::{filling_text, lying_text, prediction_text};
-pub use shared::shared_text;
+pub use parts::PredictionRequest;
+pub use prediction_texts::{lying_text, prediction_text, shared_text};
 pub use written::Written;
 
 /// How many ranges a picture shows by themselves, where nothing else is wanted.

@@ -6,7 +6,7 @@ ghost use Rattle.numa_reports.specs.Failing.{FailsForNode};
 
 use crate::absent::fill_there;
 use crate::fault::ReportError;
-use crate::filling::{FreePages, fill_few, free_of};
+use crate::filling::fill_few;
 use crate::period::period_in;
 use crate::sheet::written::Written;
 use crate::touch::Touch;
@@ -72,14 +72,6 @@ fn put_cells(
     }
     cells.put(&nodes);
     Ok(())
-}
-
-/// The number of free pages of each node; `None` if no node is named, so that they aren't counted.
-pub(crate) fn free_where_named(named: &[FreePages]) -> Option<[u64; 256]> {
-    if named.is_empty() {
-        return None;
-    }
-    Some(free_of(named))
 }
 
 /// The nodes of the first pages of each range, as [`put_cells`] writes them, with these free pages,

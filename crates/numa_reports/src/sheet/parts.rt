@@ -1,14 +1,12 @@
 //! Writing a prediction part by part, in any format.
-ghost use Rattle.std.specs.Prelude.{◌≡◌, ◌≤◌, ◌<◌, Err};
-ghost use Rattle.numa_machine.specs.declared.refusal.PlaceRefusal.TheVariants.{BadCpu};
-ghost use Rattle.numa_reports.specs.declared.fault.ReportError.TheVariants.{Refused};
+ghost use Rattle.std.specs.Prelude.{◌≡◌};
 ghost use Rattle.numa_reports.specs.Failing.{FailsForNode};
 
 use crate::absent::both_of;
 use crate::fault::ReportError;
-use crate::filling::{FreePages, fill_ranges, free_of};
-use crate::prediction::{RangePrediction, TakeRange, predict_ranges};
-use crate::sheet::cells::{CELLS, first_cells, free_where_named};
+use crate::filling::FreePages;
+use crate::prediction::{RangePrediction, TakeRange};
+use crate::sheet::cells::{CELLS, first_cells};
 use crate::sheet::drawing::Drawing;
 use crate::sheet::fields::{RangeRow, bytes, placed_of};
 use crate::sheet::largest::sizes_of;
@@ -16,9 +14,8 @@ use crate::sheet::nodes::{NodePages, list_nodes};
 use crate::sheet::policies::PolicyTexts;
 use crate::sheet::written::Written;
 use crate::sheet::{Format, lines, objects, pictures, records};
-use crate::touch::{Touch, has_node};
+use crate::touch::Touch;
 use crate::watch::Watch;
-use numa_machine::PlaceRefusal;
 use numa_placed::Placed;
 use numa_plan::Plan;
 use numa_ranges::Run;
@@ -111,6 +108,11 @@ impl PredictionWriter {
         self.sum
     }
 
+    /// Where memory for what is written comes from.
+    pub(crate) fn alloc(&self) -> Global {
+        self.text.alloc()
+    }
+
     /// Takes the whole text out.
     pub(crate) fn take_text(&mut self) -> Result<Vec<u8>, AllocError> {
         self.text.take()
@@ -165,15 +167,33 @@ impl TakeRange for PredictionWriter {
     }
 }
 
-/// A request: where the pages of a space go by a plan, if they are touched so and named nodes have
-/// these free pages. Those that are there stay where they lie.
+/// A request: where the pages of a space go by a plan of it, if they are touched so and named nodes
+/// have these free pages, and others never run out. Those that are there stay where they lie, and
+/// take none.
 #[derive(Clone, Copy)]
-pub(crate) struct PredictionRequest<'a> {
-    pub(crate) space: &'a Space,
-    pub(crate) plan: &'a Plan,
-    pub(crate) placed: Option<&'a Placed>,
-    pub(crate) touch: Touch,
-    pub(crate) free: &'a [FreePages],
+pub struct PredictionRequest<'a> {
+    pub space: &'a Space,
+    pub plan: &'a Plan,
+    pub placed: Option<&'a Placed>,
+    pub touch: Touch,
+    pub free: &'a [FreePages],
+}
+
+impl<'a> PredictionRequest<'a> {
+    /// A request where no page is there and no node is named.
+    pub fn of(space: &'a Space, plan: &'a Plan, touch: Touch) -> PredictionRequest<'a>
+        ensures space { result.space.now ≡ space.now }
+        ensures plan { result.plan.now ≡ plan.now }
+        ensures touch { result.touch ≡ touch }
+    {
+        PredictionRequest {
+            space,
+            plan,
+            placed: None,
+            touch,
+            free: &[],
+        }
+    }
 }
 
 /// The part before the first range.
@@ -275,135 +295,4 @@ pub(crate) fn sum_of(space: &Space) -> u64 {
         sum = sum.saturating_add(range.pages);
     }
     sum
-}
-
-/// Writes each range and the total, if nodes are named.
-fn write_filled<W: Watch>(
-    parts: &mut PredictionWriter,
-    asked: PredictionRequest<'_>,
-    watch: &mut W,
-) -> Result<(), ReportError>
-    requires known { asked.touch.cpu < asked.space.now.machine.nodes }
-    ensures err { FailsForNode asked.entry.space.now asked.entry.plan.now
-        asked.entry.touch.cpu result }
-{
-    let mut free = free_of(asked.free);
-    watch.begin(sum_of(asked.space));
-    let mut watched = WatchedWriter { parts, watch };
-    fill_ranges(
-        asked.space,
-        asked.plan,
-        asked.placed,
-        asked.touch,
-        &mut free,
-        &mut watched,
-    )?;
-    watch.end();
-    let left = left_on(parts.text.alloc(), asked.free, &free)?;
-    parts.put_total(&parts.sum(), &left);
-    Ok(())
-}
-
-/// Writes each range and the total, and returns the text.
-fn write_all<W: Watch>(
-    parts: &mut PredictionWriter,
-    asked: PredictionRequest<'_>,
-    watch: &mut W,
-) -> Result<Vec<u8>, ReportError>
-    requires known { asked.touch.cpu < asked.space.now.machine.nodes }
-    ensures err { FailsForNode asked.entry.space.now asked.entry.plan.now
-        asked.entry.touch.cpu result }
-{
-    if asked.free.is_empty() {
-        let counts = predict_ranges(asked.space, asked.plan, asked.placed, asked.touch, parts)?;
-        parts.put_total(&counts, &[]);
-    } else {
-        write_filled(parts, asked, watch)?;
-    }
-    Ok(parts.text.take()?)
-}
-
-/// Where all mapped pages would lie, if the task touched each of them now on a CPU of node `cpu`,
-/// in ascending order, and named nodes had these free pages; others never run out. Pages that are
-/// there stay where they lie, and take none. The text has the number of pages that find no free
-/// page (`exhausted`), and the free pages left on named nodes. The plan is one of the space. The
-/// time depends on the number of ranges and of runs of pages that are there and, if nodes are
-/// named, on the cycles of their policies, and is then watched.
-///
-/// # Errors
-/// `Refused(BadCpu)`: the machine has no node `cpu`. `Refused(Unmapped)`: the plan isn't one of the
-/// space. `Memory`: there is no memory for the text.
-pub fn lying_text<W: Watch>(
-    alloc: Global,
-    space: &Space,
-    plan: &Plan,
-    placed: Option<&Placed>,
-    touch: Touch,
-    format: Format,
-    free: &[FreePages],
-    watch: &mut W,
-) -> Result<Vec<u8>, ReportError>
-    ensures err { FailsForNode space.now plan.now touch.cpu result }
-    ensures bad_cpu { space.now.machine.nodes ≤ touch.cpu → result ≡ Err (Refused BadCpu) }
-{
-    if !has_node(space, touch.cpu) {
-        return Err(ReportError::Refused(PlaceRefusal::BadCpu));
-    }
-    let asked = PredictionRequest {
-        space,
-        plan,
-        placed,
-        touch,
-        free,
-    };
-    let mut parts = begin(alloc, asked, format, free_where_named(free))?;
-    let text = write_all(&mut parts, asked, watch);
-    drop(parts);
-    text
-}
-
-/// Where all mapped pages would go, as [`lying_text`], where none is there.
-///
-/// # Errors
-/// As [`lying_text`].
-pub fn filling_text<W: Watch>(
-    alloc: Global,
-    space: &Space,
-    plan: &Plan,
-    touch: Touch,
-    format: Format,
-    free: &[FreePages],
-    watch: &mut W,
-) -> Result<Vec<u8>, ReportError>
-    ensures err { FailsForNode space.now plan.now touch.cpu result }
-    ensures bad_cpu { space.now.machine.nodes ≤ touch.cpu → result ≡ Err (Refused BadCpu) }
-{
-    lying_text(alloc, space, plan, None, touch, format, free, watch)
-}
-
-/// Where all mapped pages would go, if the task touched each of them now on a CPU of node `cpu`, as
-/// [`filling_text`] without named nodes. The time depends on the number of ranges, not of pages.
-///
-/// # Errors
-/// As [`filling_text`].
-pub fn prediction_text(
-    alloc: Global,
-    space: &Space,
-    plan: &Plan,
-    task: u32,
-    cpu: u32,
-    format: Format,
-) -> Result<Vec<u8>, ReportError>
-    ensures err { FailsForNode space.now plan.now cpu result }
-    ensures bad_cpu { space.now.machine.nodes ≤ cpu → result ≡ Err (Refused BadCpu) }
-{
-    filling_text(
-        alloc,
-        space,
-        plan,
-        Touch { task, cpu },
-        format,
-        &[],
-        &mut (),
-    )
 }
