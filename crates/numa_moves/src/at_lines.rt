@@ -1,13 +1,12 @@
 //! Lines that state where pages lie: `at START LENGTH NODE`, in a host `in P at START LENGTH NODE`.
 
-use numa_lines::{Lines, RunFault, TakeLine, read_all};
+use numa_lines::{RunFault, TakeLine};
 use numa_script::keyword::{Keyword, read_keyword};
 use numa_script::line::parse;
 use numa_script::number::small;
 use numa_script::parts::words;
 use numa_script::{Line, PageLine, ScriptLine};
 use std::alloc::{AllocError, Global};
-use std::io::Read;
 
 /// Where a line stands: its text, counted from 0 as they are read, and its number there, from 1.
 #[derive(Clone, Copy)]
@@ -198,28 +197,5 @@ impl TakeLine<()> for PassOver {
 
     fn hand_over(&mut self, _output: &mut ()) -> Result<(), RunFault> {
         Ok(())
-    }
-}
-
-/// Reads texts in order: keeps their lines that state where pages lie, and hands on all but the
-/// malformed ones of these.
-///
-/// # Errors
-/// `Read`: a read failed. `Memory`: out of memory. Or what the taker answers.
-pub fn read_at_lines<R: Read + Drop, T: TakeLine<()> + Drop>(
-    alloc: Global,
-    texts: Vec<(String, R)>,
-    lines: AtLines<T>,
-) -> Result<AtLines<T>, RunFault> {
-    let Ok(mut lines) = Lines::new(alloc, lines) else {
-        drop(texts);
-        return Err(RunFault::Memory);
-    };
-    match read_all(texts, &mut lines, &mut ()) {
-        Ok(()) => Ok(lines.taker),
-        Err(why) => {
-            drop(lines);
-            Err(why)
-        }
     }
 }

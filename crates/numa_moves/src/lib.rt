@@ -21,7 +21,7 @@ mod sheet;
 mod stating;
 mod sums;
 
-pub use at_lines::{AtLine, AtLines, LinePlace, PassOver, read_at_lines};
+pub use at_lines::{AtLine, AtLines, LinePlace, PassOver};
 pub use holding::{Holding, HoldingMoves, Holdings, Origin, Step};
 pub use move_line::{MoveLine, read_move};
 pub use moving::{ShareMove, moves_within, pages_by_node, shares_behind};

@@ -1,5 +1,5 @@
 //! Why a question about played scripts has no answer.
-ghost use Rattle.std.specs.Prelude.{◌≡◌};
+ghost use Rattle.std.specs.Prelude.{◌≡◌, IfOk, Ok};
 ghost use Rattle.numa_lines.specs.declared.fault.RunFault.TheVariants as run_fault;
 ghost use Rattle.numa_play.specs.declared.halt.Halt.TheVariants as halt;
 
@@ -56,10 +56,20 @@ impl From<AllocError> for Halt {
 }
 
 /// Why there is no report on a machine with `nodes` nodes.
-pub fn halt_of(fault: ReportError, nodes: u32) -> Halt {
+fn halt_of(fault: ReportError, nodes: u32) -> Halt {
     match fault {
         ReportError::Refused(_) => Halt::NoNode(nodes),
         ReportError::Memory => Halt::Stopped(RunFault::Memory),
+    }
+}
+
+/// What is reported of a machine with `nodes` nodes, or why there is nothing.
+pub fn reported<T: Drop>(said: Result<T, ReportError>, nodes: u32) -> Result<T, Halt>
+    ensures { IfOk result (λ text. said ≡ Ok text) }
+{
+    match said {
+        Ok(text) => Ok(text),
+        Err(fault) => Err(halt_of(fault, nodes)),
     }
 }
 

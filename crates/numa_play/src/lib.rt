@@ -22,10 +22,10 @@ mod touching;
 
 pub use faults::tells_fault;
 pub use findings::{Ended, Findings, Look, PLAIN, Twin};
-pub use halt::{Halt, halt_by, halt_of};
+pub use halt::{Halt, halt_by, reported};
 pub use named::TasksNamed;
-pub use playing::{Scripts, check, play};
+pub use playing::{Scripts, check, plain_by, play};
 pub use question::{
-    Subject, differ, member, other_space, shown_as, subject_after, subject_of, write,
+    Subject, add_answer, answer, differ, member, other_space, shown_as, subject_after, subject_of,
 };
 pub use touching::{page_meant, touches};

@@ -1,9 +1,9 @@
 //! Playing scripts to their end.
-use crate::findings::{Ended, Findings, Look, Twin};
+use crate::findings::{Ended, Findings, Look, PLAIN, Twin};
 use crate::halt::Halt;
-use numa_lines::{Lines, RunFault, read_all};
 use numa_machine::Rules;
 use numa_reports::Format;
+use numa_traces::read_by;
 use std::alloc::Global;
 use std::io::{Read, Write};
 
@@ -16,27 +16,27 @@ pub struct Scripts<R> {
     pub process: Option<u32>,
 }
 
-/// Reads texts in order, plays their lines as one script, and reports what is wrong with them: the
-/// text's name, the line, for bad words the column, the answer, and its cause. `Findings::end`
-/// reports how many lines weren't judged.
+/// A look at errors and refusals alone, as text, where lines are also played by this twin.
+pub fn plain_by(other: Twin) -> Look {
+    Look { other, ..PLAIN }
+}
+
+/// Plays scripts as one, and reports what is wrong with their lines, by this look: the text's name,
+/// the line, for bad words the column, the answer, and its cause. `Findings::end` reports how many
+/// lines weren't judged.
 ///
 /// # Errors
-/// `Read` or `Write`: a read or a write failed. `Memory`: out of memory.
+/// `Stopped`: a read or a write failed, or out of memory.
 pub fn play<R: Read + Drop, W: Write + Drop>(
     alloc: Global,
-    texts: Vec<(String, R)>,
-    findings: Findings<W>,
-) -> Result<Findings<W>, RunFault> {
-    let Ok(mut lines) = Lines::new(alloc, findings) else {
-        drop(texts);
-        return Err(RunFault::Memory);
-    };
-    match read_all(texts, &mut lines, &mut ()) {
-        Ok(()) => Ok(lines.taker),
-        Err(why) => {
-            drop(lines);
-            Err(why)
-        }
+    scripts: Scripts<R>,
+    look: Look,
+    output: W,
+) -> Result<Findings<W>, Halt> {
+    let Scripts { texts, rules, .. } = scripts;
+    match read_by(alloc, texts, Findings::new(alloc, rules, look, output)) {
+        Ok(findings) => Ok(findings),
+        Err(why) => Err(Halt::Stopped(why)),
     }
 }
 
@@ -63,11 +63,7 @@ pub fn check<R: Read + Drop, W: Write + Drop>(
     format: Format,
     output: W,
 ) -> Result<Ended, Halt> {
-    let Scripts {
-        texts,
-        rules,
-        process,
-    } = scripts;
+    let process = scripts.process;
     let look = Look {
         hints: true,
         other: Twin::None,
@@ -75,10 +71,7 @@ pub fn check<R: Read + Drop, W: Write + Drop>(
         tells_at: true,
         format,
     };
-    let mut findings = match play(alloc, texts, Findings::new(alloc, rules, look, output)) {
-        Ok(findings) => findings,
-        Err(why) => return Err(Halt::Stopped(why)),
-    };
+    let mut findings = play(alloc, scripts, look, output)?;
     let ended = end(&mut findings, process);
     drop(findings);
     ended

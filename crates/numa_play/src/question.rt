@@ -1,5 +1,6 @@
 //! The state that scripts lead to, and answers about it.
-ghost use Rattle.std.specs.Prelude.{◌≡◌, IfOk};
+ghost use Rattle.std.specs.Prelude.{◌≡◌, IfOk, IsOk, OnOk};
+ghost use Rattle.numa_play.specs.Faults.{ended_by, has_faults};
 
 use crate::findings::{Ended, Findings};
 use crate::halt::Halt;
@@ -7,7 +8,7 @@ use numa_answers::page_of;
 use numa_host::{Host, Process};
 use numa_host_script::HostScript;
 use numa_lines::RunFault;
-use numa_reports::Format;
+use numa_reports::{ByProcess, Format};
 use numa_space::Space;
 use std::alloc::Global;
 use std::io::Write;
@@ -59,11 +60,7 @@ pub fn subject_after<T: Write>(
 }
 
 /// Writes an answer, if there is one, based on lines that ended so.
-pub fn write<W: Write>(
-    text: Result<Vec<u8>, Halt>,
-    ended: Ended,
-    output: &mut W,
-) -> Result<Ended, Halt>
+fn write<W: Write>(text: Result<Vec<u8>, Halt>, ended: Ended, output: &mut W) -> Result<Ended, Halt>
     ensures { IfOk result (λ by. by ≡ ended) }
 {
     let text = match text {
@@ -76,6 +73,20 @@ pub fn write<W: Write>(
         Ok(()) => Ok(ended),
         Err(_) => Err(Halt::Stopped(RunFault::Write)),
     }
+}
+
+/// Writes an answer after scripts, if there is one, and returns on which of their lines it is based.
+pub fn answer<T: Write + Drop, W: Write>(
+    findings: Findings<T>,
+    text: Result<Vec<u8>, Halt>,
+    output: &mut W,
+) -> Result<Ended, Halt>
+    ensures { IfOk result (λ by. by
+        ≡ ended_by (has_faults findings.told findings.unjudged)) }
+{
+    let ended = findings.ended();
+    drop(findings);
+    write(text, ended, output)
 }
 
 /// Whether an answer by the other rules is another one; no, if memory lacked for it.
@@ -97,6 +108,23 @@ pub fn other_space(other: Option<&HostScript>, process: Option<u32>) -> Option<&
         Ok(Subject::One(space)) => Some(space),
         _ => None,
     }
+}
+
+/// Adds the answer about a process, if there is one.
+pub fn add_answer(
+    answers: &mut ByProcess,
+    process: &Process,
+    text: Result<Vec<u8>, Halt>,
+) -> Result<(), Halt>
+    ensures { OnOk result (IsOk text) }
+{
+    let text = match text {
+        Ok(text) => text,
+        Err(halt) => return Err(halt),
+    };
+    answers.add(process.id, process.group, text.as_slice());
+    drop(text);
+    Ok(())
 }
 
 /// An answer about all processes, which a page has as its data.

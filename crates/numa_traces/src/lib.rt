@@ -5,7 +5,7 @@
 //! of a trace in order: the first touch of a page places it on the first node of its list that has
 //! a frame left, and later accesses go there, whichever task makes them. A [`HostReplay`] has the
 //! processes of a host, each with a plan and pages of its own, on frames that all share.
-//! [`replay_lines`] reads a trace from a reader.
+//! [`read_by`] reads a trace from a reader.
 #![tactic(auto)]
 
 mod access;
@@ -31,7 +31,7 @@ pub use host_reading::HostReplaying;
 pub use memory::Memory;
 pub use placed::placed_text;
 pub use process::ProcessReplay;
-pub use reading::{Replaying, replay_lines};
+pub use reading::{Replaying, read_by};
 pub use replay::Replay;
 pub use report::{report_text, total_text};
 pub use routes::{RouteCounts, routes_of};

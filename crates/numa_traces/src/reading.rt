@@ -141,20 +141,21 @@ impl TakeLine<()> for Replaying<'_> {
     }
 }
 
-/// Reads a trace and replays its lines, up to the first that can't be replayed.
+/// Reads texts in order, as a trace or as scripts, and hands their lines to a taker, which it gives
+/// back.
 ///
 /// # Errors
-/// `Read`: a read failed; `Memory`: out of memory.
-pub fn replay_lines<R: Read + Drop, T: TakeLine<()> + Drop>(
+/// `Read`: a read failed. `Memory`: out of memory. Or what the taker answers.
+pub fn read_by<R: Read + Drop, T: TakeLine<()> + Drop>(
     alloc: Global,
-    trace: Vec<(String, R)>,
-    replaying: T,
+    texts: Vec<(String, R)>,
+    taker: T,
 ) -> Result<T, RunFault> {
-    let Ok(mut lines) = Lines::new(alloc, replaying) else {
-        drop(trace);
+    let Ok(mut lines) = Lines::new(alloc, taker) else {
+        drop(texts);
         return Err(RunFault::Memory);
     };
-    if let Err(why) = read_all(trace, &mut lines, &mut ()) {
+    if let Err(why) = read_all(texts, &mut lines, &mut ()) {
         drop(lines);
         return Err(why);
     }

@@ -4,11 +4,12 @@ use numa_host::{Host, Process};
 use numa_host_script::HostScript;
 use numa_lines::{RunFault, TakeLine};
 use numa_play::{
-    Ended, Findings, Halt, PLAIN, Scripts, Subject, halt_of, member, play, shown_as, subject_of,
-    write,
+    Ended, Findings, Halt, PLAIN, Scripts, Subject, add_answer, answer, member, play, reported,
+    shown_as, subject_of,
 };
 use numa_reports::{
-    ByProcess, Format, MoveSum, Outlook, Touch, Watch, difference_more, difference_text, outlook_of,
+    ByProcess, Format, MoveSum, Outlook, PredictionRequest, Touch, Watch, difference_more,
+    difference_text, outlook_of,
 };
 use numa_space::Space;
 use std::alloc::{AllocError, Global};
@@ -19,10 +20,7 @@ const ADDED: &str = "--then";
 
 /// The state of a space.
 pub(crate) fn outlook_in(alloc: Global, space: &Space) -> Result<Outlook, Halt> {
-    match outlook_of(alloc, space) {
-        Ok(outlook) => Ok(outlook),
-        Err(fault) => Err(halt_of(fault, space.machine().nodes())),
-    }
+    reported(outlook_of(alloc, space), space.machine().nodes())
 }
 
 /// Plays added lines, whose messages have the name `--then` and numbers from 1 on.
@@ -85,18 +83,9 @@ pub(crate) fn view_in(
     let Format::Html(number) = asked.format else {
         return Ok(Vec::new(alloc));
     };
-    match view_text(
-        alloc,
-        space,
-        &outlook.plan,
-        asked.touch,
-        &[],
-        number,
-        &mut (),
-    ) {
-        Ok(view) => Ok(view),
-        Err(fault) => Err(halt_of(fault, space.machine().nodes())),
-    }
+    let request = PredictionRequest::of(space, &outlook.plan, asked.touch);
+    let view = view_text(alloc, request, number, &mut ());
+    reported(view, space.machine().nodes())
 }
 
 /// The state of a space, as that of a process.
@@ -204,10 +193,8 @@ pub(crate) fn difference_to<P: Watch>(
     watch: &mut P,
 ) -> Result<Vec<u8>, Halt> {
     let DiffAsked { touch, format, .. } = asked;
-    let text = match difference_text(alloc, before, after, nodes, touch, format, watch) {
-        Ok(text) => text,
-        Err(fault) => return Err(halt_of(fault, nodes)),
-    };
+    let text = difference_text(alloc, before, after, nodes, touch, format, watch);
+    let text = reported(text, nodes)?;
     let Format::Html(_) = format else {
         return Ok(text);
     };
@@ -257,10 +244,8 @@ fn difference_in<P: Watch>(
     let nodes = space.machine().nodes();
     let DiffAsked { touch, format, .. } = asked;
     let before = &one.outlook;
-    let text = match difference_more(alloc, before, after, nodes, touch, format, sum, watch) {
-        Ok(text) => text,
-        Err(fault) => return Err(halt_of(fault, nodes)),
-    };
+    let text = difference_more(alloc, before, after, nodes, touch, format, sum, watch);
+    let text = reported(text, nodes)?;
     let Format::Html(_) = format else {
         return Ok(text);
     };
@@ -281,14 +266,7 @@ fn add_difference<P: Watch>(
     let after = outlook_in(alloc, &now.space)?;
     let text = difference_in(alloc, one, &now.space, &after, asked, sum, watch);
     drop(after);
-    match text {
-        Ok(text) => {
-            answers.add(one.process, now.group, text.as_slice());
-            drop(text);
-            Ok(())
-        }
-        Err(halt) => Err(halt),
-    }
+    add_answer(answers, now, text)
 }
 
 /// Adds the differences of the processes that are there before and after.
@@ -453,19 +431,12 @@ pub fn diff<R: Read + Drop, W: Write, T: Write + Drop, P: Watch>(
     told: T,
     watch: &mut P,
 ) -> Result<Ended, Halt> {
-    let Scripts {
-        texts,
-        rules,
-        process,
-    } = scripts;
     let asked = DiffAsked {
-        process,
+        process: scripts.process,
         touch: asked,
         format,
     };
-    let mut findings = play(alloc, texts, Findings::new(alloc, rules, PLAIN, told))?;
+    let mut findings = play(alloc, scripts, PLAIN, told)?;
     let text = difference(alloc, &mut findings, lines, asked, watch);
-    let ended = findings.ended();
-    drop(findings);
-    write(text, ended, output)
+    answer(findings, text, output)
 }

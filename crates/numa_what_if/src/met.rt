@@ -1,8 +1,8 @@
 //! The report of what a trace met, as a text or as a page.
-use numa_answers::{PageData, page_of, view_text};
+use numa_answers::{PageData, view_text};
 use numa_plan::Plan;
-use numa_play::{Halt, halt_of, shown_as};
-use numa_reports::{Format, ReportError, Touch};
+use numa_play::{Halt, reported, shown_as};
+use numa_reports::{Format, PredictionRequest, ReportError, Touch};
 use numa_space::Space;
 use numa_traces::{Replay, Replaying, placed_text, report_text};
 use std::alloc::Global;
@@ -36,7 +36,8 @@ fn data_of(
     report: &[u8],
     number: u32,
 ) -> Result<Vec<u8>, ReportError> {
-    let view = view_text(alloc, space, plan, busiest(replay), &[], number, &mut ())?;
+    let request = PredictionRequest::of(space, plan, busiest(replay));
+    let view = view_text(alloc, request, number, &mut ())?;
     let placed = placed_text(alloc, replay, RUNS)?;
     let mut data = PageData::new(alloc);
     data.put("replay", report);
@@ -57,10 +58,8 @@ pub(crate) fn report_in(
     let Format::Html(number) = format else {
         return Ok(text);
     };
-    match data_of(alloc, space, plan, replay, text.as_slice(), number) {
-        Ok(data) => Ok(data),
-        Err(fault) => Err(halt_of(fault, space.machine().nodes())),
-    }
+    let data = data_of(alloc, space, plan, replay, text.as_slice(), number);
+    reported(data, space.machine().nodes())
 }
 
 /// The report of a whole trace, as a text, or as a page.

@@ -5,12 +5,12 @@ use numa_host::{Host, Process};
 use numa_lines::{RunFault, TakeLine};
 use numa_plan::Plan;
 use numa_play::{
-    Ended, Findings, Halt, Look, PLAIN, Scripts, Subject, Twin, differ, other_space, play,
-    shown_as, subject_of, write,
+    Ended, Findings, Halt, Scripts, Subject, Twin, add_answer, answer, differ, other_space,
+    plain_by, play, shown_as, subject_of,
 };
 use numa_reports::{ByProcess, Format};
 use numa_space::Space;
-use numa_traces::{HostReplay, HostReplaying, Replay, Replaying, replay_lines, total_text};
+use numa_traces::{HostReplay, HostReplaying, Replaying, read_by, total_text};
 use std::alloc::Global;
 use std::io::{Read, Write};
 
@@ -40,6 +40,25 @@ impl<T: TakeLine<()>> TakeLine<()> for ByBoth<T> {
 
     fn hand_over(&mut self, _output: &mut ()) -> Result<(), RunFault> {
         Ok(())
+    }
+}
+
+/// Reads a trace to its end, if there is a replay before its first line.
+fn read_whole<S: Read + Drop, T: TakeLine<()> + Drop>(
+    alloc: Global,
+    begun: Result<ByBoth<T>, Halt>,
+    trace: Vec<(String, S)>,
+) -> Result<ByBoth<T>, Halt> {
+    let both = match begun {
+        Ok(both) => both,
+        Err(halt) => {
+            drop(trace);
+            return Err(halt);
+        }
+    };
+    match read_by(alloc, trace, both) {
+        Ok(both) => Ok(both),
+        Err(why) => Err(Halt::Stopped(why)),
     }
 }
 
@@ -110,35 +129,25 @@ fn replayed_by<S: Read + Drop>(
     trace: Vec<(String, S)>,
     format: Format,
 ) -> Result<Replayed, Halt> {
-    let both = match both_begun(alloc, planned, other, process) {
-        Ok(both) => both,
-        Err(halt) => {
-            drop(trace);
-            return Err(halt);
+    let begun = both_begun(alloc, planned, other, process);
+    let both = read_whole(alloc, begun, trace)?;
+    let text = met(alloc, planned.space, planned.plan, &both.first, format);
+    let is_other = match (other, &both.other) {
+        (Some(other), Some(replaying)) => {
+            let own = met(
+                alloc,
+                planned.space,
+                planned.plan,
+                &both.first,
+                Format::Text,
+            );
+            let by_other = met(alloc, other.space, other.plan, replaying, Format::Text);
+            differ(own, by_other)
         }
+        _ => false,
     };
-    match replay_lines(alloc, trace, both) {
-        Ok(both) => {
-            let text = met(alloc, planned.space, planned.plan, &both.first, format);
-            let is_other = match (other, &both.other) {
-                (Some(other), Some(replaying)) => {
-                    let own = met(
-                        alloc,
-                        planned.space,
-                        planned.plan,
-                        &both.first,
-                        Format::Text,
-                    );
-                    let by_other = met(alloc, other.space, other.plan, replaying, Format::Text);
-                    differ(own, by_other)
-                }
-                _ => false,
-            };
-            drop(both);
-            replayed_as(text, is_other)
-        }
-        Err(why) => Err(Halt::Stopped(why)),
-    }
+    drop(both);
+    replayed_as(text, is_other)
 }
 
 /// Replays a trace in a space by its plan, and in another space, if there is one.
@@ -226,10 +235,8 @@ fn add_report(
     let Some(one) = replay.process(process.id) else {
         return Ok(());
     };
-    let text = report_in(alloc, &process.space, &one.plan, &one.replay, format)?;
-    answers.add(process.id, process.group, text.as_slice());
-    drop(text);
-    Ok(())
+    let text = report_in(alloc, &process.space, &one.plan, &one.replay, format);
+    add_answer(answers, process, text)
 }
 
 /// Adds what the accesses of processes met.
@@ -309,28 +316,17 @@ fn replayed_in_each<S: Read + Drop>(
     trace: Vec<(String, S)>,
     format: Format,
 ) -> Result<Replayed, Halt> {
-    let both = match both_hosts_begun(alloc, host, other) {
-        Ok(both) => both,
-        Err(halt) => {
-            drop(trace);
-            return Err(halt);
+    let both = read_whole(alloc, both_hosts_begun(alloc, host, other), trace)?;
+    let text = met_in_each(alloc, host, &both.first, format);
+    let is_other = match (other, &both.other) {
+        (Some(other), Some(replaying)) => {
+            let own = met_in_each(alloc, host, &both.first, Format::Text);
+            differ(own, met_in_each(alloc, other, replaying, Format::Text))
         }
+        _ => false,
     };
-    match replay_lines(alloc, trace, both) {
-        Ok(both) => {
-            let text = met_in_each(alloc, host, &both.first, format);
-            let is_other = match (other, &both.other) {
-                (Some(other), Some(replaying)) => {
-                    let own = met_in_each(alloc, host, &both.first, Format::Text);
-                    differ(own, met_in_each(alloc, other, replaying, Format::Text))
-                }
-                _ => false,
-            };
-            drop(both);
-            replayed_as(text, is_other)
-        }
-        Err(why) => Err(Halt::Stopped(why)),
-    }
+    drop(both);
+    replayed_as(text, is_other)
 }
 
 /// Finishes the messages, replays a trace by the plans of all accepted commands, and by the other
@@ -419,25 +415,15 @@ pub fn replay<R: Read + Drop, S: Read + Drop, W: Write, T: Write + Drop>(
     output: &mut W,
     told: T,
 ) -> Result<Ended, Halt> {
-    let Scripts {
-        texts,
-        rules,
-        process,
-    } = scripts;
-    let look = Look {
-        other: twin,
-        ..PLAIN
-    };
-    let mut findings = match play(alloc, texts, Findings::new(alloc, rules, look, told)) {
+    let process = scripts.process;
+    let mut findings = match play(alloc, scripts, plain_by(twin), told) {
         Ok(findings) => findings,
-        Err(why) => {
+        Err(halt) => {
             drop(trace);
-            return Err(Halt::Stopped(why));
+            return Err(halt);
         }
     };
     let replayed = replayed_whole(alloc, &mut findings, process, trace, format);
     let text = told_of(&mut findings, replayed);
-    let ended = findings.ended();
-    drop(findings);
-    write(text, ended, output)
+    answer(findings, text, output)
 }

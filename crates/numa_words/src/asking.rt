@@ -1,62 +1,30 @@
 //! Predictions after scripts.
-use crate::each::{EachAsked, lacking_node, predict_each};
-use numa_answers::{PageData, page_of, view_text};
-use numa_compile::compile;
+use crate::each::{EachAsked, lacking_node, predict_each, predict_from};
 use numa_host_script::HostScript;
-use numa_lines::RunFault;
 use numa_placed::Placed;
-use numa_plan::Plan;
 use numa_play::{
-    Ended, Findings, Halt, PLAIN, Scripts, Subject, halt_of, play, subject_after, subject_of, write,
+    Ended, Findings, Halt, PLAIN, Scripts, Subject, answer, play, shown_as, subject_after,
+    subject_of,
 };
-use numa_reports::{Format, FreePages, ReportError, Touch, Watch, filling_text, lying_text};
+use numa_reports::{Account, Format, FreePages, Touch, Watch};
 use numa_space::Space;
 use std::alloc::Global;
 use std::io::{Read, Write};
 
-/// Where all mapped pages of a space would go by its plan, as a text, or as a page. Pages that are
-/// there stay where they lie, of which there is no page.
-fn prediction_by<P: Watch>(
-    alloc: Global,
-    space: &Space,
-    plan: &Plan,
-    placed: Option<&Placed>,
-    asked: Touch,
-    format: Format,
-    free: &[FreePages],
-    watch: &mut P,
-) -> Result<Vec<u8>, ReportError> {
-    if let Some(_) = placed {
-        return lying_text(alloc, space, plan, placed, asked, format, free, watch);
-    }
-    if let Format::Html(number) = format {
-        let view = view_text(alloc, space, plan, asked, free, number, watch)?;
-        let mut data = PageData::new(alloc);
-        data.put("before", view.as_slice());
-        let object = data.end()?;
-        return Ok(page_of(alloc, "prediction", object.as_slice())?);
-    }
-    filling_text(alloc, space, plan, asked, format, free, watch)
-}
-
-/// Where all mapped pages of a space would go, if they were touched now, as a text.
+/// Where all mapped pages of a space would go, if they were touched now, as a text, or as a page.
+/// Pages that are there stay where they lie, of which there is no page.
 fn prediction_in<P: Watch>(
     alloc: Global,
     space: &Space,
     placed: Option<&Placed>,
-    asked: Touch,
-    format: Format,
-    free: &[FreePages],
+    asked: EachAsked<'_>,
     watch: &mut P,
 ) -> Result<Vec<u8>, Halt> {
-    let Ok(plan) = compile(alloc, space) else {
-        return Err(Halt::Stopped(RunFault::Memory));
-    };
-    let text = prediction_by(alloc, space, &plan, placed, asked, format, free, watch);
-    drop(plan);
-    match text {
-        Ok(text) => Ok(text),
-        Err(fault) => Err(halt_of(fault, space.machine().nodes())),
+    let mut account = Account::new(asked.free);
+    let text = predict_from(alloc, space, placed, asked, asked.free, &mut account, watch)?;
+    match placed {
+        Some(_) => Ok(text),
+        None => shown_as(alloc, asked.format, "prediction", text),
     }
 }
 
@@ -76,13 +44,7 @@ fn prediction_of<P: Watch>(
     if let Some(node) = lacking_node(asked.free, nodes) {
         return Err(Halt::NoFreeNode(node, nodes));
     }
-    let EachAsked {
-        touch,
-        format,
-        free,
-        there,
-    } = asked;
-    prediction_in(alloc, space, there.first(), touch, format, free, watch)
+    prediction_in(alloc, space, asked.there.first(), asked, watch)
 }
 
 /// Where all mapped pages of a space would go, if they were touched now, as a text. Nodes in `free`
@@ -101,7 +63,13 @@ pub fn predict_space(
     if let Some(node) = lacking_node(free, nodes) {
         return Err(Halt::NoFreeNode(node, nodes));
     }
-    prediction_in(alloc, space, None, asked, format, free, &mut ())
+    let asked = EachAsked {
+        touch: asked,
+        format,
+        free,
+        there: &[],
+    };
+    prediction_in(alloc, space, None, asked, &mut ())
 }
 
 /// Where all mapped pages would go now, if they were touched, as lines: of a process, or of all of
@@ -190,20 +158,14 @@ pub fn predict<R: Read + Drop, W: Write, T: Write + Drop, P: Watch>(
     told: T,
     watch: &mut P,
 ) -> Result<Ended, Halt> {
-    let Scripts {
-        texts,
-        rules,
-        process,
-    } = scripts;
+    let process = scripts.process;
     let asked = EachAsked {
         touch: asked,
         format,
         free,
         there: &[],
     };
-    let mut findings = play(alloc, texts, Findings::new(alloc, rules, PLAIN, told))?;
+    let mut findings = play(alloc, scripts, PLAIN, told)?;
     let text = prediction(alloc, &mut findings, process, asked, watch);
-    let ended = findings.ended();
-    drop(findings);
-    write(text, ended, output)
+    answer(findings, text, output)
 }

@@ -1,19 +1,17 @@
 //! Predictions of all processes of a host, by process and in all.
 ghost use Rattle.std.specs.Prelude.{◌≡◌, ◌≢◌, ◌^◌, [], List, OnOk};
-ghost use Rattle.numa_compile.specs.Standing.{PlanStandsFor};
 ghost use Rattle.numa_space.specs.Standing.{StandsFor};
 ghost use Rattle.numa_requests.specs.declared.command.Command.{Command};
 ghost use Rattle.numa_reports.specs.Filled.{free_behind, nodes_of};
 ghost use Rattle.numa_reports.specs.Lying.{absent_nodes, spots_in};
 
-use numa_answers::{PageData, shared_view_text};
+use numa_answers::shared_answer;
 use numa_compile::compile;
 use numa_host::{Host, Process};
 use numa_lines::RunFault;
 use numa_placed::Placed;
-use numa_plan::Plan;
-use numa_play::{Halt, halt_of, shown_as};
-use numa_reports::{Account, ByProcess, Format, FreePages, ReportError, Touch, Watch, shared_text};
+use numa_play::{Halt, add_answer, reported, shown_as};
+use numa_reports::{Account, ByProcess, Format, FreePages, PredictionRequest, Touch, Watch};
 use numa_space::Space;
 use std::alloc::Global;
 
@@ -27,95 +25,14 @@ pub(crate) struct EachAsked<'a> {
     pub(crate) there: &'a [Placed],
 }
 
-/// Where the pages of a process would go, by what the ones before it have left, as the data of a
-/// page.
-fn data_of<P: Watch>(
-    alloc: Global,
-    space: &Space,
-    plan: &Plan,
-    asked: EachAsked<'_>,
-    number: u32,
-    account: &mut Account,
-    watch: &mut P,
-) -> Result<Vec<u8>, ReportError>
-    ensures { (history : List Command) → StandsFor space.now history
-        → PlanStandsFor space.now.machine plan.now history → asked.entry.free.now ≢ []
-        → OnOk result (account.new.free ≡ free_behind (nodes_of space.now.machine history
-        asked.entry.touch.task asked.entry.touch.cpu) account.old.free 0 (2 ^ 35)) }
-{
-    let EachAsked { touch, free, .. } = asked;
-    let view = shared_view_text(alloc, space, plan, touch, free, number, account, watch)?;
-    let mut data = PageData::new(alloc);
-    data.put("before", view.as_slice());
-    Ok(data.end()?)
-}
-
-/// Where the pages of a process would go, of which none is there, by what the ones before it have
-/// left, in any format.
-fn text_of<P: Watch>(
-    alloc: Global,
-    space: &Space,
-    plan: &Plan,
-    asked: EachAsked<'_>,
-    account: &mut Account,
-    watch: &mut P,
-) -> Result<Vec<u8>, ReportError>
-    ensures { (history : List Command) → StandsFor space.now history
-        → PlanStandsFor space.now.machine plan.now history → asked.entry.free.now ≢ []
-        → OnOk result (account.new.free ≡ free_behind (nodes_of space.now.machine history
-        asked.entry.touch.task asked.entry.touch.cpu) account.old.free 0 (2 ^ 35)) }
-{
-    let EachAsked {
-        touch,
-        format,
-        free,
-        ..
-    } = asked;
-    match format {
-        Format::Html(number) => data_of(alloc, space, plan, asked, number, account, watch),
-        _ => shared_text(
-            alloc, space, plan, None, touch, format, free, account, watch,
-        ),
-    }
-}
-
-/// Where the pages of a process would go, by what the ones before it have left, in any format, but
-/// in no page where some are there: these stay where they lie.
-fn text_beside<P: Watch>(
-    alloc: Global,
-    space: &Space,
-    plan: &Plan,
-    placed: Option<&Placed>,
-    asked: EachAsked<'_>,
-    account: &mut Account,
-    watch: &mut P,
-) -> Result<Vec<u8>, ReportError>
-    ensures { (history : List Command) → StandsFor space.now history
-        → PlanStandsFor space.now.machine plan.now history → asked.entry.free.now ≢ []
-        → OnOk result (account.new.free ≡ free_behind (absent_nodes (spots_in placed.entry)
-        (nodes_of space.now.machine history asked.entry.touch.task asked.entry.touch.cpu))
-        account.old.free 0 (2 ^ 35)) }
-{
-    let EachAsked {
-        touch,
-        format,
-        free,
-        ..
-    } = asked;
-    match placed {
-        None => text_of(alloc, space, plan, asked, account, watch),
-        Some(_) => shared_text(
-            alloc, space, plan, placed, touch, format, free, account, watch,
-        ),
-    }
-}
-
-/// Where the pages of a process would go, by what the ones before it have left.
-fn prediction_of<P: Watch>(
+/// Where the pages of a space would go, by what the ones before it have left in the account. The
+/// text has what nodes of `told` have left then.
+pub(crate) fn predict_from<P: Watch>(
     alloc: Global,
     space: &Space,
     placed: Option<&Placed>,
     asked: EachAsked<'_>,
+    told: &[FreePages],
     account: &mut Account,
     watch: &mut P,
 ) -> Result<Vec<u8>, Halt>
@@ -127,12 +44,16 @@ fn prediction_of<P: Watch>(
     let Ok(plan) = compile(alloc, space) else {
         return Err(Halt::Stopped(RunFault::Memory));
     };
-    let text = text_beside(alloc, space, &plan, placed, asked, account, watch);
+    let request = PredictionRequest {
+        space,
+        plan: &plan,
+        placed,
+        touch: asked.touch,
+        free: asked.free,
+    };
+    let text = shared_answer(alloc, request, asked.format, told, account, watch);
     drop(plan);
-    match text {
-        Ok(text) => Ok(text),
-        Err(fault) => Err(halt_of(fault, space.machine().nodes())),
-    }
+    reported(text, space.machine().nodes())
 }
 
 /// Adds where the pages of a process would go.
@@ -151,14 +72,8 @@ fn predict_one<P: Watch>(
         process.now.space.machine history asked.entry.touch.task asked.entry.touch.cpu))
         account.old.free 0 (2 ^ 35)) }
 {
-    match prediction_of(alloc, &process.space, placed, asked, account, watch) {
-        Ok(text) => {
-            answers.add(process.id, process.group, text.as_slice());
-            drop(text);
-            Ok(())
-        }
-        Err(halt) => Err(halt),
-    }
+    let text = predict_from(alloc, &process.space, placed, asked, &[], account, watch);
+    add_answer(answers, process, text)
 }
 
 /// Adds where the pages of processes would go, one process after the other: the pages of each take

@@ -4,8 +4,8 @@ use numa_host::{Host, Process};
 use numa_host_script::HostScript;
 use numa_lines::RunFault;
 use numa_play::{
-    Ended, Findings, Halt, Look, PLAIN, Scripts, Subject, Twin, halt_by, other_space, play,
-    subject_of, write,
+    Ended, Findings, Halt, Scripts, Subject, Twin, add_answer, answer, halt_by, other_space,
+    plain_by, play, subject_of,
 };
 use numa_reports::{ByProcess, Format, Touch};
 use numa_rules::{Explanation, by_other_rules, say_by_other};
@@ -127,13 +127,8 @@ fn add_reasons(
 ) -> Result<(), Halt> {
     let other = other_process(other, process.id);
     match reasons(alloc, &process.space, other, asked) {
-        Ok(text) => {
-            answers.add(process.id, process.group, text.as_slice());
-            drop(text);
-            Ok(())
-        }
         Err(Halt::Unmapped) => Ok(()),
-        Err(halt) => Err(halt),
+        text => add_answer(answers, process, text),
     }
 }
 
@@ -276,26 +271,13 @@ pub fn explain<R: Read + Drop, W: Write, T: Write + Drop>(
     output: &mut W,
     told: T,
 ) -> Result<Ended, Halt> {
-    let Scripts {
-        texts,
-        rules,
-        process,
-    } = scripts;
-    let look = Look {
-        other: Twin::Always,
-        ..PLAIN
-    };
-    let mut findings = match play(alloc, texts, Findings::new(alloc, rules, look, told)) {
-        Ok(findings) => findings,
-        Err(why) => return Err(Halt::Stopped(why)),
-    };
+    let process = scripts.process;
+    let mut findings = play(alloc, scripts, plain_by(Twin::Always), told)?;
     let asked = Asked {
         touch: asked,
         pages: asked_for,
         format,
     };
     let text = explanation_after(alloc, &mut findings, process, asked);
-    let ended = findings.ended();
-    drop(findings);
-    write(text, ended, output)
+    answer(findings, text, output)
 }

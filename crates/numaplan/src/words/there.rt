@@ -4,10 +4,11 @@ use numa_console::{Paced, StandardError, with_progress};
 use numa_host::Host;
 use numa_host_script::HostScript;
 use numa_lines::RunFault;
-use numa_moves::{AtLines, PassOver, RefusedAt, Scene, add_stated, read_at_lines};
+use numa_moves::{AtLines, PassOver, RefusedAt, Scene, add_stated};
 use numa_placed::Placed;
 use numa_play::{Ended, Findings, Halt, Look, Scripts, Twin};
 use numa_reports::Format;
+use numa_traces::read_by;
 use std::alloc::Global;
 use std::io::{IsTerminal, Read, Write};
 use std::rt::{Clock, Files};
@@ -122,7 +123,7 @@ where
         format: Format::Text,
     };
     let findings = Findings::new(alloc, rules, look, StandardError { rt }).asking(process, task);
-    let played = match read_at_lines(alloc, texts, AtLines::new(alloc, findings)) {
+    let played = match read_by(alloc, texts, AtLines::new(alloc, findings)) {
         Ok(played) => played,
         Err(why) => {
             drop(texts_at);
@@ -130,7 +131,7 @@ where
         }
     };
     let (findings, at) = played.parted();
-    match read_at_lines(alloc, texts_at, at) {
+    match read_by(alloc, texts_at, at) {
         Ok(at) => Ok((findings, at)),
         Err(why) => {
             drop(findings);
