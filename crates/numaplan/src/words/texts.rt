@@ -14,10 +14,12 @@ use numa_words::{AskedPages, explanation, prediction_there};
 use std::alloc::Global;
 use std::io::Write;
 
-/// What is asked, the touches that are meant, and the process of a host, if not all are asked for.
+/// What is asked, the lines that state where pages lie, the touches that are meant, and the process
+/// of a host, if not all are asked for.
 #[derive(Clone, Copy)]
 struct Meant<'a> {
     asking: Asking<'a>,
+    stated: &'a AtLines<PassOver>,
     touches: &'a [Touch],
     process: Option<u32>,
 }
@@ -77,7 +79,6 @@ fn prediction_beside<P: Watch>(
 fn prediction_in<P: Watch>(
     alloc: Global,
     script: &HostScript,
-    at: &AtLines<PassOver>,
     meant: Meant<'_>,
     free: &[FreePages],
     refused: &mut Vec<RefusedAt>,
@@ -85,7 +86,14 @@ fn prediction_in<P: Watch>(
 ) -> Result<Vec<u8>, Halt> {
     let mut there = Vec::new(alloc);
     if !meant.asking.at.is_empty() {
-        if let Err(halt) = stated_in(alloc, script, at, meant.process, refused, &mut there) {
+        if let Err(halt) = stated_in(
+            alloc,
+            script,
+            meant.stated,
+            meant.process,
+            refused,
+            &mut there,
+        ) {
             drop(there);
             return Err(halt);
         }
@@ -101,14 +109,13 @@ fn goes_elsewhere(
     alloc: Global,
     script: &HostScript,
     other: &HostScript,
-    at: &AtLines<PassOver>,
     meant: Meant<'_>,
     free: &[FreePages],
 ) -> bool {
     let meant = meant.as_text();
     let mut refused = Vec::new(alloc);
-    let own = prediction_in(alloc, script, at, meant, free, &mut refused, &mut ());
-    let by_other = prediction_in(alloc, other, at, meant, free, &mut refused, &mut ());
+    let own = prediction_in(alloc, script, meant, free, &mut refused, &mut ());
+    let by_other = prediction_in(alloc, other, meant, free, &mut refused, &mut ());
     drop(refused);
     differ(own, by_other)
 }
@@ -117,7 +124,6 @@ fn goes_elsewhere(
 fn prediction<R: Eprint + AllocGlobal, T: Write, P: Watch>(
     rt: &R,
     findings: &Findings<T>,
-    at: &AtLines<PassOver>,
     meant: Meant<'_>,
     free: &[FreePages],
     faults: &mut u64,
@@ -126,12 +132,12 @@ fn prediction<R: Eprint + AllocGlobal, T: Write, P: Watch>(
     let alloc = rt.alloc();
     let mut refused = Vec::new(alloc);
     let script = findings.script();
-    let text = prediction_in(alloc, script, at, meant, free, &mut refused, watch);
-    tell_at(rt, faults, at, refused.as_slice());
+    let text = prediction_in(alloc, script, meant, free, &mut refused, watch);
+    tell_at(rt, faults, meant.stated, refused.as_slice());
     drop(refused);
     let text = text?;
     let is_other = match findings.other() {
-        Some(other) => goes_elsewhere(alloc, script, other, at, meant, free),
+        Some(other) => goes_elsewhere(alloc, script, other, meant, free),
         None => false,
     };
     Ok(Answer { text, is_other })
@@ -175,13 +181,12 @@ fn difference_in<P: Watch>(
 fn play<R: Eprint + AllocGlobal, T: Write>(
     rt: &R,
     findings: &mut Findings<T>,
-    at: &AtLines<PassOver>,
     meant: Meant<'_>,
     lines: &[String],
     faults: &mut u64,
 ) -> Result<Option<Answer>, Halt> {
     if meant.asking.at.is_empty() {
-        tell_at(rt, faults, at, &[]);
+        tell_at(rt, faults, meant.stated, &[]);
         return match play_added(findings, lines) {
             Ok(()) => Ok(None),
             Err(why) => Err(Halt::Stopped(why)),
@@ -194,8 +199,8 @@ fn play<R: Eprint + AllocGlobal, T: Write>(
         free: &[],
         format: meant.asking.format,
     };
-    let origin = Origin::Stated(at.lines.as_slice());
-    match moves_of(rt, findings, at, origin, playing, faults) {
+    let origin = Origin::Stated(meant.stated.lines.as_slice());
+    match moves_of(rt, findings, meant.stated, origin, playing, faults) {
         Ok(moves) => Ok(Some(moves)),
         Err(halt) => Err(halt),
     }
@@ -243,7 +248,6 @@ fn with_moves(
 fn difference_by<R: Eprint + AllocGlobal, T: Write, P: Watch>(
     rt: &R,
     findings: &mut Findings<T>,
-    at: &AtLines<PassOver>,
     meant: Meant<'_>,
     lines: &[String],
     states: (&StatesBefore, Option<&StatesBefore>),
@@ -251,7 +255,7 @@ fn difference_by<R: Eprint + AllocGlobal, T: Write, P: Watch>(
     watch: &mut P,
 ) -> Result<Answer, Halt> {
     let alloc = rt.alloc();
-    let moves = play(rt, findings, at, meant, lines, faults)?;
+    let moves = play(rt, findings, meant, lines, faults)?;
     let script = findings.script();
     let text = difference_in(alloc, states.0, script, meant, watch)?;
     let is_other = match (states.1, findings.other()) {
@@ -267,7 +271,6 @@ fn difference_by<R: Eprint + AllocGlobal, T: Write, P: Watch>(
 fn difference<R: Eprint + AllocGlobal, T: Write, P: Watch>(
     rt: &R,
     findings: &mut Findings<T>,
-    at: &AtLines<PassOver>,
     meant: Meant<'_>,
     lines: &[String],
     faults: &mut u64,
@@ -279,7 +282,7 @@ fn difference<R: Eprint + AllocGlobal, T: Write, P: Watch>(
         None => None,
     };
     let states = (&before, other.as_ref());
-    let answer = difference_by(rt, findings, at, meant, lines, states, faults, watch);
+    let answer = difference_by(rt, findings, meant, lines, states, faults, watch);
     drop(before);
     drop(other);
     answer
@@ -313,7 +316,6 @@ fn reasons<T: Write>(
 fn moves<R: Eprint + AllocGlobal, T: Write>(
     rt: &R,
     findings: &mut Findings<T>,
-    at: &AtLines<PassOver>,
     meant: Meant<'_>,
     lines: &[String],
     free: &[FreePages],
@@ -321,7 +323,7 @@ fn moves<R: Eprint + AllocGlobal, T: Write>(
 ) -> Result<Answer, Halt> {
     let origin = match meant.touches.first() {
         Some(touch) => Origin::Touched(*touch),
-        None => Origin::Stated(at.lines.as_slice()),
+        None => Origin::Stated(meant.stated.lines.as_slice()),
     };
     let playing = Playing {
         lines,
@@ -330,26 +332,25 @@ fn moves<R: Eprint + AllocGlobal, T: Write>(
         free,
         format: meant.asking.format,
     };
-    moves_of(rt, findings, at, origin, playing, faults)
+    moves_of(rt, findings, meant.stated, origin, playing, faults)
 }
 
 /// The answer.
 fn answer_of<R: Eprint + AllocGlobal, T: Write, P: Watch>(
     rt: &R,
     findings: &mut Findings<T>,
-    at: &AtLines<PassOver>,
     meant: Meant<'_>,
     faults: &mut u64,
     watch: &mut P,
 ) -> Result<Answer, Halt> {
     match meant.asking.question {
-        Question::Predict(free) => prediction(rt, findings, at, meant, free, faults, watch),
-        Question::Diff(lines) => difference(rt, findings, at, meant, lines, faults, watch),
+        Question::Predict(free) => prediction(rt, findings, meant, free, faults, watch),
+        Question::Diff(lines) => difference(rt, findings, meant, lines, faults, watch),
         Question::Explain(address, pages) => {
-            tell_at(rt, faults, at, &[]);
+            tell_at(rt, faults, meant.stated, &[]);
             reasons(rt.alloc(), findings, meant, address, pages)
         }
-        Question::Moves(lines, free) => moves(rt, findings, at, meant, lines, free, faults),
+        Question::Moves(lines, free) => moves(rt, findings, meant, lines, free, faults),
     }
 }
 
@@ -388,7 +389,7 @@ fn touches_in<T: Write>(
 pub fn text_of<R: Eprint + AllocGlobal, T: Write, P: Watch>(
     rt: &R,
     findings: &mut Findings<T>,
-    at: &AtLines<PassOver>,
+    stated: &AtLines<PassOver>,
     process: Option<u32>,
     asking: Asking<'_>,
     faults: &mut u64,
@@ -398,10 +399,11 @@ pub fn text_of<R: Eprint + AllocGlobal, T: Write, P: Watch>(
     let touches = touches_in(rt.alloc(), findings, process, asking)?;
     let meant = Meant {
         asking,
+        stated,
         touches: touches.as_slice(),
         process,
     };
-    let answer = answer_of(rt, findings, at, meant, faults, watch);
+    let answer = answer_of(rt, findings, meant, faults, watch);
     drop(touches);
     match answer {
         Ok(answer) => remarked(findings, answer),
