@@ -75,7 +75,8 @@ fn write<W: Write>(text: Result<Vec<u8>, Halt>, ended: Ended, output: &mut W) ->
     }
 }
 
-/// Writes an answer after scripts, if there is one, and returns on which of their lines it is based.
+/// Writes an answer after scripts, if there is one, and returns on which of their lines it is
+/// based.
 pub fn answer<T: Write + Drop, W: Write>(
     findings: Findings<T>,
     text: Result<Vec<u8>, Halt>,

@@ -147,8 +147,8 @@ impl Drawing {
         let body = text.take()?;
         text.begin_picture(self.row.saturating_add(16));
         text.put(
-            b"<text x=\"16\" y=\"24\" font-size=\"14\">Where pages lie, and below it where they lie \
-            after the line; a thick frame shows those that moved</text>\n",
+            b"<text x=\"16\" y=\"24\" font-size=\"14\">Where pages lie, and below it where they \
+            lie after the line; a thick frame shows those that moved</text>\n",
         );
         text.put(body.as_slice());
         drop(body);
