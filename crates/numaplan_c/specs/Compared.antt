@@ -1,11 +1,11 @@
 -- What exported calls about two cores, and lists of structs, answer.
-use Rattle.std.specs.Prelude.{◌≡◌, ◌<◌, ℕ, List, length, take, drop, Option, Some, None}
-use Rattle.std.specs.Prelude.{Result, Ok, Err}
+use Rattle.std.specs.Prelude.{◌≡◌, ℕ, List, Option, Some, None, Result, Ok, Err}
 use Rattle.numa_reports.specs.declared.differences.SpanMove.{SpanMove}
 use Rattle.numa_reports.specs.declared.fault.ReportError.{ReportError}
 use Rattle.numa_traces.specs.declared.fault.ReplayError.{ReplayError}
 use Rattle.numa_traces.specs.declared.fault.ReplayError.TheVariants as fault
 use Rattle.numa_traces.specs.declared.routes.RouteCounts.{RouteCounts}
+use Rattle.numaplan_handles.specs.Room.{Copies}
 use Rattle.numaplan_c.specs.Codes.{place_code}
 use Rattle.numaplan_c.specs.Predictions.{fault_code}
 use Rattle.numaplan_c.specs.Texts.{copy_code, length_copied}
@@ -19,17 +19,11 @@ AskedBoth {A} one other one_then other_then code untold told = (one_then ≡ one
     × (other ≡ None → (code ≡ 1) × untold)
     × ((kept kept' : A) → one ≡ Some kept → other ≡ Some kept' → told kept kept')
 
--- the items are at the beginning of the room, which held `old`, or they are more than the room has
-abbrev pub CopiesAll : {A : Type 0} → List A → Result ℕ ℕ → List A → List A → Type 0
-CopiesAll items (Ok count) old new = (count ≡ length items) × (take count new ≡ items)
-    × (drop count new ≡ drop count old)
-CopiesAll items (Err count) old new = (count ≡ length items) × (length old < count) × (new ≡ old)
-
 -- the items are at the beginning of the room, or there was no room for them; how many they are is
 -- returned
 abbrev pub IsListed : {A : Type 0} → List A → ℕ → List A → List A → ℕ → Type 0
 IsListed items code old new count = (told : Result ℕ ℕ) × (code ≡ copy_code told)
-    × (count ≡ length_copied told) × CopiesAll items told old new
+    × (count ≡ length_copied told) × Copies items told old new
 
 -- moves are told; where they are refused, what stood there stays
 abbrev pub TellsMoves : Result (List SpanMove) ReportError → ℕ → List SpanMove → List SpanMove

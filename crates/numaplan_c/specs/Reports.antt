@@ -7,7 +7,7 @@ use Rattle.numa_play.specs.declared.findings.Ended.{Ended}
 use Rattle.numa_play.specs.declared.findings.Ended.TheVariants as ended
 use Rattle.numa_play.specs.declared.halt.Halt.{Halt}
 use Rattle.numa_play.specs.declared.halt.Halt.TheVariants as halt
-use Rattle.numaplan_handles.specs.Dialogs.{Copies}
+use Rattle.numaplan_handles.specs.Room.{Copies}
 use Rattle.numaplan_reports.specs.declared.report.Report.{Report}
 use Rattle.numaplan_c.specs.declared.reports.NpReport.{NpReport}
 

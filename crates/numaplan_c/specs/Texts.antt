@@ -1,6 +1,6 @@
 -- What an exported call that writes a text does.
 use Rattle.std.specs.Prelude.{◌≡◌, ℕ, List, Result, Ok, Err}
-use Rattle.numaplan_handles.specs.Dialogs.{Copies}
+use Rattle.numaplan_handles.specs.Room.{Copies}
 
 abbrev pub copy_code : Result ℕ ℕ → ℕ
 copy_code (Ok count) = 0

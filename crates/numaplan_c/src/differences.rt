@@ -2,7 +2,7 @@
 ghost use Rattle.std.specs.Prelude.{◌≡◌, List, Result};
 ghost use Rattle.numa_reports.specs.declared.differences.SpanMove.{SpanMove};
 ghost use Rattle.numa_reports.specs.declared.fault.ReportError.{ReportError};
-ghost use Rattle.numaplan_c.specs.Compared.{AskedBoth, CopiesAll, IsListed, TellsMoves};
+ghost use Rattle.numaplan_c.specs.Compared.{AskedBoth, IsListed, TellsMoves};
 ghost use Rattle.numaplan_handles.specs.Handles.{core_in};
 ghost use Rattle.numaplan_reports.specs.Compared.{Differs};
 
@@ -10,24 +10,9 @@ use crate::codes::Code;
 use crate::predictions::fault_code;
 use crate::texts::{copy_code, length_copied};
 use numa_reports::{SpanMove, Touch};
-use numaplan_handles::CoreHandle;
+use numaplan_handles::{CoreHandle, copy_items};
 use numaplan_reports::diff_cores;
 use std::alloc::Global;
-
-/// Copies items to the beginning of `room`, and returns their number.
-///
-/// # Errors
-/// Their number, if `room` is too short.
-fn copy_items<T: Copy>(items: &[T], room: &mut [T]) -> Result<usize, usize>
-    ensures { CopiesAll items.now result room.old room.new }
-{
-    let count = items.len();
-    if count > room.len() {
-        return Err(count);
-    }
-    room[..count].copy_from_slice(items);
-    Ok(count)
-}
 
 /// Copies a list to the beginning of `room`, writes its length, and returns a code.
 pub(crate) fn write_items<T: Copy>(items: &[T], room: &mut [T], count: &mut usize) -> u32

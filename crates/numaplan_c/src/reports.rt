@@ -6,7 +6,7 @@ ghost use Rattle.numaplan_c.specs.Reports.{format_of, halt_code, is_untold};
 use crate::codes::Code;
 use numa_play::{Ended, Halt};
 use numa_reports::{DRAWN, Format, LISTED, Touch};
-use numaplan_handles::copy_bytes;
+use numaplan_handles::copy_items;
 use numaplan_reports::Report;
 use std::alloc::AllocError;
 
@@ -127,7 +127,7 @@ fn tell(said: &Report, text: &mut [u8], report: &mut NpReport) -> u32
         messages: said.text.len() - said.answer,
         faulty: faulty_number(said.ended),
     };
-    match copy_bytes(said.text.as_slice(), text) {
+    match copy_items(said.text.as_slice(), text) {
         Ok(_) => end_code(said.ended),
         Err(_) => Code::NoRoom as u32,
     }

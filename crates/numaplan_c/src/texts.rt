@@ -3,7 +3,7 @@ ghost use Rattle.std.specs.Prelude.{◌≡◌};
 ghost use Rattle.numaplan_c.specs.Texts.{IsWritten, copy_code, length_copied};
 
 use crate::codes::Code;
-use numaplan_handles::copy_bytes;
+use numaplan_handles::copy_items;
 
 /// The code of the result of a copy.
 pub(crate) fn copy_code(told: Result<usize, usize>) -> u32
@@ -29,7 +29,7 @@ pub(crate) fn length_copied(told: Result<usize, usize>) -> usize
 pub(crate) fn write(text: &[u8], room: &mut [u8], length: &mut usize) -> u32
     ensures { IsWritten text.now result room.old room.new length.new }
 {
-    let told = copy_bytes(text, room);
+    let told = copy_items(text, room);
     *length = length_copied(told);
     copy_code(told)
 }

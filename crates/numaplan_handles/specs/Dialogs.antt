@@ -1,6 +1,7 @@
 -- What a handle of a script keeps, and how lines are answered.
-use Rattle.std.specs.Prelude.{◌≡◌, ◌<◌, ℕ, Bool, List, [], length, take, drop}
+use Rattle.std.specs.Prelude.{◌≡◌, ℕ, Bool, List, [], length}
 use Rattle.std.specs.Prelude.{Option, Some, None, Result, Ok, Err}
+use Rattle.numaplan_handles.specs.Room.{Copies}
 use Rattle.numa_machine.specs.declared.rules.Rules.{Rules}
 use Rattle.numa_host_script.specs.Sessions.{Session, session_after_bytes, session_answer_to}
 use Rattle.numa_host_script.specs.Sessions.{session_by}
@@ -41,13 +42,7 @@ abbrev pub ServesKept : List ℕ → Option Dialog → Option Dialog → Result 
 ServesKept line old new answer = (before : Dialog) → old ≡ Some before →
     (later : Dialog) × (new ≡ Some later) × Serves before line answer later
 
--- the answer is at the beginning of the room, which held `old`, or it is longer than the room
-abbrev pub Copies : List ℕ → Result ℕ ℕ → List ℕ → List ℕ → Type 0
-Copies answer (Ok count) old new = (count ≡ length answer) × (take count new ≡ answer)
-    × (drop count new ≡ drop count old)
-Copies answer (Err count) old new = (count ≡ length answer) × (length old < count) × (new ≡ old)
-
--- the same of the answer that is kept
+-- the answer that is kept is copied, or it is longer than the room, which held `old`
 abbrev pub CopiesKept : Option Dialog → Result ℕ ℕ → List ℕ → List ℕ → Type 0
 CopiesKept None told old new = Unit {0}
 CopiesKept (Some dialog) told old new = Copies dialog.answer.items told old new

@@ -1,11 +1,12 @@
 -- What a handle keeps, by its kind.
-use Rattle.std.specs.Prelude.{◌≡◌, Bool, true, false, Option, Some, None}
+use Rattle.std.specs.Prelude.{◌≡◌, Bool, true, false, Option, Some, None, Result}
 use Rattle.std.specs.Arc.{arc_value}
 use Rattle.numa_core.specs.Standing.{CoreState}
 use Rattle.numa_host.specs.Standing.{HostState}
 use Rattle.numa_pages.specs.Changes.{PagesState}
 use Rattle.numa_plan.specs.Meaning.{PlanData}
 use Rattle.numa_pool.specs.Seated.{Seated}
+use Rattle.numaplan_handles.specs.Calls.{IsShared}
 use Rattle.numaplan_handles.specs.declared.dialog.Dialog.{Dialog}
 use Rattle.numaplan_handles.specs.declared.kept.Kept.{Kept}
 use Rattle.numaplan_handles.specs.declared.kept.Kept.TheVariants as kept
@@ -136,3 +137,16 @@ abbrev pub CallsKept : {K A : Type 0} → (Option Kept → Bool) → (Option Kep
     → (Option K → Option K → A → Type 0) → Kept → A → Kept → Type 0
 CallsKept is_kind value_of told old answer new = (is_kind (Some new) ≡ true)
     × told (value_of (Some old)) (value_of (Some new)) answer
+
+-- where a value of this kind is kept, the other one is of this kind too, and the same
+abbrev pub IsCopied : {K : Type 0} → (Option Kept → Bool) → (Option Kept → Option K) → Kept → Kept
+    → Type 0
+IsCopied is_kind value_of kept other = is_kind (Some kept) ≡ true →
+    (is_kind (Some other) ≡ true) × (value_of (Some other) ≡ value_of (Some kept))
+
+-- the same as `IsShared` where a value of this kind is kept, and then one of this kind, or none, is
+-- kept by the other handle
+abbrev pub SharesKept : {K E : Type 0} → (Option Kept → Bool) → (Option Kept → Option K)
+    → Option Kept → Option (Result (Unit {0}) E) → Option Kept → Type 0
+SharesKept is_kind value_of kept answer other = is_kind kept ≡ true →
+    (is_kind other ≡ true) × IsShared (value_of kept) answer (value_of other)

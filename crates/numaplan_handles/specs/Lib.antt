@@ -8,6 +8,7 @@ pub mod Kinds
 pub mod Ownership
 pub mod Pages
 pub mod Plans
+pub mod Room
 pub mod Seats
 pub mod Steps
 pub use Rattle.numa_core.specs.Standing

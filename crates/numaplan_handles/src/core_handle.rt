@@ -1,11 +1,11 @@
 //! A handle of a core.
 ghost use Rattle.std.specs.Prelude.{◌≡◌, Some, None, true, IfOk};
 ghost use Rattle.numaplan_handles.specs.Calls.{Asks, Calls, Keeps};
-ghost use Rattle.numaplan_handles.specs.Kinds.{CallsKept, core_of, is_core};
+ghost use Rattle.numaplan_handles.specs.Kinds.{core_of, is_core};
 ghost use Rattle.numaplan_handles.specs.Steps.{Steps, Touches, Compiles, HasVersions};
 
 use crate::core_questions::core_kept;
-use crate::handle::Handle;
+use crate::handle::{Handle, of_kept};
 use crate::kept::Kept;
 use numa_core::Core;
 use numa_machine::NoMemory;
@@ -18,28 +18,6 @@ use std::alloc::{AllocError, Global};
 pub struct CoreHandle {
     pub handle: Handle,
     ghost kind: { is_core handle.held.kept ≡ true },
-}
-
-/// Carries out an event of a core.
-fn step_kept(kept: &mut Kept, event: Event) -> Result<CoreReply, CoreRefusal>
-    requires core { is_core (Some kept.old) ≡ true }
-    ensures { CallsKept is_core core_of (Steps event) kept.old result kept.new }
-{
-    match kept {
-        Kept::Core(core) => core.step(event),
-        _ => unreachable!(),
-    }
-}
-
-/// Carries out a touch of a core.
-fn touch_kept(kept: &mut Kept, worker: u32, request: Request) -> Result<CoreReply, CoreRefusal>
-    requires core { is_core (Some kept.old) ≡ true }
-    ensures { CallsKept is_core core_of (Touches worker request) kept.old result kept.new }
-{
-    match kept {
-        Kept::Core(core) => core.touch(worker, request),
-        _ => unreachable!(),
-    }
 }
 
 /// Makes the plan of a core's accepted commands, if it has none.
@@ -77,6 +55,13 @@ pub fn compile_kept(kept: &mut Kept, alloc: Global) -> Result<Plan, NoMemory>
     copy_kept(kept, alloc)
 }
 
+/// The number of accepted commands, and of those that are published.
+fn versions_of(core: &Core) -> (u64, u64)
+    ensures { HasVersions (Some core.now) result.0 result.1 }
+{
+    (core.space().version(), core.published())
+}
+
 impl CoreHandle {
     ghost use Rattle.numaplan_handles.specs.Handles.{core_in};
 
@@ -98,10 +83,7 @@ impl CoreHandle {
     pub fn step(&mut self, alloc: Global, event: Event) -> Option<Result<CoreReply, CoreRefusal>>
         ensures { Calls (Steps event) (core_in self.old) result (core_in self.new) }
     {
-        let mut kept = self.handle.take(alloc)?;
-        let answer = step_kept(&mut kept, event);
-        self.handle.put(kept);
-        Some(answer)
+        of_kept!(self.handle, alloc, Kept::Core(core) => core.step(event))
     }
 
     /// Carries out a touch of a page by a worker and returns its reply. `None` if the handle is
@@ -117,10 +99,7 @@ impl CoreHandle {
     ) -> Option<Result<CoreReply, CoreRefusal>>
         ensures { Calls (Touches worker request) (core_in self.old) result (core_in self.new) }
     {
-        let mut kept = self.handle.take(alloc)?;
-        let answer = touch_kept(&mut kept, worker, request);
-        self.handle.put(kept);
-        Some(answer)
+        of_kept!(self.handle, alloc, Kept::Core(core) => core.touch(worker, request))
     }
 
     /// The plan of all accepted commands: a copy of the one that the core keeps after the first.
@@ -132,10 +111,7 @@ impl CoreHandle {
         ensures { Asks (λ answer. IfOk answer (Compiles (core_in self.old))) (core_in self.old)
             result (core_in self.new) }
     {
-        let mut kept = self.handle.take(alloc)?;
-        let answer = compile_kept(&mut kept, alloc);
-        self.handle.put(kept);
-        Some(answer)
+        of_kept!(self.handle, alloc, mut kept => compile_kept(&mut kept, alloc))
     }
 
     /// The number of accepted commands, and of those that are published. `None` if the handle is
@@ -144,10 +120,6 @@ impl CoreHandle {
         ensures { Asks (λ both. HasVersions (core_in self.old) both.0 both.1) (core_in self.old)
             result (core_in self.new) }
     {
-        let kept = self.handle.take(alloc)?;
-        let core = core_kept(&kept);
-        let versions = (core.space().version(), core.published());
-        self.handle.put(kept);
-        Some(versions)
+        of_kept!(self.handle, alloc, kept => versions_of(core_kept(&kept)))
     }
 }

@@ -13,6 +13,7 @@ ghost use Rattle.numaplan_handles.specs.Kinds.{core_of, is_core};
 ghost use Rattle.numaplan_handles.specs.Steps.{Publishes};
 
 use crate::core_handle::CoreHandle;
+use crate::handle::of_kept;
 use crate::kept::Kept;
 use crate::search::place_of;
 use numa_core::Core;
@@ -91,20 +92,14 @@ impl CoreHandle {
         ensures { Asks (λ answer. IfOk answer (Publishes (core_in self.old))) (core_in self.old)
             result (core_in self.new) }
     {
-        let kept = self.handle.take(alloc)?;
-        let answer = core_kept(&kept).plan().copy(alloc);
-        self.handle.put(kept);
-        Some(answer)
+        of_kept!(self.handle, alloc, kept => core_kept(&kept).plan().copy(alloc))
     }
 
     /// The number of ranges by all accepted commands. `None` if the handle is closed.
     pub fn ranges(&mut self, alloc: Global) -> Option<usize>
         ensures { Asks (HasRanges (core_in self.old)) (core_in self.old) result (core_in self.new) }
     {
-        let kept = self.handle.take(alloc)?;
-        let count = core_kept(&kept).space().ranges();
-        self.handle.put(kept);
-        Some(count)
+        of_kept!(self.handle, alloc, kept => core_kept(&kept).space().ranges())
     }
 
     /// The range at a place, counted from 0 in ascending order, or no range. `None` if the handle
@@ -114,10 +109,7 @@ impl CoreHandle {
             (core_in self.new) }
         ensures end { IfSome result (λ found. IfSome found (λ range. end_of range ≤ 2 ^ 35)) }
     {
-        let kept = self.handle.take(alloc)?;
-        let found = range_of(core_kept(&kept).space(), place);
-        self.handle.put(kept);
-        Some(found)
+        of_kept!(self.handle, alloc, kept => range_of(core_kept(&kept).space(), place))
     }
 
     /// The place of the range that has a page, or else of the next one; the number of ranges if
@@ -126,10 +118,7 @@ impl CoreHandle {
         ensures { Asks (HasPlaceOf (core_in self.old) page) (core_in self.old) result
             (core_in self.new) }
     {
-        let kept = self.handle.take(alloc)?;
-        let place = place_of(core_kept(&kept).space(), page);
-        self.handle.put(kept);
-        Some(place)
+        of_kept!(self.handle, alloc, kept => place_of(core_kept(&kept).space(), page))
     }
 
     /// The policy of a task, or no policy. `None` if the handle is closed.
@@ -137,10 +126,7 @@ impl CoreHandle {
         ensures { Asks (HasTaskPolicy (core_in self.old) task) (core_in self.old) result
             (core_in self.new) }
     {
-        let kept = self.handle.take(alloc)?;
-        let policy = core_kept(&kept).space().task_policy(task);
-        self.handle.put(kept);
-        Some(policy)
+        of_kept!(self.handle, alloc, kept => core_kept(&kept).space().task_policy(task))
     }
 
     /// The listing of the ranges for a task, with the placed pages, as [`write_maps`] writes it.
@@ -158,9 +144,8 @@ impl CoreHandle {
             HasListing (core_in self.old) task placed.now text.items)) (core_in self.old) result
             (core_in self.new) }
     {
-        let kept = self.handle.take(alloc)?;
-        let answer = listing_of(alloc, core_kept(&kept).space(), task, placed);
-        self.handle.put(kept);
-        Some(answer)
+        of_kept!(self.handle, alloc, kept => {
+            listing_of(alloc, core_kept(&kept).space(), task, placed)
+        })
     }
 }

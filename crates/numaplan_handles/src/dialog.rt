@@ -3,9 +3,10 @@ ghost use Rattle.std.specs.Prelude.{◌≡◌, [], Ok, Err, Bool, MatchOption};
 ghost use Rattle.numa_host_script.specs.Sessions.{Session, session_after_bytes};
 ghost use Rattle.numa_host_script.specs.Sessions.{session_answer_to};
 ghost use Rattle.numa_host_script.specs.Standing.{StandsIn};
-ghost use Rattle.numaplan_handles.specs.Dialogs.{IsFresh, Serves, Copies};
+ghost use Rattle.numaplan_handles.specs.Dialogs.{IsFresh, Serves};
+ghost use Rattle.numaplan_handles.specs.Room.{Copies};
 
-use crate::room::copy_bytes;
+use crate::room::copy_items;
 use numa_host_script::HostScript;
 use numa_lines::{Serve, Watched};
 use numa_machine::Rules;
@@ -90,6 +91,6 @@ impl Dialog {
     pub(crate) fn copy(&self, room: &mut [u8]) -> Result<usize, usize>
         ensures { Copies self.now.answer.items result room.old room.new }
     {
-        copy_bytes(&self.answer, room)
+        copy_items(&self.answer, room)
     }
 }

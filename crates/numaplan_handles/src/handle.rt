@@ -1,8 +1,7 @@
 //! Handles of any kind.
 ghost use Rattle.std.specs.Prelude.{◌≡◌, Some, None, MatchOption, is_some, true};
 ghost use Rattle.std.specs.Prelude.{Ok, Err, MatchResult, OnOk, OnErr};
-ghost use Rattle.numaplan_handles.specs.Calls.{IsShared};
-ghost use Rattle.numaplan_handles.specs.Kinds.{core_of, is_core, is_plan, plan_of};
+ghost use Rattle.numaplan_handles.specs.Kinds.{SharesKept, core_of, is_core, is_plan, plan_of};
 ghost use Rattle.numaplan_handles.specs.Kinds.{host_of, is_host, is_pages, pages_of};
 
 use crate::held::HeapSlot;
@@ -10,6 +9,32 @@ use crate::kept::Kept;
 use crate::place::RawBox;
 use std::alloc::{AllocError, Global};
 use std::mem::replace;
+
+/// What is answered of the value that a handle keeps, which the handle gets back. The method that
+/// asks returns `None` if the handle is closed. Where the answer changes the value, a pattern says
+/// of which kind it is.
+macro_rules! of_kept {
+    ($handle:expr, $alloc:expr, $kept:ident => $answer:expr) => {{
+        let $kept = $handle.take($alloc)?;
+        let answer = $answer;
+        $handle.put($kept);
+        Some(answer)
+    }};
+    ($handle:expr, $alloc:expr, mut $kept:ident => $answer:expr) => {{
+        let mut $kept = $handle.take($alloc)?;
+        let answer = $answer;
+        $handle.put($kept);
+        Some(answer)
+    }};
+    ($handle:expr, $alloc:expr, $kind:pat => $answer:expr) => {
+        $crate::handle::of_kept!($handle, $alloc, mut kept => match &mut *kept {
+            $kind => $answer,
+            _ => unreachable!(),
+        })
+    };
+}
+
+pub(crate) use of_kept;
 
 /// A value on the heap that belongs to a C caller, or nothing: a handle whose bytes are all 0 is
 /// closed.
@@ -121,18 +146,11 @@ impl Handle {
     pub fn share(&mut self, alloc: Global, other: &mut Handle) -> Option<Result<(), AllocError>>
         requires closed { other.old.held.kept ≡ None }
         ensures same { self.new.held.kept ≡ self.old.held.kept }
-        ensures core { is_core self.old.held.kept ≡ true →
-            (is_core other.new.held.kept ≡ true)
-            × IsShared (core_of self.old.held.kept) result (core_of other.new.held.kept) }
-        ensures plan { is_plan self.old.held.kept ≡ true →
-            (is_plan other.new.held.kept ≡ true)
-            × IsShared (plan_of self.old.held.kept) result (plan_of other.new.held.kept) }
-        ensures host { is_host self.old.held.kept ≡ true →
-            (is_host other.new.held.kept ≡ true)
-            × IsShared (host_of self.old.held.kept) result (host_of other.new.held.kept) }
-        ensures pages { is_pages self.old.held.kept ≡ true →
-            (is_pages other.new.held.kept ≡ true)
-            × IsShared (pages_of self.old.held.kept) result (pages_of other.new.held.kept) }
+        ensures core { SharesKept is_core core_of self.old.held.kept result other.new.held.kept }
+        ensures plan { SharesKept is_plan plan_of self.old.held.kept result other.new.held.kept }
+        ensures host { SharesKept is_host host_of self.old.held.kept result other.new.held.kept }
+        ensures pages { SharesKept is_pages pages_of self.old.held.kept result
+            other.new.held.kept }
     {
         let kept = self.take(alloc)?;
         let again = kept.again(alloc);

@@ -2,10 +2,10 @@
 ghost use Rattle.std.specs.Prelude.{◌≡◌, None, true};
 ghost use Rattle.numaplan_handles.specs.Calls.{Asks, Calls, IsShared, Keeps};
 ghost use Rattle.numaplan_handles.specs.Hosts.{HasHostVersion, Obeys, OfHost};
-ghost use Rattle.numaplan_handles.specs.Kinds.{CallsKept, host_of, is_host};
+ghost use Rattle.numaplan_handles.specs.Kinds.{host_of, is_host};
 ghost use Rattle.numa_requests.specs.declared.host_command.HostCommand.{HostCommand};
 
-use crate::handle::Handle;
+use crate::handle::{Handle, of_kept};
 use crate::kept::Kept;
 use numa_host::Host;
 use numa_requests::{HostCommand, HostRefusal};
@@ -27,17 +27,6 @@ pub(crate) fn host_kept(kept: &Kept) -> &Host
         unreachable!()
     };
     host
-}
-
-/// Carries out a command of a host.
-fn apply_kept(kept: &mut Kept, command: &HostCommand) -> Result<(), HostRefusal>
-    requires host { is_host (Some kept.old) ≡ true }
-    ensures { CallsKept is_host host_of (Obeys command.now) kept.old result kept.new }
-{
-    match kept {
-        Kept::Host(host) => host.apply(command),
-        _ => unreachable!(),
-    }
 }
 
 impl HostHandle {
@@ -74,10 +63,7 @@ impl HostHandle {
     pub fn apply(&mut self, alloc: Global, command: &HostCommand) -> Option<Result<(), HostRefusal>>
         ensures { Calls (Obeys command.now) (host_in self.old) result (host_in self.new) }
     {
-        let mut kept = self.handle.take(alloc)?;
-        let answer = apply_kept(&mut kept, command);
-        self.handle.put(kept);
-        Some(answer)
+        of_kept!(self.handle, alloc, Kept::Host(host) => host.apply(command))
     }
 
     /// The number of accepted commands. `None` if the handle is closed.
@@ -85,9 +71,6 @@ impl HostHandle {
         ensures { Asks (λ version. OfHost (host_in self.old) (HasHostVersion version))
             (host_in self.old) result (host_in self.new) }
     {
-        let kept = self.handle.take(alloc)?;
-        let version = host_kept(&kept).version();
-        self.handle.put(kept);
-        Some(version)
+        of_kept!(self.handle, alloc, kept => host_kept(&kept).version())
     }
 }

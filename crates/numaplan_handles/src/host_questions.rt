@@ -15,9 +15,10 @@ ghost use Rattle.numaplan_handles.specs.Hosts.{HasGroupAt, HasGroupNodes, HasGro
 ghost use Rattle.numaplan_handles.specs.Hosts.{HasProcesses, IsPlanned, OfHost, OfProcess};
 
 use crate::core_questions::range_of;
+use crate::handle::of_kept;
 use crate::host_handle::{HostHandle, host_kept};
 use crate::plan_handle::ChoiceRefusal;
-use crate::room::copy_bytes;
+use crate::room::copy_items;
 use numa_compile::compile;
 use numa_host::{ControlGroup, Host};
 use numa_machine::NoMemory;
@@ -25,6 +26,7 @@ use numa_mask::NodeMask;
 use numa_mode::Record;
 use numa_plan::Plan;
 use numa_ranges::Run;
+use numa_requests::Request;
 use numa_space::{RangeRecord, Space};
 use std::alloc::Global;
 
@@ -92,38 +94,32 @@ fn plan_in_process(host: &Host, alloc: Global, process: u32) -> Option<Result<Pl
 }
 
 /// Copies the list of a page.
-fn choose_at(
-    space: &Space,
-    task: u32,
-    page: u64,
-    cpu: u32,
-    nodes: &mut [u8],
-) -> Result<usize, ChoiceRefusal>
+fn choose_at(space: &Space, asked: Request, nodes: &mut [u8]) -> Result<usize, ChoiceRefusal>
     ensures { (commands : List Command) → StandsFor space.now commands
-        → ChoosesBy task page cpu nodes.old nodes.new space.now.machine commands result }
+        → ChoosesBy asked.task asked.page asked.cpu nodes.old nodes.new space.now.machine commands
+        result }
 {
-    let list = match space.list_at(task, page, cpu) {
+    let list = match space.list_at(asked.task, asked.page, asked.cpu) {
         Ok(list) => list,
         Err(refusal) => return Err(ChoiceRefusal::Place(refusal)),
     };
-    copy_bytes(list.as_slice(), nodes).map_err(ChoiceRefusal::TooShort)
+    copy_items(list.as_slice(), nodes).map_err(ChoiceRefusal::TooShort)
 }
 
 /// Copies the list of a page of a process.
 fn choose_in(
     host: &Host,
     process: u32,
-    task: u32,
-    page: u64,
-    cpu: u32,
+    asked: Request,
     nodes: &mut [u8],
 ) -> Option<Result<usize, ChoiceRefusal>>
     ensures chooses { (history : List HostCommand) → HostStandsFor host.now history
-        → OfProcess process (ChoosesBy task page cpu nodes.old nodes.new) result host.now history }
+        → OfProcess process (ChoosesBy asked.task asked.page asked.cpu nodes.old nodes.new) result
+        host.now history }
     ensures none { result ≡ None → nodes.new ≡ nodes.old }
 {
     let space = host.process(process)?;
-    Some(choose_at(space, task, page, cpu, nodes))
+    Some(choose_at(space, asked, nodes))
 }
 
 impl HostHandle {
@@ -132,10 +128,7 @@ impl HostHandle {
         ensures { Asks (λ count. OfHost (host_in self.old) (HasGroups count)) (host_in self.old)
             result (host_in self.new) }
     {
-        let kept = self.handle.take(alloc)?;
-        let count = host_kept(&kept).groups().len();
-        self.handle.put(kept);
-        Some(count)
+        of_kept!(self.handle, alloc, kept => host_kept(&kept).groups().len())
     }
 
     /// The group at a place, the newest being at 0, or no group. `None` if the handle is closed.
@@ -143,10 +136,7 @@ impl HostHandle {
         ensures { Asks (λ found. OfHost (host_in self.old) (HasGroupAt place found))
             (host_in self.old) result (host_in self.new) }
     {
-        let kept = self.handle.take(alloc)?;
-        let found = group_at(host_kept(&kept), place);
-        self.handle.put(kept);
-        Some(found)
+        of_kept!(self.handle, alloc, kept => group_at(host_kept(&kept), place))
     }
 
     /// The effective nodes of a group, or none if it isn't there. `None` if the handle is closed.
@@ -154,10 +144,7 @@ impl HostHandle {
         ensures { Asks (λ found. OfHost (host_in self.old) (HasGroupNodes name found))
             (host_in self.old) result (host_in self.new) }
     {
-        let kept = self.handle.take(alloc)?;
-        let found = host_kept(&kept).group_nodes(name);
-        self.handle.put(kept);
-        Some(found)
+        of_kept!(self.handle, alloc, kept => host_kept(&kept).group_nodes(name))
     }
 
     /// The number of processes. `None` if the handle is closed.
@@ -165,10 +152,7 @@ impl HostHandle {
         ensures { Asks (λ count. OfHost (host_in self.old) (HasProcesses count)) (host_in self.old)
             result (host_in self.new) }
     {
-        let kept = self.handle.take(alloc)?;
-        let count = process_count(host_kept(&kept));
-        self.handle.put(kept);
-        Some(count)
+        of_kept!(self.handle, alloc, kept => process_count(host_kept(&kept)))
     }
 
     /// The process at a place, the first born being at 0, and its group, or none. `None` if the
@@ -177,10 +161,7 @@ impl HostHandle {
         ensures { Asks (λ found. OfHost (host_in self.old) (HasProcessAt place found))
             (host_in self.old) result (host_in self.new) }
     {
-        let kept = self.handle.take(alloc)?;
-        let found = process_at(host_kept(&kept), place);
-        self.handle.put(kept);
-        Some(found)
+        of_kept!(self.handle, alloc, kept => process_at(host_kept(&kept), place))
     }
 
     /// The number of a process's ranges, or none if the process isn't there. `None` if the handle
@@ -189,10 +170,7 @@ impl HostHandle {
         ensures { Asks (λ answer. OfHost (host_in self.old)
             (OfProcess process CountsRanges answer)) (host_in self.old) result (host_in self.new) }
     {
-        let kept = self.handle.take(alloc)?;
-        let answer = ranges_in(host_kept(&kept), process);
-        self.handle.put(kept);
-        Some(answer)
+        of_kept!(self.handle, alloc, kept => ranges_in(host_kept(&kept), process))
     }
 
     /// The range of a process at a place, counted from 0 in ascending order, or no range; no answer
@@ -209,10 +187,7 @@ impl HostHandle {
         ensures end { IfSome result (λ answer. IfSome answer (λ found. IfSome found
             (λ range. end_of range ≤ 2 ^ 35))) }
     {
-        let kept = self.handle.take(alloc)?;
-        let answer = range_in(host_kept(&kept), process, place);
-        self.handle.put(kept);
-        Some(answer)
+        of_kept!(self.handle, alloc, kept => range_in(host_kept(&kept), process, place))
     }
 
     /// The policy of a process's task, or no policy; no answer if the process isn't there. `None`
@@ -227,10 +202,7 @@ impl HostHandle {
             (OfProcess process (FindsPolicy task) answer)) (host_in self.old) result
             (host_in self.new) }
     {
-        let kept = self.handle.take(alloc)?;
-        let answer = policy_in(host_kept(&kept), process, task);
-        self.handle.put(kept);
-        Some(answer)
+        of_kept!(self.handle, alloc, kept => policy_in(host_kept(&kept), process, task))
     }
 
     /// The plan of all that a process has accepted; no answer if the process isn't there. `None` if
@@ -242,10 +214,7 @@ impl HostHandle {
         ensures { Asks (λ answer. OfHost (host_in self.old) (OfProcess process IsPlanned answer))
             (host_in self.old) result (host_in self.new) }
     {
-        let kept = self.handle.take(alloc)?;
-        let answer = plan_in_process(host_kept(&kept), alloc, process);
-        self.handle.put(kept);
-        Some(answer)
+        of_kept!(self.handle, alloc, kept => plan_in_process(host_kept(&kept), alloc, process))
     }
 
     /// Copies the fallback list of a page of a process, and returns the number of nodes; no answer
@@ -268,9 +237,7 @@ impl HostHandle {
         ensures closed { host_in self.old ≡ None → nodes.new ≡ nodes.old }
         ensures none { IfSome result (λ answer. answer ≡ None → nodes.new ≡ nodes.old) }
     {
-        let kept = self.handle.take(alloc)?;
-        let answer = choose_in(host_kept(&kept), process, task, page, cpu, nodes);
-        self.handle.put(kept);
-        Some(answer)
+        let asked = Request { task, page, cpu };
+        of_kept!(self.handle, alloc, kept => choose_in(host_kept(&kept), process, asked, nodes))
     }
 }

@@ -28,7 +28,7 @@ pub enum Kept {
 }
 
 impl Kept {
-    ghost use Rattle.numaplan_handles.specs.Kinds.{core_of, is_core, is_plan, plan_of};
+    ghost use Rattle.numaplan_handles.specs.Kinds.{IsCopied, core_of, is_core, is_plan, plan_of};
     ghost use Rattle.numaplan_handles.specs.Kinds.{host_of, is_host, is_pages, pages_of};
 
     /// Moves the value to the heap, if there is memory for it; else it is dropped.
@@ -41,18 +41,10 @@ impl Kept {
     /// A copy of the core, the host or the pages, or the same plan shared, if there is memory for
     /// it.
     pub(crate) fn again(&self, alloc: Global) -> Option<Box<Kept>>
-        ensures core { is_core (Some self.now) ≡ true → IfSome result (λ other.
-            (is_core (Some other.value) ≡ true)
-            × (core_of (Some other.value) ≡ core_of (Some self.now))) }
-        ensures plan { is_plan (Some self.now) ≡ true → IfSome result (λ other.
-            (is_plan (Some other.value) ≡ true)
-            × (plan_of (Some other.value) ≡ plan_of (Some self.now))) }
-        ensures host { is_host (Some self.now) ≡ true → IfSome result (λ other.
-            (is_host (Some other.value) ≡ true)
-            × (host_of (Some other.value) ≡ host_of (Some self.now))) }
-        ensures pages { is_pages (Some self.now) ≡ true → IfSome result (λ other.
-            (is_pages (Some other.value) ≡ true)
-            × (pages_of (Some other.value) ≡ pages_of (Some self.now))) }
+        ensures core { IfSome result (λ other. IsCopied is_core core_of self.now other.value) }
+        ensures plan { IfSome result (λ other. IsCopied is_plan plan_of self.now other.value) }
+        ensures host { IfSome result (λ other. IsCopied is_host host_of self.now other.value) }
+        ensures pages { IfSome result (λ other. IsCopied is_pages pages_of self.now other.value) }
     {
         match self {
             Kept::Core(core) => {

@@ -31,6 +31,6 @@ pub use host_handle::HostHandle;
 pub use kept::Kept;
 pub use pages_handle::PagesHandle;
 pub use plan_handle::{ChoiceRefusal, PlanHandle};
-pub use room::copy_bytes;
+pub use room::copy_items;
 pub use script_handle::ScriptHandle;
 pub use seat_handle::SeatHandle;

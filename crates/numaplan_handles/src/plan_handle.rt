@@ -4,11 +4,12 @@ ghost use Rattle.numaplan_handles.specs.Calls.{Asks, IsShared, Keeps};
 ghost use Rattle.numaplan_handles.specs.Kinds.{plan_of, is_plan};
 ghost use Rattle.numaplan_handles.specs.Plans.{IsListOf, Chooses, Fills, Counts};
 
-use crate::handle::Handle;
+use crate::handle::{Handle, of_kept};
 use crate::kept::Kept;
-use crate::room::copy_bytes;
+use crate::room::copy_items;
 use numa_machine::PlaceRefusal;
 use numa_plan::Plan;
+use numa_requests::Request;
 use std::alloc::{AllocError, Global};
 use std::sync::Arc;
 
@@ -40,21 +41,16 @@ fn plan_kept(kept: &Kept) -> &Plan
 }
 
 /// Copies the list of a page.
-fn choose_kept(
-    kept: &Kept,
-    task: u32,
-    page: u64,
-    cpu: u32,
-    nodes: &mut [u8],
-) -> Result<usize, ChoiceRefusal>
+fn choose_kept(kept: &Kept, asked: Request, nodes: &mut [u8]) -> Result<usize, ChoiceRefusal>
     requires plan { is_plan (Some kept.now) ≡ true }
-    ensures chooses { Chooses (plan_of (Some kept.now)) task page cpu result nodes.old nodes.new }
+    ensures chooses { Chooses (plan_of (Some kept.now)) asked.task asked.page asked.cpu result
+        nodes.old nodes.new }
 {
-    let list = match plan_kept(kept).fallback_list(task, page, cpu) {
+    let list = match plan_kept(kept).fallback_list(asked.task, asked.page, asked.cpu) {
         Ok(list) => list,
         Err(refusal) => return Err(ChoiceRefusal::Place(refusal)),
     };
-    copy_bytes(list, nodes).map_err(ChoiceRefusal::TooShort)
+    copy_items(list, nodes).map_err(ChoiceRefusal::TooShort)
 }
 
 impl PlanHandle {
@@ -91,10 +87,7 @@ impl PlanHandle {
         ensures { Asks (λ version. IfSome (plan_in self.old) (λ plan. version ≡ plan.version))
             (plan_in self.old) result (plan_in self.new) }
     {
-        let kept = self.handle.take(alloc)?;
-        let version = plan_kept(&kept).version();
-        self.handle.put(kept);
-        Some(version)
+        of_kept!(self.handle, alloc, kept => plan_kept(&kept).version())
     }
 
     /// Copies the fallback list of a page, and returns the number of nodes. `None` if the handle is
@@ -115,10 +108,8 @@ impl PlanHandle {
             (plan_in self.old) result (plan_in self.new) }
         ensures closed { plan_in self.old ≡ None → nodes.new ≡ nodes.old }
     {
-        let kept = self.handle.take(alloc)?;
-        let answer = choose_kept(&kept, task, page, cpu, nodes);
-        self.handle.put(kept);
-        Some(answer)
+        let asked = Request { task, page, cpu };
+        of_kept!(self.handle, alloc, kept => choose_kept(&kept, asked, nodes))
     }
 
     /// Writes the first node of each page's list, for as many pages from page `first` on as there
@@ -139,10 +130,7 @@ impl PlanHandle {
             (plan_in self.old) result (plan_in self.new) }
         ensures closed { plan_in self.old ≡ None → nodes.new ≡ nodes.old }
     {
-        let kept = self.handle.take(alloc)?;
-        let answer = plan_kept(&kept).fill(task, first, cpu, nodes);
-        self.handle.put(kept);
-        Some(answer)
+        of_kept!(self.handle, alloc, kept => plan_kept(&kept).fill(task, first, cpu, nodes))
     }
 
     /// Counts, for each node, the pages of a span whose list begins with it. `None` if the handle
@@ -161,9 +149,6 @@ impl PlanHandle {
         ensures { Asks (Counts (plan_in self.old) task first pages cpu)
             (plan_in self.old) result (plan_in self.new) }
     {
-        let kept = self.handle.take(alloc)?;
-        let answer = plan_kept(&kept).counts(task, first, pages, cpu);
-        self.handle.put(kept);
-        Some(answer)
+        of_kept!(self.handle, alloc, kept => plan_kept(&kept).counts(task, first, pages, cpu))
     }
 }

@@ -1,17 +1,17 @@
 //! Copying into a C caller's buffer.
-ghost use Rattle.numaplan_handles.specs.Dialogs.{Copies};
+ghost use Rattle.numaplan_handles.specs.Room.{Copies};
 
-/// Copies bytes into `room`, and returns their number.
+/// Copies items to the beginning of `room`, and returns their number.
 ///
 /// # Errors
 /// Their number, if `room` is too short.
-pub fn copy_bytes(bytes: &[u8], room: &mut [u8]) -> Result<usize, usize>
-    ensures { Copies bytes.now result room.old room.new }
+pub fn copy_items<T: Copy>(items: &[T], room: &mut [T]) -> Result<usize, usize>
+    ensures { Copies items.now result room.old room.new }
 {
-    let count = bytes.len();
+    let count = items.len();
     if count > room.len() {
         return Err(count);
     }
-    room[..count].copy_from_slice(bytes);
+    room[..count].copy_from_slice(items);
     Ok(count)
 }

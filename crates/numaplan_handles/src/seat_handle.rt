@@ -6,7 +6,7 @@ ghost use Rattle.numaplan_handles.specs.Kinds.{CallsKept, seat_of, is_seat};
 ghost use Rattle.numaplan_handles.specs.Seats.{Takes, Returns, Migrates, Splits, Stays, Joins};
 ghost use Rattle.numaplan_handles.specs.Seats.{AreTogether};
 
-use crate::handle::Handle;
+use crate::handle::{Handle, of_kept};
 use crate::kept::Kept;
 use numa_machine::{Frame, NoMemory};
 use numa_pool::{ExchangeRefusal, OwnedSeat};
@@ -17,28 +17,6 @@ use std::alloc::{AllocError, Global};
 pub struct SeatHandle {
     pub handle: Handle,
     ghost kind: { is_seat handle.held.kept ≡ true },
-}
-
-/// Takes a frame of the first listed node that has one, for the seat.
-fn take_kept(kept: &mut Kept, nodes: &[u8]) -> Option<(usize, Frame)>
-    requires seat { is_seat (Some kept.old) ≡ true }
-    ensures { CallsKept is_seat seat_of (Takes nodes.now) kept.old result kept.new }
-{
-    match kept {
-        Kept::Seat(seat) => seat.take(nodes),
-        _ => unreachable!(),
-    }
-}
-
-/// Gives a frame back, if the seat holds it.
-fn give_kept(kept: &mut Kept, frame: Frame) -> bool
-    requires seat { is_seat (Some kept.old) ≡ true }
-    ensures { CallsKept is_seat seat_of (Returns frame) kept.old result kept.new }
-{
-    match kept {
-        Kept::Seat(seat) => seat.give(frame),
-        _ => unreachable!(),
-    }
 }
 
 /// Exchanges a frame that the seat holds for one of the node.
@@ -108,10 +86,7 @@ impl SeatHandle {
     pub fn take(&mut self, alloc: Global, nodes: &[u8]) -> Option<Option<(usize, Frame)>>
         ensures { Calls (Takes nodes.now) (seat_in self.old) result (seat_in self.new) }
     {
-        let mut kept = self.handle.take(alloc)?;
-        let found = take_kept(&mut kept, nodes);
-        self.handle.put(kept);
-        Some(found)
+        of_kept!(self.handle, alloc, Kept::Seat(seat) => seat.take(nodes))
     }
 
     /// Gives back a frame, as [`OwnedSeat::give`], and returns whether the seat held it. `None` if
@@ -119,10 +94,7 @@ impl SeatHandle {
     pub fn give(&mut self, alloc: Global, frame: Frame) -> Option<bool>
         ensures { Calls (Returns frame) (seat_in self.old) result (seat_in self.new) }
     {
-        let mut kept = self.handle.take(alloc)?;
-        let held = give_kept(&mut kept, frame);
-        self.handle.put(kept);
-        Some(held)
+        of_kept!(self.handle, alloc, Kept::Seat(seat) => seat.give(frame))
     }
 
     /// Exchanges a frame that the seat holds for one of a node, as [`OwnedSeat::exchange`]. `None`
@@ -138,10 +110,7 @@ impl SeatHandle {
     ) -> Option<Result<Frame, ExchangeRefusal>>
         ensures { Calls (Migrates frame node) (seat_in self.old) result (seat_in self.new) }
     {
-        let mut kept = self.handle.take(alloc)?;
-        let answer = migrate_kept(&mut kept, frame, node);
-        self.handle.put(kept);
-        Some(answer)
+        of_kept!(self.handle, alloc, mut kept => migrate_kept(&mut kept, frame, node))
     }
 
     /// Puts a new seat at the same pools into another, closed handle. `None` if this one is closed.
