@@ -9,7 +9,7 @@ use Rattle.numa_maps.specs.Residents.{Kept, placed_at}
 use Rattle.numaplan_c.specs.Ranges.{RefusesPlaced, one_or_none, placed_on, placement_of}
 use Rattle.numaplan_c.specs.declared.listings.MapsRefusal.{MapsRefusal}
 use Rattle.numaplan_c.specs.declared.listings.MapsRefusal.TheVariants as refused
-use Rattle.numaplan_c.specs.declared.workers.NpPlacement.{NpPlacement}
+use Rattle.numaplan_c.specs.declared.events.NpPlacement.{NpPlacement}
 
 own-first : (p : NpPlacement) (rest : List NpPlacement) → placed_on p.page (p ∷ rest)
     ≡ placement_of p ∷ placed_on p.page rest

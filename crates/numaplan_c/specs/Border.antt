@@ -22,7 +22,7 @@ use Rattle.numaplan_c.specs.declared.opening.NpLimits.{NpLimits}
 use Rattle.numaplan_c.specs.declared.options.Options.{Options}
 use Rattle.numaplan_c.specs.declared.plans.Commands.{Commands}
 use Rattle.numaplan_c.specs.declared.plans.Commands.TheVariants as commands
-use Rattle.numaplan_c.specs.declared.workers.NpPlacement.{NpPlacement}
+use Rattle.numaplan_c.specs.declared.events.NpPlacement.{NpPlacement}
 use Rattle.numaplan_c.specs.Codes.{answer_code, list_code, machine_code}
 
 -- the call made the event of the kept core and answered by its number; a closed handle answers 1

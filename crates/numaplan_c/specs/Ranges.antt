@@ -11,7 +11,7 @@ use Rattle.numaplan_c.specs.Texts.{IsWritten}
 use Rattle.numaplan_c.specs.declared.ranges.NpRange.{NpRange}
 use Rattle.numaplan_c.specs.declared.listings.MapsRefusal.{MapsRefusal}
 use Rattle.numaplan_c.specs.declared.listings.MapsRefusal.TheVariants as refused
-use Rattle.numaplan_c.specs.declared.workers.NpPlacement.{NpPlacement}
+use Rattle.numaplan_c.specs.declared.events.NpPlacement.{NpPlacement}
 
 -- ---- a range
 

@@ -4,33 +4,40 @@ ghost use Rattle.numaplan_c.specs.Reports.{Reported, is_untold};
 
 use crate::codes::Code;
 use crate::options::rules_of;
-use crate::reports::{NpFree, NpQuestion, NpReport, format_of, made, tell_made, touch_of};
-use numa_reports::FreePages;
+use crate::reports::{NpFree, NpQuestion, NpReport, known_format, made, tell_made, touch_of};
+use numa_reports::{Format, FreePages, Touch};
 use numaplan_reports::{Report, ScriptText, check, diff, explain, predict, replay};
 use std::alloc::{AllocError, Global};
 
-/// A script and the lines behind it, if there are such rules.
-fn script_by<'a>(text: &'a [u8], then: &'a [u8], rules: u32) -> Result<ScriptText<'a>, u32>
+/// A question about the pages after a script and the lines behind it.
+#[derive(Drop)]
+struct Question<'a> {
+    script: ScriptText<'a>,
+    touch: Touch,
+    format: Format,
+}
+
+/// The question about a script, if its rules and its format are known.
+fn question_of<'a>(text: &'a [u8], then: &'a [u8], asked: &NpQuestion) -> Result<Question<'a>, u32>
     ensures { IfErr result (λ code. is_untold code ≡ true) }
 {
-    match rules_of(rules) {
-        Some(rules) => Ok(ScriptText { text, then, rules }),
-        None => Err(Code::BadRules as u32),
-    }
+    let Some(rules) = rules_of(asked.rules) else {
+        return Err(Code::BadRules as u32);
+    };
+    let format = known_format(asked.format)?;
+    Ok(Question {
+        script: ScriptText { text, then, rules },
+        touch: touch_of(asked),
+        format,
+    })
 }
 
 /// What is wrong with the lines of a script.
-fn check_asked(alloc: Global, script: &[u8], asked: &NpQuestion) -> Result<Report, u32>
+fn checked(alloc: Global, script: &[u8], asked: &NpQuestion) -> Result<Report, u32>
     ensures { IfErr result (λ code. is_untold code ≡ true) }
 {
-    let script = match script_by(script, b"", asked.rules) {
-        Ok(script) => script,
-        Err(code) => return Err(code),
-    };
-    match format_of(asked.format) {
-        Some(format) => made(check(alloc, script, format)),
-        None => Err(Code::BadFormat as u32),
-    }
+    let asked = question_of(script, b"", asked)?;
+    made(check(alloc, asked.script, asked.format))
 }
 
 /// Writes what is wrong with the lines of a script.
@@ -44,11 +51,11 @@ pub extern "C" fn np_check(
 ) -> u32
     ensures { Reported result text.old text.new report.old report.new }
 {
-    tell_made(check_asked(alloc, script, asked), text, report)
+    tell_made(checked(alloc, script, asked), text, report)
 }
 
 /// The free pages of nodes, in the types of the crates below.
-pub(crate) fn free_pages(alloc: Global, free: &[NpFree]) -> Result<Vec<FreePages>, AllocError> {
+fn free_pages(alloc: Global, free: &[NpFree]) -> Result<Vec<FreePages>, AllocError> {
     let mut named = Vec::with_capacity(alloc, free.len())?;
     for one in free {
         named.push(FreePages {
@@ -59,8 +66,18 @@ pub(crate) fn free_pages(alloc: Global, free: &[NpFree]) -> Result<Vec<FreePages
     Ok(named)
 }
 
+/// The same, or the code of out of memory.
+pub(crate) fn free_by_node(alloc: Global, free: &[NpFree]) -> Result<Vec<FreePages>, u32>
+    ensures { IfErr result (λ code. is_untold code ≡ true) }
+{
+    match free_pages(alloc, free) {
+        Ok(free) => Ok(free),
+        Err(_) => Err(Code::NoMemory as u32),
+    }
+}
+
 /// Where all mapped pages would go after a script.
-fn predict_asked(
+fn predicted(
     alloc: Global,
     script: &[u8],
     lines: &[u8],
@@ -69,17 +86,15 @@ fn predict_asked(
 ) -> Result<Report, u32>
     ensures { IfErr result (λ code. is_untold code ≡ true) }
 {
-    let script = match script_by(script, lines, asked.rules) {
-        Ok(script) => script,
-        Err(code) => return Err(code),
-    };
-    let Some(format) = format_of(asked.format) else {
-        return Err(Code::BadFormat as u32);
-    };
-    let Ok(free) = free_pages(alloc, free) else {
-        return Err(Code::NoMemory as u32);
-    };
-    let report = predict(alloc, script, touch_of(asked), format, free.as_slice());
+    let asked = question_of(script, lines, asked)?;
+    let free = free_by_node(alloc, free)?;
+    let report = predict(
+        alloc,
+        asked.script,
+        asked.touch,
+        asked.format,
+        free.as_slice(),
+    );
     drop(free);
     made(report)
 }
@@ -97,25 +112,15 @@ pub extern "C" fn np_predict(
 ) -> u32
     ensures { Reported result text.old text.new report.old report.new }
 {
-    tell_made(
-        predict_asked(alloc, script, lines, asked, free),
-        text,
-        report,
-    )
+    tell_made(predicted(alloc, script, lines, asked, free), text, report)
 }
 
 /// Which pages go to another node after the lines than before them.
-fn diff_asked(alloc: Global, script: &[u8], lines: &[u8], asked: &NpQuestion) -> Result<Report, u32>
+fn compared(alloc: Global, script: &[u8], lines: &[u8], asked: &NpQuestion) -> Result<Report, u32>
     ensures { IfErr result (λ code. is_untold code ≡ true) }
 {
-    let script = match script_by(script, lines, asked.rules) {
-        Ok(script) => script,
-        Err(code) => return Err(code),
-    };
-    match format_of(asked.format) {
-        Some(format) => made(diff(alloc, script, touch_of(asked), format)),
-        None => Err(Code::BadFormat as u32),
-    }
+    let asked = question_of(script, lines, asked)?;
+    made(diff(alloc, asked.script, asked.touch, asked.format))
 }
 
 /// Writes which pages would go to another node after the lines behind a script.
@@ -130,11 +135,11 @@ pub extern "C" fn np_diff(
 ) -> u32
     ensures { Reported result text.old text.new report.old report.new }
 {
-    tell_made(diff_asked(alloc, script, lines, asked), text, report)
+    tell_made(compared(alloc, script, lines, asked), text, report)
 }
 
 /// Why a page would go where it goes.
-fn explain_asked(
+fn explained(
     alloc: Global,
     script: &[u8],
     lines: &[u8],
@@ -143,14 +148,8 @@ fn explain_asked(
 ) -> Result<Report, u32>
     ensures { IfErr result (λ code. is_untold code ≡ true) }
 {
-    let script = match script_by(script, lines, asked.rules) {
-        Ok(script) => script,
-        Err(code) => return Err(code),
-    };
-    match format_of(asked.format) {
-        Some(format) => made(explain(alloc, script, touch_of(asked), page, format)),
-        None => Err(Code::BadFormat as u32),
-    }
+    let asked = question_of(script, lines, asked)?;
+    made(explain(alloc, asked.script, asked.touch, page, asked.format))
 }
 
 /// Writes why a page would go where it goes after a script and its lines.
@@ -166,15 +165,11 @@ pub extern "C" fn np_explain(
 ) -> u32
     ensures { Reported result text.old text.new report.old report.new }
 {
-    tell_made(
-        explain_asked(alloc, script, lines, asked, page),
-        text,
-        report,
-    )
+    tell_made(explained(alloc, script, lines, asked, page), text, report)
 }
 
 /// What a trace meets.
-fn replay_asked(
+fn replayed(
     alloc: Global,
     script: &[u8],
     lines: &[u8],
@@ -183,14 +178,8 @@ fn replay_asked(
 ) -> Result<Report, u32>
     ensures { IfErr result (λ code. is_untold code ≡ true) }
 {
-    let script = match script_by(script, lines, asked.rules) {
-        Ok(script) => script,
-        Err(code) => return Err(code),
-    };
-    match format_of(asked.format) {
-        Some(format) => made(replay(alloc, script, trace, format)),
-        None => Err(Code::BadFormat as u32),
-    }
+    let asked = question_of(script, lines, asked)?;
+    made(replay(alloc, asked.script, trace, asked.format))
 }
 
 /// Writes what a trace meets after a script and its lines.
@@ -206,9 +195,5 @@ pub extern "C" fn np_replay(
 ) -> u32
     ensures { Reported result text.old text.new report.old report.new }
 {
-    tell_made(
-        replay_asked(alloc, script, lines, trace, asked),
-        text,
-        report,
-    )
+    tell_made(replayed(alloc, script, lines, trace, asked), text, report)
 }

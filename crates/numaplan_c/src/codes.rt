@@ -70,6 +70,24 @@ pub(crate) enum Code {
     BadAccess = 81,
     /// The script is a host's, and the answer is about one process.
     ManyProcesses = 82,
+    /// There is a group of this name.
+    GroupExists = 90,
+    /// There is no group of this name, or not so many groups.
+    NoSuchGroup = 91,
+    /// There are as many groups as there can be.
+    TooManyGroups = 92,
+    /// The root has no list of its own.
+    RootGroup = 93,
+    /// A list can't be unset while a process is in the group or below it.
+    Populated = 94,
+    /// There is a process of this number.
+    ProcessExists = 95,
+    /// There is no process of this number, or not so many processes.
+    NoSuchProcess = 96,
+    /// There are as many processes as there can be.
+    TooManyProcesses = 97,
+    /// The allowed nodes of a process are its group's, and the weights the host's.
+    GroupMems = 98,
 }
 
 /// The code of a command's refusal: most are in order from 10; a later one has a later number.

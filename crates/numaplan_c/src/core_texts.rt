@@ -1,43 +1,46 @@
 //! What the words of the program answer, over cores.
-ghost use Rattle.std.specs.Prelude.{◌≡◌, true, IfErr};
+ghost use Rattle.std.specs.Prelude.{◌≡◌, true, is_some, IfErr};
 ghost use Rattle.numaplan_c.specs.Border.{Asked};
 ghost use Rattle.numaplan_c.specs.Compared.{AskedBoth};
 ghost use Rattle.numaplan_c.specs.Reports.{Reported, is_untold};
-ghost use Rattle.numaplan_handles.specs.Calls.{Asks};
 ghost use Rattle.numaplan_handles.specs.Handles.{core_in};
-ghost use Rattle.numaplan_reports.specs.Compared.{AsksBoth};
 
-use crate::asking::free_pages;
-use crate::codes::Code;
-use crate::reports::{NpFree, NpQuestion, NpReport, format_of, made, tell_made, touch_of};
+use crate::asking::free_by_node;
+use crate::keeping::ensure_open;
+use crate::reports::{NpFree, NpQuestion, NpReport, known_format, made, tell_made, touch_of};
 use numaplan_handles::CoreHandle;
 use numaplan_reports::{
     Report, diff_cores_text, explain_core_text, predict_core_text, replay_core_text,
 };
-use std::alloc::Global;
+use std::alloc::{AllocError, Global};
 
-/// Where all mapped pages of a core would go.
-fn predict_made(
+/// The report on an open handle.
+fn of_open(answer: Option<Result<Report, AllocError>>) -> Result<Report, u32>
+    requires open { is_some answer ≡ true }
+    ensures { IfErr result (λ code. is_untold code ≡ true) }
+{
+    match answer {
+        Some(report) => made(report),
+        None => unreachable!(),
+    }
+}
+
+/// Where all mapped pages of an open core would go.
+fn predicted(
     alloc: Global,
     core: &mut CoreHandle,
     asked: &NpQuestion,
     free: &[NpFree],
-) -> Option<Result<Report, u32>>
-    ensures { Asks (λ made. IfErr made (λ code. is_untold code ≡ true)) (core_in core.old) result
-        (core_in core.new) }
+) -> Result<Report, u32>
+    requires open { is_some (core_in core.old) ≡ true }
+    ensures same { core_in core.new ≡ core_in core.old }
+    ensures untold { IfErr result (λ code. is_untold code ≡ true) }
 {
-    if !core.handle.is_open() {
-        return None;
-    }
-    let Some(format) = format_of(asked.format) else {
-        return Some(Err(Code::BadFormat as u32));
-    };
-    let Ok(free) = free_pages(alloc, free) else {
-        return Some(Err(Code::NoMemory as u32));
-    };
+    let format = known_format(asked.format)?;
+    let free = free_by_node(alloc, free)?;
     let answer = predict_core_text(alloc, core, touch_of(asked), format, free.as_slice());
     drop(free);
-    Some(made(answer?))
+    of_open(answer)
 }
 
 /// Writes where all mapped pages of a core would go.
@@ -54,33 +57,25 @@ pub extern "C" fn np_core_predict_text(
         ((text.new ≡ text.old) × (report.new ≡ report.old))
         (λ kept. Reported result text.old text.new report.old report.new) }
 {
-    match predict_made(alloc, core, asked, free) {
-        None => Code::Closed as u32,
-        Some(made) => tell_made(made, text, report),
-    }
+    ensure_open!(core);
+    tell_made(predicted(alloc, core, asked, free), text, report)
 }
 
-/// Which pages go to another node in the second core than in the first.
-fn diff_made(
+/// Which pages go to another node in the second of two open cores than in the first.
+fn compared(
     alloc: Global,
     before: &mut CoreHandle,
     after: &mut CoreHandle,
     asked: &NpQuestion,
-) -> Option<Result<Report, u32>>
-    ensures { AsksBoth (λ made. IfErr made (λ code. is_untold code ≡ true)) (core_in before.old)
-        (core_in after.old) result (core_in before.new) (core_in after.new) }
+) -> Result<Report, u32>
+    requires before { is_some (core_in before.old) ≡ true }
+    requires after { is_some (core_in after.old) ≡ true }
+    ensures before { core_in before.new ≡ core_in before.old }
+    ensures after { core_in after.new ≡ core_in after.old }
+    ensures untold { IfErr result (λ code. is_untold code ≡ true) }
 {
-    if !before.handle.is_open() {
-        return None;
-    }
-    if !after.handle.is_open() {
-        return None;
-    }
-    let Some(format) = format_of(asked.format) else {
-        return Some(Err(Code::BadFormat as u32));
-    };
-    let answer = diff_cores_text(alloc, before, after, touch_of(asked), format)?;
-    Some(made(answer))
+    let format = known_format(asked.format)?;
+    of_open(diff_cores_text(alloc, before, after, touch_of(asked), format))
 }
 
 /// Writes which pages would go to another node in the second core than in the first.
@@ -97,30 +92,24 @@ pub extern "C" fn np_core_diff_text(
         (core_in after.new) result ((text.new ≡ text.old) × (report.new ≡ report.old))
         (λ one other. Reported result text.old text.new report.old report.new) }
 {
-    match diff_made(alloc, before, after, asked) {
-        None => Code::Closed as u32,
-        Some(made) => tell_made(made, text, report),
-    }
+    ensure_open!(before);
+    ensure_open!(after);
+    tell_made(compared(alloc, before, after, asked), text, report)
 }
 
-/// Why a page of a core goes where it goes.
-fn explain_made(
+/// Why a page of an open core goes where it goes.
+fn explained(
     alloc: Global,
     core: &mut CoreHandle,
     asked: &NpQuestion,
     page: u64,
-) -> Option<Result<Report, u32>>
-    ensures { Asks (λ made. IfErr made (λ code. is_untold code ≡ true)) (core_in core.old) result
-        (core_in core.new) }
+) -> Result<Report, u32>
+    requires open { is_some (core_in core.old) ≡ true }
+    ensures same { core_in core.new ≡ core_in core.old }
+    ensures untold { IfErr result (λ code. is_untold code ≡ true) }
 {
-    if !core.handle.is_open() {
-        return None;
-    }
-    let Some(format) = format_of(asked.format) else {
-        return Some(Err(Code::BadFormat as u32));
-    };
-    let answer = explain_core_text(alloc, core, touch_of(asked), page, format)?;
-    Some(made(answer))
+    let format = known_format(asked.format)?;
+    of_open(explain_core_text(alloc, core, touch_of(asked), page, format))
 }
 
 /// Writes why a page of a core would go where it goes.
@@ -137,30 +126,23 @@ pub extern "C" fn np_core_explain_text(
         ((text.new ≡ text.old) × (report.new ≡ report.old))
         (λ kept. Reported result text.old text.new report.old report.new) }
 {
-    match explain_made(alloc, core, asked, page) {
-        None => Code::Closed as u32,
-        Some(made) => tell_made(made, text, report),
-    }
+    ensure_open!(core);
+    tell_made(explained(alloc, core, asked, page), text, report)
 }
 
-/// What a trace meets on the machine of a core.
-fn replay_made(
+/// What a trace meets on the machine of an open core.
+fn replayed(
     alloc: Global,
     core: &mut CoreHandle,
     trace: &[u8],
     asked: &NpQuestion,
-) -> Option<Result<Report, u32>>
-    ensures { Asks (λ made. IfErr made (λ code. is_untold code ≡ true)) (core_in core.old) result
-        (core_in core.new) }
+) -> Result<Report, u32>
+    requires open { is_some (core_in core.old) ≡ true }
+    ensures same { core_in core.new ≡ core_in core.old }
+    ensures untold { IfErr result (λ code. is_untold code ≡ true) }
 {
-    if !core.handle.is_open() {
-        return None;
-    }
-    let Some(format) = format_of(asked.format) else {
-        return Some(Err(Code::BadFormat as u32));
-    };
-    let answer = replay_core_text(alloc, core, trace, format)?;
-    Some(made(answer))
+    let format = known_format(asked.format)?;
+    of_open(replay_core_text(alloc, core, trace, format))
 }
 
 /// Writes what a trace meets on the machine of a core.
@@ -177,8 +159,6 @@ pub extern "C" fn np_core_replay_text(
         ((text.new ≡ text.old) × (report.new ≡ report.old))
         (λ kept. Reported result text.old text.new report.old report.new) }
 {
-    match replay_made(alloc, core, trace, asked) {
-        None => Code::Closed as u32,
-        Some(made) => tell_made(made, text, report),
-    }
+    ensure_open!(core);
+    tell_made(replayed(alloc, core, trace, asked), text, report)
 }

@@ -9,6 +9,7 @@ ghost use Rattle.numaplan_handles.specs.Handles.{core_in};
 ghost use Rattle.numaplan_reports.specs.Asked.{Explains};
 
 use crate::codes::{Code, place_code};
+use crate::keeping::if_open;
 use crate::standing::{NpPolicy, told};
 use numa_reports::Touch;
 use numa_rules::{Explanation, OrderRule, ReasonError, Scope};
@@ -137,8 +138,6 @@ pub extern "C" fn np_core_explain(
         × Explains (core_in core.old) task page cpu answer
         × TellsReasons answer result explanation.old explanation.new) }
 {
-    match explain_core(alloc, core, Touch { task, cpu }, page) {
-        None => Code::Closed as u32,
-        Some(answer) => tell_reasons(answer, explanation),
-    }
+    let answer = explain_core(alloc, core, Touch { task, cpu }, page);
+    if_open!(answer, answer => tell_reasons(answer, explanation))
 }

@@ -8,8 +8,9 @@ ghost use Rattle.numaplan_c.specs.Codes.{list_code, word_code};
 ghost use Rattle.numaplan_c.specs.Hosts.{HostAnswers, HostAnswersRead};
 ghost use Rattle.numaplan_handles.specs.Handles.{host_in};
 
-use crate::codes::{Code, list_code, word_code};
+use crate::codes::{list_code, word_code};
 use crate::host_codes::host_code;
+use crate::keeping::{if_open, or_return};
 use numa_mask::read_list;
 use numa_requests::{Command, HostCommand};
 use numa_script::policy::read_policy;
@@ -20,10 +21,7 @@ use std::alloc::Global;
 fn obey(alloc: Global, host: &mut HostHandle, command: HostCommand) -> u32
     ensures { HostAnswers (host_in host.old) command result (host_in host.new) }
 {
-    match host.apply(alloc, &command) {
-        None => Code::Closed as u32,
-        Some(answer) => host_code(answer),
-    }
+    if_open!(host.apply(alloc, &command), answer => host_code(answer))
 }
 
 /// Carries out a command of one process.
@@ -60,10 +58,7 @@ pub extern "C" fn np_host_set_group_mems(
         (λ mask. HostCommand.SetGroupMems group (Some mask)) (host_in host.old) result
         (host_in host.new) }
 {
-    let mask = match read_list(nodes) {
-        Ok(mask) => mask,
-        Err(fault) => return list_code(fault),
-    };
+    let mask = or_return!(read_list(nodes), list_code);
     let command = HostCommand::SetGroupMems {
         group,
         mems: Some(mask),
@@ -203,10 +198,7 @@ pub extern "C" fn np_host_mbind(
         (λ spec. HostCommand.In process (Command.Mbind start length spec)) (host_in host.old)
         result (host_in host.new) }
 {
-    let spec = match read_policy(policy) {
-        Ok(spec) => spec,
-        Err(fault) => return word_code(fault),
-    };
+    let spec = or_return!(read_policy(policy), word_code);
     let command = Command::Mbind {
         start,
         length,
@@ -228,10 +220,7 @@ pub extern "C" fn np_host_set_task(
         (λ spec. HostCommand.In process (Command.SetTask task spec)) (host_in host.old) result
         (host_in host.new) }
 {
-    let spec = match read_policy(policy) {
-        Ok(spec) => spec,
-        Err(fault) => return word_code(fault),
-    };
+    let spec = or_return!(read_policy(policy), word_code);
     tell(alloc, host, process, Command::SetTask { task, spec })
 }
 

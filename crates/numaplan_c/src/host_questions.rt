@@ -1,4 +1,4 @@
-//! Questions to hosts: their groups, their processes, and what each of these answers.
+//! Questions to hosts: their versions, groups and processes, and what each of these answers.
 ghost use Rattle.std.specs.Prelude.{◌≡◌, ◌≢◌, ℕ, Option, Some, None, Result, Ok, is_some, true};
 ghost use Rattle.std.specs.Prelude.{IfSome};
 ghost use Rattle.numa_host.specs.Processes.{Member};
@@ -10,8 +10,9 @@ ghost use Rattle.numa_plan.specs.Meaning.{PlanData};
 ghost use Rattle.numa_ranges.specs.declared.run.Run.{Run};
 ghost use Rattle.numaplan_handles.specs.Handles.{host_in, plan_in};
 ghost use Rattle.numaplan_handles.specs.Hosts.{ChoosesBy, CountsRanges, FindsPolicy, FindsRange};
-ghost use Rattle.numaplan_handles.specs.Hosts.{HasGroupAt, HasGroupNodes, HasGroups, HasProcessAt};
-ghost use Rattle.numaplan_handles.specs.Hosts.{HasProcesses, IsPlanned, OfHost, OfProcess};
+ghost use Rattle.numaplan_handles.specs.Hosts.{HasGroupAt, HasGroupNodes, HasGroups};
+ghost use Rattle.numaplan_handles.specs.Hosts.{HasHostVersion, HasProcessAt, HasProcesses};
+ghost use Rattle.numaplan_handles.specs.Hosts.{IsPlanned, OfHost, OfProcess};
 ghost use Rattle.numaplan_handles.specs.declared.plan_handle.ChoiceRefusal.{ChoiceRefusal};
 ghost use Rattle.numaplan_c.specs.Border.{Asked, Opens};
 ghost use Rattle.numaplan_c.specs.Hosts.{AnswersPlan, TellsChoice, TellsGroup, TellsGroupNodes};
@@ -19,12 +20,11 @@ ghost use Rattle.numaplan_c.specs.Hosts.{TellsNumber, TellsPolicyIn, TellsProces
 ghost use Rattle.numaplan_c.specs.Hosts.{flag_of};
 
 use crate::codes::Code;
-use crate::host_codes::HostCode;
-use crate::keeping::{ensure_closed, memory_code};
+use crate::keeping::{ensure_closed, if_open, memory_code, tell_if_open};
 use crate::nodes::NpNodes;
-use crate::plans::{choice_code, told as list_told};
+use crate::plans::tell_choice;
 use crate::ranges::{NpRange, tell_range};
-use crate::standing::{NpPolicy, nodes_of, told};
+use crate::standing::{NpPolicy, nodes_of, tell_policy};
 use numa_host::ControlGroup;
 use numa_mask::NodeMask;
 use numaplan_handles::{HostHandle, PlanHandle};
@@ -53,17 +53,13 @@ pub struct NpProcess {
 
 const _: () = prove!(size_of::<NpProcess>() == 8);
 
-/// Writes a number of the host, if the handle is open.
-macro_rules! tell_count {
-    ($found:expr, $count:expr) => {
-        match $found {
-            None => Code::Closed as u32,
-            Some(found) => {
-                *$count = found;
-                0
-            }
-        }
-    };
+/// Returns the number of accepted commands.
+#[unsafe(no_mangle)]
+pub extern "C" fn np_host_version(alloc: Global, host: &mut HostHandle, version: &mut u64) -> u32
+    ensures { Asked (host_in host.old) (host_in host.new) result (version.new ≡ version.old)
+        (λ kept. (result ≡ 0) × OfHost (host_in host.old) (HasHostVersion version.new)) }
+{
+    tell_if_open!(version, host.version(alloc))
 }
 
 /// Returns the number of groups below the root.
@@ -72,7 +68,7 @@ pub extern "C" fn np_host_groups(alloc: Global, host: &mut HostHandle, count: &m
     ensures { Asked (host_in host.old) (host_in host.new) result (count.new ≡ count.old)
         (λ kept. (result ≡ 0) × OfHost (host_in host.old) (HasGroups count.new)) }
 {
-    tell_count!(host.groups(alloc), count)
+    tell_if_open!(count, host.groups(alloc))
 }
 
 /// 1 if there is a list, else 0.
@@ -90,7 +86,7 @@ fn tell_group(found: Option<ControlGroup>, group: &mut NpGroup) -> u32
     ensures { TellsGroup found result group.old group.new }
 {
     let Some(found) = found else {
-        return HostCode::NoSuchGroup as u32;
+        return Code::NoSuchGroup as u32;
     };
     *group = NpGroup {
         group: found.name,
@@ -113,10 +109,7 @@ pub extern "C" fn np_host_group(
         (λ kept. (found : Option ControlGroup) × OfHost (host_in host.old) (HasGroupAt index found)
         × TellsGroup found result group.old group.new) }
 {
-    match host.group(alloc, index) {
-        None => Code::Closed as u32,
-        Some(found) => tell_group(found, group),
-    }
+    if_open!(host.group(alloc, index), found => tell_group(found, group))
 }
 
 /// Writes the nodes of a group.
@@ -124,7 +117,7 @@ fn tell_group_nodes(found: Option<NodeMask>, nodes: &mut NpNodes) -> u32
     ensures { TellsGroupNodes found result nodes.old nodes.new }
 {
     match found {
-        None => HostCode::NoSuchGroup as u32,
+        None => Code::NoSuchGroup as u32,
         Some(found) => {
             nodes.words = found.words();
             0
@@ -144,10 +137,7 @@ pub extern "C" fn np_host_group_nodes(
         (λ kept. (found : Option ℕ) × OfHost (host_in host.old) (HasGroupNodes group found)
         × TellsGroupNodes found result nodes.old nodes.new) }
 {
-    match host.group_nodes(alloc, group) {
-        None => Code::Closed as u32,
-        Some(found) => tell_group_nodes(found, nodes),
-    }
+    if_open!(host.group_nodes(alloc, group), found => tell_group_nodes(found, nodes))
 }
 
 /// Returns the number of processes.
@@ -156,7 +146,7 @@ pub extern "C" fn np_host_processes(alloc: Global, host: &mut HostHandle, count:
     ensures { Asked (host_in host.old) (host_in host.new) result (count.new ≡ count.old)
         (λ kept. (result ≡ 0) × OfHost (host_in host.old) (HasProcesses count.new)) }
 {
-    tell_count!(host.processes(alloc), count)
+    tell_if_open!(count, host.processes(alloc))
 }
 
 /// Writes a process.
@@ -164,7 +154,7 @@ fn tell_process(found: Option<(u32, u32)>, process: &mut NpProcess) -> u32
     ensures { TellsProcess found result process.old process.new }
 {
     let Some(found) = found else {
-        return HostCode::NoSuchProcess as u32;
+        return Code::NoSuchProcess as u32;
     };
     *process = NpProcess {
         process: found.0,
@@ -185,10 +175,7 @@ pub extern "C" fn np_host_process(
         (λ kept. (found : Option Member) × OfHost (host_in host.old) (HasProcessAt index found)
         × TellsProcess found result process.old process.new) }
 {
-    match host.process(alloc, index) {
-        None => Code::Closed as u32,
-        Some(found) => tell_process(found, process),
-    }
+    if_open!(host.process(alloc, index), found => tell_process(found, process))
 }
 
 /// Returns the number of a process's ranges.
@@ -204,14 +191,7 @@ pub extern "C" fn np_host_ranges(
         × OfHost (host_in host.old) (OfProcess process CountsRanges answer)
         × TellsNumber answer result count.old count.new) }
 {
-    match host.ranges(alloc, process) {
-        None => Code::Closed as u32,
-        Some(None) => HostCode::NoSuchProcess as u32,
-        Some(Some(found)) => {
-            *count = found;
-            0
-        }
-    }
+    tell_if_open!(count, host.ranges(alloc, process), Code::NoSuchProcess)
 }
 
 /// Returns the range of a process at a place, and its own policy as a word.
@@ -234,7 +214,7 @@ pub extern "C" fn np_host_range(
 {
     match host.range(alloc, process, index) {
         None => Code::Closed as u32,
-        Some(None) => HostCode::NoSuchProcess as u32,
+        Some(None) => Code::NoSuchProcess as u32,
         Some(Some(None)) => Code::NoRange as u32,
         Some(Some(Some(found))) => tell_range(&found, range, policy, length),
     }
@@ -254,14 +234,9 @@ pub extern "C" fn np_host_task_policy(
         × OfHost (host_in host.old) (OfProcess process (FindsPolicy task) answer)
         × TellsPolicyIn answer result policy.old policy.new) }
 {
-    match host.task_policy(alloc, process, task) {
-        None => Code::Closed as u32,
-        Some(None) => HostCode::NoSuchProcess as u32,
-        Some(Some(found)) => {
-            *policy = told(found);
-            0
-        }
-    }
+    if_open!(host.task_policy(alloc, process, task), Code::NoSuchProcess, found => {
+        tell_policy(found, policy)
+    })
 }
 
 /// Copies the fallback list of a page of a process.
@@ -283,14 +258,8 @@ pub extern "C" fn np_host_choice(
         × TellsChoice answer result count.old count.new) }
     ensures none { result ≡ 96 → nodes.new ≡ nodes.old }
 {
-    match host.choose(alloc, process, task, page, cpu, nodes) {
-        None => Code::Closed as u32,
-        Some(None) => HostCode::NoSuchProcess as u32,
-        Some(Some(answer)) => {
-            *count = list_told(answer, *count);
-            choice_code(answer)
-        }
-    }
+    let answer = host.choose(alloc, process, task, page, cpu, nodes);
+    if_open!(answer, Code::NoSuchProcess, answer => tell_choice(answer, count))
 }
 
 /// Opens a handle with the plan of a process.
@@ -315,7 +284,7 @@ pub extern "C" fn np_host_compile(
     ensure_closed!(plan);
     match host.compile(alloc, process) {
         None => Code::Closed as u32,
-        Some(None) => HostCode::NoSuchProcess as u32,
+        Some(None) => Code::NoSuchProcess as u32,
         Some(Some(Err(_))) => Code::NoMemory as u32,
         Some(Some(Ok(made))) => memory_code(plan.open(alloc, made)),
     }

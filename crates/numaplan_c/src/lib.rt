@@ -6,14 +6,13 @@
 
 mod asking;
 mod codes;
-mod commands;
 mod core_texts;
 mod differences;
+mod events;
 mod explanations;
 mod host_codes;
 mod host_commands;
 mod host_questions;
-mod hosts;
 mod keeping;
 mod listings;
 mod machines;
@@ -38,4 +37,3 @@ mod scripts;
 mod standing;
 mod texts;
 mod version;
-mod workers;

@@ -10,8 +10,9 @@ ghost use Rattle.numaplan_c.specs.Border.{Asked};
 ghost use Rattle.numaplan_c.specs.Ranges.{placement_of};
 
 use crate::codes::Code;
+use crate::events::NpPlacement;
+use crate::keeping::ensure_open;
 use crate::texts::write;
-use crate::workers::NpPlacement;
 use numa_machine::Frame;
 use numa_maps::{RecordRefusal, Resident};
 use numa_requests::Placement;
@@ -118,9 +119,7 @@ pub extern "C" fn np_core_maps(
         × Lists (core_in core.old) task placements.now answer
         × TellsListing answer result text.old text.new length.old length.new) }
 {
-    if !core.handle.is_open() {
-        return Code::Closed as u32;
-    }
+    ensure_open!(core);
     match list(alloc, core, task, placements) {
         Ok(found) => write(found.as_slice(), text, length),
         Err(MapsRefusal::Twice) => Code::PlacedTwice as u32,

@@ -8,11 +8,26 @@ ghost use Rattle.numaplan_handles.specs.Seats.{Migrates};
 ghost use Rattle.numaplan_c.specs.Migrations.{exchange_code, TellsFrame};
 
 use crate::codes::Code;
-use crate::pools::NpFrame;
+use crate::keeping::if_open;
+use crate::pools::{NpFrame, frame_told};
 use numa_machine::Frame;
 use numa_pool::ExchangeRefusal;
 use numaplan_handles::SeatHandle;
 use std::alloc::Global;
+
+/// Writes the frame that was got for another one, and returns the code of the result.
+fn tell_frame(answer: Result<Frame, ExchangeRefusal>, frame: &mut NpFrame) -> u32
+    ensures { (result ≡ exchange_code answer) × TellsFrame answer frame.old frame.new }
+{
+    match answer {
+        Ok(found) => {
+            *frame = frame_told(found);
+            0
+        }
+        Err(ExchangeRefusal::NotOwned) => Code::NotOwned as u32,
+        Err(ExchangeRefusal::Exhausted) => Code::AllTaken as u32,
+    }
+}
 
 /// Exchanges a frame that a seat holds for one of a node.
 #[unsafe(no_mangle)]
@@ -32,16 +47,6 @@ pub extern "C" fn np_seat_migrate(
         (seat_in seat.new) answer
         × TellsFrame answer frame.old frame.new }
 {
-    match seat.migrate(alloc, Frame { node, number }, to) {
-        None => Code::Closed as u32,
-        Some(Ok(found)) => {
-            *frame = NpFrame {
-                node: found.node,
-                number: found.number,
-            };
-            0
-        }
-        Some(Err(ExchangeRefusal::NotOwned)) => Code::NotOwned as u32,
-        Some(Err(ExchangeRefusal::Exhausted)) => Code::AllTaken as u32,
-    }
+    let answer = seat.migrate(alloc, Frame { node, number }, to);
+    if_open!(answer, answer => tell_frame(answer, frame))
 }

@@ -6,6 +6,7 @@ ghost use Rattle.numaplan_c.specs.Codes.{list_code};
 ghost use Rattle.numaplan_c.specs.Texts.{IsWritten};
 
 use crate::codes::list_code;
+use crate::keeping::or_return;
 use crate::texts::write;
 use numa_mask::{NodeMask, list_text, read_list};
 
@@ -25,10 +26,7 @@ pub extern "C" fn np_nodes_read(text: &[u8], nodes: &mut NpNodes) -> u32
         (λ set. (result ≡ 0) × (number_of nodes.new.words ≡ set))
         (λ fault. (result ≡ list_code fault) × (nodes.new ≡ nodes.old)) }
 {
-    let set = match read_list(text) {
-        Ok(set) => set,
-        Err(fault) => return list_code(fault),
-    };
+    let set = or_return!(read_list(text), list_code);
     nodes.words = set.words();
     0
 }

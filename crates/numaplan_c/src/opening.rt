@@ -1,21 +1,24 @@
-//! Opening, copying and closing cores.
+//! Opening, copying and closing cores and hosts.
 ghost use Rattle.std.specs.Prelude.{◌≡◌, ◌≢◌, ◌≤◌, [], Some, None, true, is_some};
 ghost use Rattle.std.specs.Prelude.{IfOk, IfErr, IfSome, MatchOption, MatchResult, is_ok};
-ghost use Rattle.numaplan_handles.specs.Handles.{core_in};
+ghost use Rattle.numaplan_handles.specs.Handles.{core_in, host_in};
 ghost use Rattle.numa_core.specs.Standing.{LeadsTo, setup_of};
 ghost use Rattle.numa_mask.specs.Lists.{list_of};
-ghost use Rattle.numaplan_c.specs.Border.{Asked, IsSetUp, Opens, Shares, bounds_of, limits_cause};
-ghost use Rattle.numaplan_c.specs.Border.{opening_cause};
+ghost use Rattle.numaplan_c.specs.Border.{Asked, IsMachineOf, IsSetUp, Opens, Shares, bounds_of};
+ghost use Rattle.numaplan_c.specs.Border.{limits_cause, opening_cause};
 ghost use Rattle.numa_machine.specs.declared.fallback.Fallback.{Fallback};
+ghost use Rattle.numaplan_c.specs.Hosts.{IsHostSetUp};
 ghost use Rattle.numaplan_c.specs.Options.{documents, options_of};
 
 use crate::codes::Code;
-use crate::keeping::{ensure_closed, kept_code, memory_code};
+use crate::keeping::{ensure_closed, if_open, memory_code, open_from, or_return};
 use crate::machines::machine_of;
 use crate::options::{NpOptions, Options, documents, options_of};
 use numa_core::Core;
+use numa_host::Host;
+use numa_machine::Machine;
 use numa_requests::Limits;
-use numaplan_handles::CoreHandle;
+use numaplan_handles::{CoreHandle, HostHandle};
 use std::alloc::Global;
 
 /// The limits of a core: the most ranges, tasks with a policy, and accepted commands.
@@ -30,7 +33,7 @@ pub struct NpLimits {
 const _: () = prove!(size_of::<NpLimits>() == 12);
 
 /// Why limits or a number of workers are refused.
-pub(crate) fn limits_cause(limits: NpLimits, workers: u32) -> Option<u32>
+fn limits_cause(limits: NpLimits, workers: u32) -> Option<u32>
     ensures cause { result ≡ limits_cause (bounds_of limits) workers }
     ensures workers { result ≡ None → (1 ≤ workers) × (workers ≤ 16) }
     ensures limits { result ≡ None → (limits.max_ranges ≤ 65536) × (limits.max_tasks ≤ 1024) }
@@ -45,8 +48,8 @@ pub(crate) fn limits_cause(limits: NpLimits, workers: u32) -> Option<u32>
     None
 }
 
-/// The core of a description, or the code of what is wrong with it.
-fn make(
+/// The machine of a description and its limits, or the code of the first cause against them.
+fn set_up(
     alloc: Global,
     memory: &[u8],
     frames: &[u32],
@@ -54,14 +57,15 @@ fn make(
     options: Options,
     limits: NpLimits,
     workers: u32,
-) -> Result<Core, u32>
-    ensures run { IfOk result (LeadsTo []) }
-    ensures setup { IfOk result (λ core. IsSetUp (list_of memory.now) frames.now distances.now
-        options (bounds_of limits) workers (setup_of core)) }
+) -> Result<(Machine, Limits), u32>
+    ensures machine { IfOk result (λ made.
+        IsMachineOf (list_of memory.now) frames.now distances.now options made.0) }
+    ensures limits { IfOk result (λ made. made.1 ≡ bounds_of limits) }
+    ensures workers { IfOk result (λ made. (1 ≤ workers) × (workers ≤ 16)) }
     ensures cause { IfErr result (λ code. MatchOption (opening_cause (list_of memory.now)
         frames.now distances.now options.fallback
         (bounds_of limits) workers) (code ≡ 3) (λ first. code ≡ first)) }
-    ensures none { IfOk result (λ core. opening_cause (list_of memory.now) frames.now
+    ensures none { IfOk result (λ made. opening_cause (list_of memory.now) frames.now
         distances.now options.fallback (bounds_of limits) workers ≡ None) }
     ensures refused { IfErr result (λ code. code ≢ 0) }
 {
@@ -73,10 +77,7 @@ fn make(
     let Some(limits) = Limits::new(limits.max_ranges, limits.max_tasks, limits.max_commands) else {
         unreachable!()
     };
-    match Core::new(alloc, machine, limits, workers) {
-        Ok(core) => Ok(core),
-        Err(_) => Err(Code::NoMemory as u32),
-    }
+    Ok((machine, limits))
 }
 
 /// Opens a closed handle with the core of a description.
@@ -101,9 +102,11 @@ fn open_made(
     ensures none { result ≡ 0 → opening_cause (list_of memory.now) frames.now distances.now
         options.fallback (bounds_of limits) workers ≡ None }
 {
-    match make(alloc, memory, frames, distances, options, limits, workers) {
+    let made = set_up(alloc, memory, frames, distances, options, limits, workers);
+    let (machine, limits) = or_return!(made);
+    match Core::new(alloc, machine, limits, workers) {
         Ok(made) => memory_code(core.open(alloc, made)),
-        Err(code) => code,
+        Err(_) => Code::NoMemory as u32,
     }
 }
 
@@ -172,13 +175,42 @@ pub extern "C" fn np_core_open_by(
     ensures open { is_some (core_in core.old) ≡ true → result ≡ 2 }
 {
     ensure_closed!(core);
-    let options = match options_of(options) {
-        Ok(options) => options,
-        Err(code) => return code,
-    };
+    let options = or_return!(options_of(options));
     open_made(
         alloc, core, memory, frames, distances, options, *limits, workers,
     )
+}
+
+/// Opens a host of a machine by options.
+#[unsafe(no_mangle)]
+pub extern "C" fn np_host_open(
+    alloc: Global,
+    host: &mut HostHandle,
+    memory: &[u8],
+    frames: &[u32],
+    distances: &[u8],
+    limits: &NpLimits,
+    options: &NpOptions,
+) -> u32
+    ensures opens { Opens (host_in host.old) result (host_in host.new) }
+    ensures setup { host_in host.old ≡ None → IfSome (host_in host.new) (λ made.
+        IfOk (options_of options.now) (λ it. IsHostSetUp (list_of memory.now) frames.now
+        distances.now it (bounds_of limits.now) made)) }
+    ensures cause { host_in host.old ≡ None → result ≢ 0 → MatchResult (options_of options.now)
+        (λ it. MatchOption (opening_cause (list_of memory.now) frames.now distances.now
+        it.fallback (bounds_of limits.now) 1) (result ≡ 3) (λ first. result ≡ first))
+        (λ code. result ≡ code) }
+    ensures none { result ≡ 0 → IfOk (options_of options.now) (λ it.
+        opening_cause (list_of memory.now) frames.now distances.now it.fallback
+        (bounds_of limits.now) 1 ≡ None) }
+    ensures read { result ≡ 0 → is_ok (options_of options.now) ≡ true }
+    ensures open { is_some (host_in host.old) ≡ true → result ≡ 2 }
+{
+    ensure_closed!(host);
+    let options = or_return!(options_of(options));
+    let made = set_up(alloc, memory, frames, distances, options, *limits, 1);
+    let (machine, limits) = or_return!(made);
+    memory_code(host.open(alloc, Host::new(alloc, machine, limits)))
 }
 
 /// Returns the number of accepted commands, and of those that are published.
@@ -194,14 +226,11 @@ pub extern "C" fn np_core_versions(
         (λ kept. (result ≡ 0) × (accepted.new ≡ kept.space.version)
         × (published.new ≡ kept.plan.version)) }
 {
-    match core.versions(alloc) {
-        None => Code::Closed as u32,
-        Some(versions) => {
-            *accepted = versions.0;
-            *published = versions.1;
-            0
-        }
-    }
+    if_open!(core.versions(alloc), versions => {
+        *accepted = versions.0;
+        *published = versions.1;
+        0
+    })
 }
 
 /// Frees a core.
@@ -217,6 +246,21 @@ pub extern "C" fn np_core_close(alloc: Global, core: &mut CoreHandle)
 pub extern "C" fn np_core_copy(alloc: Global, core: &mut CoreHandle, copy: &mut CoreHandle) -> u32
     ensures { Shares core_in core.old copy.old result core.new copy.new }
 {
-    ensure_closed!(copy);
-    kept_code(core.copy(alloc, copy))
+    open_from!(copy, core.copy(alloc, copy))
+}
+
+/// Frees a host.
+#[unsafe(no_mangle)]
+pub extern "C" fn np_host_close(alloc: Global, host: &mut HostHandle)
+    ensures { host_in host.new ≡ None }
+{
+    host.handle.close(alloc)
+}
+
+/// Opens another handle with a copy of a host.
+#[unsafe(no_mangle)]
+pub extern "C" fn np_host_copy(alloc: Global, host: &mut HostHandle, copy: &mut HostHandle) -> u32
+    ensures { Shares host_in host.old copy.old result host.new copy.new }
+{
+    open_from!(copy, host.copy(alloc, copy))
 }

@@ -13,7 +13,7 @@ ghost use Rattle.numaplan_c.specs.Codes.{place_code};
 ghost use Rattle.numaplan_c.specs.Questions.{choice_code, fill_code, AreTold};
 
 use crate::codes::{Code, place_code};
-use crate::keeping::{ensure_closed, kept_code, memory_code};
+use crate::keeping::{ensure_closed, if_open, memory_code, open_from, tell_if_open};
 use numa_machine::{NoMemory, PlaceRefusal};
 use numa_plan::Plan;
 use numaplan_handles::{ChoiceRefusal, CoreHandle, PlanHandle};
@@ -102,8 +102,7 @@ pub extern "C" fn np_core_compile(
 pub extern "C" fn np_plan_share(alloc: Global, plan: &mut PlanHandle, other: &mut PlanHandle) -> u32
     ensures { Shares plan_in plan.old other.old result plan.new other.new }
 {
-    ensure_closed!(other);
-    kept_code(plan.share(alloc, other))
+    open_from!(other, plan.share(alloc, other))
 }
 
 /// Returns the version of a plan.
@@ -112,17 +111,11 @@ pub extern "C" fn np_plan_version(alloc: Global, plan: &mut PlanHandle, version:
     ensures { Asked (plan_in plan.old) (plan_in plan.new) result (version.new ≡ version.old)
         (λ kept. (result ≡ 0) × (version.new ≡ kept.version)) }
 {
-    match plan.version(alloc) {
-        None => Code::Closed as u32,
-        Some(found) => {
-            *version = found;
-            0
-        }
-    }
+    tell_if_open!(version, plan.version(alloc))
 }
 
 /// The code of the result of a question for a list.
-pub(crate) fn choice_code(answer: Result<usize, ChoiceRefusal>) -> u32
+fn choice_code(answer: Result<usize, ChoiceRefusal>) -> u32
     ensures { result ≡ choice_code answer }
 {
     match answer {
@@ -133,7 +126,7 @@ pub(crate) fn choice_code(answer: Result<usize, ChoiceRefusal>) -> u32
 }
 
 /// The number of nodes of a list, if there is one.
-pub(crate) fn told(answer: Result<usize, ChoiceRefusal>, count: usize) -> usize
+fn told(answer: Result<usize, ChoiceRefusal>, count: usize) -> usize
     ensures { AreTold answer count result }
 {
     match answer {
@@ -141,6 +134,14 @@ pub(crate) fn told(answer: Result<usize, ChoiceRefusal>, count: usize) -> usize
         Err(ChoiceRefusal::TooShort(found)) => found,
         Err(ChoiceRefusal::Place(_)) => count,
     }
+}
+
+/// Writes the number of nodes of a list, if there is one, and returns the code of the result.
+pub(crate) fn tell_choice(answer: Result<usize, ChoiceRefusal>, count: &mut usize) -> u32
+    ensures { (result ≡ choice_code answer) × AreTold answer count.old count.new }
+{
+    *count = told(answer, *count);
+    choice_code(answer)
 }
 
 /// Copies the fallback list of a page.
@@ -160,13 +161,7 @@ pub extern "C" fn np_plan_choice(
         × Chooses (plan_in plan.old) task page cpu answer nodes.old nodes.new
         × AreTold answer count.old count.new) }
 {
-    match plan.choose(alloc, task, page, cpu, nodes) {
-        None => Code::Closed as u32,
-        Some(answer) => {
-            *count = told(answer, *count);
-            choice_code(answer)
-        }
-    }
+    if_open!(plan.choose(alloc, task, page, cpu, nodes), answer => tell_choice(answer, count))
 }
 
 /// The code of the result of a question about a span.
@@ -193,10 +188,7 @@ pub extern "C" fn np_plan_fill(
         (λ kept. (answer : Result (Unit {0}) PlaceRefusal) × (result ≡ fill_code answer)
         × Fills (plan_in plan.old) task first cpu answer nodes.old nodes.new) }
 {
-    match plan.fill(alloc, task, first, cpu, nodes) {
-        None => Code::Closed as u32,
-        Some(answer) => fill_code(answer),
-    }
+    if_open!(plan.fill(alloc, task, first, cpu, nodes), answer => fill_code(answer))
 }
 
 /// Counts, for each node, the pages of a span whose list begins with it.

@@ -12,7 +12,7 @@ ghost use Rattle.numaplan_c.specs.Border.{AnswersKeeping, Opens, described_cause
 ghost use Rattle.numaplan_c.specs.Pools.{found_code, returned_code, Tells};
 
 use crate::codes::Code;
-use crate::keeping::{ensure_closed, kept_code, memory_code};
+use crate::keeping::{ensure_closed, if_open, memory_code, open_from};
 use crate::machines::machine_of;
 use crate::options::documents;
 use numa_machine::Frame;
@@ -29,6 +29,16 @@ pub struct NpFrame {
 }
 
 const _: () = prove!(size_of::<NpFrame>() == 4);
+
+/// The C struct of a frame.
+pub(crate) fn frame_told(found: Frame) -> NpFrame
+    ensures { result ≡ record { node = found.node; number = found.number } }
+{
+    NpFrame {
+        node: found.node,
+        number: found.number,
+    }
+}
 
 /// The first seat at new pools of the frames of a described machine, or the code of what is wrong
 /// with the description.
@@ -90,8 +100,7 @@ pub extern "C" fn np_seat_split(alloc: Global, seat: &mut SeatHandle, other: &mu
     ensures open { is_some (seat_in other.old) ≡ true → seat_in seat.new ≡ seat_in seat.old }
     ensures closed { seat_in seat.old ≡ None → seat_in seat.new ≡ None }
 {
-    ensure_closed!(other);
-    kept_code(seat.split(alloc, other))
+    open_from!(other, seat.split(alloc, other))
 }
 
 /// Takes a frame of the first node of a list that has one.
@@ -110,18 +119,11 @@ pub extern "C" fn np_seat_take(
         × Takes nodes.now (seat_in seat.old) (seat_in seat.new) found
         × Tells found frame.old frame.new rank.old rank.new }
 {
-    match seat.take(alloc, nodes) {
-        None => Code::Closed as u32,
-        Some(None) => Code::AllTaken as u32,
-        Some(Some(found)) => {
-            *frame = NpFrame {
-                node: found.1.node,
-                number: found.1.number,
-            };
-            *rank = found.0;
-            0
-        }
-    }
+    if_open!(seat.take(alloc, nodes), Code::AllTaken, found => {
+        *frame = frame_told(found.1);
+        *rank = found.0;
+        0
+    })
 }
 
 /// Gives back a frame.

@@ -7,6 +7,7 @@ ghost use Rattle.numaplan_handles.specs.Handles.{core_in};
 ghost use Rattle.numaplan_reports.specs.Asked.{Fills, Predicts};
 
 use crate::codes::{Code, place_code};
+use crate::keeping::if_open;
 use crate::plans::NpCounts;
 use numa_reports::{ReportError, Touch};
 use numaplan_handles::CoreHandle;
@@ -50,10 +51,7 @@ pub extern "C" fn np_core_predict(
         × Predicts (core_in core.old) task cpu answer
         × TellsCounts answer result counts.old.pages counts.new.pages) }
 {
-    match predict_core(alloc, core, Touch { task, cpu }) {
-        None => Code::Closed as u32,
-        Some(answer) => tell_counts(answer, counts),
-    }
+    if_open!(predict_core(alloc, core, Touch { task, cpu }), answer => tell_counts(answer, counts))
 }
 
 /// Takes the mapped pages out of the free pages of each node.
@@ -70,8 +68,6 @@ pub extern "C" fn np_core_fill(
         × Fills (core_in core.old) task cpu free.old.pages answer
         × TellsCounts answer result free.old.pages free.new.pages) }
 {
-    match fill_core(alloc, core, Touch { task, cpu }, &free.pages) {
-        None => Code::Closed as u32,
-        Some(answer) => tell_counts(answer, free),
-    }
+    let answer = fill_core(alloc, core, Touch { task, cpu }, &free.pages);
+    if_open!(answer, answer => tell_counts(answer, free))
 }

@@ -13,6 +13,7 @@ ghost use Rattle.numaplan_c.specs.Ranges.{TellsRange, own_word, range_span};
 ghost use Rattle.numaplan_c.specs.Texts.{IsWritten};
 
 use crate::codes::Code;
+use crate::keeping::{if_open, tell_if_open};
 use crate::texts::write;
 use numa_mode::Record;
 use numa_ranges::Run;
@@ -27,13 +28,7 @@ pub extern "C" fn np_core_ranges(alloc: Global, core: &mut CoreHandle, count: &m
     ensures { Asked (core_in core.old) (core_in core.new) result (count.new ≡ count.old)
         (λ kept. (result ≡ 0) × HasRanges (core_in core.old) count.new) }
 {
-    match core.ranges(alloc) {
-        None => Code::Closed as u32,
-        Some(found) => {
-            *count = found;
-            0
-        }
-    }
+    tell_if_open!(count, core.ranges(alloc))
 }
 
 /// A range of pages: its address and length in bytes, and the index of its first page, in pages.
@@ -99,9 +94,7 @@ pub extern "C" fn np_core_range(
         (history : List Command) → StandsFor kept.space history
         → AreRangesOf kept.space.machine history kept.space.ranges }
 {
-    match core.range(alloc, index) {
-        None => Code::Closed as u32,
-        Some(None) => Code::NoRange as u32,
-        Some(Some(found)) => tell_range(&found, range, policy, length),
-    }
+    if_open!(core.range(alloc, index), Code::NoRange, found => {
+        tell_range(&found, range, policy, length)
+    })
 }

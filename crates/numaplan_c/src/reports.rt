@@ -45,7 +45,7 @@ pub struct NpReport {
 const _: () = prove!(size_of::<NpReport>() == 24);
 
 /// The format with this number.
-pub(crate) fn format_of(number: u32) -> Option<Format>
+fn format_of(number: u32) -> Option<Format>
     ensures { result ≡ format_of number }
 {
     match number {
@@ -63,6 +63,16 @@ pub(crate) fn touch_of(asked: &NpQuestion) -> Touch {
     Touch {
         task: asked.task,
         cpu: asked.cpu,
+    }
+}
+
+/// The format with this number, or the code of what is wrong with it.
+pub(crate) fn known_format(number: u32) -> Result<Format, u32>
+    ensures { IfErr result (λ code. is_untold code ≡ true) }
+{
+    match format_of(number) {
+        Some(format) => Ok(format),
+        None => Err(Code::BadFormat as u32),
     }
 }
 

@@ -13,6 +13,7 @@ ghost use Rattle.numaplan_c.specs.Border.{Asked};
 ghost use Rattle.numaplan_c.specs.Standing.{TellsPolicy, TellsRangePolicy, home_number};
 
 use crate::codes::Code;
+use crate::keeping::{if_open, tell_if_open};
 use crate::nodes::NpNodes;
 use numa_mask::NodeMask;
 use numa_mode::Record;
@@ -86,6 +87,14 @@ pub(crate) fn told(policy: Option<Record>) -> NpPolicy
     }
 }
 
+/// Writes a policy, or that there is none.
+pub(crate) fn tell_policy(found: Option<Record>, policy: &mut NpPolicy) -> u32
+    ensures { (result ≡ 0) × TellsPolicy found policy.new }
+{
+    *policy = told(found);
+    0
+}
+
 /// Returns the place of the range that has an address, or else of the next one.
 #[unsafe(no_mangle)]
 pub extern "C" fn np_core_range_at(
@@ -97,13 +106,7 @@ pub extern "C" fn np_core_range_at(
     ensures { Asked (core_in core.old) (core_in core.new) result (index.new ≡ index.old)
         (λ kept. (result ≡ 0) × HasPlaceOf (core_in core.old) (page_of address) index.new) }
 {
-    match core.place_of(alloc, address / PAGE_BYTES) {
-        None => Code::Closed as u32,
-        Some(place) => {
-            *index = place;
-            0
-        }
-    }
+    tell_if_open!(index, core.place_of(alloc, address / PAGE_BYTES))
 }
 
 /// Returns the own policy of the range at a place.
@@ -121,14 +124,9 @@ pub extern "C" fn np_core_range_policy(
         (history : List Command) → StandsFor kept.space history
         → AreRangesOf kept.space.machine history kept.space.ranges }
 {
-    match core.range(alloc, index) {
-        None => Code::Closed as u32,
-        Some(None) => Code::NoRange as u32,
-        Some(Some(found)) => {
-            *policy = told(found.value.policy());
-            0
-        }
-    }
+    if_open!(core.range(alloc, index), Code::NoRange, found => {
+        tell_policy(found.value.policy(), policy)
+    })
 }
 
 /// Returns the policy of a task.
@@ -143,11 +141,5 @@ pub extern "C" fn np_core_task_policy(
         (λ kept. (result ≡ 0) × ((found : Option PolicyRecord)
         × HasTaskPolicy (core_in core.old) task found × TellsPolicy found policy.new)) }
 {
-    match core.task_policy(alloc, task) {
-        None => Code::Closed as u32,
-        Some(found) => {
-            *policy = told(found);
-            0
-        }
-    }
+    if_open!(core.task_policy(alloc, task), found => tell_policy(found, policy))
 }

@@ -1,27 +1,27 @@
-//! Commands, and their publication.
+//! Events of a core: commands, their publication, and workers that look for frames.
+ghost use Rattle.std.specs.Prelude.{◌≡◌, MatchOption};
 ghost use Rattle.numa_mask.specs.Lists.{list_of};
 ghost use Rattle.numa_script.specs.Policies.{policy_of};
 ghost use Rattle.numa_requests.specs.declared.event.Event.{Event};
 ghost use Rattle.numa_requests.specs.declared.command.Command.{Command};
-ghost use Rattle.numaplan_c.specs.Border.{Answers, AnswersRead};
-ghost use Rattle.numaplan_c.specs.Codes.{word_code, list_code};
+ghost use Rattle.numaplan_c.specs.Border.{Answers, AnswersRead, Places, Touched, Tried};
+ghost use Rattle.numaplan_c.specs.Codes.{answer_code, list_code, word_code};
 ghost use Rattle.numaplan_handles.specs.Handles.{core_in};
 
 use crate::codes::{Code, answer_code, list_code, word_code};
+use crate::keeping::{if_open, or_return};
+use numa_machine::Frame;
 use numa_mask::read_list;
-use numa_requests::{Command, Event};
+use numa_requests::{Command, CoreRefusal, CoreReply, Event, Request};
 use numa_script::policy::read_policy;
 use numaplan_handles::CoreHandle;
 use std::alloc::Global;
 
 /// Carries out an event of the core in a handle, and returns the code of its reply.
-pub(crate) fn answer(alloc: Global, core: &mut CoreHandle, event: Event) -> u32
+fn answer(alloc: Global, core: &mut CoreHandle, event: Event) -> u32
     ensures { Answers (core_in core.old) event result (core_in core.new) }
 {
-    match core.step(alloc, event) {
-        None => Code::Closed as u32,
-        Some(answer) => answer_code(&answer),
-    }
+    if_open!(core.step(alloc, event), answer => answer_code(&answer))
 }
 
 /// Carries out a command of the core in a handle, and returns the code of its reply.
@@ -77,10 +77,7 @@ pub extern "C" fn np_core_mbind(
     ensures { AnswersRead (policy_of policy.now) word_code (λ spec. Command.Mbind start length spec)
         (core_in core.old) result (core_in core.new) }
 {
-    let spec = match read_policy(policy) {
-        Ok(spec) => spec,
-        Err(fault) => return word_code(fault),
-    };
+    let spec = or_return!(read_policy(policy), word_code);
     let command = Command::Mbind {
         start,
         length,
@@ -100,10 +97,7 @@ pub extern "C" fn np_core_set_task(
     ensures { AnswersRead (policy_of policy.now) word_code (λ spec. Command.SetTask task spec)
         (core_in core.old) result (core_in core.new) }
 {
-    let spec = match read_policy(policy) {
-        Ok(spec) => spec,
-        Err(fault) => return word_code(fault),
-    };
+    let spec = or_return!(read_policy(policy), word_code);
     accept(alloc, core, Command::SetTask { task, spec })
 }
 
@@ -156,10 +150,7 @@ pub extern "C" fn np_core_set_mems(alloc: Global, core: &mut CoreHandle, nodes: 
     ensures { AnswersRead (list_of nodes.now) list_code (λ mask. Command.SetMems mask)
         (core_in core.old) result (core_in core.new) }
 {
-    let mask = match read_list(nodes) {
-        Ok(mask) => mask,
-        Err(fault) => return list_code(fault),
-    };
+    let mask = or_return!(read_list(nodes), list_code);
     accept(alloc, core, Command::SetMems { mask })
 }
 
@@ -169,4 +160,129 @@ pub extern "C" fn np_core_publish(alloc: Global, core: &mut CoreHandle) -> u32
     ensures { Answers (core_in core.old) Event.Publish result (core_in core.new) }
 {
     answer(alloc, core, Event::Publish)
+}
+
+/// Where a page was placed.
+#[repr(C)]
+#[derive(Clone, Copy)]
+pub struct NpPlacement {
+    pub version: u64,
+    pub page: u64,
+    pub task: u32,
+    pub rank: u32,
+    pub frame: u16,
+    pub node: u8,
+}
+
+const _: () = prove!(size_of::<NpPlacement>() == 32);
+
+/// Writes where a page was placed, if it was, and returns the code of the reply.
+fn tell(answer: Option<Result<CoreReply, CoreRefusal>>, placed: &mut NpPlacement) -> u32
+    ensures { MatchOption answer ((result ≡ 1) × (placed.new ≡ placed.old))
+        (λ it. (result ≡ answer_code it) × Places it placed.old placed.new) }
+{
+    match answer {
+        None => Code::Closed as u32,
+        Some(Ok(CoreReply::Won(won))) => {
+            *placed = NpPlacement {
+                version: won.version,
+                page: won.page,
+                task: won.task,
+                rank: won.rank,
+                frame: won.frame.number,
+                node: won.node,
+            };
+            0
+        }
+        Some(answer) => answer_code(&answer),
+    }
+}
+
+/// A worker places a page by the newest published version.
+#[unsafe(no_mangle)]
+pub extern "C" fn np_core_touch(
+    alloc: Global,
+    core: &mut CoreHandle,
+    worker: u32,
+    task: u32,
+    page: u64,
+    cpu: u32,
+    placed: &mut NpPlacement,
+) -> u32
+    ensures { Touched (core_in core.old) worker (record { task = task; page = page; cpu = cpu })
+        result (core_in core.new) placed.old placed.new }
+{
+    tell(
+        core.touch(alloc, worker, Request { task, page, cpu }),
+        placed,
+    )
+}
+
+/// A worker begins a request.
+#[unsafe(no_mangle)]
+pub extern "C" fn np_core_begin(
+    alloc: Global,
+    core: &mut CoreHandle,
+    worker: u32,
+    task: u32,
+    page: u64,
+    cpu: u32,
+) -> u32
+    ensures { Answers (core_in core.old)
+        (Event.Begin worker (record { task = task; page = page; cpu = cpu })) result
+        (core_in core.new) }
+{
+    answer(
+        alloc,
+        core,
+        Event::Begin(worker, Request { task, page, cpu }),
+    )
+}
+
+/// A worker looks at 64 frames of its current node.
+#[unsafe(no_mangle)]
+pub extern "C" fn np_core_look(alloc: Global, core: &mut CoreHandle, worker: u32, word: u32) -> u32
+    ensures { Answers (core_in core.old) (Event.Look worker word) result (core_in core.new) }
+{
+    answer(alloc, core, Event::Look(worker, word))
+}
+
+/// A worker tries a frame of its current node.
+#[unsafe(no_mangle)]
+pub extern "C" fn np_core_try(
+    alloc: Global,
+    core: &mut CoreHandle,
+    worker: u32,
+    node: u8,
+    frame: u16,
+    placed: &mut NpPlacement,
+) -> u32
+    ensures { Tried (core_in core.old)
+        (Event.Try worker (record { node = node; number = frame })) result (core_in core.new)
+        placed.old placed.new }
+{
+    let frame = Frame {
+        node,
+        number: frame,
+    };
+    tell(core.step(alloc, Event::Try(worker, frame)), placed)
+}
+
+/// A worker gives a frame back.
+#[unsafe(no_mangle)]
+pub extern "C" fn np_core_give(
+    alloc: Global,
+    core: &mut CoreHandle,
+    worker: u32,
+    node: u8,
+    frame: u16,
+) -> u32
+    ensures { Answers (core_in core.old)
+        (Event.Give worker (record { node = node; number = frame })) result (core_in core.new) }
+{
+    let frame = Frame {
+        node,
+        number: frame,
+    };
+    answer(alloc, core, Event::Give(worker, frame))
 }
