@@ -9,6 +9,7 @@ use Rattle.numa_play.specs.declared.halt.Halt.{Halt}
 use Rattle.numa_play.specs.declared.halt.Halt.TheVariants as halt
 use Rattle.numaplan_handles.specs.Room.{Copies}
 use Rattle.numaplan_reports.specs.declared.report.Report.{Report}
+use Rattle.numaplan_c.specs.Border.{Asked}
 use Rattle.numaplan_c.specs.declared.reports.NpReport.{NpReport}
 
 -- the format that has this number
@@ -71,3 +72,11 @@ Told (Err cause) code old new before after = (code ≡ cause) × (is_untold caus
 abbrev pub Reported : ℕ → List ℕ → List ℕ → NpReport → NpReport → Type 0
 Reported code old new before after =
     (said : Result Report ℕ) × Told said code old new before after
+
+-- the same of a question to a handle, which leaves what it keeps as it was; a closed handle answers
+-- 1, and nothing has changed
+abbrev pub ReportedOf : {A : Type 0} → Option A → Option A → ℕ → List ℕ → List ℕ → NpReport
+    → NpReport → Type 0
+ReportedOf kept kept_then code old new before after =
+    Asked kept kept_then code ((new ≡ old) × (after ≡ before))
+    (λ it. Reported code old new before after)

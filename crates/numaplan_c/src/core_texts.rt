@@ -1,8 +1,7 @@
 //! What the words of the program answer, over cores.
 ghost use Rattle.std.specs.Prelude.{◌≡◌, true, is_some, IfErr};
-ghost use Rattle.numaplan_c.specs.Border.{Asked};
 ghost use Rattle.numaplan_c.specs.Compared.{AskedBoth};
-ghost use Rattle.numaplan_c.specs.Reports.{Reported, is_untold};
+ghost use Rattle.numaplan_c.specs.Reports.{Reported, ReportedOf, is_untold};
 ghost use Rattle.numaplan_handles.specs.Handles.{core_in};
 
 use crate::asking::free_by_node;
@@ -53,9 +52,8 @@ pub extern "C" fn np_core_predict_text(
     text: &mut [u8],
     report: &mut NpReport,
 ) -> u32
-    ensures { Asked (core_in core.old) (core_in core.new) result
-        ((text.new ≡ text.old) × (report.new ≡ report.old))
-        (λ kept. Reported result text.old text.new report.old report.new) }
+    ensures { ReportedOf (core_in core.old) (core_in core.new) result text.old text.new report.old
+        report.new }
 {
     ensure_open!(core);
     tell_made(predicted(alloc, core, asked, free), text, report)
@@ -122,9 +120,8 @@ pub extern "C" fn np_core_explain_text(
     text: &mut [u8],
     report: &mut NpReport,
 ) -> u32
-    ensures { Asked (core_in core.old) (core_in core.new) result
-        ((text.new ≡ text.old) × (report.new ≡ report.old))
-        (λ kept. Reported result text.old text.new report.old report.new) }
+    ensures { ReportedOf (core_in core.old) (core_in core.new) result text.old text.new report.old
+        report.new }
 {
     ensure_open!(core);
     tell_made(explained(alloc, core, asked, page), text, report)
@@ -155,9 +152,8 @@ pub extern "C" fn np_core_replay_text(
     text: &mut [u8],
     report: &mut NpReport,
 ) -> u32
-    ensures { Asked (core_in core.old) (core_in core.new) result
-        ((text.new ≡ text.old) × (report.new ≡ report.old))
-        (λ kept. Reported result text.old text.new report.old report.new) }
+    ensures { ReportedOf (core_in core.old) (core_in core.new) result text.old text.new report.old
+        report.new }
 {
     ensure_open!(core);
     tell_made(replayed(alloc, core, trace, asked), text, report)
