@@ -2,7 +2,7 @@
 ghost use Rattle.std.specs.Prelude.{◌≡◌, None, true};
 ghost use Rattle.numaplan_handles.specs.Calls.{Asks, Calls, IsShared, Keeps};
 ghost use Rattle.numaplan_handles.specs.Hosts.{HasHostVersion, Obeys, OfHost};
-ghost use Rattle.numaplan_handles.specs.Kinds.{host_of, is_host};
+ghost use Rattle.numaplan_handles.specs.Kinds.{CallsKept, host_of, is_host};
 ghost use Rattle.numa_requests.specs.declared.host_command.HostCommand.{HostCommand};
 
 use crate::handle::{Handle, of_kept};
@@ -27,6 +27,17 @@ pub(crate) fn host_kept(kept: &Kept) -> &Host
         unreachable!()
     };
     host
+}
+
+/// Carries out a command of a host.
+fn apply_kept(kept: &mut Kept, command: &HostCommand) -> Result<(), HostRefusal>
+    requires host { is_host (Some kept.old) ≡ true }
+    ensures { CallsKept is_host host_of (Obeys command.now) kept.old result kept.new }
+{
+    match kept {
+        Kept::Host(host) => host.apply(command),
+        _ => unreachable!(),
+    }
 }
 
 impl HostHandle {
@@ -63,7 +74,7 @@ impl HostHandle {
     pub fn apply(&mut self, alloc: Global, command: &HostCommand) -> Option<Result<(), HostRefusal>>
         ensures { Calls (Obeys command.now) (host_in self.old) result (host_in self.new) }
     {
-        of_kept!(self.handle, alloc, Kept::Host(host) => host.apply(command))
+        of_kept!(self.handle, alloc, mut kept => apply_kept(&mut kept, command))
     }
 
     /// The number of accepted commands. `None` if the handle is closed.
