@@ -87,7 +87,7 @@ uint32_t np_pages_version(np_pages *pages, uint64_t *version);
 uint32_t np_pages_map(np_pages *pages, uint64_t start, uint64_t length, uint64_t offset);
 
 /* Then nothing is stated any more of the pages of the span. It tries that on a copy of the runs
- * of pages. Last, before NP_NO_MEMORY: NP_TOO_MANY_RUNS. */
+ * of pages, if something is stated of them. First of all: NP_TOO_MANY_RUNS. */
 uint32_t np_pages_unmap(np_pages *pages, uint64_t start, uint64_t length);
 
 uint32_t np_pages_mbind(np_pages *pages, uint64_t start, uint64_t length, const uint8_t *policy,

@@ -1,47 +1,58 @@
 -- What each call does to a core and its pages, and why it is refused.
-use Rattle.std.specs.Prelude.{◌≡◌, ℕ, ◌==◌, ◌&&◌, Bool, true, false, not, Option, Some, None}
-use Rattle.std.specs.Prelude.{is_some, List, ◌∷◌, Result, Ok, Err, OnOk, OnErr, IfOk, IfErr}
+use Rattle.std.specs.Prelude.{◌≡◌, ℕ, ◌&&◌, Bool, true, false, Option, Some, None}
+use Rattle.std.specs.Prelude.{List, [], ◌∷◌, Result, Ok, Err, OnOk, OnErr, IfOk, IfErr}
 use Rattle.std.specs.Prelude.{if◌then◌else◌}
 use Rattle.numa_core.specs.Executions.{CoreStep}
 use Rattle.numa_core.specs.Standing.{CoreState, LeadsTo, core_step_after, setup_of}
 use Rattle.numa_core.specs.Steps.{accept_answer}
-use Rattle.numa_machine.specs.Rules.{is_linux}
-use Rattle.numa_machine.specs.declared.rules.Rules.{Rules}
-use Rattle.numa_mask.specs.NodeSet.{both}
-use Rattle.numa_mode.specs.Policy.{Specification, is_default}
-use Rattle.numa_ranges.specs.Runs.{page_at}
-use Rattle.numa_ranges.specs.declared.run.Run.{Run}
-use Rattle.numa_space.specs.History.{page_of, page_count}
+use Rattle.numa_mode.specs.Policy.{Specification}
+use Rattle.numa_placed.specs.declared.moved.Moved.{Moved}
 use Rattle.numa_requests.specs.declared.command.Command.{Command}
 use Rattle.numa_requests.specs.declared.command.Command.TheVariants.{Map, Unmap, Mbind, SetTask}
 use Rattle.numa_requests.specs.declared.command.Command.TheVariants.{Inherit, SetHome, SetWeight}
 use Rattle.numa_requests.specs.declared.command.Command.TheVariants.{SetMems}
 use Rattle.numa_requests.specs.declared.event.Event.TheVariants.{Accept}
-use Rattle.numa_requests.specs.declared.refusal.Refusal.{Refusal}
-use Rattle.numa_requests.specs.declared.refusal.Refusal.TheVariants as refused
-use Rattle.numa_space.specs.Standing.{SpaceState}
-use Rattle.numa_placed.specs.Astray.{strict_cause_by}
-use Rattle.numa_placed.specs.Binds.{Asked, IsBound, asked_of, bound_spots, span_below}
-use Rattle.numa_placed.specs.Refusals.{IsLack, IsMoveRefusal, IsRefusal, lacks_node}
-use Rattle.numa_placed.specs.Refusals.{migrate_cause, move_cause, span_cause, state_cause}
-use Rattle.numa_placed.specs.Shifts.{AreRooms, IsShift, first_of, room_cause, room_moved, shifted}
-use Rattle.numa_placed.specs.Spots.{changed_spots, forgotten_spot, spot_at, stated_spot}
-use Rattle.numa_placed.specs.Spots.{stated_spots}
-use Rattle.numa_placed.specs.declared.moved.Moved.{Moved}
 use Rattle.numa_requests.specs.declared.page_refusal.MoveRefusal.{MoveRefusal}
+use Rattle.numa_requests.specs.declared.page_refusal.MoveRefusal.TheVariants as move
 use Rattle.numa_requests.specs.declared.page_refusal.PlacedRefusal.{PlacedRefusal}
-use Rattle.numa_requests.specs.declared.page_refusal.PlacedRefusal.TheVariants.{NoSuchNode}
-use Rattle.numa_placed.specs.declared.rooms.Rooms.{Rooms}
-use Rattle.numa_placed.specs.declared.spot.Spot.{Spot}
+use Rattle.numa_requests.specs.declared.page_refusal.PlacedRefusal.TheVariants as cause
+use Rattle.numa_requests.specs.declared.refusal.Refusal.{Refusal}
+use Rattle.numa_space.specs.Refusals.{refusal_of}
+use Rattle.numa_space.specs.Standing.{SpaceState, StandsFor}
+use Rattle.numa_page_state.specs.Lying.{Ground, Lying, Process, ground_in}
+use Rattle.numa_page_state.specs.Outcomes.{Done, along_outcome, at_outcome, forgotten}
+use Rattle.numa_page_state.specs.Outcomes.{has_stated, is_no_memory, lack_of, migrate_outcome}
+use Rattle.numa_page_state.specs.Outcomes.{move_outcome, room_outcome}
+use Rattle.numa_page_state.specs.Sending.{asked_of, command_of, sent_in, sent_spots, tells_left}
+use Rattle.numa_page_state.specs.Sending.{with_sent}
+use Rattle.numa_page_state.specs.Standing.{DoesAs, LiesAs}
+use Rattle.numa_page_state.specs.Strict.{has_astray, is_late, strict_binding}
+use Rattle.numa_page_state.specs.declared.binding.Binding.{Binding}
+use Rattle.numa_page_state.specs.declared.last.Last.TheVariants as went
+use Rattle.numa_page_state.specs.declared.sending.Rebinding.{Rebinding}
+use Rattle.numa_page_state.specs.declared.sending.Toucher.{Toucher}
+use Rattle.numa_page_state.specs.declared.shift.Shift.{Shift}
+use Rattle.numa_page_state.specs.declared.state.PageState.{PageState}
 use Rattle.numa_pages.specs.declared.binding.Rebound.{Rebound}
 use Rattle.numa_pages.specs.declared.refusal.ChangeRefusal.{ChangeRefusal}
 use Rattle.numa_pages.specs.declared.refusal.ChangeRefusal.TheVariants.{OfSpace, OfPages, NoMemory}
 
--- a core, the runs of pages that lie alike, and how many more pages each node takes
+-- a core, and where its pages lie: none keeps a frame
 pub record PagesState : Type 0 where
   pub core : CoreState
-  pub runs : List (Run Spot)
-  pub rooms : Rooms
+  pub state : PageState
+
+-- the process of the core, with this history
+abbrev pub process_of : PagesState → List Command → Process
+process_of pages history = record {
+  machine = pages.core.space.machine;
+  bounds = pages.core.space.bounds;
+  history = history;
+  kept = [];
+}
+
+abbrev pub ground_of : PagesState → Ground
+ground_of pages = ground_in pages.core.space []
 
 -- the core's commands: each execution that led to the one core leads, with this answer to the
 -- command, to the other
@@ -57,16 +68,16 @@ Accepted before command after = (version : ℕ) × Answers before command (Ok ve
 -- ---- commands
 
 -- where pages lie once a command is accepted: of those that are unmapped nothing is stated any more
-abbrev pub spots_after : Command → (ℕ → Spot) → ℕ → Spot
-spots_after (Unmap start bytes) spots =
-    changed_spots (page_of start) (page_count bytes) forgotten_spot spots
-spots_after (Map start bytes offset) spots = spots
-spots_after (Mbind start bytes spec) spots = spots
-spots_after (SetTask task spec) spots = spots
-spots_after (Inherit task from) spots = spots
-spots_after (SetHome start bytes node) spots = spots
-spots_after (SetWeight node weight) spots = spots
-spots_after (SetMems mask) spots = spots
+abbrev pub lying_after : Command → Lying → Lying
+lying_after (Unmap start bytes) at = if has_stated at.spots start bytes
+    then record at { spots = forgotten start bytes at.spots } else at
+lying_after (Map start bytes offset) at = at
+lying_after (Mbind start bytes spec) at = at
+lying_after (SetTask task spec) at = at
+lying_after (Inherit task from) at = at
+lying_after (SetHome start bytes node) at = at
+lying_after (SetWeight node weight) at = at
+lying_after (SetMems mask) at = at
 
 abbrev pub unmaps : Command → Bool
 unmaps (Unmap start bytes) = true
@@ -78,209 +89,213 @@ unmaps (SetHome start bytes node) = false
 unmaps (SetWeight node weight) = false
 unmaps (SetMems mask) = false
 
--- why what is stated of unmapped pages can't be taken away
-abbrev pub IsPagesCause : Command → (ℕ → Spot) → PlacedRefusal → Type 0
-IsPagesCause (Unmap start bytes) spots cause =
-    IsRefusal (span_cause start bytes) (spots_after (Unmap start bytes) spots) cause
-IsPagesCause (Map start bytes offset) spots cause = ⊥
-IsPagesCause (Mbind start bytes spec) spots cause = ⊥
-IsPagesCause (SetTask task spec) spots cause = ⊥
-IsPagesCause (Inherit task from) spots cause = ⊥
-IsPagesCause (SetHome start bytes node) spots cause = ⊥
-IsPagesCause (SetWeight node weight) spots cause = ⊥
-IsPagesCause (SetMems mask) spots cause = ⊥
+-- why pages stand against a command: what is stated of those that are unmapped can't be taken away.
+-- `refused` says whether a growth was refused meanwhile
+abbrev pub cause_of_pages : Bool → Command → Lying → Option PlacedRefusal
+cause_of_pages refused (Unmap start bytes) at = if has_stated at.spots start bytes
+    then lack_of refused (forgotten start bytes at.spots) else None
+cause_of_pages refused (Map start bytes offset) at = None
+cause_of_pages refused (Mbind start bytes spec) at = None
+cause_of_pages refused (SetTask task spec) at = None
+cause_of_pages refused (Inherit task from) at = None
+cause_of_pages refused (SetHome start bytes node) at = None
+cause_of_pages refused (SetWeight node weight) at = None
+cause_of_pages refused (SetMems mask) at = None
 
--- why a command is refused: the core refuses it; or it doesn't, and the pages do; or out of memory
+-- pages don't stand against it
+abbrev pub ArePassed : Command → PageState → Type 0
+ArePassed command state = (lying : Lying) → LiesAs state lying
+    → cause_of_pages false command lying ≡ None
+
+-- why a command is refused: the pages refuse it; or they don't, and the core does
 abbrev pub IsCause : Command → PagesState → ChangeRefusal → Type 0
 IsCause command pages (OfSpace refusal) = Answers pages.core command (Err refusal) pages.core
-IsCause command pages (OfPages cause) = ((after : CoreState) × Accepted pages.core command after)
-    × IsPagesCause command (spot_at pages.runs) cause
+    × ArePassed command pages.state
+IsCause command pages (OfPages cause) = (lying : Lying) → LiesAs pages.state lying
+    → cause_of_pages (is_no_memory cause) command lying ≡ Some cause
 IsCause command pages NoMemory = Unit {0}
 
 -- a command was accepted by the core and the pages, or by neither
 pub record Accepts (command : Command) (before : PagesState) (answer : Result ℕ ChangeRefusal)
     (after : PagesState) : Type 0 where
   pub core : IfOk answer (λ version. Answers before.core command (Ok version) after.core)
-  pub pages : OnOk answer ((page : ℕ) → spot_at after.runs page
-      ≡ spots_after command (spot_at before.runs) page)
-  pub rooms : after.rooms ≡ before.rooms
+  pub passed : OnOk answer (ArePassed command before.state)
+  pub pages : OnOk answer ((lying : Lying) → LiesAs before.state lying
+      → LiesAs after.state (lying_after command lying))
   pub setup : setup_of after.core ≡ setup_of before.core
   pub err : IfErr answer (IsCause command before)
   pub unchanged : OnErr answer (after ≡ before)
 
 -- ---- a policy that pages have to lie by
 
--- `default` asks for no nodes, and looks at no page
-abbrev pub strict_cause_of : SpaceState → (ℕ → Spot) → ℕ → ℕ → Specification
-    → Option PlacedRefusal
-strict_cause_of space spots start bytes spec = if is_default spec then None
-    else strict_cause_by space.machine.rules (page_at space.ranges) spots start bytes spec.mask
+-- whether pages stand against it: one lies astray, and nothing else that comes before them does.
+-- `default` looks at no page
+abbrev pub stands_astray : Option Binding → Process → Command → Lying → Bool
+stands_astray None process command at = false
+stands_astray (Some said) process command at = has_astray process at.spots said
+    && is_late process.machine.rules
+    (refusal_of process.machine process.bounds process.history command)
 
--- an answer of the core that doesn't come before one of the pages: a hole comes behind the pages
--- that the kernel judges before it
-abbrev pub is_late : Rules → Result ℕ Refusal → Bool
-is_late rules (Ok version) = true
-is_late rules (Err refused.TooManyRanges) = true
-is_late rules (Err refused.NoMemory) = true
-is_late rules (Err refused.Hole) = is_linux rules
-is_late rules (Err other) = false
+abbrev pub is_astray : ℕ → ℕ → Specification → Process → Lying → Bool
+is_astray start bytes spec process at =
+    stands_astray (strict_binding start bytes spec) process (Mbind start bytes spec) at
 
--- why it is refused, where the pages have this cause: the core's comes first, unless it is late
-abbrev pub IsLateRefusal : Command → CoreState → PlacedRefusal → ChangeRefusal → Type 0
-IsLateRefusal command core cause (OfSpace refusal) =
-    Answers core command (Err refusal) core
-    × (is_late core.space.machine.rules (Err refusal) ≡ false)
-IsLateRefusal command core cause (OfPages told) = (told ≡ cause)
-    × ((answer : Result ℕ Refusal) × (is_late core.space.machine.rules answer ≡ true)
-    × ((after : CoreState) × Answers core command answer after))
-IsLateRefusal command core cause NoMemory = Unit {0}
+-- that is the answer where they do, and where they don't the core's is
+abbrev pub IsJudged : Bool → Result ℕ ChangeRefusal → Type 0
+IsJudged stands (Ok version) = stands ≡ false
+IsJudged stands (Err (OfSpace refusal)) = stands ≡ false
+IsJudged stands (Err (OfPages why)) = (why ≡ cause.Astray) × (stands ≡ true)
+IsJudged stands (Err NoMemory) = Unit {0}
 
--- why it is refused, where the pages have this cause or none
-abbrev pub IsStrictCause : Option PlacedRefusal → Command → CoreState → ChangeRefusal → Type 0
-IsStrictCause None command core why = (refusal : Refusal) × (why ≡ OfSpace refusal)
-    × Answers core command (Err refusal) core
-IsStrictCause (Some cause) command core why = IsLateRefusal command core cause why
+-- why the core refuses a command, where it does
+abbrev pub IsRefused : CoreState → Command → ChangeRefusal → Type 0
+IsRefused core command (OfSpace refusal) = Answers core command (Err refusal) core
+IsRefused core command (OfPages why) = Unit {0}
+IsRefused core command NoMemory = Unit {0}
 
 -- a policy was set for a span in which each page lies as it asks, or nothing has changed
 pub record BindsStrictly (start bytes : ℕ) (spec : Specification) (before : PagesState)
     (answer : Result ℕ ChangeRefusal) (after : PagesState) : Type 0 where
   pub core : IfOk answer (λ version. Answers before.core (Mbind start bytes spec) (Ok version)
       after.core)
-  pub strict : OnOk answer (strict_cause_of before.core.space (spot_at before.runs) start bytes
-      spec ≡ None)
-  pub pages : after.runs ≡ before.runs
-  pub rooms : after.rooms ≡ before.rooms
+  pub judged : (history : List Command) (lying : Lying) → StandsFor before.core.space history
+      → LiesAs before.state lying
+      → IsJudged (is_astray start bytes spec (process_of before history) lying) answer
+  pub refused : IfErr answer (IsRefused before.core (Mbind start bytes spec))
+  pub pages : after.state ≡ before.state
   pub setup : setup_of after.core ≡ setup_of before.core
-  pub err : IfErr answer (IsStrictCause (strict_cause_of before.core.space (spot_at before.runs)
-      start bytes spec) (Mbind start bytes spec) before.core)
   pub unchanged : OnErr answer (after ≡ before)
 
 -- ---- a policy to which pages move
 
+-- a policy for a span, and by whose faults its pages find their nodes
+pub record Moving : Type 0 where
+  pub said : Rebinding
+  pub toucher : Toucher
+
+abbrev pub moving_of : ℕ → ℕ → Specification → ℕ → ℕ → Moving
+moving_of start bytes spec task cpu = record {
+  said = record { start = start; length = bytes; spec = spec };
+  toucher = record { task = task; cpu = cpu };
+}
+
 -- the error number that is told though it is set: of a page that stays where it had to go, by
--- `strict`; `default` drops that word
+-- `strict`
 abbrev pub late_errno : Bool → Specification → ℕ → ℕ
-late_errno strict spec left =
-    if strict && (not (is_default spec) && not (left == 0)) then 5 else 0
+late_errno strict spec left = if tells_left strict spec left then 5 else 0
 
--- the pages that can be mapped, as they are to lie by the list as it is written, and by the nodes
--- of each in this core
-abbrev pub asked_by : CoreState → ℕ → ℕ → Specification → ℕ → ℕ → Asked
-asked_by core start bytes spec task cpu = asked_of core.space (span_below start bytes).0
-    (span_below start bytes).1 spec.mask task cpu
+-- each page went as far as there was room, and this is told of it
+pub record HaveMoved (moving : Moving) (before : PagesState) (told : Rebound) (after : PagesState)
+    (history : List Command) (lying : Lying) : Type 0 where
+  pub few : lack_of false (sent_spots (asked_of (process_of before history) moving.said
+      moving.toucher) lying) ≡ None
+  pub lies : LiesAs after.state (with_sent [] (asked_of (process_of before history)
+      moving.said moving.toucher) lying)
+  pub moved : told.bound.moved ≡ (sent_in [] (asked_of (process_of before history)
+      moving.said moving.toucher) lying).moved
+  pub left : told.bound.left ≡ (sent_in [] (asked_of (process_of before history)
+      moving.said moving.toucher) lying).left
 
--- why it is refused: by the core; or it would accept it, and the pages' runs lack
-abbrev pub IsMovingCause : ℕ → ℕ → Specification → ℕ → ℕ → PagesState → ChangeRefusal → Type 0
-IsMovingCause start bytes spec task cpu pages (OfSpace refusal) =
-    Answers pages.core (Mbind start bytes spec) (Err refusal) pages.core
-IsMovingCause start bytes spec task cpu pages (OfPages cause) = (after : CoreState)
-    × Accepted pages.core (Mbind start bytes spec) after
-    × ((room : ℕ → ℕ) → AreRooms pages.rooms room → IsRefusal
-    (span_cause (span_below start bytes).0 (span_below start bytes).1)
-    (bound_spots (asked_by after start bytes spec task cpu) (spot_at pages.runs) room) cause)
-IsMovingCause start bytes spec task cpu pages NoMemory = Unit {0}
+-- why it is refused: by the core; or nothing there stands against it, and the pages' runs lack
+abbrev pub IsMovingCause : Moving → PagesState → ChangeRefusal → Type 0
+IsMovingCause moving pages (OfSpace refusal) =
+    Answers pages.core (command_of moving.said) (Err refusal) pages.core
+IsMovingCause moving pages (OfPages why) = is_no_memory why ≡ false → (history : List Command)
+    (lying : Lying) → StandsFor pages.core.space history → LiesAs pages.state lying
+    → (refusal_of pages.core.space.machine pages.core.space.bounds history
+    (command_of moving.said) ≡ None) × (lack_of false (sent_spots (asked_of
+    (process_of pages history) moving.said moving.toucher) lying) ≡ Some why)
+IsMovingCause moving pages NoMemory = Unit {0}
 
--- a policy was set for a span, and its pages that lay on other nodes went, as far as there was room
-pub record BindsMoving (start bytes : ℕ) (spec : Specification) (strict : Bool) (task cpu : ℕ)
-    (before : PagesState) (answer : Result Rebound ChangeRefusal) (after : PagesState) : Type 0
-  where
-    pub core : OnOk answer (Accepted before.core (Mbind start bytes spec) after.core)
-    pub pages : (room : ℕ → ℕ) → AreRooms before.rooms room → IfOk answer (λ told. IsBound
-        (asked_by after.core start bytes spec task cpu) (spot_at before.runs) room
-        (spot_at after.runs) after.rooms told.bound)
-    pub errno : IfOk answer (λ told. told.errno ≡ late_errno strict spec told.bound.left)
-    pub setup : setup_of after.core ≡ setup_of before.core
-    pub err : IfErr answer (IsMovingCause start bytes spec task cpu before)
-    pub unchanged : OnErr answer (after ≡ before)
+-- a policy was set, and pages of its span that lay on other nodes went, as far as there was room
+pub record BindsBy (moving : Moving) (strict : Bool) (before : PagesState)
+    (answer : Result Rebound ChangeRefusal) (after : PagesState) : Type 0 where
+  pub core : OnOk answer (Accepted before.core (command_of moving.said) after.core)
+  pub pages : IfOk answer (λ told. (history : List Command) (lying : Lying)
+      → StandsFor before.core.space history → LiesAs before.state lying
+      → HaveMoved moving before told after history lying)
+  pub errno : IfOk answer (λ told. told.errno
+      ≡ late_errno strict moving.said.spec told.bound.left)
+  pub setup : setup_of after.core ≡ setup_of before.core
+  pub err : IfErr answer (IsMovingCause moving before)
+  pub unchanged : OnErr answer (after ≡ before)
+
+abbrev pub BindsMoving : ℕ → ℕ → Specification → Bool → ℕ → ℕ → PagesState
+    → Result Rebound ChangeRefusal → PagesState → Type 0
+BindsMoving start bytes spec strict task cpu = BindsBy (moving_of start bytes spec task cpu) strict
+
+-- ---- pages that move by their node
+
+-- how many pages moved, and were left
+abbrev pub shift_of : Moved → Shift
+shift_of moved = record { moved = moved.moved; left = moved.left }
+
+abbrev pub shift_in : Result Moved PlacedRefusal → Result Shift PlacedRefusal
+shift_in (Ok moved) = Ok (shift_of moved)
+shift_in (Err why) = Err why
+
+-- what was told of a move is kept as the last one
+abbrev pub IsLast : PageState → Moved → Type 0
+IsLast state moved = state.last ≡ went.Nodes moved
+
+-- what memory that lacks comes to
+abbrev pub lacking : {A : Type 0} → Result A PlacedRefusal
+lacking = Err cause.NoMemory
 
 -- ---- allowed nodes that pages follow
 
+-- pages went along from the allowed nodes of the one core to those of the other, or it is told why
+-- not
+abbrev pub GoAlong : PagesState → CoreState → Result Shift PlacedRefusal → PageState → Type 0
+GoAlong before core answer after = DoesAs before.state answer after lacking (λ refused at.
+    along_outcome refused [] before.core.space.allowed core.space.allowed at)
+
 -- why they are refused: by the core; or it would accept them, and the pages' runs lack
-abbrev pub IsMemsCause : ℕ → PagesState → ChangeRefusal → Type 0
-IsMemsCause mask pages (OfSpace refusal) =
-    Answers pages.core (SetMems mask) (Err refusal) pages.core
-IsMemsCause mask pages (OfPages cause) = (after : CoreState)
-    × Accepted pages.core (SetMems mask) after
-    × ((room : ℕ → ℕ) → AreRooms pages.rooms room → IsLack (shifted (spot_at pages.runs)
-    pages.core.space.allowed after.space.allowed room) cause)
-IsMemsCause mask pages NoMemory = Unit {0}
+abbrev pub IsMemsCause : ℕ → PagesState → PageState → ChangeRefusal → Type 0
+IsMemsCause mask before after (OfSpace refusal) =
+    Answers before.core (SetMems mask) (Err refusal) before.core × (after ≡ before.state)
+IsMemsCause mask before after (OfPages why) = (core : CoreState)
+    × Accepted before.core (SetMems mask) core × GoAlong before core (Err why) after
+IsMemsCause mask before after NoMemory = after ≡ before.state
 
 -- the allowed nodes changed, and the pages went with them, as far as there was room
 pub record MovesMems (mask : ℕ) (before : PagesState) (answer : Result Moved ChangeRefusal)
     (after : PagesState) : Type 0 where
   pub core : OnOk answer (Accepted before.core (SetMems mask) after.core)
-  pub pages : (room : ℕ → ℕ) → AreRooms before.rooms room → IfOk answer (IsShift
-      (spot_at before.runs) before.core.space.allowed after.core.space.allowed room
-      (spot_at after.runs) after.rooms)
+  pub pages : IfOk answer (λ moved. GoAlong before after.core (Ok (shift_of moved)) after.state)
+  pub told : IfOk answer (IsLast after.state)
   pub setup : setup_of after.core ≡ setup_of before.core
-  pub err : IfErr answer (IsMemsCause mask before)
-  pub unchanged : OnErr answer (after ≡ before)
+  pub err : IfErr answer (IsMemsCause mask before after.state)
+  pub unchanged : OnErr answer (after.core ≡ before.core)
 
 -- ---- pages alone
 
--- the mapped pages of a span, once they are stated to lie on a node
-abbrev pub stated_in : PagesState → ℕ → ℕ → ℕ → ℕ → Spot
-stated_in pages start bytes node = stated_spots (λ p. is_some (page_at pages.core.space.ranges p))
-    (page_of start) (page_count bytes) node (spot_at pages.runs)
-
--- they were stated to lie there, or it is told why not
-pub record Places (start bytes node : ℕ) (before : PagesState)
-    (answer : Result (Unit {0}) PlacedRefusal) (after : PagesState) : Type 0 where
-  pub accepted : OnOk answer (state_cause before.core.space.machine start bytes node ≡ None)
-  pub pages : OnOk answer ((page : ℕ) → spot_at after.runs page
-      ≡ stated_in before start bytes node page)
-  pub err : IfErr answer (IsRefusal (state_cause before.core.space.machine start bytes node)
-      (stated_in before start bytes node))
+-- pages were changed as the outcome says, beside the core
+pub record Changes {A Cause : Type 0} (lack : Result A Cause)
+    (outcome : Bool → Lying → Done A Cause) (before : PagesState) (answer : Result A Cause)
+    (after : PagesState) : Type 0 where
+  pub does : DoesAs before.state answer after.state lack outcome
   pub core : after.core ≡ before.core
-  pub rooms : after.rooms ≡ before.rooms
-  pub unchanged : OnErr answer (after ≡ before)
+
+-- the mapped pages of a span were stated to lie on a node, or it is told why not
+abbrev pub Places : ℕ → ℕ → ℕ → PagesState → Result (Unit {0}) PlacedRefusal → PagesState → Type 0
+Places start bytes node before = Changes lacking
+    (λ refused at. at_outcome refused (ground_of before) start bytes node at) before
 
 -- a node was given room, or it has no memory
-pub record Limits (node pages : ℕ) (before : PagesState)
-    (answer : Result (Unit {0}) PlacedRefusal) (after : PagesState) : Type 0 where
-  pub accepted : OnOk answer (lacks_node before.core.space.machine node ≡ false)
-  pub room : OnOk answer ((room : ℕ → ℕ) → AreRooms before.rooms room
-      → AreRooms after.rooms (λ other. if other == node then pages else room other))
-  pub err : IfErr answer (λ cause. (cause ≡ NoSuchNode)
-      × (lacks_node before.core.space.machine node ≡ true))
-  pub core : after.core ≡ before.core
-  pub runs : after.runs ≡ before.runs
-  pub unchanged : OnErr answer (after ≡ before)
+abbrev pub Limits : ℕ → ℕ → PagesState → Result (Unit {0}) PlacedRefusal → PagesState → Type 0
+Limits node pages before = Changes lacking
+    (λ refused at. room_outcome before.core.space.machine node pages at) before
+
+-- a page moved to a node, or it is told why not. The address is any byte's of the page
+abbrev pub MovesPage : ℕ → ℕ → PagesState → Result (Unit {0}) MoveRefusal → PagesState → Type 0
+MovesPage address node before = Changes (Err move.NoMemory)
+    (λ refused at. move_outcome refused (ground_of before) address node at) before
 
 -- pages left one set of nodes for the allowed nodes of another, as far as there was room, or it is
 -- told why not
 pub record Migrates (from to : ℕ) (before : PagesState) (answer : Result Moved PlacedRefusal)
     (after : PagesState) : Type 0 where
-  pub accepted : OnOk answer (migrate_cause before.core.space.allowed to ≡ None)
-  pub pages : (room : ℕ → ℕ) → AreRooms before.rooms room → IfOk answer (IsShift
-      (spot_at before.runs) from (both to before.core.space.allowed) room (spot_at after.runs)
-      after.rooms)
-  pub err : (room : ℕ → ℕ) → AreRooms before.rooms room → IfErr answer (IsRefusal
-      (migrate_cause before.core.space.allowed to) (shifted (spot_at before.runs) from
-      (both to before.core.space.allowed) room))
-  pub core : after.core ≡ before.core
-  pub unchanged : OnErr answer (after ≡ before)
-
--- why a page may not move to a node: of the node, of the page, of the room
-abbrev pub move_cause_in : PagesState → (ℕ → ℕ) → ℕ → ℕ → Option MoveRefusal
-move_cause_in pages room page node = first_of (move_cause pages.core.space.machine
-    pages.core.space.allowed node (is_some (page_at pages.core.space.ranges page))
-    (spot_at pages.runs page)) (room_cause room node (spot_at pages.runs page))
-
--- a page once it moved to a node, and the others
-abbrev pub moved_to : PagesState → ℕ → ℕ → ℕ → Spot
-moved_to pages page node = changed_spots page 1 (stated_spot node) (spot_at pages.runs)
-
--- a page moved to a node, or it is told why not
-pub record MovesPage (page node : ℕ) (before : PagesState)
-    (answer : Result (Unit {0}) MoveRefusal) (after : PagesState) : Type 0 where
-  pub accepted : (room : ℕ → ℕ) → AreRooms before.rooms room → OnOk answer
-      (move_cause_in before room page node ≡ None)
-  pub pages : OnOk answer ((other : ℕ) → spot_at after.runs other
-      ≡ moved_to before page node other)
-  pub taken : (room : ℕ → ℕ) → AreRooms before.rooms room → OnOk answer
-      (AreRooms after.rooms (room_moved room node (spot_at before.runs page)))
-  pub err : (room : ℕ → ℕ) → AreRooms before.rooms room → IfErr answer (IsMoveRefusal
-      (move_cause_in before room page node) (moved_to before page node))
-  pub core : after.core ≡ before.core
-  pub unchanged : OnErr answer (after ≡ before)
+  pub does : Changes lacking (λ refused at. migrate_outcome refused (ground_of before) from to at)
+      before (shift_in answer) after
+  pub told : IfOk answer (IsLast after.state)

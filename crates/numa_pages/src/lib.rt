@@ -14,6 +14,7 @@
 mod binding;
 mod listing;
 pub mod pages;
+mod questions;
 mod refusal;
 mod trial;
 

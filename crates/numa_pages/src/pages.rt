@@ -1,35 +1,46 @@
 //! A core, and where its pages lie.
-ghost use Rattle.std.specs.Prelude.{◌≡◌, ◌<◌, ℕ, IfErr, IfOk, OnErr, true, false};
-ghost use Rattle.numa_placed.specs.Refusals.{IsLack, lacks_node};
-ghost use Rattle.numa_placed.specs.Shifts.{AreRooms, IsShift, endless, room_of, shifted};
-ghost use Rattle.numa_placed.specs.Spots.{spot_at};
+ghost use Rattle.std.specs.Prelude.{◌≡◌, ℕ, Err, IfErr, IfOk, List, None, Ok, Some, false, true};
+ghost use Rattle.std.specs.Prelude.{is_some};
+ghost use Rattle.numa_placed.specs.Refusals.{lacks_node};
 ghost use Rattle.numa_requests.specs.declared.page_refusal.PlacedRefusal.TheVariants.{NoSuchNode};
-ghost use Rattle.numa_placed.specs.declared.spot.Spot.TheVariants.{Nowhere};
 ghost use Rattle.numa_requests.specs.declared.command.Command.{Command};
 ghost use Rattle.numa_core.specs.Standing.{setup_of};
-ghost use Rattle.numa_pages.specs.Changes.{Accepted, Accepts, BindsMoving, BindsStrictly, IsCause};
-ghost use Rattle.numa_pages.specs.Changes.{IsPagesCause, Limits, Migrates, MovesMems, MovesPage};
-ghost use Rattle.numa_pages.specs.Changes.{Places, unmaps};
+ghost use Rattle.numa_space.specs.Refusals.{refusal_of};
+ghost use Rattle.numa_space.specs.Standing.{StandsFor};
+ghost use Rattle.numa_page_state.specs.Lying.{Lying, nothing};
+ghost use Rattle.numa_page_state.specs.Outcomes.{rooms_of};
+ghost use Rattle.numa_page_state.specs.Sending.{command_of};
+ghost use Rattle.numa_page_state.specs.Standing.{Forgets, LiesAs, Sends};
+ghost use Rattle.numa_page_state.specs.Strict.{strict_binding_in};
+ghost use Rattle.numa_pages.specs.Changes.{Accepted, Accepts, BindsBy, BindsMoving, BindsStrictly};
+ghost use Rattle.numa_pages.specs.Changes.{Limits, Migrates, MovesMems, MovesPage, Places};
+ghost use Rattle.numa_pages.specs.Changes.{cause_of_pages, lying_after, process_of, stands_astray};
+ghost use Rattle.numa_pages.specs.Changes.{unmaps};
 
-use crate::binding::{Rebound, judge_strict, late_errno, move_astray, refused_strictly};
+use crate::binding::{Rebound, late_errno};
+use crate::questions::{last_moved, room_at};
 use crate::refusal::ChangeRefusal;
 use crate::trial::{TrialError, let_go, tried};
 use numa_core::Core;
 use numa_machine::NoMemory;
+use numa_maps::Resident;
 use numa_mask::NodeMask;
 use numa_mode::PolicySpec;
-use numa_placed::{Moved, Placed, Rooms, lacks_node};
+use numa_page_state::{
+    PageState, Rebinding, Sending, Toucher, is_late_in, sent, settle, strict_binding_in,
+};
+use numa_placed::{Bound, Moved, Placed, lacks_node};
 use numa_requests::{Command, MoveRefusal, PlacedRefusal};
 use std::alloc::Global;
 use std::marker::Model;
 use std::mem::replace;
 
-/// A core, where its pages lie, and how many more pages each node takes.
+/// A core, and where its pages lie. None keeps a frame: no worker of this core places any.
 #[derive(Drop)]
 pub struct Pages {
+    alloc: Global,
     core: Core,
-    placed: Placed,
-    rooms: Box<Rooms>,
+    state: PageState,
 }
 
 impl Model for Pages {
@@ -37,61 +48,18 @@ impl Model for Pages {
 
     ghost Value = { PagesState };
 
-    ghost view = { λ a. record { core = a.core; runs = a.placed; rooms = a.rooms.value } };
+    ghost view = { λ a. record { core = a.core; state = a.state } };
 }
 
-/// Moves pages from the allowed nodes of one core to those of another, as far as there is room.
-fn move_along(
-    placed: &mut Placed,
-    rooms: &mut Box<Rooms>,
-    before: &Core,
-    after: &Core,
-) -> Result<Moved, PlacedRefusal>
-    ensures ok { (room : ℕ → ℕ) → AreRooms rooms.old.value room → IfOk result (IsShift
-        (spot_at placed.old) before.now.space.allowed after.now.space.allowed room
-        (spot_at placed.new) rooms.new.value) }
-    ensures err { (room : ℕ → ℕ) → AreRooms rooms.old.value room → IfErr result (IsLack (shifted
-        (spot_at placed.old) before.now.space.allowed after.now.space.allowed room)) }
-    ensures unchanged { OnErr result (placed.new ≡ placed.old) }
-    ensures rooms { OnErr result (rooms.new.value ≡ rooms.old.value) }
+/// The command of a policy for a span.
+fn command_of(said: &Rebinding) -> Command
+    ensures { result ≡ command_of said.now }
 {
-    let old = before.space().allowed();
-    let new = after.space().allowed();
-    placed.follow_within(&old, &new, rooms)
-}
-
-/// Pages that all lie nowhere, and nodes that never fill.
-///
-/// # Errors
-/// `NoMemory`: out of memory.
-fn begun(alloc: Global) -> Result<(Placed, Box<Rooms>), NoMemory>
-    ensures placed { IfOk result (λ begun. (page : ℕ) → spot_at begun.0 page ≡ Nowhere) }
-    ensures rooms { IfOk result (λ begun. AreRooms begun.1.value (λ node. endless)) }
-{
-    let placed = Placed::new(alloc)?;
-    let Ok(rooms) = Box::new(alloc, Rooms::endless()) else {
-        return Err(NoMemory);
-    };
-    Ok((placed, rooms))
-}
-
-/// A copy of where pages lie, and of how many more each node takes.
-///
-/// # Errors
-/// `NoMemory`: out of memory.
-fn copied(
-    alloc: Global,
-    placed: &Placed,
-    rooms: &Box<Rooms>,
-) -> Result<(Placed, Box<Rooms>), NoMemory>
-    ensures placed { IfOk result (λ copy. copy.0 ≡ placed.now) }
-    ensures rooms { IfOk result (λ copy. copy.1.value ≡ rooms.now.value) }
-{
-    let placed = placed.copy()?;
-    let Ok(rooms) = Box::new(alloc, **rooms) else {
-        return Err(NoMemory);
-    };
-    Ok((placed, rooms))
+    Command::Mbind {
+        start: said.start,
+        length: said.length,
+        spec: said.spec,
+    }
 }
 
 impl Pages {
@@ -101,15 +69,10 @@ impl Pages {
     /// `NoMemory`: out of memory; the core is dropped.
     pub fn new(alloc: Global, core: Core) -> Result<Pages, NoMemory>
         ensures core { IfOk result (λ pages. pages.core ≡ core) }
-        ensures placed { IfOk result (λ pages. (page : ℕ) → spot_at pages.runs page ≡ Nowhere) }
-        ensures rooms { IfOk result (λ pages. AreRooms pages.rooms (λ node. endless)) }
+        ensures state { IfOk result (λ pages. LiesAs pages.state nothing) }
     {
-        match begun(alloc) {
-            Ok((placed, rooms)) => Ok(Pages {
-                core,
-                placed,
-                rooms,
-            }),
+        match PageState::new(alloc) {
+            Ok(state) => Ok(Pages { alloc, core, state }),
             Err(lack) => {
                 let_go(core);
                 Err(lack)
@@ -124,13 +87,9 @@ impl Pages {
     pub fn copy(&self, alloc: Global) -> Result<Pages, NoMemory>
         ensures { IfOk result (λ copy. copy ≡ self.now) }
     {
-        let (placed, rooms) = copied(alloc, &self.placed, &self.rooms)?;
+        let state = self.state.copy()?;
         match self.core.copy() {
-            Ok(core) => Ok(Pages {
-                core,
-                placed,
-                rooms,
-            }),
+            Ok(core) => Ok(Pages { alloc, core, state }),
             Err(lack) => Err(lack),
         }
     }
@@ -144,9 +103,9 @@ impl Pages {
 
     /// Where its pages lie.
     pub fn placed(&self) -> &Placed
-        ensures { result.now ≡ self.now.runs }
+        ensures { result.now ≡ self.now.state.placed }
     {
-        &self.placed
+        self.state.placed()
     }
 
     /// How many more pages a node takes, 2^64 - 1 if it never fills.
@@ -155,14 +114,15 @@ impl Pages {
     /// `NoSuchNode`: the machine lacks the node, or it has no memory.
     pub fn room(&self, node: u32) -> Result<u64, PlacedRefusal>
         ensures room { IfOk result (λ pages. (lacks_node self.now.core.space.machine node ≡ false)
-            × (pages ≡ room_of self.now.rooms node)) }
+            × ((lying : Lying) → LiesAs self.now.state lying
+            → pages ≡ rooms_of lying.room node)) }
         ensures err { IfErr result (λ cause. (cause ≡ NoSuchNode)
             × (lacks_node self.now.core.space.machine node ≡ true)) }
     {
         if lacks_node(self.core.space().machine(), node) {
             return Err(PlacedRefusal::NoSuchNode);
         }
-        Ok(self.rooms.at(node as u8).unwrap_or(u64::MAX))
+        Ok(room_at(self.state.rooms(), node as u8))
     }
 
     /// Says how many more pages a node takes; 2^64 - 1 if it never fills. Stating that pages lie on
@@ -173,20 +133,16 @@ impl Pages {
     pub fn limit(&mut self, node: u32, pages: u64) -> Result<(), PlacedRefusal>
         ensures { Limits node pages self.old result self.new }
     {
-        if lacks_node(self.core.space().machine(), node) {
-            return Err(PlacedRefusal::NoSuchNode);
-        }
-        self.rooms.limit(node as u8, pages);
-        Ok(())
+        self.state.limit(self.core.space(), node, pages)
     }
 
     /// Carries out a command, and returns the number of accepted ones. Of pages that are unmapped
     /// nothing is stated any more; all others lie where they lay.
     ///
     /// # Errors
-    /// Nothing has changed. `OfSpace`: as [`Core::accept`]. `OfPages`: the core would accept, but
-    /// what is stated of the unmapped pages can't be taken away, as [`Placed::forget`]. `NoMemory`:
-    /// out of memory for a copy.
+    /// Nothing has changed. `OfPages`: what is stated of the unmapped pages can't be taken away, as
+    /// [`Placed::forget`]; this comes before every cause of the core. `OfSpace`: as
+    /// [`Core::accept`].
     pub fn accept(&mut self, command: &Command) -> Result<u64, ChangeRefusal>
         ensures { Accepts command.now self.old result self.new }
     {
@@ -201,32 +157,36 @@ impl Pages {
         requires { unmaps command.now ≡ false }
         ensures { Accepts command.now self.old result self.new }
     {
+        self.pass(command)
+    }
+
+    /// Carries out a command that no page stands against, and that changes none.
+    fn pass(&mut self, command: &Command) -> Result<u64, ChangeRefusal>
+        requires { (lying : Lying) → LiesAs self.old.state lying
+            → (cause_of_pages false command.now lying ≡ None)
+            × (lying_after command.now lying ≡ lying) }
+        ensures { Accepts command.now self.old result self.new }
+    {
         match self.core.accept(command) {
             Ok(acceptance) => Ok(acceptance.version),
             Err(refusal) => Err(ChangeRefusal::OfSpace(refusal)),
         }
     }
 
-    /// Unmaps the pages of a span, where `placed` is a copy of where they lie.
-    fn unmap_by(
-        &mut self,
-        start: u64,
-        length: u64,
-        mut placed: Placed,
-    ) -> Result<u64, ChangeRefusal>
-        requires { placed ≡ self.old.runs }
+    /// Unmaps the pages of a span, where `after` is where all lie then.
+    fn unmap_by(&mut self, start: u64, length: u64, after: Placed) -> Result<u64, ChangeRefusal>
+        requires { Forgets (Some self.old.state) start length (Ok (Some after)) }
         ensures { Accepts (Command.Unmap start length) self.old result self.new }
     {
-        let command = Command::Unmap { start, length };
-        if let Err(cause) = placed.forget(start, length) {
-            return Err(self.refused(&command, cause));
-        }
-        match self.core.accept(&command) {
+        match self.core.accept(&Command::Unmap { start, length }) {
             Ok(acceptance) => {
-                self.placed = placed;
+                self.state.replace(after);
                 Ok(acceptance.version)
             }
-            Err(refusal) => Err(ChangeRefusal::OfSpace(refusal)),
+            Err(refusal) => {
+                drop(after);
+                Err(ChangeRefusal::OfSpace(refusal))
+            }
         }
     }
 
@@ -234,25 +194,33 @@ impl Pages {
     fn unmap(&mut self, start: u64, length: u64) -> Result<u64, ChangeRefusal>
         ensures { Accepts (Command.Unmap start length) self.old result self.new }
     {
-        match self.placed.copy() {
-            Ok(placed) => self.unmap_by(start, length, placed),
-            Err(_) => Err(ChangeRefusal::NoMemory),
+        match self.state.without_span(start, length) {
+            Ok(None) => self.pass(&Command::Unmap { start, length }),
+            Ok(Some(after)) => self.unmap_by(start, length, after),
+            Err(cause) => Err(ChangeRefusal::OfPages(cause)),
         }
     }
 
-    /// Why a command is refused that the pages refuse: the core's cause, if it has one.
-    fn refused(&self, command: &Command, cause: PlacedRefusal) -> ChangeRefusal
-        requires { IsPagesCause command.now (spot_at self.now.runs) cause }
-        ensures { IsCause command.now self.now result }
+    /// Whether pages stand against a policy: one lies astray, and nothing that comes before them
+    /// does.
+    ///
+    /// # Errors
+    /// `NoMemory`: out of memory for a copy of the space, on which the command is tried.
+    fn stands_astray(&self, command: &Command) -> Result<bool, NoMemory>
+        ensures { IfOk result (λ stands. (history : List Command) (lying : Lying)
+            → StandsFor self.now.core.space history → LiesAs self.now.state lying → stands
+            ≡ stands_astray (strict_binding_in command.now) (process_of self.now history)
+            command.now lying) }
     {
-        match tried(&self.core, command) {
-            Ok(after) => {
-                let_go(after);
-                ChangeRefusal::OfPages(cause)
-            }
-            Err(TrialError::Refused(refusal)) => ChangeRefusal::OfSpace(refusal),
-            Err(TrialError::NoMemory) => ChangeRefusal::NoMemory,
+        let Some(binding) = strict_binding_in(command) else {
+            return Ok(false);
+        };
+        let space = self.core.space();
+        let none = Resident::new(self.alloc);
+        if !self.state.has_astray(space, &none, &binding) {
+            return Ok(false);
         }
+        is_late_in(self.alloc, space, command)
     }
 
     /// Sets the policy of a span's pages, unless one of them lies on a node that isn't in the
@@ -278,8 +246,11 @@ impl Pages {
             length,
             spec,
         };
-        if let Err(cause) = judge_strict(&self.placed, self.core.space(), start, length, &spec) {
-            return Err(refused_strictly(&self.core, &command, cause));
+        let Ok(stands) = self.stands_astray(&command) else {
+            return Err(ChangeRefusal::NoMemory);
+        };
+        if stands {
+            return Err(ChangeRefusal::OfPages(PlacedRefusal::Astray));
         }
         match self.core.accept(&command) {
             Ok(acceptance) => Ok(acceptance.version),
@@ -295,8 +266,8 @@ impl Pages {
     /// dropped.
     ///
     /// # Errors
-    /// Nothing has changed. `OfSpace`: as [`Core::accept`]. `OfPages`: `TooManyRuns` or `NoMemory`,
-    /// as [`Placed::bind_astray`]. `NoMemory`: out of memory for a copy.
+    /// Nothing has changed. `OfSpace`: as [`Core::accept`]. `OfPages`: `TooManyRuns`, as
+    /// [`Placed::bind_astray`], or `NoMemory`.
     pub fn bind_moving(
         &mut self,
         start: u64,
@@ -308,44 +279,76 @@ impl Pages {
     ) -> Result<Rebound, ChangeRefusal>
         ensures { BindsMoving start length spec strict task cpu self.old result self.new }
     {
-        let command = Command::Mbind {
+        let said = Rebinding {
             start,
             length,
             spec,
         };
-        match tried(&self.core, &command) {
-            Ok(after) => self.rebind(after, start, length, spec, strict, task, cpu),
-            Err(TrialError::Refused(refusal)) => Err(ChangeRefusal::OfSpace(refusal)),
-            Err(TrialError::NoMemory) => Err(ChangeRefusal::NoMemory),
+        let toucher = Toucher { task, cpu };
+        let none = Resident::new(self.alloc);
+        match sent(
+            self.alloc,
+            self.core.space(),
+            &none,
+            &self.state,
+            &said,
+            toucher,
+        ) {
+            Ok(Some(sent)) => self.rebind(said, toucher, strict, sent),
+            Ok(None) => self.refuse(said, toucher, strict),
+            Err(cause) => Err(ChangeRefusal::OfPages(cause)),
         }
     }
 
-    /// Moves the pages to where the core puts them that is to take the old one's place.
+    /// Sets a policy, and the pages go that have been found to go.
     fn rebind(
         &mut self,
-        after: Core,
-        start: u64,
-        length: u64,
-        spec: PolicySpec,
+        said: Rebinding,
+        _toucher: Toucher,
         strict: bool,
-        task: u32,
-        cpu: u32,
+        sent: Sending,
     ) -> Result<Rebound, ChangeRefusal>
-        requires accepted { Accepted self.old.core (Command.Mbind start length spec) after }
-        requires setup { setup_of after ≡ setup_of self.old.core }
-        ensures { BindsMoving start length spec strict task cpu self.old result self.new }
+        requires { (history : List Command) (lying : Lying) → StandsFor self.old.core.space history
+            → LiesAs self.old.state lying
+            → Sends (process_of self.old history) said _toucher lying (Ok (Some sent)) }
+        ensures { BindsBy (record { said = said; toucher = _toucher }) strict self.old result
+            self.new }
     {
-        let (placed, rooms) = (&mut self.placed, &mut self.rooms);
-        match move_astray(placed, rooms, &after, start, length, &spec, task, cpu) {
-            Ok(bound) => {
-                let_go(replace(&mut self.core, after));
-                let errno = late_errno(strict, &spec, bound.left);
+        match self.core.accept(&command_of(&said)) {
+            Ok(_) => {
+                let bound = Bound {
+                    moved: sent.moved,
+                    left: sent.left,
+                };
+                let errno = late_errno(strict, &said.spec, bound.left);
+                settle(&mut self.state, sent);
                 Ok(Rebound { bound, errno })
             }
-            Err(cause) => {
-                let_go(after);
-                Err(ChangeRefusal::OfPages(cause))
+            Err(refusal) => {
+                drop(sent);
+                Err(ChangeRefusal::OfSpace(refusal))
             }
+        }
+    }
+
+    /// Refuses a policy that something stands against, for the core's cause.
+    fn refuse(
+        &mut self,
+        said: Rebinding,
+        _toucher: Toucher,
+        _strict: bool,
+    ) -> Result<Rebound, ChangeRefusal>
+        requires { (history : List Command) (lying : Lying) → StandsFor self.old.core.space history
+            → LiesAs self.old.state lying → is_some (refusal_of self.old.core.space.machine
+            self.old.core.space.bounds history (command_of said)) ≡ true }
+        ensures { BindsBy (record { said = said; toucher = _toucher }) _strict self.old result
+            self.new }
+    {
+        // Tells the proof that some execution leads to the core.
+        let _ = self.core.published();
+        match self.core.accept(&command_of(&said)) {
+            Ok(_) => unreachable!(),
+            Err(refusal) => Err(ChangeRefusal::OfSpace(refusal)),
         }
     }
 
@@ -355,7 +358,7 @@ impl Pages {
     ///
     /// # Errors
     /// Nothing has changed. `OfSpace`: as [`Core::accept`]. `OfPages`: `TooManyRuns` or `NoMemory`,
-    /// as [`Placed::follow_within`]. `NoMemory`: out of memory for a copy.
+    /// as [`PageState::move_along`]. `NoMemory`: out of memory for a copy.
     pub fn move_mems(&mut self, mask: NodeMask) -> Result<Moved, ChangeRefusal>
         ensures { MovesMems mask self.old result self.new }
     {
@@ -372,10 +375,13 @@ impl Pages {
         requires setup { setup_of after ≡ setup_of self.old.core }
         ensures { MovesMems _mask self.old result self.new }
     {
-        match move_along(&mut self.placed, &mut self.rooms, &self.core, &after) {
-            Ok(moved) => {
+        let old = self.core.space().allowed();
+        let new = after.space().allowed();
+        let none = Resident::new(self.alloc);
+        match self.state.move_along(&old, &new, &none) {
+            Ok(shift) => {
                 let_go(replace(&mut self.core, after));
-                Ok(moved)
+                Ok(last_moved(&self.state, shift))
             }
             Err(cause) => {
                 let_go(after);
@@ -387,11 +393,12 @@ impl Pages {
     /// States that the mapped pages of a span lie on a node. Start and length are in bytes.
     ///
     /// # Errors
-    /// As [`Placed::state`].
+    /// As [`Placed::state_beside`].
     pub fn place(&mut self, start: u64, length: u64, node: u32) -> Result<(), PlacedRefusal>
         ensures { Places start length node self.old result self.new }
     {
-        self.placed.state(self.core.space(), start, length, node)
+        let none = Resident::new(self.alloc);
+        self.state.at(self.core.space(), &none, start, length, node)
     }
 
     /// Moves pages from one set of nodes to the allowed nodes of another, as far as there is room:
@@ -402,18 +409,23 @@ impl Pages {
     pub fn migrate(&mut self, from: &NodeMask, to: &NodeMask) -> Result<Moved, PlacedRefusal>
         ensures { Migrates from.now to.now self.old result self.new }
     {
-        self.placed
-            .migrate_within(self.core.space(), from, to, &mut self.rooms)
+        let none = Resident::new(self.alloc);
+        match self.state.migrate(self.core.space(), &none, from, to) {
+            Ok(shift) => Ok(last_moved(&self.state, shift)),
+            Err(cause) => Err(cause),
+        }
     }
 
-    /// Moves a page to a node, if it has room: move_pages(2). A page that lies there stays.
+    /// Moves a page to a node, if it has room: move_pages(2). A page that lies there stays. The
+    /// address is any byte's of the page.
     ///
     /// # Errors
     /// As [`Placed::move_page_within`].
-    pub fn move_page(&mut self, page: u64, node: u32) -> Result<(), MoveRefusal>
-        ensures { MovesPage page node self.old result self.new }
+    pub fn move_page(&mut self, address: u64, node: u32) -> Result<(), MoveRefusal>
+        ensures { MovesPage address node self.old result self.new }
     {
-        self.placed
-            .move_page_within(self.core.space(), page, node, &mut self.rooms)
+        let none = Resident::new(self.alloc);
+        self.state
+            .move_page(self.core.space(), &none, address, node)
     }
 }

@@ -4,7 +4,6 @@ ghost use Rattle.numa_mask.specs.Lists.{list_of};
 ghost use Rattle.numa_pages.specs.Changes.{BindsMoving, Limits, Migrates, MovesMems, MovesPage};
 ghost use Rattle.numa_pages.specs.Changes.{Places};
 ghost use Rattle.numa_script.specs.Policies.{policy_of};
-ghost use Rattle.numa_space.specs.History.{page_of};
 ghost use Rattle.numaplan_c.specs.Codes.{list_code, word_code};
 ghost use Rattle.numaplan_c.specs.Placed.{PagesAnswer, PagesBind, PagesMove, TellsBound};
 ghost use Rattle.numaplan_c.specs.Placed.{TellsMoved, change_code, move_code, placed_code};
@@ -16,7 +15,6 @@ use numa_mask::{NodeMask, read_list};
 use numa_mode::PolicySpec;
 use numa_pages::{ChangeRefusal, Rebound};
 use numa_placed::Moved;
-use numa_requests::PAGE_BYTES;
 use numa_script::policy::read_policy;
 use numaplan_handles::PagesHandle;
 use std::alloc::Global;
@@ -108,7 +106,7 @@ pub extern "C" fn np_pages_set_room(
     }
 }
 
-/// Moves a page to a node.
+/// Moves the page of an address to a node.
 #[unsafe(no_mangle)]
 pub extern "C" fn np_pages_move(
     alloc: Global,
@@ -116,10 +114,10 @@ pub extern "C" fn np_pages_move(
     address: u64,
     node: u32,
 ) -> u32
-    ensures { PagesAnswer move_code (MovesPage (page_of address) node) (pages_in pages.old) result
+    ensures { PagesAnswer move_code (MovesPage address node) (pages_in pages.old) result
         (pages_in pages.new) }
 {
-    match pages.move_page(alloc, address / PAGE_BYTES, node) {
+    match pages.move_page(alloc, address, node) {
         None => Code::Closed as u32,
         Some(answer) => moved_code(answer),
     }

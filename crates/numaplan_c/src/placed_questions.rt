@@ -28,7 +28,7 @@ pub extern "C" fn np_pages_node(
     node: &mut u32,
 ) -> u32
     ensures { Asked (pages_in pages.old) (pages_in pages.new) result (node.new ≡ node.old)
-        (λ kept. TellsNode (node_of (spot_at kept.runs (page_of address))) result node.old
+        (λ kept. TellsNode (node_of (spot_at kept.state.placed (page_of address))) result node.old
         node.new) }
 {
     match pages.node_at(alloc, address / PAGE_BYTES) {

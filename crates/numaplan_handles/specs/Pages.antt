@@ -7,13 +7,14 @@ use Rattle.numa_pages.specs.Changes.{PagesState}
 use Rattle.numa_pages.specs.Listing.{listed}
 use Rattle.numa_pages.specs.declared.listing.PageRun.{PageRun}
 use Rattle.numa_placed.specs.Refusals.{lacks_node}
-use Rattle.numa_placed.specs.Shifts.{AreRooms, endless, room_of}
+use Rattle.numa_page_state.specs.Lying.{Lying, nothing}
+use Rattle.numa_page_state.specs.Outcomes.{rooms_of}
+use Rattle.numa_page_state.specs.Standing.{LiesAs}
 use Rattle.numa_placed.specs.Spots.{is_on, node_of, pages_where, spot_at}
 use Rattle.numa_placed.specs.Wholes.{AreWhole}
 use Rattle.numa_requests.specs.declared.page_refusal.PlacedRefusal.{PlacedRefusal}
 use Rattle.numa_requests.specs.declared.page_refusal.PlacedRefusal.TheVariants.{NoSuchNode}
 use Rattle.numa_placed.specs.declared.spot.Spot.{Spot}
-use Rattle.numa_placed.specs.declared.spot.Spot.TheVariants.{Nowhere}
 use Rattle.numa_ranges.specs.Runs.{AreApart, AreMaximal}
 use Rattle.numa_ranges.specs.declared.run.Run.{Run}
 
@@ -31,8 +32,7 @@ TellsOf told kept = (pages : PagesState) → kept ≡ Some pages → told pages
 
 -- nothing is stated of any page, and no node ever fills
 abbrev pub IsUntouched : PagesState → Type 0
-IsUntouched pages = ((page : ℕ) → spot_at pages.runs page ≡ Nowhere)
-    × AreRooms pages.rooms (λ node. endless)
+IsUntouched pages = LiesAs pages.state nothing
 
 -- these are the core that is kept, and pages of which nothing is stated
 abbrev pub IsOpenedFrom : Option CoreState → PagesState → Type 0
@@ -55,12 +55,12 @@ IsMade made from answer new = (from ≡ None → answer ≡ None)
 
 -- this is the node on which a page lies, if it lies on one
 abbrev pub HasNode : ℕ → Option ℕ → PagesState → Type 0
-HasNode page found pages = found ≡ node_of (spot_at pages.runs page)
+HasNode page found pages = found ≡ node_of (spot_at pages.state.placed page)
 
 -- so many pages lie on each node
 abbrev pub HasCounts : List ℕ → PagesState → Type 0
 HasCounts counts pages = (node : ℕ) → node < 256
-    → slice_index counts node ≡ pages_where (is_on node) (spot_at pages.runs)
+    → slice_index counts node ≡ pages_where (is_on node) (spot_at pages.state.placed)
 
 -- these are the runs of pages that lie on a node: of all maximal runs those whose pages lie there
 pub record AreRuns (list : List PageRun) (runs : List (Run Spot)) : Type 0 where
@@ -70,11 +70,11 @@ pub record AreRuns (list : List PageRun) (runs : List (Run Spot)) : Type 0 where
   pub whole : AreWhole runs
 
 abbrev pub HasRuns : List PageRun → PagesState → Type 0
-HasRuns list pages = AreRuns list pages.runs
+HasRuns list pages = AreRuns list pages.state.placed
 
 -- a node takes so many more pages; or it has no memory
 abbrev pub HasRoom : ℕ → Result ℕ PlacedRefusal → PagesState → Type 0
 HasRoom node (Ok pages) kept = (lacks_node kept.core.space.machine node ≡ false)
-    × (pages ≡ room_of kept.rooms node)
+    × ((lying : Lying) → LiesAs kept.state lying → pages ≡ rooms_of lying.room node)
 HasRoom node (Err cause) kept = (lacks_node kept.core.space.machine node ≡ true)
     × (cause ≡ NoSuchNode)

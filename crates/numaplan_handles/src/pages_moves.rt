@@ -51,13 +51,14 @@ fn migrate_kept(kept: &mut Kept, from: &NodeMask, to: &NodeMask) -> Result<Moved
     }
 }
 
-/// Moves a page to a node.
-fn move_kept(kept: &mut Kept, page: u64, node: u32) -> Result<(), MoveRefusal>
+/// Moves the page of an address to a node.
+fn move_kept(kept: &mut Kept, address: u64, node: u32) -> Result<(), MoveRefusal>
     requires pages { is_pages (Some kept.old) ≡ true }
-    ensures { CallsKept is_pages pages_of (OfPages (MovesPage page node)) kept.old result kept.new }
+    ensures { CallsKept is_pages pages_of (OfPages (MovesPage address node)) kept.old result
+        kept.new }
 {
     match kept {
-        Kept::Pages(pages) => pages.move_page(page, node),
+        Kept::Pages(pages) => pages.move_page(address, node),
         _ => unreachable!(),
     }
 }
@@ -154,21 +155,21 @@ impl PagesHandle {
         Some(answer)
     }
 
-    /// Moves a page to a node, if it has room. `None` if the handle is closed.
+    /// Moves the page of an address to a node, if it has room. `None` if the handle is closed.
     ///
     /// # Errors
     /// In the `Some`, as [`Pages::move_page`](numa_pages::Pages::move_page).
     pub fn move_page(
         &mut self,
         alloc: Global,
-        page: u64,
+        address: u64,
         node: u32,
     ) -> Option<Result<(), MoveRefusal>>
-        ensures { Calls (OfPages (MovesPage page node)) (pages_in self.old) result
+        ensures { Calls (OfPages (MovesPage address node)) (pages_in self.old) result
             (pages_in self.new) }
     {
         let mut kept = self.handle.take(alloc)?;
-        let answer = move_kept(&mut kept, page, node);
+        let answer = move_kept(&mut kept, address, node);
         self.handle.put(kept);
         Some(answer)
     }

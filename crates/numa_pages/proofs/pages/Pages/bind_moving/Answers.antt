@@ -1,9 +1,30 @@
-use Rattle.std.proofs.Common.{subst}
-use Rattle.numa_requests.specs.declared.command.Command.TheVariants.{Mbind}
-use Rattle.numa_pages.specs.Changes.{Accepted, PagesState}
+use Rattle.std.proofs.Common.{Ok, Err, Some, None, ap, ◌∙◌}
+use Rattle.numa_pages.specs.Changes.{moving_of}
+use Rattle.numa_pages.proofs.Moves.{found-so, lacks}
 use Rattle.numa_pages.proofs.pages.Pages.bind_moving.Goals as goal
 
-pub rebind-requires-clause-accepted : goal.rebind-requires-clause-accepted
-rebind-requires-clause-accepted c =
-    subst (λ (p : PagesState). Accepted p.core (Mbind c.args.start c.args.length c.args.spec)
-    c.in-Ok.after) c.self.view_is c.in-Ok.ensures.core
+pub rebind-requires : goal.rebind-requires
+rebind-requires c =
+    rw (← c.self.view_is) (found-so
+    (moving_of c.args.start c.args.length c.args.spec c.args.task c.args.cpu)
+    (record { core = c.self.inside.core; state = c.self.inside.state }) c.space.result.now
+    c.new-none.result c.sent.result (Ok (Some c.in-Ok-Some.sent)) c.space.ensures.space
+    c.new-none.ensures (c.in-Ok-Some.is ∙ ap Ok c.in-Ok-Some.field-0-is) c.sent.ensures)
+
+pub refuse-requires : goal.refuse-requires
+refuse-requires c =
+    rw (← c.self.view_is) (found-so
+    (moving_of c.args.start c.args.length c.args.spec c.args.task c.args.cpu)
+    (record { core = c.self.inside.core; state = c.self.inside.state }) c.space.result.now
+    c.new-none.result c.sent.result (Ok None) c.space.ensures.space
+    c.new-none.ensures (c.in-Ok-None.is ∙ ap Ok c.in-Ok-None.field-0-is) c.sent.ensures)
+
+pub returns : goal.returns
+returns c =
+    rw (← c.self.view_is) (lacks
+    (moving_of c.args.start c.args.length c.args.spec c.args.task c.args.cpu) c.args.strict
+    (record { core = c.self.inside.core; state = c.self.inside.state }) c.in-Err.cause
+    (found-so (moving_of c.args.start c.args.length c.args.spec c.args.task c.args.cpu)
+    (record { core = c.self.inside.core; state = c.self.inside.state }) c.space.result.now
+    c.new-none.result c.sent.result (Err c.in-Err.cause) c.space.ensures.space
+    c.new-none.ensures c.in-Err.is c.sent.ensures))

@@ -1,38 +1,38 @@
-use Rattle.std.proofs.Common.{refl, sym, ap, ◌∙◌, subst}
-use Rattle.numa_core.specs.Standing.{CoreState, setup_of}
-use Rattle.numa_placed.specs.Shifts.{IsShift}
-use Rattle.numa_placed.specs.Spots.{spot_at}
+use Rattle.std.proofs.Common.{Ok, Err, refl, sym, ap, ◌∙◌, subst}
+use Rattle.numa_core.specs.Standing.{setup_of}
 use Rattle.numa_requests.specs.declared.command.Command.TheVariants.{SetMems}
+use Rattle.numa_space.specs.Standing.{SpaceState}
 use Rattle.numa_pages.specs.Changes.{Accepted, PagesState}
+use Rattle.numa_pages.proofs.Moves.{goes-so, stayed, went-along}
 use Rattle.numa_pages.proofs.pages.Pages.follow.Goals as goal
 
 pub returns-in-Ok : goal.returns-in-Ok
 returns-in-Ok c =
-    let accepted : Accepted c.self.inside.core (SetMems c.args._mask) c.args.after =
-    subst (λ (p : PagesState). Accepted p.core (SetMems c.args._mask) c.args.after)
-    (sym c.self.view_is) c.requires.accepted in
-    rw (← c.self.view_is) (record {
-      core = subst (λ (k : CoreState). Accepted c.self.inside.core (SetMems c.args._mask) k)
-          (sym c.replace.ensures.after) accepted;
-      pages = λ room are. subst (λ (k : CoreState). IsShift (spot_at c.self.inside.placed)
-          c.self.inside.core.space.allowed k.space.allowed room
-          (spot_at c.move_along.new.placed) c.move_along.new.rooms.value c.in-Ok.moved)
-          (sym c.replace.ensures.after) (c.in-Ok.ensures.ok room are);
-      setup = ap setup_of c.replace.ensures.after ∙ c.requires.setup
-          ∙ ap (λ (p : PagesState). setup_of p.core) (sym c.self.view_is);
-      err = tt;
-      unchanged = tt;
-    })
+    rw (← c.self.view_is) (went-along c.args._mask
+    (record { core = c.self.inside.core; state = c.self.inside.state })
+    (record { core = c.replace.new.dest; state = c.move_along.new.self }) c.args.after
+    (subst (λ (p : PagesState). Accepted p.core (SetMems c.args._mask) c.args.after)
+    (sym c.self.view_is) c.requires.accepted) c.last_moved.result c.in-Ok.shift
+    c.replace.ensures.after
+    (c.requires.setup ∙ ap (λ (p : PagesState). setup_of p.core) (sym c.self.view_is))
+    c.last_moved.ensures.shift c.last_moved.ensures.last
+    (goes-so (record { core = c.self.inside.core; state = c.self.inside.state }) c.args.after
+    c.new-none.result c.allowed-old.result c.allowed-new.result (Ok c.in-Ok.shift)
+    c.move_along.new.self c.new-none.ensures
+    (c.allowed-old.ensures.allowed ∙ ap (λ (s : SpaceState). s.allowed) c.space.ensures.space)
+    (c.allowed-new.ensures.allowed ∙ ap (λ (s : SpaceState). s.allowed) c.space-2.ensures.space)
+    c.in-Ok.ensures.does))
 
-pub returns-in-Err : goal.returns-in-Err
-returns-in-Err c =
-    let accepted : Accepted c.self.inside.core (SetMems c.args._mask) c.args.after =
-    subst (λ (p : PagesState). Accepted p.core (SetMems c.args._mask) c.args.after)
-    (sym c.self.view_is) c.requires.accepted in
-    rw (← c.self.view_is) (record {
-      core = tt;
-      pages = λ room are. tt;
-      setup = refl;
-      err = (c.args.after, accepted, λ room are. c.in-Err.ensures.err room are);
-      unchanged = rw (c.in-Err.ensures.unchanged, c.in-Err.ensures.rooms) refl;
-    })
+pub returns : goal.returns
+returns c =
+    rw (← c.self.view_is) (stayed c.args._mask
+    (record { core = c.self.inside.core; state = c.self.inside.state })
+    (record { core = c.self.inside.core; state = c.move_along.new.self }) c.args.after
+    (subst (λ (p : PagesState). Accepted p.core (SetMems c.args._mask) c.args.after)
+    (sym c.self.view_is) c.requires.accepted) c.in-Err.cause refl
+    (goes-so (record { core = c.self.inside.core; state = c.self.inside.state }) c.args.after
+    c.new-none.result c.allowed-old.result c.allowed-new.result (Err c.in-Err.cause)
+    c.move_along.new.self c.new-none.ensures
+    (c.allowed-old.ensures.allowed ∙ ap (λ (s : SpaceState). s.allowed) c.space.ensures.space)
+    (c.allowed-new.ensures.allowed ∙ ap (λ (s : SpaceState). s.allowed) c.space-2.ensures.space)
+    c.in-Err.ensures.does))

@@ -1,0 +1,53 @@
+-- What a command makes of a core and its pages.
+use Rattle.std.proofs.Common.{◌≡◌, ℕ, false, Option, Some, None, List, Ok, refl}
+use Rattle.std.proofs.Common.{subst}
+use Rattle.numa_core.specs.Standing.{CoreState, setup_of}
+use Rattle.numa_maps.specs.Residents.{Kept}
+use Rattle.numa_placed.specs.declared.spot.Spot.{Spot}
+use Rattle.numa_ranges.specs.declared.run.Run.{Run}
+use Rattle.numa_requests.specs.declared.command.Command.TheVariants.{Unmap}
+use Rattle.numa_requests.specs.declared.page_refusal.PlacedRefusal.{PlacedRefusal}
+use Rattle.numa_space.specs.Standing.{SpaceState}
+use Rattle.numa_page_state.specs.Lying.{Lying, ground_in}
+use Rattle.numa_page_state.specs.Outcomes.{at_outcome, forgotten}
+use Rattle.numa_page_state.specs.Standing.{DoesAs, Forgets, LiesAs, Replaces}
+use Rattle.numa_pages.specs.Changes.{Accepts, Answers, PagesState, Places, cause_of_pages, lacking}
+use Rattle.std.specs.Prelude.{[], Result}
+
+module _ (before after : PagesState) (start bytes : ℕ) (placed : List (Run Spot))
+    (forgets : Forgets (Some before.state) start bytes (Ok (Some placed))) where
+  free : (lying : Lying) → LiesAs before.state lying
+      → cause_of_pages false (Unmap start bytes) lying ≡ None
+  free lying lies =
+      let is = forgets lying lies in rw is.0 is.2
+
+  -- nothing is stated any more of the pages that were unmapped
+  pub unmapped : (version : ℕ) → Replaces (Some before.state) placed (Some after.state)
+      → Answers before.core (Unmap start bytes) (Ok version) after.core
+      → setup_of after.core ≡ setup_of before.core
+      → Accepts (Unmap start bytes) before (Ok version) after
+  unmapped version replaces answers setup = record {
+    core = answers;
+    passed = free;
+    pages = λ lying lies.
+        let is = forgets lying lies in
+        rw is.0 (replaces lying (forgotten start bytes lying.spots) lies refl is.3);
+    setup = setup;
+    err = tt;
+    unchanged = tt;
+  }
+
+-- pages were stated to lie on a node
+pub placed-so : (before after : PagesState) (space : SpaceState) (kept : Kept)
+    (start bytes node : ℕ) (answer : Result (Unit {0}) PlacedRefusal) → space ≡ before.core.space
+    → kept ≡ [] → after.core ≡ before.core
+    → DoesAs before.state answer after.state lacking
+    (λ refused at. at_outcome refused (ground_in space kept) start bytes node at)
+    → Places start bytes node before answer after
+placed-so before after space kept start bytes node answer same none core does = record {
+  does = subst (λ (s : SpaceState). DoesAs before.state answer after.state lacking
+      (λ refused at. at_outcome refused (ground_in s []) start bytes node at)) same
+      (subst (λ (k : Kept). DoesAs before.state answer after.state lacking
+      (λ refused at. at_outcome refused (ground_in space k) start bytes node at)) none does);
+  core = core;
+}
