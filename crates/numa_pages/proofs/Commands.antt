@@ -1,7 +1,7 @@
 -- What a command makes of a core and its pages.
-use Rattle.std.proofs.Common.{◌≡◌, ℕ, false, Option, Some, None, List, Ok, refl}
+use Rattle.std.proofs.Common.{◌≡◌, ℕ, false, Some, None, List, Ok, refl}
 use Rattle.std.proofs.Common.{subst}
-use Rattle.numa_core.specs.Standing.{CoreState, setup_of}
+use Rattle.numa_core.specs.Standing.{setup_of}
 use Rattle.numa_maps.specs.Residents.{Kept}
 use Rattle.numa_placed.specs.declared.spot.Spot.{Spot}
 use Rattle.numa_ranges.specs.declared.run.Run.{Run}

@@ -18,7 +18,7 @@ use Rattle.numa_requests.specs.declared.page_refusal.PlacedRefusal.{PlacedRefusa
 use Rattle.numa_requests.specs.declared.page_refusal.PlacedRefusal.TheVariants as cause
 use Rattle.numa_requests.specs.declared.refusal.Refusal.{Refusal}
 use Rattle.numa_space.specs.Refusals.{refusal_of}
-use Rattle.numa_space.specs.Standing.{SpaceState, StandsFor}
+use Rattle.numa_space.specs.Standing.{StandsFor}
 use Rattle.numa_page_state.specs.Lying.{Ground, Lying, Process, ground_in}
 use Rattle.numa_page_state.specs.Outcomes.{Done, along_outcome, at_outcome, forgotten}
 use Rattle.numa_page_state.specs.Outcomes.{has_stated, is_no_memory, lack_of, migrate_outcome}

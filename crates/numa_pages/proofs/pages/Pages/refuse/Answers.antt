@@ -1,6 +1,4 @@
-use Rattle.std.proofs.Common.{Ok, sym, subst}
-use Rattle.numa_core.specs.Standing.{CoreStandsFor}
-use Rattle.numa_requests.specs.declared.command.Command.{Command}
+use Rattle.std.proofs.Common.{sym, subst}
 use Rattle.numa_page_state.specs.Sending.{command_of}
 use Rattle.numa_pages.specs.Changes.{PagesState}
 use Rattle.numa_pages.proofs.Refusing.{Stands, not-accepted}
