@@ -122,12 +122,18 @@ pub fn say_hint(
     place: u64,
     otherwise: &Otherwise,
 ) -> Result<(), AllocError> {
+    put_position(text, name, place)?;
+    say_otherwise(text, otherwise)?;
+    text.push(b'\n')?;
+    Ok(())
+}
+
+/// Appends the position of a line.
+fn put_position(text: &mut Vec<u8>, name: &str, place: u64) -> Result<(), AllocError> {
     let mut written = Text::of(text);
     written.put(name);
     written.put_number(":", place);
     written.put(": ");
-    put_otherwise(&mut written, otherwise);
-    written.put("\n");
     written.end(text)
 }
 

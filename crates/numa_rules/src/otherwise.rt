@@ -102,29 +102,6 @@ fn has_no_node(spec: PolicySpec, allowed: &NodeMask) -> bool
     }
 }
 
-/// Why a kernel refuses an mbind that ends above 2^47.
-fn bind_past_end(space: &Space, start: u64, length: u64, spec: PolicySpec) -> Option<Refusal>
-    ensures { result ≡ bind_past_end space.now start length spec }
-{
-    if ends_above(u64::MAX, start, length) {
-        return Some(Refusal::BadSpan);
-    }
-    if length == 0 {
-        return None;
-    }
-    let (first, pages) = pages_of(start, length);
-    if spec.mode() == Mode::Default {
-        if has_page(space, SpanTest::IsMapped, first, pages) {
-            return None;
-        }
-        return Some(Refusal::Hole);
-    }
-    if has_no_node(spec, &space.allowed()) {
-        return Some(Refusal::NodesNotAllowed);
-    }
-    Some(Refusal::Hole)
-}
-
 /// What a kernel does differently with an mbind.
 fn with_bind(space: &Space, start: u64, length: u64, spec: PolicySpec) -> Option<Otherwise>
     ensures { result ≡ with_bind space.now start length spec }
@@ -151,6 +128,48 @@ fn with_bind(space: &Space, start: u64, length: u64, spec: PolicySpec) -> Option
     None
 }
 
+/// Why a kernel refuses an mbind that ends above 2^47.
+fn bind_past_end(space: &Space, start: u64, length: u64, spec: PolicySpec) -> Option<Refusal>
+    ensures { result ≡ bind_past_end space.now start length spec }
+{
+    if ends_above(u64::MAX, start, length) {
+        return Some(Refusal::BadSpan);
+    }
+    if length == 0 {
+        return None;
+    }
+    let (first, pages) = pages_of(start, length);
+    if spec.mode() == Mode::Default {
+        if has_page(space, SpanTest::IsMapped, first, pages) {
+            return None;
+        }
+        return Some(Refusal::Hole);
+    }
+    if has_no_node(spec, &space.allowed()) {
+        return Some(Refusal::NodesNotAllowed);
+    }
+    Some(Refusal::Hole)
+}
+
+/// What a kernel does differently with a home.
+fn with_home(space: &Space, start: u64, length: u64, node: u32) -> Option<Otherwise>
+    ensures { result ≡ with_home space.now start length node }
+{
+    if start % PAGE_BYTES != 0 {
+        return None;
+    }
+    let Some((first, pages)) = span_of(start, length) else {
+        return Some(Otherwise::LooksPastEnd(home_past_end(space, start, length, node)));
+    };
+    if node >= space.machine().nodes() || length == 0 {
+        return None;
+    }
+    if has_page(space, SpanTest::HasPolicy, first, pages) {
+        return None;
+    }
+    Some(Otherwise::WantsPolicy)
+}
+
 /// Why a kernel refuses a home that ends above 2^47.
 fn home_past_end(space: &Space, start: u64, length: u64, node: u32) -> Option<Refusal>
     ensures { result ≡ home_past_end space.now start length node }
@@ -172,26 +191,6 @@ fn home_past_end(space: &Space, start: u64, length: u64, node: u32) -> Option<Re
         return None;
     }
     Some(Refusal::NoPolicy)
-}
-
-/// What a kernel does differently with a home.
-fn with_home(space: &Space, start: u64, length: u64, node: u32) -> Option<Otherwise>
-    ensures { result ≡ with_home space.now start length node }
-{
-    if start % PAGE_BYTES != 0 {
-        return None;
-    }
-    let Some((first, pages)) = span_of(start, length) else {
-        let cause = home_past_end(space, start, length, node);
-        return Some(Otherwise::LooksPastEnd(cause));
-    };
-    if node >= space.machine().nodes() || length == 0 {
-        return None;
-    }
-    if has_page(space, SpanTest::HasPolicy, first, pages) {
-        return None;
-    }
-    Some(Otherwise::WantsPolicy)
 }
 
 /// What a kernel does differently with a weight.
