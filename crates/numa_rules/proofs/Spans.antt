@@ -1,6 +1,6 @@
--- Whether a span has a page that passes a test, looked for run by run, and whether it has a hole.
+-- Whether a span has a page that passes a test, looked for run by run.
 use Rattle.std.proofs.Common.{◌≡◌, ℕ, ◌+◌, ◌-◌, ◌<◌, ◌≤◌, Bool, true, false, ◌&&◌, ◌||◌, Option}
-use Rattle.std.proofs.Common.{Some, None, List, [], ◌∷◌, refl, sym, ap, subst, ◌∙◌, arith, inl, inr}
+use Rattle.std.proofs.Common.{Some, None, List, [], ◌∷◌, refl, sym, ap, ◌∙◌, arith, inl, inr}
 use Rattle.std.proofs.Common.{nat_lt}
 use Rattle.std.specs.List.{list_any}
 use Rattle.std.proofs.lemmas.Bool.{cases_Bool, cases_lt, lt-ltb, ltb-true}
@@ -10,7 +10,6 @@ use Rattle.numa_ranges.specs.Runs.{AreApart, end_of, page_at}
 use Rattle.numa_ranges.specs.declared.run.Run.{Run}
 use Rattle.numa_ranges.proofs.Apart.{in_pages-true, in_pages-below, in_pages-above, page_at-before}
 use Rattle.numa_ranges.proofs.Pages.{any_page-true, any_page-false}
-use Rattle.numa_ranges.proofs.Walked.{IsWalked}
 use Rattle.numa_space.proofs.Homes.{any_page-within}
 use Rattle.numa_rules.specs.Pages.{passes, reaches}
 use Rattle.numa_rules.specs.declared.span.SpanTest.{SpanTest}
@@ -120,13 +119,3 @@ pub reaches-next : (test : SpanTest) (first end : ℕ)
 reaches-next test first end before rest run steps fails =
     sym (ap (list_any (reaches test first end)) steps
     ∙ ap (λ b. b || list_any (reaches test first end) rest) fails)
-
--- a walk along all runs, the first first
-pub walk-starts : {T : Type 0} (runs rest : List (Run T)) (first : ℕ) → AreApart 0 runs
-    → rest ≡ runs → IsWalked runs rest first first
-walk-starts runs rest first apart whole = record {
-  from = omega arith;
-  mapped = λ p low high. absurd (omega arith);
-  ahead = λ p low. ap (λ l. page_at l p) (sym whole);
-  apart = (0, subst (AreApart 0) (sym whole) apart);
-}

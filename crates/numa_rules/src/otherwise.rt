@@ -10,7 +10,7 @@ ghost use Rattle.numa_rules.specs.Otherwise.{otherwise_of, otherwise_of_empty_bi
 ghost use Rattle.numa_rules.specs.Otherwise.{bind_past_end, home_past_end, with_command};
 
 use crate::parted::{Parted, parted_in};
-use crate::span::{SPACE_END, SpanTest, ends_above, has_hole, has_page, pages_of, span_of};
+use crate::span::{SPACE_END, SpanTest, ends_above, has_page, pages_of, span_of};
 use numa_mask::NodeMask;
 use numa_mode::{Mode, PolicySpec, Record};
 use numa_requests::{Command, PAGE_BYTES, Refusal};
@@ -117,12 +117,12 @@ fn with_bind(space: &Space, start: u64, length: u64, spec: PolicySpec) -> Option
         return None;
     }
     if spec.mode() == Mode::Default {
-        if has_page(space, SpanTest::IsMapped, first, pages) && has_hole(space, first, pages) {
+        if has_page(space, SpanTest::IsMapped, first, pages) && space.has_hole(first, pages) {
             return Some(Otherwise::PassesHoles);
         }
         return None;
     }
-    if has_no_node(spec, &space.allowed()) && has_hole(space, first, pages) {
+    if has_no_node(spec, &space.allowed()) && space.has_hole(first, pages) {
         return Some(Otherwise::JudgesNodesFirst);
     }
     None

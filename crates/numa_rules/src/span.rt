@@ -1,5 +1,5 @@
 //! Tests of the pages of a span.
-ghost use Rattle.std.specs.Prelude.{◌≡◌, ◌+◌, ◌<◌, ◌≤◌, ◌^◌, Some, None, MatchOption, not, is_some};
+ghost use Rattle.std.specs.Prelude.{◌≡◌, ◌+◌, ◌<◌, ◌≤◌, ◌^◌, Some, None, MatchOption};
 ghost use Rattle.std.specs.Prelude.{true};
 ghost use Rattle.numa_ranges.specs.Maps.{any_page};
 ghost use Rattle.numa_ranges.specs.Runs.{page_at};
@@ -103,24 +103,4 @@ pub(crate) fn has_page(space: &Space, test: SpanTest, first: u64, pages: u64) ->
         }
     }
     false
-}
-
-/// Whether some page of a span isn't mapped.
-pub(crate) fn has_hole(space: &Space, first: u64, pages: u64) -> bool
-    requires span { first + pages ≤ 2 ^ 35 }
-    ensures { result ≡ any_page (λ page. not (is_some (page_at space.now.ranges page))) first
-        pages }
-{
-    let end = first + pages;
-    let mut page = first;
-    for run in space.range_iter() {
-        if page >= end {
-            return false;
-        }
-        if page < run.first {
-            return true;
-        }
-        page = page.max(run.first + run.pages);
-    }
-    page < end
 }

@@ -16,15 +16,16 @@ use Rattle.numa_requests.specs.declared.command.Command.TheVariants.{Mbind, SetT
 use Rattle.numa_requests.specs.declared.command.Command.TheVariants.{Unmap, SetHome}
 use Rattle.numa_requests.specs.declared.refusal.Refusal.{Refusal}
 use Rattle.numa_requests.specs.declared.refusal.Refusal.TheVariants.{Hole, NodesNotAllowed}
-use Rattle.numa_requests.specs.declared.refusal.Refusal.TheVariants.{NoMemory}
+use Rattle.numa_requests.specs.declared.refusal.Refusal.TheVariants.{NoMemory, TooManyTasks}
 use Rattle.numa_space.specs.Edits.{PageRanges, IsEdit, hole_cause, too_many}
 use Rattle.numa_space.specs.History.{page_of, page_count}
 use Rattle.numa_machine.specs.Rules.{is_linux}
 use Rattle.numa_space.specs.Refusals.{PageMap, bad_policy_span, bad_unmap_span, first_of}
 use Rattle.numa_space.specs.Refusals.{has_no_node, passes_holes}
 use Rattle.numa_space.specs.Refusals.{bind_cause, refusal_in, lacks_policy, takes_no_home}
-use Rattle.numa_space.specs.Standing.{SpaceState, record_of}
-use Rattle.numa_space.specs.Steps.{IsAnswer, IsNext, scene_in, record_now, policy_with_home}
+use Rattle.numa_space.specs.Standing.{SpaceState, lacks_place, record_of}
+use Rattle.numa_space.specs.Steps.{IsAnswer, IsGiven, IsNext, scene_in, record_now}
+use Rattle.numa_space.specs.Steps.{policy_with_home}
 
 -- ---- pages that were edited
 
@@ -267,165 +268,153 @@ module _ (old : SpaceState) (start bytes : ℕ) (spec : Specification)
 
 -- ---- a task's policy
 
+-- at the least the task itself is one of those that have a policy
+held : (tasks : List (ℕ × PolicyRecord)) (task : ℕ) → is_some (record_of tasks task) ≡ true
+    → 0 < length tasks
+held [] task h = absurd (cc)
+held (one ∷ tasks) task h = omega arith
+
+counted : (old : List (ℕ × PolicyRecord)) (task : ℕ) (r : Option PolicyRecord)
+    → record_of old task ≡ r → length old + (if is_some r then 0 else 1)
+    ≡ (length old - (if is_some r then 1 else 0)) + 1
+counted old task None e = omega arith
+counted old task (Some r) e = omega (arith, held old task (ap is_some e))
+
+pub given-clear : (old new : List (ℕ × PolicyRecord)) (task : ℕ)
+    → ((other : ℕ) → record_of new other ≡ if task == other then None else record_of old other)
+    → length new + (if is_some (record_of old task) then 1 else 0) ≡ length old
+    → IsGiven old task None new
+given-clear old new task records count = record { records = records; count = omega arith }
+
+pub given-set : (old new : List (ℕ × PolicyRecord)) (task : ℕ) (policy : PolicyRecord)
+    → ((other : ℕ) → record_of new other
+    ≡ if task == other then Some policy else record_of old other)
+    → length new ≡ length old + (if is_some (record_of old task) then 0 else 1)
+    → IsGiven old task (Some policy) new
+given-set old new task policy records count = record {
+  records = records;
+  count = count ∙ counted old task (record_of old task) refl;
+}
+
 module _ (old : SpaceState) (task : ℕ) (spec : Specification)
     (room : old.version < old.bounds.max_commands) (node : has_no_node old.allowed spec ≡ false)
   where
-    default-none : None ≡ record_now old.allowed spec → is_default spec ≡ true
-    default-none h = go (is_default spec) h
+    some-now : is_some (record_now old.allowed spec) ≡ not (is_default spec)
+    some-now = go (is_default spec)
       where
-        go : (b : Bool) → None ≡ (if b then None else Some (record_when_set spec old.allowed))
-            → b ≡ true
-        go true h = refl
-        go false h = cc
+        go : (b : Bool) → is_some (if b then None else Some (record_when_set spec old.allowed))
+            ≡ not b
+        go true = refl
+        go false = refl
 
-    default-some : (policy : PolicyRecord) → Some policy ≡ record_now old.allowed spec
-        → is_default spec ≡ false
-    default-some policy h = go (is_default spec) h
+    one-now : (if is_some (record_now old.allowed spec) then 1 else 0)
+        ≡ (if is_default spec then 0 else 1)
+    one-now = go (is_default spec)
       where
         go : (b : Bool)
-            → Some policy ≡ (if b then None else Some (record_when_set spec old.allowed))
-            → b ≡ false
+            → (if is_some (if b then None else Some (record_when_set spec old.allowed)) then 1 else
+            0)
+            ≡ (if b then 0 else 1)
+        go true = refl
+        go false = refl
+
+    pub set-some : is_some (record_now old.allowed spec) ≡ true → is_default spec ≡ false
+    set-some h = go (is_default spec) (sym some-now ∙ h)
+      where
+        go : (b : Bool) → not b ≡ true → b ≡ false
         go false h = refl
         go true h = cc
 
-    pub clear-answer : (tasks : List (ℕ × PolicyRecord)) → None ≡ record_now old.allowed spec
-        → ((other : ℕ) → record_of tasks other ≡ if task == other then None else record_of old.tasks
-        other)
-        → length tasks + (if is_some (record_of old.tasks task) then 1 else 0) ≡ length old.tasks
+    pub set-given : (tasks : List (ℕ × PolicyRecord))
+        → (is_some (record_now old.allowed spec) && lacks_place old.bounds.max_tasks old.tasks task)
+        ≡ false → IsGiven old.tasks task (record_now old.allowed spec) tasks
         → IsAnswer old (SetTask task spec) (Ok (tt {0}))
         (record old { tasks = tasks; version = old.version + 1 })
-    clear-answer tasks none records count =
-        let default : is_default spec ≡ true = default-none none in
+    set-given tasks fits given =
+        let place : (not (is_default spec) && lacks_place old.bounds.max_tasks old.tasks task)
+        ≡ false =
+        ap (λ b. b && lacks_place old.bounds.max_tasks old.tasks task) (sym some-now) ∙ fits in
         let free : refusal_in (scene_in old (SetTask task spec)) (SetTask task spec) ≡ None =
-        rw (lt-leb old.bounds.max_commands old.version room, node, default) refl in
-        let counted : length tasks
-        ≡ (length old.tasks - (if is_some (record_of old.tasks task) then 1 else 0)) + 0 =
-        omega arith in
+        rw (lt-leb old.bounds.max_commands old.version room, node, place) refl in
         rw free (record {
           machine = refl;
           bounds = refl;
           version = refl;
           allowed = refl;
           pages = λ page. refl;
-          tasks = λ other. records other
-              ∙ ap (λ r. if task == other then r else record_of old.tasks other) none;
-          task_count = rw default counted;
+          tasks = given.records;
+          task_count = given.count
+              ∙ ap (λ n. (length old.tasks - (if is_some (record_of old.tasks task) then 1 else 0))
+              + n) one-now;
           weights = λ n. refl;
         })
 
-    set-cause : (policy : PolicyRecord) → Some policy ≡ record_now old.allowed spec
-        → (not (is_some (record_of old.tasks task))
-        && nat_le old.bounds.max_tasks (length old.tasks))
-        ≡ false → refusal_in (scene_in old (SetTask task spec)) (SetTask task spec) ≡ None
-    set-cause policy some place =
-        rw (lt-leb old.bounds.max_commands old.version room, node, default-some policy some, place)
-        refl
-
-    -- out of memory
-    pub set-unable : (policy : PolicyRecord) (tasks : List (ℕ × PolicyRecord))
-        → Some policy ≡ record_now old.allowed spec
-        → (not (is_some (record_of old.tasks task))
-        && nat_le old.bounds.max_tasks (length old.tasks))
-        ≡ false → tasks ≡ old.tasks
-        → IsAnswer {A = Change} old (SetTask task spec) (Err NoMemory) (record old { tasks = tasks })
-    set-unable policy tasks some place same = rw (set-cause policy some place) (
-      refl,
-      ap (λ (l : List (ℕ × PolicyRecord)). record old { tasks = l }) same,
-    )
-
-    pub set-answer : (policy : PolicyRecord) (tasks : List (ℕ × PolicyRecord))
-        → Some policy ≡ record_now old.allowed spec
-        → (not (is_some (record_of old.tasks task))
-        && nat_le old.bounds.max_tasks (length old.tasks))
-        ≡ false
-        → ((other : ℕ) → record_of tasks other ≡ if task == other then Some policy else record_of
-        old.tasks other)
-        → length tasks ≡ length old.tasks + (if is_some (record_of old.tasks task) then 0 else 1)
-        → IsAnswer old (SetTask task spec) (Ok (tt {0}))
-        (record old { tasks = tasks; version = old.version + 1 })
-    set-answer policy tasks some place records count =
-        let set : is_default spec ≡ false = default-some policy some in
-        rw (set-cause policy some place) (record {
-          machine = refl;
-          bounds = refl;
-          version = refl;
-          allowed = refl;
-          pages = λ page. refl;
-          tasks = λ other. records other
-              ∙ ap (λ r. if task == other then r else record_of old.tasks other) some;
-          task_count = rw set (count ∙ counted (record_of old.tasks task) refl);
-          weights = λ n. refl;
-        })
+    pub set-refused : (refusal : Refusal) (tasks : List (ℕ × PolicyRecord))
+        → is_some (record_now old.allowed spec) ≡ true
+        → refusal ≡ (if lacks_place old.bounds.max_tasks old.tasks task then TooManyTasks
+        else NoMemory) → tasks ≡ old.tasks
+        → IsAnswer {A = Change} old (SetTask task spec) (Err refusal) (record old { tasks = tasks })
+    set-refused refusal tasks some is same =
+        go (lacks_place old.bounds.max_tasks old.tasks task) refl is
       where
-        held : (tasks : List (ℕ × PolicyRecord)) → is_some (record_of tasks task) ≡ true
-            → 0 < length tasks
-        held [] h = absurd (cc)
-        held (one ∷ tasks) h = omega arith
-
-        counted : (r : Option PolicyRecord) → record_of old.tasks task ≡ r
-            → length old.tasks + (if is_some r then 0 else 1)
-            ≡ (length old.tasks - (if is_some r then 1 else 0)) + 1
-        counted None e = omega arith
-        counted (Some r) e = omega (arith, held old.tasks (ap is_some e))
+        go : (b : Bool) → lacks_place old.bounds.max_tasks old.tasks task ≡ b
+            → refusal ≡ (if b then TooManyTasks else NoMemory)
+            → IsAnswer {A = Change} old (SetTask task spec) (Err refusal)
+            (record old { tasks = tasks })
+        go true e is =
+            let cause : refusal_in (scene_in old (SetTask task spec)) (SetTask task spec)
+            ≡ Some TooManyTasks =
+            rw (lt-leb old.bounds.max_commands old.version room, node, set-some some, e) refl in
+            rw cause (
+              ap Err is,
+              ap (λ (l : List (ℕ × PolicyRecord)). record old { tasks = l })
+                  same,
+            )
+        go false e is =
+            let cause : refusal_in (scene_in old (SetTask task spec)) (SetTask task spec) ≡ None =
+            rw (lt-leb old.bounds.max_commands old.version room, node, set-some some, e) refl in
+            rw cause (is, ap (λ (l : List (ℕ × PolicyRecord)). record old { tasks = l }) same)
 
 -- ---- a policy that is inherited
 
 module _ (old : SpaceState) (heir from : ℕ) (room : old.version < old.bounds.max_commands) where
-  pub inherit-clear : (tasks : List (ℕ × PolicyRecord)) → record_of old.tasks from ≡ None
-      → ((other : ℕ) → record_of tasks other ≡ if heir == other then None else record_of old.tasks
-      other)
-      → length tasks + (if is_some (record_of old.tasks heir) then 1 else 0) ≡ length old.tasks
+  pub inherit-given : (tasks : List (ℕ × PolicyRecord))
+      → (is_some (record_of old.tasks from) && lacks_place old.bounds.max_tasks old.tasks heir)
+      ≡ false → IsGiven old.tasks heir (record_of old.tasks from) tasks
       → IsAnswer old (Inherit heir from) (Ok (tt {0}))
       (record old { tasks = tasks; version = old.version + 1 })
-  inherit-clear tasks none records count =
+  inherit-given tasks fits given =
       let free : refusal_in (scene_in old (Inherit heir from)) (Inherit heir from) ≡ None =
-      rw (lt-leb old.bounds.max_commands old.version room, none) refl in
-      let counted : length tasks
-      ≡ (length old.tasks - (if is_some (record_of old.tasks heir) then 1 else 0)) + 0 =
-      omega arith in
+      rw (lt-leb old.bounds.max_commands old.version room, fits) refl in
       rw free (record {
         machine = refl;
         bounds = refl;
         version = refl;
         allowed = refl;
         pages = λ page. refl;
-        tasks = λ other. records other
-            ∙ ap (λ r. if heir == other then r else record_of old.tasks other) (sym none);
-        task_count = rw none counted;
+        tasks = given.records;
+        task_count = given.count;
         weights = λ n. refl;
       })
 
-  pub inherit-set : (policy : PolicyRecord) (tasks : List (ℕ × PolicyRecord))
-      → record_of old.tasks from ≡ Some policy
-      → (not (is_some (record_of old.tasks heir)) && nat_le old.bounds.max_tasks (length old.tasks))
-      ≡ false
-      → ((other : ℕ) → record_of tasks other ≡ if heir == other then Some policy else record_of
-      old.tasks other)
-      → length tasks ≡ length old.tasks + (if is_some (record_of old.tasks heir) then 0 else 1)
-      → IsAnswer old (Inherit heir from) (Ok (tt {0}))
-      (record old { tasks = tasks; version = old.version + 1 })
-  inherit-set policy tasks some place records count =
-      let free : refusal_in (scene_in old (Inherit heir from)) (Inherit heir from) ≡ None =
-      rw (lt-leb old.bounds.max_commands old.version room, some, place) refl in
-      rw free (record {
-        machine = refl;
-        bounds = refl;
-        version = refl;
-        allowed = refl;
-        pages = λ page. refl;
-        tasks = λ other. records other
-            ∙ ap (λ r. if heir == other then r else record_of old.tasks other) (sym some);
-        task_count = rw some (count ∙ counted (record_of old.tasks heir) refl);
-        weights = λ n. refl;
-      })
+  pub inherit-refused : (refusal : Refusal) (tasks : List (ℕ × PolicyRecord))
+      → is_some (record_of old.tasks from) ≡ true
+      → refusal ≡ (if lacks_place old.bounds.max_tasks old.tasks heir then TooManyTasks
+      else NoMemory) → tasks ≡ old.tasks
+      → IsAnswer {A = Change} old (Inherit heir from) (Err refusal) (record old { tasks = tasks })
+  inherit-refused refusal tasks some is same =
+      go (lacks_place old.bounds.max_tasks old.tasks heir) refl is
     where
-      held : (tasks : List (ℕ × PolicyRecord)) → is_some (record_of tasks heir) ≡ true
-          → 0 < length tasks
-      held [] h = absurd (cc)
-      held (one ∷ tasks) h = omega arith
-
-      counted : (r : Option PolicyRecord) → record_of old.tasks heir ≡ r
-          → length old.tasks + (if is_some r then 0 else 1)
-          ≡ (length old.tasks - (if is_some r then 1 else 0)) + 1
-      counted None e = omega arith
-      counted (Some r) e = omega (arith, held old.tasks (ap is_some e))
+      go : (b : Bool) → lacks_place old.bounds.max_tasks old.tasks heir ≡ b
+          → refusal ≡ (if b then TooManyTasks else NoMemory)
+          → IsAnswer {A = Change} old (Inherit heir from) (Err refusal)
+          (record old { tasks = tasks })
+      go true e is =
+          let cause : refusal_in (scene_in old (Inherit heir from)) (Inherit heir from)
+          ≡ Some TooManyTasks =
+          rw (lt-leb old.bounds.max_commands old.version room, some, e) refl in
+          rw cause (ap Err is, ap (λ (l : List (ℕ × PolicyRecord)). record old { tasks = l }) same)
+      go false e is =
+          let cause : refusal_in (scene_in old (Inherit heir from)) (Inherit heir from) ≡ None =
+          rw (lt-leb old.bounds.max_commands old.version room, some, e) refl in
+          rw cause (is, ap (λ (l : List (ℕ × PolicyRecord)). record old { tasks = l }) same)

@@ -1,6 +1,6 @@
 -- What a space shows, and which histories it stands for.
 use Rattle.std.specs.Prelude.{◌≡◌, ◌≢◌, ◌≤◌, ◌<◌, ℕ, Bool, true, false, nat_eq, nat_le, is_some}
-use Rattle.std.specs.Prelude.{Option}
+use Rattle.std.specs.Prelude.{Option, not, ◌&&◌}
 use Rattle.std.specs.Prelude.{Some, None, List, [], ◌∷◌, length, AllPairs, All, if◌then◌else◌}
 use Rattle.std.specs.Prelude.{option_and_then}
 use Rattle.std.specs.Option.{ForSome, option_map_or}
@@ -35,6 +35,10 @@ pub record SpaceState : Type 0 where
 -- the record of a task
 abbrev pub record_of : List (ℕ × PolicyRecord) → ℕ → Option PolicyRecord
 record_of tasks task = lookup (nat_eq task) tasks
+
+-- a task has no policy, and as many as may have one do
+abbrev pub lacks_place : ℕ → List (ℕ × PolicyRecord) → ℕ → Bool
+lacks_place most tasks task = not (is_some (record_of tasks task)) && nat_le most (length tasks)
 
 -- the space stands for the history: each part of it is what the accepted commands mean
 pub record StandsFor (space : SpaceState) (history : List Command) : Type 0 where

@@ -87,6 +87,14 @@ pub record IsNext (old : SpaceState) (command : Command) (new : SpaceState) : Ty
   pub weights : (node : ℕ) → weight_at new.weights node
       ≡ weight_next (weight_at old.weights) command node
 
+-- the policies of tasks once one has this record, or none
+pub record IsGiven (old : List (ℕ × PolicyRecord)) (task : ℕ) (policy : Option PolicyRecord)
+    (new : List (ℕ × PolicyRecord)) : Type 0 where
+  pub records : (other : ℕ) → record_of new other ≡ if task == other then policy
+      else record_of old other
+  pub count : length new ≡ (length old - (if is_some (record_of old task) then 1 else 0))
+      + (if is_some policy then 1 else 0)
+
 -- what a space judges a command by
 abbrev pub scene_in : SpaceState → Command → Scene
 scene_in space command = record {
@@ -110,6 +118,10 @@ MayNeedRoom (SetTask task spec) = is_default spec ≡ false
 MayNeedRoom (Inherit heir from) = Unit {0}
 MayNeedRoom (SetWeight node weight) = ⊥
 MayNeedRoom (SetMems mask) = ⊥
+
+-- memory lacks only for a command that may need room
+abbrev pub LacksRoom : Command → Refusal → Type 0
+LacksRoom command refusal = refusal ≡ NoMemory → MayNeedRoom command
 
 -- the command at this place of a list may need room, and no cause stands against it after those
 -- before it

@@ -1,11 +1,12 @@
 //! Spaces of pages and their policies.
 ghost use Rattle.std.specs.Prelude.{◌≡◌, ◌≢◌, ◌≤◌, ◌<◌, ℕ, IfOk, OnOk, IfErr, IfSome, None};
 ghost use Rattle.std.specs.Prelude.{Option, Some, List, [], length, slice_get};
-ghost use Rattle.std.specs.Prelude.{take, AllPairs, Contains, ◌↔◌};
+ghost use Rattle.std.specs.Prelude.{take, AllPairs, Contains, ◌↔◌, ◌+◌, ◌^◌, is_some, not};
 ghost use Rattle.numa_machine.specs.Machine.{Hardware};
 ghost use Rattle.numa_machine.specs.Weights.{weight_at};
 ghost use Rattle.numa_mode.specs.Policy.{PolicyRecord};
 ghost use Rattle.numa_ranges.specs.Counts.{IsRange, range_count};
+ghost use Rattle.numa_ranges.specs.Maps.{any_page};
 ghost use Rattle.numa_ranges.specs.Numbered.{AreRowsOf};
 ghost use Rattle.numa_ranges.specs.Runs.{AreApart, AreMaximal, page_at};
 ghost use Rattle.numa_ranges.specs.declared.run.Run.{Run};
@@ -212,6 +213,15 @@ impl Space {
         // Tells the proof that the limit is at most 65,536.
         let _ = self.limits.max_ranges();
         self.pages.len()
+    }
+
+    /// Whether some of the `pages` pages from page `first` on isn't mapped.
+    pub fn has_hole(&self, first: u64, pages: u64) -> bool
+        requires { first + pages ≤ 2 ^ 35 }
+        ensures { result ≡ any_page (λ page. not (is_some (page_at self.now.ranges page))) first
+            pages }
+    {
+        self.pages.has_hole(first, pages)
     }
 
     /// The ranges in ascending order, each with its first page, its number of pages, its first

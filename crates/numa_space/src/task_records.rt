@@ -89,14 +89,23 @@ impl TaskRecords {
             self.recent[slot] = number;
             return Ok(number);
         }
+        let number = self.append(policy)?;
+        self.recent[slot] = number;
+        Ok(number)
+    }
+
+    /// Adds a record behind the others; its number is returned.
+    fn append(&mut self, policy: Record) -> Result<u32, AllocError>
+        ensures number { IfOk result (λ number. slice_get self.new number ≡ Some policy) }
+        ensures longer { IsLonger self.old self.new }
+        ensures unchanged { OnErr result (self.new ≡ self.old) }
+    {
         let len = self.items.len();
         if len >= TOO_MANY {
             return Err(AllocError);
         }
         self.items.push(policy)?;
-        let number = len as u32;
-        self.recent[slot] = number;
-        Ok(number)
+        Ok(len as u32)
     }
 
     /// The number of an equal record, if the hinted number or one of the last few has it.

@@ -2,7 +2,7 @@
 ghost use Rattle.std.specs.Prelude.{◌≡◌, ◌+◌, ◌<◌, ◌≤◌, ◌^◌, ◌&&◌, ◌||◌, ◌-◌, ◌==◌, ℕ, true, false};
 ghost use Rattle.std.specs.Prelude.{not, nat_le, nat_lt};
 ghost use Rattle.std.specs.Prelude.{is_some, length, Option, Some, None, MatchResult, IfErr};
-ghost use Rattle.std.specs.Prelude.{◌≢◌, MatchOption, IfSome, IfOk};
+ghost use Rattle.std.specs.Prelude.{◌≢◌, MatchOption, IfSome, IfOk, OnErr, OnOk};
 ghost use Rattle.std.specs.Prelude.{if◌then◌else◌};
 ghost use Rattle.std.specs.List.{list_any};
 ghost use Rattle.numa_mask.specs.NodeSet.{members};
@@ -17,13 +17,14 @@ ghost use Rattle.numa_machine.specs.Rules.{is_linux};
 ghost use Rattle.numa_space.specs.Policies.{mems_of};
 ghost use Rattle.numa_space.specs.Refusals.{has_no_node, is_bad_weight, lacks_mems, lacks_policy};
 ghost use Rattle.numa_space.specs.Refusals.{mems_cause, passes_holes};
-ghost use Rattle.numa_space.specs.Standing.{SpaceState, record_of};
-ghost use Rattle.numa_space.specs.Steps.{IsAnswer, MayNeedRoom, record_now};
+ghost use Rattle.numa_space.specs.Standing.{SpaceState, lacks_place};
+ghost use Rattle.numa_space.specs.Steps.{IsAnswer, IsGiven, LacksRoom, record_now};
 
 use crate::change::{Change, ChangedPages};
 use crate::page_ranges::PageTest;
 use crate::range_record::RangeRecord;
 use crate::space::Space;
+use crate::task_policies::Tasks;
 use numa_machine::{Rules, WeightError};
 use numa_mask::NodeMask;
 use numa_mode::{Mode, PolicySpec, Record};
@@ -44,6 +45,36 @@ fn bound(pages: ChangedPages, range: &RangeRecord) -> Change
         pages,
         policy: range.policy(),
     }
+}
+
+/// Whether a task has no policy, and as many as may have one do.
+fn lacks_place(tasks: &Tasks, task: u32, most: u32) -> bool
+    ensures { result ≡ lacks_place most tasks.now task }
+{
+    let is_full = most as usize <= tasks.len();
+    tasks.get(task).is_none() && is_full
+}
+
+/// Gives a task a policy, or takes its own away; at most so many tasks can have one.
+fn give(tasks: &mut Tasks, task: u32, policy: &Option<Record>, most: u32) -> Result<(), Refusal>
+    ensures ok { OnOk result (((is_some policy.now && lacks_place most tasks.old task) ≡ false)
+        × IsGiven tasks.old task policy.now tasks.new) }
+    ensures err { IfErr result (λ refusal. (is_some policy.now ≡ true)
+        × (refusal ≡ (if lacks_place most tasks.old task then Refusal.TooManyTasks
+        else Refusal.NoMemory))) }
+    ensures unchanged { OnErr result (tasks.new ≡ tasks.old) }
+{
+    let Some(policy) = *policy else {
+        tasks.clear(task);
+        return Ok(());
+    };
+    if lacks_place(tasks, task, most) {
+        return Err(Refusal::TooManyTasks);
+    }
+    if tasks.set(task, policy).is_err() {
+        return Err(Refusal::NoMemory);
+    }
+    Ok(())
 }
 
 impl Space {
@@ -91,8 +122,7 @@ impl Space {
     pub(super) fn answer(&mut self, command: &Command) -> Result<Change, Refusal>
         ensures answer { IsAnswer self.old command.now result self.new }
         ensures change { IfOk result (IsChange self.old command.now) }
-        ensures room { IfErr result (λ refusal. refusal ≡ Refusal.NoMemory
-            → MayNeedRoom command.now) }
+        ensures room { IfErr result (LacksRoom command.now) }
     {
         if self.version >= u64::from(self.limits.max_commands()) {
             return Err(Refusal::CommandsSpent);
@@ -111,12 +141,12 @@ impl Space {
             } => self.bind(*start, *length, spec),
             Command::SetTask { task, spec } => self.set_task(*task, spec),
             Command::Inherit { task, from } => self.inherit(*task, *from),
+            Command::SetWeight { node, weight } => self.set_weight(*node, *weight),
             Command::SetHome {
                 start,
                 length,
                 node,
             } => self.set_home(*start, *length, *node),
-            Command::SetWeight { node, weight } => self.set_weight(*node, *weight),
             Command::SetMems { mask } => self.set_mems(mask),
         }
     }
@@ -141,8 +171,7 @@ impl Space {
         requires { self.old.version < self.old.bounds.max_commands }
         ensures answer { IsAnswer self.old (Command.Map start length offset) result self.new }
         ensures change { IfOk result (IsChange self.old (Command.Map start length offset)) }
-        ensures room { IfErr result (λ refusal. refusal ≡ Refusal.NoMemory
-            → MayNeedRoom (Command.Map start length offset)) }
+        ensures room { IfErr result (LacksRoom (Command.Map start length offset)) }
     {
         let (first, pages) = self.map_span_of(start, length)?;
         if offset >= 1 << 35 {
@@ -159,8 +188,7 @@ impl Space {
         requires { self.old.version < self.old.bounds.max_commands }
         ensures answer { IsAnswer self.old (Command.Unmap start length) result self.new }
         ensures change { IfOk result (IsChange self.old (Command.Unmap start length)) }
-        ensures room { IfErr result (λ refusal. refusal ≡ Refusal.NoMemory
-            → MayNeedRoom (Command.Unmap start length)) }
+        ensures room { IfErr result (LacksRoom (Command.Unmap start length)) }
     {
         let (first, pages) = self.unmap_span_of(start, length)?;
         if length == 0 {
@@ -192,8 +220,7 @@ impl Space {
         requires { self.old.version < self.old.bounds.max_commands }
         ensures answer { IsAnswer self.old (Command.Mbind start length spec.now) result self.new }
         ensures change { IfOk result (IsChange self.old (Command.Mbind start length spec.now)) }
-        ensures room { IfErr result (λ refusal. refusal ≡ Refusal.NoMemory
-            → MayNeedRoom (Command.Mbind start length spec.now)) }
+        ensures room { IfErr result (LacksRoom (Command.Mbind start length spec.now)) }
     {
         let (first, pages) = self.policy_span_of(start, length)?;
         if length == 0 {
@@ -210,74 +237,43 @@ impl Space {
         Ok(bound(pages, &policy))
     }
 
-    /// Whether a task has no policy, and the limit of tasks with one is reached.
-    fn has_no_place_for(&self, task: u32) -> bool
-        ensures { result ≡ (not (is_some (record_of self.now.tasks task))
-            && nat_le self.now.bounds.max_tasks (length self.now.tasks)) }
-    {
-        let is_full = self.limits.max_tasks() as usize <= self.tasks.len();
-        self.tasks.get(task).is_none() && is_full
-    }
-
     fn set_task(&mut self, task: u32, spec: &PolicySpec) -> Result<Change, Refusal>
         requires { self.old.version < self.old.bounds.max_commands }
         ensures answer { IsAnswer self.old (Command.SetTask task spec.now) result self.new }
         ensures change { IfOk result (IsChange self.old (Command.SetTask task spec.now)) }
-        ensures room { IfErr result (λ refusal. refusal ≡ Refusal.NoMemory
-            → MayNeedRoom (Command.SetTask task spec.now)) }
+        ensures room { IfErr result (LacksRoom (Command.SetTask task spec.now)) }
     {
-        let Some(policy) = self.record_of(spec)?.policy() else {
-            self.tasks.clear(task);
-            self.version += 1;
-            return Ok(Change::TaskSet { task, policy: None });
-        };
-        if self.has_no_place_for(task) {
-            return Err(Refusal::TooManyTasks);
-        }
-        if self.tasks.set(task, policy).is_err() {
-            return Err(Refusal::NoMemory);
+        let policy = self.record_of(spec)?.policy();
+        if let Err(refusal) = give(&mut self.tasks, task, &policy, self.limits.max_tasks()) {
+            return Err(refusal);
         }
         self.version += 1;
-        Ok(Change::TaskSet {
-            task,
-            policy: Some(policy),
-        })
+        Ok(Change::TaskSet { task, policy })
     }
 
     fn inherit(&mut self, task: u32, from: u32) -> Result<Change, Refusal>
         requires { self.old.version < self.old.bounds.max_commands }
         ensures answer { IsAnswer self.old (Command.Inherit task from) result self.new }
         ensures change { IfOk result (IsChange self.old (Command.Inherit task from)) }
-        ensures room { IfErr result (λ refusal. refusal ≡ Refusal.NoMemory
-            → MayNeedRoom (Command.Inherit task from)) }
+        ensures room { IfErr result (LacksRoom (Command.Inherit task from)) }
     {
-        let Some(policy) = self.tasks.get(from) else {
-            self.tasks.clear(task);
-            self.version += 1;
-            return Ok(Change::TaskSet { task, policy: None });
-        };
-        if self.has_no_place_for(task) {
-            return Err(Refusal::TooManyTasks);
-        }
-        if self.tasks.set(task, policy).is_err() {
-            return Err(Refusal::NoMemory);
+        let policy = self.tasks.get(from);
+        if let Err(refusal) = give(&mut self.tasks, task, &policy, self.limits.max_tasks()) {
+            return Err(refusal);
         }
         self.version += 1;
-        Ok(Change::TaskSet {
-            task,
-            policy: Some(policy),
-        })
+        Ok(Change::TaskSet { task, policy })
     }
 
     fn set_home(&mut self, start: u64, length: u64, node: u32) -> Result<Change, Refusal>
         requires { self.old.version < self.old.bounds.max_commands }
         ensures answer { IsAnswer self.old (Command.SetHome start length node) result self.new }
         ensures change { IfOk result (IsChange self.old (Command.SetHome start length node)) }
-        ensures room { IfErr result (λ refusal. refusal ≡ Refusal.NoMemory
-            → MayNeedRoom (Command.SetHome start length node)) }
+        ensures room { IfErr result (LacksRoom (Command.SetHome start length node)) }
     {
+        let nodes = self.machine.nodes();
         let (first, pages) = self.policy_span_of(start, length)?;
-        if node >= self.machine.nodes() {
+        if node >= nodes {
             return Err(Refusal::NoSuchNode);
         }
         if length == 0 {
@@ -302,8 +298,7 @@ impl Space {
         requires { self.old.version < self.old.bounds.max_commands }
         ensures answer { IsAnswer self.old (Command.SetWeight node weight) result self.new }
         ensures change { IfOk result (IsChange self.old (Command.SetWeight node weight)) }
-        ensures room { IfErr result (λ refusal. refusal ≡ Refusal.NoMemory
-            → MayNeedRoom (Command.SetWeight node weight)) }
+        ensures room { IfErr result (LacksRoom (Command.SetWeight node weight)) }
     {
         let meant = self.weight_meant(weight);
         match self.weights.set(node, meant) {
@@ -363,8 +358,7 @@ impl Space {
         requires { self.old.version < self.old.bounds.max_commands }
         ensures answer { IsAnswer self.old (Command.SetMems mask.now) result self.new }
         ensures change { IfOk result (IsChange self.old (Command.SetMems mask.now)) }
-        ensures room { IfErr result (λ refusal. refusal ≡ Refusal.NoMemory
-            → MayNeedRoom (Command.SetMems mask.now)) }
+        ensures room { IfErr result (LacksRoom (Command.SetMems mask.now)) }
     {
         if has_node_from(mask, self.machine.nodes()) {
             return Err(Refusal::NoSuchNode);

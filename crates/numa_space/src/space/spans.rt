@@ -112,18 +112,6 @@ fn kernel_policy_span(start: u64, length: u64) -> Result<(u64, u64), Refusal>
 }
 
 impl Space {
-    /// The pages of a span that is to be mapped.
-    pub(super) fn map_span_of(&self, start: u64, length: u64) -> Result<(u64, u64), Refusal>
-        ensures span { IsSpanOf (bad_map_span self.now.machine.rules start length) start length
-            result }
-        ensures within { IfOk result (λ span. IsSpan span.0 span.1) }
-    {
-        match self.machine.rules() {
-            Rules::Document => documented_map_span(start, length),
-            Rules::Linux => kernel_map_span(start, length),
-        }
-    }
-
     /// The pages of a span that is to be unmapped.
     #[tactic(auto, unfolding(crate::specs::Refusals::bad_unmap_span))]
     pub(super) fn unmap_span_of(&self, start: u64, length: u64) -> Result<(u64, u64), Refusal>
@@ -134,6 +122,18 @@ impl Space {
         match self.machine.rules() {
             Rules::Document => span_of(start, length),
             Rules::Linux => kernel_unmap_span(start, length),
+        }
+    }
+
+    /// The pages of a span that is to be mapped.
+    pub(super) fn map_span_of(&self, start: u64, length: u64) -> Result<(u64, u64), Refusal>
+        ensures span { IsSpanOf (bad_map_span self.now.machine.rules start length) start length
+            result }
+        ensures within { IfOk result (λ span. IsSpan span.0 span.1) }
+    {
+        match self.machine.rules() {
+            Rules::Document => documented_map_span(start, length),
+            Rules::Linux => kernel_map_span(start, length),
         }
     }
 

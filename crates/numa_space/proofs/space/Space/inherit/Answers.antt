@@ -1,99 +1,69 @@
-use Rattle.std.proofs.Common.{Result, OnOk, true≢false, ◌≡◌, ◌+◌, ℕ, Ok, Err, refl, arith, ap, ◌∙◌}
-use Rattle.std.specs.Result.{is_err}
-use Rattle.std.specs.declared.alloc.AllocError.{AllocError}
-use Rattle.numa_space.specs.Inside.{shown_of}
-use Rattle.numa_space.specs.Steps.{IsAnswer}
+-- The task's policy is given, or refused.
+use Rattle.std.proofs.Common.{◌≡◌, ◌<◌, ◌+◌, ◌&&◌, Ok, Err, refl, arith, ap, subst, sym, ◌∙◌}
+use Rattle.std.proofs.Common.{false, true, is_some, Option}
+use Rattle.std.specs.Prelude.{if◌then◌else◌}
+use Rattle.numa_mode.specs.Policy.{PolicyRecord}
 use Rattle.numa_requests.specs.declared.command.Command.TheVariants.{Inherit}
-use Rattle.numa_space.specs.declared.space.Space.TheInside.{Inside}
-use Rattle.numa_space.proofs.Kept.{kept-answer}
-use Rattle.numa_space.proofs.space.Space.inherit.Goals as goal
-use Rattle.std.proofs.Common.{subst, sym, false, ◌<◌, not, is_some, ◌&&◌, length, Some, None}
-use Rattle.std.specs.Prelude.{nat_le, if◌then◌else◌, ◌==◌}
-use Rattle.numa_space.specs.Standing.{SpaceState, record_of}
+use Rattle.numa_requests.specs.declared.refusal.Refusal.TheVariants.{NoMemory, TooManyTasks}
+use Rattle.numa_space.specs.Inside.{shown_of}
+use Rattle.numa_space.specs.Standing.{SpaceState, lacks_place, record_of}
+use Rattle.numa_space.specs.Steps.{IsAnswer, IsGiven, record_now}
 use Rattle.numa_space.specs.declared.change.Change.{Change}
 use Rattle.numa_space.specs.declared.change.Change.TheVariants.{TaskSet}
+use Rattle.numa_space.specs.declared.space.Space.TheInside.{Inside}
 use Rattle.numa_space.proofs.Answers.{answer-done}
-use Rattle.numa_space.proofs.Changes.{inherit-clear, inherit-set}
+use Rattle.numa_space.proofs.Changes.{inherit-given, inherit-refused}
+use Rattle.numa_space.proofs.Kept.{kept-answer}
+use Rattle.numa_space.proofs.space.Space.inherit.Goals as goal
+use Rattle.numa_space.proofs.space.Space.inherit.Goals.{In_default, In-Err}
 
-on_ok : {P : Type 0} (r : Result (Unit {0}) AllocError) → is_err r ≡ false → OnOk r P → P
-on_ok (Ok u) e h = h
-on_ok (Err x) e h = absurd (true≢false e)
+next : (c : In_default) → Inside
+next c = record c.self.inside { tasks = c.give.new.tasks; version = c.self.inside.version + 1 }
+
+done : (c : In_default) → IsAnswer (shown_of c.self.inside) (Inherit c.args.task c.args.from) (Ok
+    (tt {0}))
+    (shown_of (next c))
+done c =
+    let is : c.get-policy.result ≡ record_of c.self.inside.tasks c.args.from =
+    c.get-policy.ensures in
+    let room : c.self.inside.version < c.self.inside.limits.max_commands =
+    omega (
+      arith,
+      c.requires,
+      ap (λ (s : SpaceState). s.version) c.self.view_is,
+      ap (λ (s : SpaceState). s.bounds.max_commands) c.self.view_is,
+    ) in
+    let fits : (is_some (record_of c.self.inside.tasks c.args.from)
+    && lacks_place c.self.inside.limits.max_tasks c.self.inside.tasks c.args.task) ≡ false =
+    sym (λ i. is_some (is i) && lacks_place (c.max_tasks.ensures.limit i) c.self.inside.tasks c.args.task)
+    ∙ c.in_default.ensures.ok.0 in
+    let given : IsGiven c.self.inside.tasks c.args.task (record_of c.self.inside.tasks c.args.from)
+    c.give.new.tasks =
+    subst (λ (r : Option PolicyRecord). IsGiven c.self.inside.tasks c.args.task r
+    c.give.new.tasks) is c.in_default.ensures.ok.1 in
+    inherit-given (shown_of c.self.inside) c.args.task c.args.from room c.give.new.tasks fits given
 
 pub invariant_of-self : goal.invariant_of-self
 invariant_of-self c =
-    let room : c.self.inside.version < c.self.inside.limits.max_commands =
-    omega (
-      arith,
-      c.requires,
-      ap (λ (s : SpaceState). s.version) c.self.view_is,
-      ap (λ (s : SpaceState). s.bounds.max_commands) c.self.view_is,
-    ) in
-    let new : Inside =
-    record c.self.inside { tasks = c.clear.new.self; version = c.self.inside.version + 1 } in
-    let none : record_of c.self.inside.tasks c.args.from ≡ None = sym c.get.ensures
-    ∙ c.in_default.is in
-    let done : IsAnswer (shown_of c.self.inside) (Inherit c.args.task c.args.from) (Ok (tt {0}))
-    (shown_of new) = inherit-clear (shown_of c.self.inside) c.args.task c.args.from room
-    c.clear.new.self none c.clear.ensures.records c.clear.ensures.count in
-    kept-answer c.self.inside new (Inherit c.args.task c.args.from) (Ok (tt {0})) c.self.invariant refl
-    refl done
-
-pub invariant_of-self-2 : goal.invariant_of-self-2
-invariant_of-self-2 c =
-    let room : c.self.inside.version < c.self.inside.limits.max_commands =
-    omega (
-      arith,
-      c.requires,
-      ap (λ (s : SpaceState). s.version) c.self.view_is,
-      ap (λ (s : SpaceState). s.bounds.max_commands) c.self.view_is,
-    ) in
-    let new : Inside =
-    record c.self.inside { tasks = c.set.new.self; version = c.self.inside.version + 1 } in
-    let some : record_of c.self.inside.tasks c.args.from ≡ Some c.in-Some.policy = sym c.get.ensures
-    ∙ c.in-Some.is in
-    let place : (not (is_some (record_of c.self.inside.tasks c.args.task))
-    && nat_le c.self.inside.limits.max_tasks (length c.self.inside.tasks)) ≡ false =
-    ap (λ (s : SpaceState). not (is_some (record_of s.tasks c.args.task))
-    && nat_le s.bounds.max_tasks (length s.tasks)) c.self.view_is
-    ∙ sym c.has_no_place_for.ensures ∙ c.if-has_no_place_for.false in
-    let records : (other : ℕ) → record_of c.set.new.self other
-    ≡ (if c.args.task == other then Some c.in-Some.policy else record_of c.self.inside.tasks
-    other) = on_ok c.set.result (sym c.is_err.ensures.value ∙ c.if-is_err.false)
-    c.set.ensures.records in
-    let count : length c.set.new.self ≡ length c.self.inside.tasks
-    + (if is_some (record_of c.self.inside.tasks c.args.task) then 0 else 1) =
-    on_ok c.set.result (sym c.is_err.ensures.value ∙ c.if-is_err.false) c.set.ensures.count in
-    let done : IsAnswer (shown_of c.self.inside) (Inherit c.args.task c.args.from) (Ok (tt {0}))
-    (shown_of new) = inherit-set (shown_of c.self.inside) c.args.task c.args.from room
-    c.in-Some.policy c.set.new.self some place records count in
-    kept-answer c.self.inside new (Inherit c.args.task c.args.from) (Ok (tt {0})) c.self.invariant refl
-    refl done
-
-pub returns-in_default-clause-answer : goal.returns-in_default-clause-answer
-returns-in_default-clause-answer c =
-    let room : c.self.inside.version < c.self.inside.limits.max_commands =
-    omega (
-      arith,
-      c.requires,
-      ap (λ (s : SpaceState). s.version) c.self.view_is,
-      ap (λ (s : SpaceState). s.bounds.max_commands) c.self.view_is,
-    ) in
-    let new : Inside =
-    record c.self.inside { tasks = c.clear.new.self; version = c.self.inside.version + 1 } in
-    let none : record_of c.self.inside.tasks c.args.from ≡ None = sym c.get.ensures
-    ∙ c.in_default.is in
-    let done : IsAnswer (shown_of c.self.inside) (Inherit c.args.task c.args.from) (Ok (tt {0}))
-    (shown_of new) = inherit-clear (shown_of c.self.inside) c.args.task c.args.from room
-    c.clear.new.self none c.clear.ensures.records c.clear.ensures.count in
-    let told : Change = TaskSet c.args.task None in
-    let Q : SpaceState → Type 0 = λ s. IsAnswer s (Inherit c.args.task c.args.from) (Ok told)
-    (shown_of new) in
-    subst Q c.self.view_is
-    (answer-done (shown_of c.self.inside) (shown_of new) (Inherit c.args.task c.args.from) (tt {0})
-    told done)
+    kept-answer c.self.inside (next (goal.at.invariant_of-self c).In_default) (Inherit c.args.task
+    c.args.from) (Ok (tt {0}))
+    c.self.invariant refl refl (done (goal.at.invariant_of-self c).In_default)
 
 pub returns-clause-answer : goal.returns-clause-answer
 returns-clause-answer c =
+    let there = (goal.at.returns-clause-answer c).In_default in
+    let told : Change = TaskSet c.args.task c.get-policy.result in
+    let Q : SpaceState → Type 0 = λ s. IsAnswer s (Inherit c.args.task c.args.from) (Ok told)
+    (shown_of (next there)) in
+    subst Q c.self.view_is
+    (answer-done (shown_of c.self.inside) (shown_of (next there)) (Inherit c.args.task c.args.from)
+    (tt {0}) told
+    (done there))
+
+pub returns-in-Err-clause-answer : goal.returns-in-Err-clause-answer
+returns-in-Err-clause-answer c =
+    let is : c.get-policy.result ≡ record_of c.self.inside.tasks c.args.from =
+    c.get-policy.ensures in
     let room : c.self.inside.version < c.self.inside.limits.max_commands =
     omega (
       arith,
@@ -101,28 +71,23 @@ returns-clause-answer c =
       ap (λ (s : SpaceState). s.version) c.self.view_is,
       ap (λ (s : SpaceState). s.bounds.max_commands) c.self.view_is,
     ) in
-    let new : Inside =
-    record c.self.inside { tasks = c.set.new.self; version = c.self.inside.version + 1 } in
-    let some : record_of c.self.inside.tasks c.args.from ≡ Some c.in-Some.policy = sym c.get.ensures
-    ∙ c.in-Some.is in
-    let place : (not (is_some (record_of c.self.inside.tasks c.args.task))
-    && nat_le c.self.inside.limits.max_tasks (length c.self.inside.tasks)) ≡ false =
-    ap (λ (s : SpaceState). not (is_some (record_of s.tasks c.args.task))
-    && nat_le s.bounds.max_tasks (length s.tasks)) c.self.view_is
-    ∙ sym c.has_no_place_for.ensures ∙ c.if-has_no_place_for.false in
-    let records : (other : ℕ) → record_of c.set.new.self other
-    ≡ (if c.args.task == other then Some c.in-Some.policy else record_of c.self.inside.tasks
-    other) = on_ok c.set.result (sym c.is_err.ensures.value ∙ c.if-is_err.false)
-    c.set.ensures.records in
-    let count : length c.set.new.self ≡ length c.self.inside.tasks
-    + (if is_some (record_of c.self.inside.tasks c.args.task) then 0 else 1) =
-    on_ok c.set.result (sym c.is_err.ensures.value ∙ c.if-is_err.false) c.set.ensures.count in
-    let done : IsAnswer (shown_of c.self.inside) (Inherit c.args.task c.args.from) (Ok (tt {0}))
-    (shown_of new) = inherit-set (shown_of c.self.inside) c.args.task c.args.from room
-    c.in-Some.policy c.set.new.self some place records count in
-    let told : Change = TaskSet c.args.task (Some c.in-Some.policy) in
-    let Q : SpaceState → Type 0 = λ s. IsAnswer s (Inherit c.args.task c.args.from) (Ok told)
-    (shown_of new) in
+    let some : is_some (record_of c.self.inside.tasks c.args.from) ≡ true = sym (ap is_some is) ∙
+    c.in-Err.ensures.err.0 in
+    let cause : c.in-Err.refusal ≡ (if lacks_place c.self.inside.limits.max_tasks
+    c.self.inside.tasks c.args.task then TooManyTasks else NoMemory) = c.in-Err.ensures.err.1
+    ∙ (λ i. if lacks_place (c.max_tasks.ensures.limit i) c.self.inside.tasks c.args.task then TooManyTasks
+    else NoMemory) in
+    let Q : SpaceState → Type 0 = λ s. IsAnswer {A = Change} s (Inherit c.args.task c.args.from)
+    (Err c.in-Err.refusal)
+    (record (shown_of c.self.inside) { tasks = c.give.new.tasks }) in
     subst Q c.self.view_is
-    (answer-done (shown_of c.self.inside) (shown_of new) (Inherit c.args.task c.args.from) (tt {0})
-    told done)
+    (inherit-refused (shown_of c.self.inside) c.args.task c.args.from room c.in-Err.refusal
+    c.give.new.tasks some
+    cause c.in-Err.ensures.unchanged)
+
+pub returns-clause-change : goal.returns-clause-change
+returns-clause-change c = (
+  0,
+  ap (TaskSet c.args.task) (c.get-policy.ensures
+      ∙ ap (λ (s : SpaceState). record_of s.tasks c.args.from) c.self.view_is),
+)
