@@ -1,8 +1,6 @@
 //! What a process answers: questions by a plan that is made of its space, and `maps` by the space.
 ghost use Rattle.std.specs.Prelude.{◌≡◌, [], Bool, List, false};
-ghost use Rattle.numa_compile.specs.Standing.{PlanStandsFor};
 ghost use Rattle.numa_lines.specs.Written.{Said};
-ghost use Rattle.numa_machine.specs.Machine.{Hardware};
 ghost use Rattle.numa_run.specs.Judged.{question_cause};
 ghost use Rattle.numa_run.specs.Questions.{question_text};
 ghost use Rattle.numa_run.specs.Ranges.{listing_of};
@@ -12,10 +10,9 @@ ghost use Rattle.numa_requests.specs.declared.command.Command.{Command};
 use numa_compile::compile;
 use numa_lines::Watched;
 use numa_maps::{Resident, write_maps};
-use numa_plan::Plan;
 use numa_requests::CoreRefusal;
 use numa_run::judging::{cause_at, refusal_by_plan};
-use numa_run::questions::{fault_at, say_pages, say_place, say_span};
+use numa_run::questions::say_by_plan;
 use numa_script::Question;
 use numa_script::tell::{say_ranges, say_starved};
 use numa_space::Space;
@@ -42,44 +39,9 @@ pub fn ask<W: Write>(
         say_starved(output);
         return true;
     };
-    let starved = ask_plan(alloc, &plan, question, output);
+    let starved = say_by_plan(alloc, &plan, question, output);
     drop(plan);
     starved
-}
-
-/// Answers a question by a plan. Returns whether memory ran out; then the answer says so.
-fn ask_plan<W: Write>(
-    alloc: Global,
-    plan: &Plan,
-    question: Question,
-    output: &mut Watched<W>,
-) -> bool
-    requires { question ≡ Question.Ranges → ⊥ }
-    ensures { (machine : Hardware) (history : List Command) → PlanStandsFor machine plan.now history
-        → Said W.contents output.old output.new (question_text result machine history question) }
-{
-    match question {
-        Question::Place { task, address, cpu } => {
-            say_place(plan, fault_at(task, address, cpu), output);
-            false
-        }
-        Question::Span {
-            task,
-            address,
-            pages,
-            cpu,
-        } => say_span(alloc, plan, fault_at(task, address, cpu), pages, output),
-        Question::Counts {
-            task,
-            address,
-            pages,
-            cpu,
-        } => {
-            say_pages(plan, fault_at(task, address, cpu), pages, output);
-            false
-        }
-        Question::Ranges => unreachable!(),
-    }
 }
 
 /// Lists the ranges of a space, with their policies for a task.

@@ -342,6 +342,7 @@ impl Serve for HostScript {
     ghost after = { session_after_bytes };
 
     fn serve<W: Write>(&mut self, alloc: Global, line: &[u8], output: &mut Watched<W>) {
-        let _ = self.serve_line(alloc, &parse(line), output);
+        let taken = self.take(alloc, &parse(line));
+        let _ = self.write(alloc, taken, output);
     }
 }

@@ -12,7 +12,7 @@ use numa_machine::Rules;
 use std::alloc::Global;
 use std::io::{Read, Write};
 
-/// Reads a script and writes its answers, as `run_by` of `numa_run` does; its lines may be a
+/// Reads a script and writes its answers, as `run` of `numa_run` does; its lines may be a
 /// host's. Each answer is written before the next read. These rules apply unless a line says
 /// otherwise.
 ///

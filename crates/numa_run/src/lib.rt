@@ -16,4 +16,4 @@ mod streams;
 
 pub use running::Taken;
 pub use script::Script;
-pub use streams::{run, run_by};
+pub use streams::run;

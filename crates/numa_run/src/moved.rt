@@ -7,6 +7,7 @@ ghost use Rattle.numa_page_state.specs.Sending.{flow_between};
 ghost use Rattle.numa_page_state.specs.Standing.{LastAs, sent_by, told_in};
 ghost use Rattle.numa_run.specs.MovedTexts.{all_flows_text, arrow_text, flow_text};
 ghost use Rattle.numa_run.specs.MovedTexts.{flows_from_text, flows_text, last_line};
+ghost use Rattle.numa_script.specs.PageTexts.{moved_words};
 
 use numa_lines::Watched;
 use numa_page_state::between::flow_from;
@@ -70,15 +71,22 @@ fn say_all_flows<W: Write>(output: &mut Watched<W>, before: &Placed, after: &Pla
     }
 }
 
+/// Writes how many pages moved, and how many stayed, at a version: `v4: moved 5 left 0`.
+fn say_counted_at<W: Write>(output: &mut Watched<W>, version: u64, moved: u64, left: u64)
+    ensures { Said W.contents output.old output.new
+        (codes "v" ++ decimal version ++ codes ": " ++ moved_words moved left) }
+{
+    say_number(output, b"v", version);
+    output.say(b": ");
+    say_moved_words(output, moved, left);
+}
+
 /// Writes what a move of pages by their nodes did, at a version.
 pub(crate) fn say_told<W: Write>(output: &mut Watched<W>, version: u64, last: &Moved)
     ensures { Said W.contents output.old output.new
         (last_line version (OfNodes (told_in last.now))) }
 {
-    output.say(b"v");
-    output.say_number(version);
-    output.say(b": ");
-    say_moved_words(output, last.moved, last.left);
+    say_counted_at(output, version, last.moved, last.left);
     say_flows(output, &last.from, &last.to);
     output.say(b"\n");
 }
@@ -88,10 +96,7 @@ fn say_departed<W: Write>(output: &mut Watched<W>, version: u64, last: &Departur
     ensures { Said W.contents output.old output.new
         (last_line version (OfPages (sent_by last.now))) }
 {
-    output.say(b"v");
-    output.say_number(version);
-    output.say(b": ");
-    say_moved_words(output, last.moved, last.left);
+    say_counted_at(output, version, last.moved, last.left);
     say_all_flows(output, &last.before, &last.after);
     output.say(b"\n");
 }

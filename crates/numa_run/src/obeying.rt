@@ -93,7 +93,7 @@ impl Running {
         match command {
             Command::SetMems { mask } => self.mems(*mask),
             Command::Unmap { start, length } => self.unmap(*start, *length),
-            _ => self.accept(command),
+            _ => accept_reply(self.core.accept(command)),
         }
     }
 }

@@ -6,11 +6,13 @@ ghost use Rattle.numa_space.specs.History.{page_of};
 ghost use Rattle.numa_space.specs.Standing.{StandsFor};
 ghost use Rattle.numa_requests.specs.declared.command.Command.{Command};
 ghost use Rattle.numa_lines.specs.Written.{Said};
-ghost use Rattle.numa_run.specs.Questions.{count_text, place_text, span_text, unless_starved};
+ghost use Rattle.numa_run.specs.Questions.{count_text, place_text, question_text, span_text};
+ghost use Rattle.numa_run.specs.Questions.{unless_starved};
 
 use numa_lines::Watched;
 use numa_plan::Plan;
 use numa_requests::{PAGE_BYTES, Request};
+use numa_script::Question;
 use numa_script::tell::{say_counts, say_nodes, say_place_refusal, say_starved};
 use numa_space::Space;
 use std::alloc::Global;
@@ -92,5 +94,42 @@ pub fn say_pages<W: Write>(plan: &Plan, first: Request, pages: u64, output: &mut
     match plan.counts(first.task, first.page, pages, first.cpu) {
         Ok(counts) => say_counts(output, plan.version(), &counts),
         Err(refusal) => say_place_refusal(output, refusal),
+    }
+}
+
+/// Answers a question about pages by a plan. Returns whether memory ran out; then the answer says
+/// so.
+#[inline(always)]
+pub fn say_by_plan<W: Write>(
+    alloc: Global,
+    plan: &Plan,
+    question: Question,
+    output: &mut Watched<W>,
+) -> bool
+    requires { question ≡ Question.Ranges → ⊥ }
+    ensures { (machine : Hardware) (history : List Command) → PlanStandsFor machine plan.now history
+        → Said W.contents output.old output.new (question_text result machine history question) }
+{
+    match question {
+        Question::Place { task, address, cpu } => {
+            say_place(plan, fault_at(task, address, cpu), output);
+            false
+        }
+        Question::Span {
+            task,
+            address,
+            pages,
+            cpu,
+        } => say_span(alloc, plan, fault_at(task, address, cpu), pages, output),
+        Question::Counts {
+            task,
+            address,
+            pages,
+            cpu,
+        } => {
+            say_pages(plan, fault_at(task, address, cpu), pages, output);
+            false
+        }
+        Question::Ranges => unreachable!(),
     }
 }

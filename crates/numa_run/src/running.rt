@@ -21,13 +21,13 @@ ghost use Rattle.numa_script.specs.Replies.{reply_to};
 use crate::judging::{cause_at, refusal_by_plan};
 use crate::listing::say_there;
 use crate::moved::{say_last, say_told};
-use crate::questions::{fault_at, say_pages, say_place, say_place_in, say_span};
+use crate::questions::{fault_at, say_by_plan, say_place_in};
 use numa_core::Core;
 use numa_lines::Watched;
 use numa_maps::{RecordRefusal, Resident};
 use numa_page_state::PageState;
 use numa_page_state::state::{is_there, still};
-use numa_requests::{Command, CoreRefusal, CoreReply, Event, Placement, Request};
+use numa_requests::{CoreRefusal, CoreReply, Event, Placement, Request};
 use numa_script::commands::empty_bind;
 use numa_script::tell::{say_ranges, say_starved};
 use numa_script::{Line, Question, Reply, Win, WordError, Work};
@@ -207,27 +207,12 @@ impl Running {
             self.old.core.space.machine state.world.history question) }
         ensures ranges { question ≡ Question.Ranges → result ≡ false }
     {
-        if answered_by_space(&mut self.core, question, output) {
-            return false;
-        }
-        self.answer_by_plan(alloc, question, output)
-    }
-
-    /// Answers a question by the plan. Returns whether memory ran out; then the answer says so.
-    fn answer_by_plan<W: Write>(
-        &mut self,
-        alloc: Global,
-        question: Question,
-        output: &mut Watched<W>,
-    ) -> bool
-        ensures answer { (state : State) → RunsAs self.old state → RunsAs self.new state
-            × Said W.contents output.old output.new (question_text result
-            self.old.core.space.machine state.world.history question) }
-        ensures ranges { question ≡ Question.Ranges → result ≡ false }
-    {
         if let Question::Ranges = question {
             let ranges = self.core.space().ranges() as u64;
             say_ranges(output, ranges);
+            return false;
+        }
+        if answered_by_space(&mut self.core, question, output) {
             return false;
         }
         // On out-of-memory there may be no plan to ask.
@@ -236,28 +221,7 @@ impl Running {
             say_starved(output);
             return true;
         };
-        match question {
-            Question::Place { task, address, cpu } => {
-                say_place(plan, fault_at(task, address, cpu), output);
-                false
-            }
-            Question::Span {
-                task,
-                address,
-                pages,
-                cpu,
-            } => say_span(alloc, plan, fault_at(task, address, cpu), pages, output),
-            Question::Counts {
-                task,
-                address,
-                pages,
-                cpu,
-            } => {
-                say_pages(plan, fault_at(task, address, cpu), pages, output);
-                false
-            }
-            Question::Ranges => unreachable!(),
-        }
+        say_by_plan(alloc, plan, question, output)
     }
 
     /// Lists the ranges, with their policies for a task, the placed pages and those that are there.
@@ -286,18 +250,6 @@ impl Running {
         }
     }
 
-    /// Carries out a command, or tells what is wrong with its list or its policy.
-    #[inline(always)]
-    pub(crate) fn command(&mut self, said: &Result<Command, WordError>) -> Reply
-        ensures { Serves self.old result self.new (λ refused machine state.
-            command_outcome refused machine state said.now) }
-    {
-        match said {
-            Ok(command) => self.obey(command),
-            Err(fault) => Reply::BadWord(*fault),
-        }
-    }
-
     /// Carries out an `mbind` of length 0 whose mode, flag and nodes are refused together.
     fn bind_nothing(&mut self, start: u64, fault: WordError) -> Reply
         ensures { Serves self.old result self.new (λ refused machine state.
@@ -321,7 +273,8 @@ impl Running {
             Line::Rules(_) => Taken::Reply(Reply::BadState),
             Line::Cpus(_) => Taken::Reply(Reply::BadState),
             Line::Machine(_) => Taken::Reply(Reply::BadState),
-            Line::Command(said) => Taken::Reply(self.command(said)),
+            Line::Command(Ok(command)) => Taken::Reply(self.obey(command)),
+            Line::Command(Err(fault)) => Taken::Reply(Reply::BadWord(*fault)),
             Line::EmptyBind { start, fault } => Taken::Reply(self.bind_nothing(*start, *fault)),
             Line::Work(work) => Taken::Reply(self.work(*work)),
             Line::Question(question) => Taken::Question(*question),

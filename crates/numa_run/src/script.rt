@@ -1,9 +1,6 @@
 //! Running scripts.
-ghost use Rattle.std.specs.Prelude.{◌≡◌, ℕ, ◌+◌, Bool, List, Option, None, Some, Ok, MatchOption};
-ghost use Rattle.std.specs.Prelude.{◌↔◌, length, false, IsTrue};
-ghost use Rattle.numa_lines.specs.Written.{Said};
-ghost use Rattle.numa_run.specs.Answers.{State, after, answer_of, own_line, start, start_by};
-ghost use Rattle.numa_run.specs.Judged.{IsStarved};
+ghost use Rattle.std.specs.Prelude.{◌≡◌, ℕ, Option, None, Some, Ok, MatchOption, false};
+ghost use Rattle.numa_run.specs.Answers.{State, own_line, start, start_by};
 ghost use Rattle.numa_run.specs.Scripts.{IsCoreIn, IsResidentIn, ScriptJudges, ScriptReplies};
 ghost use Rattle.numa_run.specs.Scripts.{ScriptStandsFor, ScriptTakes, ScriptTells, ScriptWrites};
 ghost use Rattle.numa_run.specs.Standing.{Replies, Stands};
@@ -278,39 +275,6 @@ impl Script {
         }
     }
 
-    /// Carries out a line, and writes its answer. Returns whether memory ran out; then the answer
-    /// says so.
-    pub fn serve_line<W: Write>(
-        &mut self,
-        alloc: Global,
-        line: &Line<'_>,
-        output: &mut Watched<W>,
-    ) -> bool
-        ensures { (state : State) → ScriptStandsFor self.old state
-            → (refused : Bool) × ScriptStandsFor self.new (after refused state line.now)
-            × Said W.contents output.old output.new (answer_of refused state line.now)
-            × (IsTrue result ↔ (IsStarved refused state line.now)) }
-    {
-        let taken = self.take(alloc, line);
-        self.write(alloc, taken, output)
-    }
-
-    /// The same for a line that may be told to a process of a host, which this script hasn't.
-    pub fn serve_said<W: Write>(
-        &mut self,
-        alloc: Global,
-        said: &ScriptLine<'_>,
-        output: &mut Watched<W>,
-    ) -> bool
-        ensures { (state : State) → ScriptStandsFor self.old state → (refused : Bool)
-            × ScriptStandsFor self.new (after refused state (own_line said.now))
-            × Said W.contents output.old output.new (answer_of refused state (own_line said.now))
-            × (IsTrue result ↔ (IsStarved refused state (own_line said.now))) }
-    {
-        let taken = self.take_said(alloc, said);
-        self.write(alloc, taken, output)
-    }
-
     /// Carries out a line while no machine is ready.
     pub(crate) fn reply_first(&mut self, alloc: Global, line: &Line<'_>) -> Reply
         requires { self.old.running ≡ None }
@@ -371,6 +335,8 @@ impl Serve for Script {
     ghost after = { after_bytes };
 
     fn serve<W: Write>(&mut self, alloc: Global, line: &[u8], output: &mut Watched<W>) {
-        let _ = self.serve_said(alloc, &parse(line), output);
+        let said = parse(line);
+        let taken = self.take_said(alloc, &said);
+        let _ = self.write(alloc, taken, output);
     }
 }

@@ -3,11 +3,10 @@ ghost use Rattle.std.specs.Prelude.{◌≤◌, ◌+◌, OnOk, IsErrOf};
 ghost use Rattle.numa_lines.specs.Runs.{AnswersAll, NeverBegins, StopsAtRead, StopsAtWrite};
 ghost use Rattle.numa_lines.specs.Runs.{most_reads};
 ghost use Rattle.numa_lines.specs.Watching.{read_count};
-ghost use Rattle.numa_run.specs.Answers.{start, start_by, answer_to, after_bytes};
+ghost use Rattle.numa_run.specs.Answers.{start, answer_to, after_bytes};
 
 use crate::script::Script;
 use numa_lines::{RunFault, Watched, serve_script};
-use numa_machine::Rules;
 use std::alloc::Global;
 use std::io::{Read, Write};
 
@@ -41,28 +40,5 @@ pub fn run<R: Read, W: Write>(
         NeverBegins R.remaining W.contents input.old input.new output.old output.new }
     ensures reads { read_count input.new ≤ read_count input.old + most_reads }
 {
-    run_by(alloc, Rules::Document, input, output)
-}
-
-/// As [`run`], with these rules unless a line says otherwise.
-///
-/// # Errors
-/// As [`run`].
-pub fn run_by<R: Read, W: Write>(
-    alloc: Global,
-    rules: Rules,
-    input: &mut Watched<R>,
-    output: &mut Watched<W>,
-) -> Result<(), RunFault>
-    ensures ok { OnOk result (AnswersAll R.remaining W.contents answer_to after_bytes
-        (start_by rules) input.old input.new output.old output.new) }
-    ensures read { IsErrOf result RunFault.Read → StopsAtRead R.remaining W.contents answer_to
-        after_bytes (start_by rules) input.old input.new output.old output.new }
-    ensures write { IsErrOf result RunFault.Write → StopsAtWrite R.remaining W.contents answer_to
-        after_bytes (start_by rules) input.old input.new output.old output.new }
-    ensures memory { IsErrOf result RunFault.Memory →
-        NeverBegins R.remaining W.contents input.old input.new output.old output.new }
-    ensures reads { read_count input.new ≤ read_count input.old + most_reads }
-{
-    serve_script(alloc, Script::by(rules), input, output)
+    serve_script(alloc, Script::new(), input, output)
 }

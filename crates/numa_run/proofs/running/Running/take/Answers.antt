@@ -1,4 +1,4 @@
-use Rattle.std.proofs.Common.{refl}
+use Rattle.std.proofs.Common.{refl, Ok, Err}
 use Rattle.numa_run.specs.Obeying.{bind_nothing, bound_command, bound_outcome, command_outcome}
 use Rattle.numa_run.specs.PageLines.{work_served}
 use Rattle.numa_script.specs.declared.reply.Reply.TheVariants as reply
@@ -31,12 +31,18 @@ pub returns-in-Machine : goal.returns-in-Machine
 returns-in-Machine c =
     rw c.in-Machine.is (later_same c.args.self.now _ reply.BadState (λ machine state. refl))
 
-pub returns-in-Command : goal.returns-in-Command
-returns-in-Command c =
-    rw c.in-Command.is
-    (served_here c.args.self.now c.command.new.self _ c.command.result
-    (λ refused machine state. command_outcome refused machine state c.in-Command.said)
-    c.command.ensures (λ refused state. refl))
+pub returns-in-Command-Ok : goal.returns-in-Command-Ok
+returns-in-Command-Ok c =
+    rw (c.in-Command-Ok.is, c.in-Command-Ok.field-0-is)
+    (served_here c.args.self.now c.obey.new.self _ c.obey.result
+    (λ refused machine state. command_outcome refused machine state (Ok c.in-Command-Ok.command))
+    c.obey.ensures (λ refused state. refl))
+
+pub returns-in-Command-Err : goal.returns-in-Command-Err
+returns-in-Command-Err c =
+    rw (c.in-Command-Err.is, c.in-Command-Err.field-0-is)
+    (later_same c.args.self.now (line.Command (Err c.in-Command-Err.fault))
+    (reply.BadWord c.in-Command-Err.fault) (λ machine state. refl))
 
 pub returns-in-EmptyBind : goal.returns-in-EmptyBind
 returns-in-EmptyBind c =

@@ -2,7 +2,7 @@ use Rattle.std.proofs.Common.{ap}
 use Rattle.numa_lines.proofs.Adding.{said_same}
 use Rattle.numa_requests.specs.declared.request.Request.{Request}
 use Rattle.numa_run.specs.Questions.{count_text, place_text, span_text, unless_starved}
-use Rattle.numa_host_script.proofs.asking.ask_plan.Goals as goal
+use Rattle.numa_run.proofs.questions.say_by_plan.Goals as goal
 
 pub returns-in-Place : goal.returns-in-Place
 returns-in-Place g c = λ machine history stands.
