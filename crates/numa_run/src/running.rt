@@ -273,8 +273,10 @@ impl Running {
             Line::Rules(_) => Taken::Reply(Reply::BadState),
             Line::Cpus(_) => Taken::Reply(Reply::BadState),
             Line::Machine(_) => Taken::Reply(Reply::BadState),
-            Line::Command(Ok(command)) => Taken::Reply(self.obey(command)),
-            Line::Command(Err(fault)) => Taken::Reply(Reply::BadWord(*fault)),
+            Line::Command(said) => match said {
+                Ok(command) => Taken::Reply(self.obey(command)),
+                Err(fault) => Taken::Reply(Reply::BadWord(*fault)),
+            },
             Line::EmptyBind { start, fault } => Taken::Reply(self.bind_nothing(*start, *fault)),
             Line::Work(work) => Taken::Reply(self.work(*work)),
             Line::Question(question) => Taken::Question(*question),

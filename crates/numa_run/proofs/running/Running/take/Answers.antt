@@ -31,18 +31,18 @@ pub returns-in-Machine : goal.returns-in-Machine
 returns-in-Machine c =
     rw c.in-Machine.is (later_same c.args.self.now _ reply.BadState (λ machine state. refl))
 
-pub returns-in-Command-Ok : goal.returns-in-Command-Ok
-returns-in-Command-Ok c =
-    rw (c.in-Command-Ok.is, c.in-Command-Ok.field-0-is)
+pub returns-in-Ok : goal.returns-in-Ok
+returns-in-Ok c =
+    rw (c.in-Command.is, c.in-Ok.is)
     (served_here c.args.self.now c.obey.new.self _ c.obey.result
-    (λ refused machine state. command_outcome refused machine state (Ok c.in-Command-Ok.command))
+    (λ refused machine state. command_outcome refused machine state (Ok c.in-Ok.command))
     c.obey.ensures (λ refused state. refl))
 
-pub returns-in-Command-Err : goal.returns-in-Command-Err
-returns-in-Command-Err c =
-    rw (c.in-Command-Err.is, c.in-Command-Err.field-0-is)
-    (later_same c.args.self.now (line.Command (Err c.in-Command-Err.fault))
-    (reply.BadWord c.in-Command-Err.fault) (λ machine state. refl))
+pub returns-in-Err : goal.returns-in-Err
+returns-in-Err c =
+    rw (c.in-Command.is, c.in-Err.is)
+    (later_same c.args.self.now (line.Command (Err c.in-Err.fault))
+    (reply.BadWord c.in-Err.fault) (λ machine state. refl))
 
 pub returns-in-EmptyBind : goal.returns-in-EmptyBind
 returns-in-EmptyBind c =
