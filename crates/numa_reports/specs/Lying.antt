@@ -16,8 +16,8 @@ use Rattle.numa_compile.specs.Standing.{PlanStandsFor}
 use Rattle.numa_placed.specs.Spots.{is_on, node_of, pages_if, pages_within, spot_at}
 use Rattle.numa_placed.specs.declared.spot.Spot.{Spot}
 use Rattle.numa_placed.specs.declared.spot.Spot.TheVariants.{Nowhere}
-use Rattle.numa_reports.specs.Filled.{free_behind, nodes_of}
-use Rattle.numa_reports.specs.declared.sheet.parts.PredictionRequest.{PredictionRequest}
+use Rattle.numa_reports.specs.Filled.{free_behind, nodes_of, planned_nodes}
+use Rattle.numa_reports.specs.declared.request.PredictionRequest.{PredictionRequest}
 
 -- where pages lie, if some are there
 abbrev pub spots_in : Option (Bor (List (Run Spot))) → ℕ → Spot
@@ -55,6 +55,10 @@ there_on (Some placed) first pages node =
 abbrev pub alike_left : Option ℕ → (ℕ → List ℕ) → List ℕ → ℕ → ℕ → List ℕ
 alike_left None nodes free first pages = free_behind nodes free first pages
 alike_left (Some there) nodes free first pages = free
+
+-- the fallback lists of pages by the plan of a request
+abbrev pub asked_nodes : PredictionRequest → ℕ → List ℕ
+asked_nodes asked = planned_nodes asked.plan.now asked.touch.task asked.touch.cpu
 
 -- by a plan of the space, what is free after a request is what its pages leave that aren't there
 abbrev pub LeavesFree : {T E : Type 0} → PredictionRequest → List ℕ → List ℕ → Result T E → Type 0

@@ -1,89 +1,69 @@
 //! Taking free pages for pages that aren't there yet.
-ghost use Rattle.std.specs.Prelude.{◌≡◌, ◌+◌, ◌<◌, ◌^◌, ℕ, IfErr, OnOk, slice_index};
+ghost use Rattle.std.specs.Prelude.{◌≡◌, ◌+◌, ◌<◌, ◌≤◌, ◌^◌, ℕ, IfErr, IfOk, OnOk, slice_index};
 ghost use Rattle.numa_plan.specs.Meaning.{RefusesSpan};
-ghost use Rattle.numa_placed.specs.Spots.{spot_at};
-ghost use Rattle.numa_reports.specs.Filled.{free_behind, planned_nodes};
-ghost use Rattle.numa_reports.specs.Lying.{absent_nodes, alike_left, spots_in};
+ghost use Rattle.numa_reports.specs.Filled.{free_behind};
+ghost use Rattle.numa_reports.specs.Lying.{absent_nodes, alike_left, asked_nodes, spots_in};
 ghost use Rattle.numa_reports.specs.Turns.{Repeats};
 
-use crate::filling::fill_span;
+use crate::filling::fill_periods;
 use crate::lying::{Alike, alike_from};
-use crate::touch::Touch;
+use crate::outlook::PageSpan;
+use crate::request::PredictionRequest;
 use numa_machine::PlaceRefusal;
-use numa_placed::Placed;
-use numa_plan::Plan;
 
-/// Takes a free page for each of pages that lie alike, unless they are there. Their fallback lists
-/// repeat as those of [`fill_span`].
+/// Takes a free page for each of the first of pages that lie alike, unless they are there. Returns
+/// for how many. Their fallback lists repeat as those of [`fill_there`].
 fn fill_alike(
-    plan: &Plan,
-    touch: Touch,
+    asked: PredictionRequest<'_>,
     first: u64,
     alike: Alike,
     period: u64,
     free: &mut [u64; 256],
-) -> Result<(), PlaceRefusal>
-    requires { first + alike.pages < 2 ^ 64 }
-    ensures free { Repeats (planned_nodes plan.now touch.task touch.cpu) first alike.pages period
-        → OnOk result (free.new ≡ alike_left alike.node
-        (planned_nodes plan.now touch.task touch.cpu) free.old first alike.pages) }
-    ensures err { IfErr result (RefusesSpan plan.now first alike.pages touch.cpu) }
+) -> Result<u64, PlaceRefusal>
+    requires small { first + alike.pages < 2 ^ 64 }
+    requires some { 0 < alike.pages }
+    ensures some { IfOk result (λ done. 0 < done) }
+    ensures few { IfOk result (λ done. done ≤ alike.pages) }
+    ensures free { Repeats (asked_nodes asked.entry) first alike.pages period
+        → IfOk result (λ done. free.new
+        ≡ alike_left alike.node (asked_nodes asked.entry) free.old first done) }
+    ensures err { IfErr result
+        (RefusesSpan asked.entry.plan.now first alike.pages asked.entry.touch.cpu) }
 {
     match alike.node {
-        Some(_) => Ok(()),
-        None => fill_span(plan, touch, first, alike.pages, period, free),
+        Some(_) => Ok(alike.pages),
+        None => {
+            let pages = alike.pages;
+            fill_periods(asked, PageSpan { first, pages }, period, free)
+        }
     }
 }
 
 /// Takes a free page for each page of a span that isn't there, in ascending order. The pages'
-/// fallback lists repeat as those of [`fill_span`].
-fn fill_absent(
-    plan: &Plan,
-    touch: Touch,
-    placed: &Placed,
+/// fallback lists repeat after `period` pages, or it is 0. The time depends on the period, on the
+/// number of nodes that run out and on that of runs of pages that are there; if the period is 0 or
+/// longer than the span, on the pages.
+pub(crate) fn fill_there(
+    asked: PredictionRequest<'_>,
     first: u64,
     pages: u64,
     period: u64,
     free: &mut [u64; 256],
 ) -> Result<(), PlaceRefusal>
     requires { first + pages < 2 ^ 64 }
-    ensures free { Repeats (planned_nodes plan.now touch.task touch.cpu) first pages period
-        → OnOk result (free.new ≡ free_behind (absent_nodes (spot_at placed.now)
-        (planned_nodes plan.now touch.task touch.cpu)) free.old first pages) }
-    ensures err { IfErr result (RefusesSpan plan.now first pages touch.cpu) }
+    ensures free { Repeats (asked_nodes asked.entry) first pages period → OnOk result (free.new
+        ≡ free_behind (absent_nodes (spots_in asked.entry.placed) (asked_nodes asked.entry))
+        free.old first pages) }
+    ensures err { IfErr result
+        (RefusesSpan asked.entry.plan.now first pages asked.entry.touch.cpu) }
 {
     let mut left = pages;
     while left > 0 {
         let page = first + (pages - left);
-        let alike = alike_from(placed, page, left);
-        if let Err(refusal) = fill_alike(plan, touch, page, alike, period, free) {
-            return Err(refusal);
-        }
-        left -= alike.pages;
+        let alike = alike_from(asked.placed, page, left);
+        left -= fill_alike(asked, page, alike, period, free)?;
     }
     Ok(())
-}
-
-/// The same, where pages may be there or none is.
-pub(crate) fn fill_there(
-    plan: &Plan,
-    touch: Touch,
-    placed: Option<&Placed>,
-    first: u64,
-    pages: u64,
-    period: u64,
-    free: &mut [u64; 256],
-) -> Result<(), PlaceRefusal>
-    requires { first + pages < 2 ^ 64 }
-    ensures free { Repeats (planned_nodes plan.now touch.task touch.cpu) first pages period
-        → OnOk result (free.new ≡ free_behind (absent_nodes (spots_in placed.entry)
-        (planned_nodes plan.now touch.task touch.cpu)) free.old first pages) }
-    ensures err { IfErr result (RefusesSpan plan.now first pages touch.cpu) }
-{
-    match placed {
-        None => fill_span(plan, touch, first, pages, period, free),
-        Some(placed) => fill_absent(plan, touch, placed, first, pages, period, free),
-    }
 }
 
 /// The sum of counts by node.

@@ -10,17 +10,20 @@ ghost use Rattle.numa_requests.specs.declared.command.Command.{Command};
 ghost use Rattle.numa_machine.specs.declared.refusal.PlaceRefusal.TheVariants.{BadCpu};
 ghost use Rattle.numa_reports.specs.declared.fault.ReportError.TheVariants.{Memory, Refused};
 ghost use Rattle.numa_reports.specs.Failing.{FailsBy, FailsForNode};
-ghost use Rattle.numa_reports.specs.Filled.{first_free, one_less, free_behind};
-ghost use Rattle.numa_reports.specs.Filled.{nodes_of, planned_nodes, with_named};
-ghost use Rattle.numa_reports.specs.Lying.{absent_nodes, spots_in, there_on};
+ghost use Rattle.numa_reports.specs.Filled.{first_free, free_behind, nodes_of, one_less};
+ghost use Rattle.numa_reports.specs.Filled.{with_named};
+ghost use Rattle.numa_reports.specs.Lying.{LeavesFree, absent_nodes, asked_nodes, spots_in};
+ghost use Rattle.numa_reports.specs.Lying.{there_on};
 ghost use Rattle.numa_reports.specs.Told.{IsFilling, IsFillingBeside, IsTakenBeside, LacksOne};
 ghost use Rattle.numa_reports.specs.Told.{ToldEach, ToldOne};
 ghost use Rattle.numa_reports.specs.Turns.{HasPages, Repeats};
 
 use crate::absent::{both_of, fill_there};
 use crate::fault::ReportError;
+use crate::outlook::PageSpan;
 use crate::period::period_in;
 use crate::prediction::{RangePrediction, TakeRange, policy_of};
+use crate::request::PredictionRequest;
 use crate::touch::{Touch, has_node};
 use crate::turns::{all_left_behind, all_times_left};
 use numa_machine::PlaceRefusal;
@@ -70,16 +73,17 @@ fn take_first(nodes: &[u8], free: &mut [u64; 256]) -> Option<u8>
 
 /// Takes a free page for a page, and returns its node; `None` if no node of its list has one.
 fn fill_page(
-    plan: &Plan,
-    touch: Touch,
+    asked: PredictionRequest<'_>,
     page: u64,
     free: &mut [u64; 256],
 ) -> Result<Option<u8>, PlaceRefusal>
     ensures free { OnOk result (free.new ≡ one_less free.old
-        (first_free free.old (planned_nodes plan.now touch.task touch.cpu page))) }
-    ensures err { IfErr result (λ refusal. place_refusal plan.now page touch.cpu ≡ Some refusal) }
+        (first_free free.old (asked_nodes asked.entry page))) }
+    ensures err { IfErr result (λ refusal.
+        place_refusal asked.entry.plan.now page asked.entry.touch.cpu ≡ Some refusal) }
 {
-    match plan.fallback_list(touch.task, page, touch.cpu) {
+    let Touch { task, cpu } = asked.touch;
+    match asked.plan.fallback_list(task, page, cpu) {
         Ok(nodes) => Ok(take_first(nodes, free)),
         Err(refusal) => Err(refusal),
     }
@@ -87,48 +91,21 @@ fn fill_page(
 
 /// Takes a free page for each page of a span, in ascending order, one by one.
 fn fill_pages(
-    plan: &Plan,
-    touch: Touch,
-    first: u64,
-    pages: u64,
+    asked: PredictionRequest<'_>,
+    span: PageSpan,
     free: &mut [u64; 256],
 ) -> Result<(), PlaceRefusal>
-    requires { first + pages < 2 ^ 64 }
-    ensures free { OnOk result (free.new
-        ≡ free_behind (planned_nodes plan.now touch.task touch.cpu) free.old first pages) }
-    ensures err { IfErr result (RefusesSpan plan.now first pages touch.cpu) }
+    requires { span.first + span.pages < 2 ^ 64 }
+    ensures free { OnOk result
+        (free.new ≡ free_behind (asked_nodes asked.entry) free.old span.first span.pages) }
+    ensures err { IfErr result
+        (RefusesSpan asked.entry.plan.now span.first span.pages asked.entry.touch.cpu) }
 {
+    let PageSpan { first, pages } = span;
     for page in first..first + pages {
-        fill_page(plan, touch, page, free)?;
+        fill_page(asked, page, free)?;
     }
     Ok(())
-}
-
-/// Takes a free page for each page of a period, one by one, and all at once for those of the
-/// following periods that take the same. Returns for how many pages, at most `left`.
-fn fill_periods(
-    plan: &Plan,
-    touch: Touch,
-    first: u64,
-    period: u64,
-    left: u64,
-    free: &mut [u64; 256],
-) -> Result<u64, PlaceRefusal>
-    requires small { first + left < 2 ^ 64 }
-    requires some { 0 < period }
-    requires fits { period ≤ left }
-    ensures some { IfOk result (λ done. 0 < done) }
-    ensures few { IfOk result (λ done. done ≤ left) }
-    ensures free { Repeats (planned_nodes plan.now touch.task touch.cpu) first left period
-        → IfOk result (λ done. free.new
-        ≡ free_behind (planned_nodes plan.now touch.task touch.cpu) free.old first done) }
-    ensures err { IfErr result (RefusesSpan plan.now first left touch.cpu) }
-{
-    let before = *free;
-    fill_pages(plan, touch, first, period, free)?;
-    let times = all_times_left(&before, free, (left - period) / period);
-    *free = all_left_behind(&before, free, times);
-    Ok(period + times * period)
 }
 
 /// The period, or `left` if that is less or the period is 0, which means unknown.
@@ -144,65 +121,69 @@ fn period_within(period: u64, left: u64) -> u64
     period
 }
 
-/// Takes a free page for each page of a span, in ascending order. The pages' fallback lists repeat
-/// after `period` pages, or it is 0. The time depends on the period and on the number of nodes that
-/// run out; if the period is 0 or longer than the span, on the pages.
-pub(crate) fn fill_span(
-    plan: &Plan,
-    touch: Touch,
-    first: u64,
-    pages: u64,
+/// Takes a free page for each page of the first period of a span, one by one, and all at once for
+/// those of the following periods that take the same. Returns for how many pages. A period of 0, or
+/// one that is longer than the span, is as long as the span.
+pub(crate) fn fill_periods(
+    asked: PredictionRequest<'_>,
+    span: PageSpan,
     period: u64,
     free: &mut [u64; 256],
-) -> Result<(), PlaceRefusal>
-    requires { first + pages < 2 ^ 64 }
-    ensures free { Repeats (planned_nodes plan.now touch.task touch.cpu) first pages period
-        → OnOk result (free.new
-        ≡ free_behind (planned_nodes plan.now touch.task touch.cpu) free.old first pages) }
-    ensures err { IfErr result (RefusesSpan plan.now first pages touch.cpu) }
+) -> Result<u64, PlaceRefusal>
+    requires small { span.first + span.pages < 2 ^ 64 }
+    requires some { 0 < span.pages }
+    ensures some { IfOk result (λ done. 0 < done) }
+    ensures few { IfOk result (λ done. done ≤ span.pages) }
+    ensures free { Repeats (asked_nodes asked.entry) span.first span.pages period
+        → IfOk result (λ done. free.new
+        ≡ free_behind (asked_nodes asked.entry) free.old span.first done) }
+    ensures err { IfErr result
+        (RefusesSpan asked.entry.plan.now span.first span.pages asked.entry.touch.cpu) }
 {
-    let mut left = pages;
-    while left > 0 {
-        let page = first + (pages - left);
-        let part = period_within(period, left);
-        left -= fill_periods(plan, touch, page, part, left, free)?;
-    }
-    Ok(())
+    let PageSpan { first, pages } = span;
+    let part = period_within(period, pages);
+    let before = *free;
+    fill_pages(asked, PageSpan { first, pages: part }, free)?;
+    let times = all_times_left(&before, free, (pages - part) / part);
+    *free = all_left_behind(&before, free, times);
+    Ok(part + times * part)
 }
 
-/// The node of a page: where it lies, if it is there; else it takes a free page, if a node has one.
+/// The node of a page: where it lies, if it is there; else it takes a free page, and 0 stands for a
+/// page for which no node has one.
 fn fill_one(
-    plan: &Plan,
-    touch: Touch,
-    placed: Option<&Placed>,
+    asked: PredictionRequest<'_>,
     page: u64,
     free: &mut [u64; 256],
-) -> Result<Option<u8>, PlaceRefusal>
-    ensures err { IfErr result (λ refusal. place_refusal plan.now page touch.cpu ≡ Some refusal) }
+) -> Result<u8, PlaceRefusal>
+    ensures err { IfErr result (λ refusal.
+        place_refusal asked.entry.plan.now page asked.entry.touch.cpu ≡ Some refusal) }
 {
-    if let Some(placed) = placed {
+    if let Some(placed) = asked.placed {
         if let Some(node) = placed.at(page).node() {
-            return Ok(Some(node));
+            return Ok(node);
         }
     }
-    fill_page(plan, touch, page, free)
+    match fill_page(asked, page, free) {
+        Ok(node) => Ok(node.unwrap_or(0)),
+        Err(refusal) => Err(refusal),
+    }
 }
 
 /// Takes a free page for each page of a short span that isn't there, and writes the node of each
-/// page, 0 for a page for which no node has one.
+/// page, as [`fill_one`] tells it.
 pub(crate) fn fill_few(
-    plan: &Plan,
-    touch: Touch,
-    placed: Option<&Placed>,
+    asked: PredictionRequest<'_>,
     first: u64,
     nodes: &mut [u8],
     free: &mut [u64; 256],
 ) -> Result<(), PlaceRefusal>
     requires { first + length nodes.old < 2 ^ 64 }
-    ensures err { IfErr result (RefusesSpan plan.now first (length nodes.old) touch.cpu) }
+    ensures err { IfErr result
+        (RefusesSpan asked.entry.plan.now first (length nodes.old) asked.entry.touch.cpu) }
 {
     for k in 0..nodes.len() {
-        nodes[k] = fill_one(plan, touch, placed, first + k as u64, free)?.unwrap_or(0);
+        nodes[k] = fill_one(asked, first + k as u64, free)?;
     }
     Ok(())
 }
@@ -244,38 +225,36 @@ fn counts_behind(
 /// Takes a free page for each page of a range that isn't there, in ascending order, and passes the
 /// counts to the taker.
 fn fill_next<T: TakeRange>(
-    space: &Space,
-    plan: &Plan,
-    placed: Option<&Placed>,
-    touch: Touch,
+    asked: PredictionRequest<'_>,
     range: &Run<RangeRecord>,
     free: &mut [u64; 256],
     taker: &mut T,
 ) -> Result<(), ReportError>
-    requires known { touch.cpu < space.now.machine.nodes }
-    requires own { option_and_then (λ at. at.1) (page_at space.now.ranges range.now.first)
+    requires known { asked.touch.cpu < asked.space.now.machine.nodes }
+    requires own { option_and_then (λ at. at.1) (page_at asked.space.now.ranges range.now.first)
         ≡ range.now.value }
-    requires pages { HasPages space.now.ranges range.now }
+    requires pages { HasPages asked.space.now.ranges range.now }
     requires small { end_of range.now ≤ 2 ^ 35 }
-    ensures free { (history : List Command) → StandsFor space.now history
-        → PlanStandsFor space.now.machine plan.now history → OnOk result (free.new ≡ free_behind
-        (absent_nodes (spots_in placed.entry) (planned_nodes plan.now touch.task touch.cpu))
+    ensures free { (history : List Command) → StandsFor asked.entry.space.now history
+        → PlanStandsFor asked.entry.space.now.machine asked.entry.plan.now history
+        → OnOk result (free.new
+        ≡ free_behind (absent_nodes (spots_in asked.entry.placed) (asked_nodes asked.entry))
         free.old range.now.first range.now.pages) }
-    ensures told { (history : List Command) → StandsFor space.now history
-        → PlanStandsFor space.now.machine plan.now history → OnOk result
-        (ToldOne T.told (IsTakenBeside space.now.machine history placed.entry touch.task free.old
-        free.new) range.now taker.old taker.new) }
-    ensures err { IfErr result
-        (FailsBy (RefusesSpan plan.now range.now.first range.now.pages touch.cpu)) }
+    ensures told { (history : List Command) → StandsFor asked.entry.space.now history
+        → PlanStandsFor asked.entry.space.now.machine asked.entry.plan.now history → OnOk result
+        (ToldOne T.told (IsTakenBeside asked.entry.space.now.machine history asked.entry.placed
+        asked.entry.touch.task free.old free.new) range.now taker.old taker.new) }
+    ensures err { IfErr result (FailsBy (RefusesSpan asked.entry.plan.now range.now.first
+        range.now.pages asked.entry.touch.cpu)) }
     ensures lack { IfErr result (λ why. why ≡ Memory → T.lacks taker.old range.now) }
 {
     let before = *free;
-    let policy = policy_of(space, touch.task, range);
-    let period = period_in(space, &policy);
-    fill_there(plan, touch, placed, range.first, range.pages, period, free)?;
+    let policy = policy_of(asked.space, asked.touch.task, range);
+    let period = period_in(asked.space, &policy);
+    fill_there(asked, range.first, range.pages, period, free)?;
     let said = RangePrediction {
         policy,
-        counts: counts_behind(placed, range, &before, free),
+        counts: counts_behind(asked.placed, range, &before, free),
     };
     taker.take(range, &said)?;
     Ok(())
@@ -287,27 +266,24 @@ fn fill_next<T: TakeRange>(
 /// # Errors
 /// `Refused`: the plan isn't one of the space. `Memory`: the taker had none.
 pub(crate) fn fill_ranges<T: TakeRange>(
-    space: &Space,
-    plan: &Plan,
-    placed: Option<&Placed>,
-    touch: Touch,
+    asked: PredictionRequest<'_>,
     free: &mut [u64; 256],
     taker: &mut T,
 ) -> Result<(), ReportError>
-    requires known { touch.cpu < space.now.machine.nodes }
-    ensures ok { (history : List Command) → StandsFor space.now history
-        → PlanStandsFor space.now.machine plan.now history → OnOk result (free.new ≡ free_behind
-        (absent_nodes (spots_in placed.entry)
-        (nodes_of space.now.machine history touch.task touch.cpu)) free.old 0 (2 ^ 35)) }
-    ensures told { (history : List Command) → StandsFor space.now history
-        → PlanStandsFor space.now.machine plan.now history → OnOk result (ToldEach T.told
-        (IsFillingBeside space.now.machine history placed.entry touch.task touch.cpu free.old)
-        space.now.ranges taker.old taker.new) }
-    ensures err { FailsForNode space.now plan.now touch.cpu result }
-    ensures lack { IfErr result (λ why. why ≡ Memory → LacksOne T.lacks space.now.ranges) }
+    requires known { asked.touch.cpu < asked.space.now.machine.nodes }
+    ensures ok { LeavesFree asked.entry free.old free.new result }
+    ensures told { (history : List Command) → StandsFor asked.entry.space.now history
+        → PlanStandsFor asked.entry.space.now.machine asked.entry.plan.now history → OnOk result
+        (ToldEach T.told (IsFillingBeside asked.entry.space.now.machine history
+        asked.entry.placed asked.entry.touch.task asked.entry.touch.cpu free.old)
+        asked.entry.space.now.ranges taker.old taker.new) }
+    ensures err { FailsForNode asked.entry.space.now asked.entry.plan.now
+        asked.entry.touch.cpu result }
+    ensures lack { IfErr result (λ why. why ≡ Memory
+        → LacksOne T.lacks asked.entry.space.now.ranges) }
 {
-    for range in space.range_iter() {
-        fill_next(space, plan, placed, touch, &range, free, taker)?;
+    for range in asked.space.range_iter() {
+        fill_next(asked, &range, free, taker)?;
     }
     Ok(())
 }
@@ -322,9 +298,9 @@ pub(crate) fn fill_ranges<T: TakeRange>(
 /// # Errors
 /// `Refused(BadCpu)`: the machine has no node `cpu`. `Refused(Unmapped)`: the plan isn't one of the
 /// space. `Memory`: the taker ran out of memory.
-pub fn fill_all<T: TakeRange>(
-    space: &Space,
-    plan: &Plan,
+pub fn fill_all<'a, T: TakeRange>(
+    space: &'a Space,
+    plan: &'a Plan,
     task: u32,
     cpu: u32,
     free: &mut [u64; 256],
@@ -344,5 +320,12 @@ pub fn fill_all<T: TakeRange>(
     if !has_node(space, cpu) {
         return Err(ReportError::Refused(PlaceRefusal::BadCpu));
     }
-    fill_ranges(space, plan, None, Touch { task, cpu }, free, taker)
+    let asked = PredictionRequest {
+        touch: Touch { task, cpu },
+        space,
+        plan,
+        placed: None,
+        free: &[],
+    };
+    fill_ranges(asked, free, taker)
 }

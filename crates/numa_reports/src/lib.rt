@@ -16,6 +16,7 @@ mod moves;
 mod outlook;
 mod period;
 mod prediction;
+mod request;
 pub mod sheet;
 mod tally;
 mod touch;
@@ -29,9 +30,10 @@ pub use fault::ReportError;
 pub use filling::{FreePages, fill_all};
 pub use outlook::{Outlook, PageSpan, common_spans, outlook_of};
 pub use prediction::{RangePrediction, TakeRange, predict_all, predict_range};
+pub use request::PredictionRequest;
 pub use sheet::{
-    ByProcess, DRAWN, Format, Items, LISTED, Largest, MoveSum, Object, PredictionRequest, Written,
-    cycles_text, difference_more, difference_text, lying_text, prediction_text, shared_text,
+    ByProcess, DRAWN, Format, Items, LISTED, Largest, MoveSum, Object, Written, cycles_text,
+    difference_more, difference_text, lying_text, prediction_text, shared_text,
 };
 pub use touch::Touch;
 pub use watch::Watch;

@@ -21,11 +21,11 @@ ghost use Rattle.numa_reports.specs.Turns.{HasPages};
 
 use crate::fault::ReportError;
 use crate::lying::count_there;
+use crate::request::PredictionRequest;
 use crate::tally::move_counts;
 use crate::touch::{Touch, has_node};
 use numa_machine::PlaceRefusal;
 use numa_mode::Record;
-use numa_placed::Placed;
 use numa_plan::Plan;
 use numa_ranges::Run;
 use numa_space::{RangeRecord, Space};
@@ -115,36 +115,35 @@ pub(crate) fn policy_of(space: &Space, task: u32, range: &Run<RangeRecord>) -> O
 /// Passes a range to the taker, and adds its pages to the total. The range's counts are zero before
 /// and afterwards.
 fn predict_next<T: TakeRange>(
-    space: &Space,
-    plan: &Plan,
-    placed: Option<&Placed>,
-    touch: Touch,
+    asked: PredictionRequest<'_>,
     range: &Run<RangeRecord>,
     taker: &mut T,
     said: &mut RangePrediction,
     all: &mut [u64; 256],
 ) -> Result<(), ReportError>
-    requires own { option_and_then (λ at. at.1) (page_at space.now.ranges range.now.first)
+    requires own { option_and_then (λ at. at.1) (page_at asked.space.now.ranges range.now.first)
         ≡ range.now.value }
-    requires pages { HasPages space.now.ranges range.now }
+    requires pages { HasPages asked.space.now.ranges range.now }
     requires small { range.now.first + range.now.pages < 2 ^ 64 }
-    requires known { touch.cpu < space.now.machine.nodes }
+    requires known { asked.touch.cpu < asked.space.now.machine.nodes }
     requires none { AreNone said.old.counts }
-    requires room { HasRoom all.old (planned_pages plan.now (spots_in placed) touch.task
-        range.now.first range.now.pages touch.cpu) }
+    requires room { HasRoom all.old (planned_pages asked.plan.now (spots_in asked.placed)
+        asked.touch.task range.now.first range.now.pages asked.touch.cpu) }
     ensures none { OnOk result (AreNone said.new.counts) }
-    ensures all { OnOk result (Adds all.old all.new (planned_pages plan.now (spots_in placed.entry)
-        touch.task range.now.first range.now.pages touch.cpu)) }
-    ensures told { (history : List Command) → StandsFor space.now history
-        → PlanStandsFor space.now.machine plan.now history → OnOk result (ToldOne T.told
-        (IsLying space.now.machine history (spots_in placed.entry) touch.task touch.cpu)
+    ensures all { OnOk result (Adds all.old all.new (planned_pages asked.entry.plan.now
+        (spots_in asked.entry.placed) asked.entry.touch.task range.now.first range.now.pages
+        asked.entry.touch.cpu)) }
+    ensures told { (history : List Command) → StandsFor asked.entry.space.now history
+        → PlanStandsFor asked.entry.space.now.machine asked.entry.plan.now history → OnOk result
+        (ToldOne T.told (IsLying asked.entry.space.now.machine history
+        (spots_in asked.entry.placed) asked.entry.touch.task asked.entry.touch.cpu)
         range.now taker.old taker.new) }
-    ensures err { IfErr result
-        (FailsBy (RefusesSpan plan.now range.now.first range.now.pages touch.cpu)) }
+    ensures err { IfErr result (FailsBy (RefusesSpan asked.entry.plan.now range.now.first
+        range.now.pages asked.entry.touch.cpu)) }
     ensures lack { IfErr result (λ why. why ≡ Memory → T.lacks taker.old range.now) }
 {
-    count_there(plan, touch, placed, range, &mut said.counts)?;
-    said.policy = policy_of(space, touch.task, range);
+    count_there(asked, range, &mut said.counts)?;
+    said.policy = policy_of(asked.space, asked.touch.task, range);
     taker.take(range, said)?;
     move_counts(&mut said.counts, range.pages, all);
     Ok(())
@@ -156,32 +155,32 @@ fn predict_next<T: TakeRange>(
 /// # Errors
 /// `Refused`: the plan isn't one of the space. `Memory`: the taker had none.
 pub(crate) fn predict_ranges<T: TakeRange>(
-    space: &Space,
-    plan: &Plan,
-    placed: Option<&Placed>,
-    touch: Touch,
+    asked: PredictionRequest<'_>,
     taker: &mut T,
 ) -> Result<[u64; 256], ReportError>
-    requires known { touch.cpu < space.now.machine.nodes }
-    ensures ok { (history : List Command) → StandsFor space.now history
-        → PlanStandsFor space.now.machine plan.now history → IfOk result (AreLying
-        space.now.machine history (spots_in placed.entry) touch.task 0 (2 ^ 35) touch.cpu) }
-    ensures told { (history : List Command) → StandsFor space.now history
-        → PlanStandsFor space.now.machine plan.now history → OnOk result (ToldEach T.told
-        (IsLying space.now.machine history (spots_in placed.entry) touch.task touch.cpu)
-        space.now.ranges taker.old taker.new) }
-    ensures err { FailsForNode space.now plan.now touch.cpu result }
-    ensures lack { IfErr result (λ why. why ≡ Memory → LacksOne T.lacks space.now.ranges) }
+    requires known { asked.touch.cpu < asked.space.now.machine.nodes }
+    ensures ok { (history : List Command) → StandsFor asked.entry.space.now history
+        → PlanStandsFor asked.entry.space.now.machine asked.entry.plan.now history
+        → IfOk result (AreLying asked.entry.space.now.machine history
+        (spots_in asked.entry.placed) asked.entry.touch.task 0 (2 ^ 35)
+        asked.entry.touch.cpu) }
+    ensures told { (history : List Command) → StandsFor asked.entry.space.now history
+        → PlanStandsFor asked.entry.space.now.machine asked.entry.plan.now history → OnOk result
+        (ToldEach T.told (IsLying asked.entry.space.now.machine history
+        (spots_in asked.entry.placed) asked.entry.touch.task asked.entry.touch.cpu)
+        asked.entry.space.now.ranges taker.old taker.new) }
+    ensures err { FailsForNode asked.entry.space.now asked.entry.plan.now
+        asked.entry.touch.cpu result }
+    ensures lack { IfErr result (λ why. why ≡ Memory
+        → LacksOne T.lacks asked.entry.space.now.ranges) }
 {
     let mut said = RangePrediction {
         policy: None,
         counts: [0; 256],
     };
     let mut all = [0u64; 256];
-    for range in space.range_iter() {
-        predict_next(
-            space, plan, placed, touch, &range, taker, &mut said, &mut all,
-        )?;
+    for range in asked.space.range_iter() {
+        predict_next(asked, &range, taker, &mut said, &mut all)?;
     }
     Ok(all)
 }
@@ -194,9 +193,9 @@ pub(crate) fn predict_ranges<T: TakeRange>(
 /// # Errors
 /// `Refused(BadCpu)`: the machine has no node `cpu`. `Refused(Unmapped)`: the plan isn't one of the
 /// space. `Memory`: the taker ran out of memory.
-pub fn predict_all<T: TakeRange>(
-    space: &Space,
-    plan: &Plan,
+pub fn predict_all<'a, T: TakeRange>(
+    space: &'a Space,
+    plan: &'a Plan,
     task: u32,
     cpu: u32,
     taker: &mut T,
@@ -214,5 +213,14 @@ pub fn predict_all<T: TakeRange>(
     if !has_node(space, cpu) {
         return Err(ReportError::Refused(PlaceRefusal::BadCpu));
     }
-    predict_ranges(space, plan, None, Touch { task, cpu }, taker)
+    predict_ranges(
+        PredictionRequest {
+            space,
+            plan,
+            placed: None,
+            touch: Touch { task, cpu },
+            free: &[],
+        },
+        taker,
+    )
 }

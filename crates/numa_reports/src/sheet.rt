@@ -34,7 +34,6 @@ pub use cycles::cycles_text;
 pub use items::Items;
 pub use largest::Largest;
 pub use object::Object;
-pub use parts::PredictionRequest;
 pub use prediction_texts::{lying_text, prediction_text, shared_text};
 pub use written::Written;
 

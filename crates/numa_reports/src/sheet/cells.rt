@@ -8,13 +8,13 @@ use crate::absent::fill_there;
 use crate::fault::ReportError;
 use crate::filling::fill_few;
 use crate::period::period_in;
+use crate::request::PredictionRequest;
 use crate::sheet::written::Written;
 use crate::touch::Touch;
 use numa_machine::PlaceRefusal;
 use numa_placed::Placed;
-use numa_plan::Plan;
 use numa_ranges::Run;
-use numa_space::{RangeRecord, Space};
+use numa_space::RangeRecord;
 use std::alloc::Global;
 
 /// The most pages of a range that have a cell.
@@ -32,42 +32,31 @@ fn put_there(placed: &Placed, first: u64, nodes: &mut [u8]) {
 /// Writes the nodes of the first [`CELLS`] pages of a range; places past its last page are 0, and
 /// so are those of pages that find no free page. If free pages are counted, each page takes one.
 fn put_cells(
-    space: &Space,
-    plan: &Plan,
-    placed: Option<&Placed>,
-    touch: Touch,
+    asked: PredictionRequest<'_>,
     range: &Run<RangeRecord>,
     free: &mut Option<[u64; 256]>,
     cells: &mut Written,
 ) -> Result<(), PlaceRefusal>
     requires { range.now.first + range.now.pages < 2 ^ 64 }
-    ensures { IfErr result (RefusesSpan plan.now range.now.first range.now.pages touch.cpu) }
+    ensures { IfErr result (RefusesSpan asked.entry.plan.now range.now.first range.now.pages
+        asked.entry.touch.cpu) }
 {
     let mut nodes = [0u8; CELLS];
     let pages = range.pages.min(CELLS as u64);
     let behind = range.first + pages;
+    let Touch { task, cpu } = asked.touch;
     match free {
         Some(free) => {
-            fill_few(
-                plan,
-                touch,
-                placed,
-                range.first,
-                &mut nodes[..pages as usize],
-                free,
-            )?;
-            let period = period_in(space, &space.policy_at(touch.task, range.first));
+            fill_few(asked, range.first, &mut nodes[..pages as usize], free)?;
+            let period = period_in(asked.space, &asked.space.policy_at(task, range.first));
             let rest = range.pages - pages;
-            fill_there(plan, touch, placed, behind, rest, period, free)?;
+            fill_there(asked, behind, rest, period, free)?;
         }
-        None => plan.fill(
-            touch.task,
-            range.first,
-            touch.cpu,
-            &mut nodes[..pages as usize],
-        )?,
+        None => asked
+            .plan
+            .fill(task, range.first, cpu, &mut nodes[..pages as usize])?,
     }
-    if let Some(placed) = placed {
+    if let Some(placed) = asked.placed {
         put_there(placed, range.first, &mut nodes[..pages as usize]);
     }
     cells.put(&nodes);
@@ -78,18 +67,16 @@ fn put_cells(
 /// if they are counted.
 pub(crate) fn first_cells(
     alloc: Global,
-    space: &Space,
-    plan: &Plan,
-    placed: Option<&Placed>,
-    touch: Touch,
+    asked: PredictionRequest<'_>,
     free: Option<[u64; 256]>,
 ) -> Result<Vec<u8>, ReportError>
-    ensures err { FailsForNode space.now plan.now touch.cpu result }
+    ensures err { FailsForNode asked.entry.space.now asked.entry.plan.now
+        asked.entry.touch.cpu result }
 {
     let mut left = free;
     let mut cells = Written::new(alloc);
-    for range in space.range_iter() {
-        put_cells(space, plan, placed, touch, &range, &mut left, &mut cells)?;
+    for range in asked.space.range_iter() {
+        put_cells(asked, &range, &mut left, &mut cells)?;
     }
     Ok(cells.take()?)
 }

@@ -1,11 +1,11 @@
 //! Writing a prediction part by part, in any format.
-ghost use Rattle.std.specs.Prelude.{◌≡◌};
 ghost use Rattle.numa_reports.specs.Failing.{FailsForNode};
 
 use crate::absent::both_of;
 use crate::fault::ReportError;
 use crate::filling::FreePages;
 use crate::prediction::{RangePrediction, TakeRange};
+use crate::request::PredictionRequest;
 use crate::sheet::cells::{CELLS, first_cells};
 use crate::sheet::drawing::Drawing;
 use crate::sheet::fields::{RangeRow, bytes, placed_of};
@@ -14,10 +14,7 @@ use crate::sheet::nodes::{NodePages, list_nodes};
 use crate::sheet::policies::PolicyTexts;
 use crate::sheet::written::Written;
 use crate::sheet::{Format, lines, objects, pictures, records};
-use crate::touch::Touch;
 use crate::watch::Watch;
-use numa_placed::Placed;
-use numa_plan::Plan;
 use numa_ranges::Run;
 use numa_space::{RangeRecord, Space};
 use std::alloc::{AllocError, Global};
@@ -167,35 +164,6 @@ impl TakeRange for PredictionWriter {
     }
 }
 
-/// A request: where the pages of a space go by a plan of it, if they are touched so and named nodes
-/// have these free pages, and others never run out. Those that are there stay where they lie, and
-/// take none.
-#[derive(Clone, Copy)]
-pub struct PredictionRequest<'a> {
-    pub space: &'a Space,
-    pub plan: &'a Plan,
-    pub placed: Option<&'a Placed>,
-    pub touch: Touch,
-    pub free: &'a [FreePages],
-}
-
-impl<'a> PredictionRequest<'a> {
-    /// A request where no page is there and no node is named.
-    pub fn of(space: &'a Space, plan: &'a Plan, touch: Touch) -> PredictionRequest<'a>
-        ensures space { result.space.now ≡ space.now }
-        ensures plan { result.plan.now ≡ plan.now }
-        ensures touch { result.touch ≡ touch }
-    {
-        PredictionRequest {
-            space,
-            plan,
-            placed: None,
-            touch,
-            free: &[],
-        }
-    }
-}
-
 /// The part before the first range.
 fn head(alloc: Global, asked: PredictionRequest<'_>, format: Format, drawing: &Drawing) -> Written {
     let mut text = Written::new(alloc);
@@ -232,14 +200,7 @@ pub(crate) fn begin(
         asked.entry.touch.cpu result }
 {
     let cells = match format {
-        Format::Svg(_) => first_cells(
-            alloc,
-            asked.space,
-            asked.plan,
-            asked.placed,
-            asked.touch,
-            free,
-        )?,
+        Format::Svg(_) => first_cells(alloc, asked, free)?,
         _ => Vec::new(alloc),
     };
     let drawing = drawing_of(alloc, asked.space, format)?;

@@ -9,10 +9,9 @@ use crate::account::Account;
 use crate::fault::ReportError;
 use crate::filling::{FreePages, fill_ranges};
 use crate::prediction::predict_ranges;
+use crate::request::PredictionRequest;
 use crate::sheet::Format;
-use crate::sheet::parts::{
-    PredictionRequest, PredictionWriter, WatchedWriter, begin, left_on, sum_of,
-};
+use crate::sheet::parts::{PredictionWriter, WatchedWriter, begin, left_on, sum_of};
 use crate::touch::{Touch, has_node};
 use crate::watch::Watch;
 use numa_machine::PlaceRefusal;
@@ -20,35 +19,22 @@ use numa_plan::Plan;
 use numa_space::Space;
 use std::alloc::Global;
 
-/// Writes each range, whose pages take free ones of an account, and the total, with what nodes of
-/// `told` have left.
+/// Writes each range, whose pages take free ones.
 fn write_filled<W: Watch>(
     parts: &mut PredictionWriter,
     asked: PredictionRequest<'_>,
-    told: &[FreePages],
-    account: &mut Account,
+    free: &mut [u64; 256],
     watch: &mut W,
 ) -> Result<(), ReportError>
     requires known { asked.touch.cpu < asked.space.now.machine.nodes }
-    ensures free { LeavesFree asked.entry account.old.free account.new.free result }
     ensures err { FailsForNode asked.entry.space.now asked.entry.plan.now
         asked.entry.touch.cpu result }
+    ensures free { LeavesFree asked.entry free.old free.new result }
 {
     watch.begin(sum_of(asked.space));
     let mut watched = WatchedWriter { parts, watch };
-    fill_ranges(
-        asked.space,
-        asked.plan,
-        asked.placed,
-        asked.touch,
-        &mut account.free,
-        &mut watched,
-    )?;
+    fill_ranges(asked, free, &mut watched)?;
     watch.end();
-    let left = left_on(parts.alloc(), told, &account.free)?;
-    let counts = parts.sum();
-    parts.put_total(&counts, &left);
-    account.count(&counts, parts.pages());
     Ok(())
 }
 
@@ -62,13 +48,14 @@ fn write_first(
     ensures err { FailsForNode asked.entry.space.now asked.entry.plan.now
         asked.entry.touch.cpu result }
 {
-    let counts = predict_ranges(asked.space, asked.plan, asked.placed, asked.touch, parts)?;
+    let counts = predict_ranges(asked, parts)?;
     parts.put_total(&counts, &[]);
     account.count(&counts, parts.pages());
     Ok(())
 }
 
-/// Writes each range and the total; if nodes are named, the pages take free ones of the account.
+/// Writes each range and the total; if nodes are named, the pages take free ones of the account,
+/// and what nodes of `told` have left is told.
 fn write_by<W: Watch>(
     parts: &mut PredictionWriter,
     asked: PredictionRequest<'_>,
@@ -85,7 +72,12 @@ fn write_by<W: Watch>(
     if asked.free.is_empty() {
         return write_first(parts, asked, account);
     }
-    write_filled(parts, asked, told, account, watch)
+    write_filled(parts, asked, &mut account.free, watch)?;
+    let left = left_on(parts.alloc(), told, &account.free)?;
+    let counts = parts.sum();
+    parts.put_total(&counts, &left);
+    account.count(&counts, parts.pages());
+    Ok(())
 }
 
 /// The free pages of an account, if nodes are named in it, so that they are counted.

@@ -11,8 +11,9 @@ returns-in_err-fill_one c =
     let exit = err_from_is_err_and c.from_residual.result c.from_residual.ensures.1 in
     record {
       err =
-          rw (exit.1, exit.2) (page-refused c.args.plan.now c.args.first (length c.args.nodes.now)
-          (c.args.first + c.loop-k.k) c.args.touch.cpu c.in_err-fill_one.field-0.0
+          rw (exit.1, exit.2) (page-refused c.args.asked.plan.now c.args.first (length
+          c.args.nodes.now)
+          (c.args.first + c.loop-k.k) c.args.asked.touch.cpu c.in_err-fill_one.field-0.0
           c.in_err-fill_one.ensures.err (omega arith)
           (omega (arith, c.loop-k-test.true, c.loop-k.invariant)));
     }

@@ -1,6 +1,5 @@
 use Rattle.std.proofs.lemmas.Result.{err_from_is_err_and}
-use Rattle.numa_reports.specs.Filled.{planned_nodes}
-use Rattle.numa_reports.specs.Lying.{absent_nodes, spots_in}
+use Rattle.numa_reports.specs.Lying.{absent_nodes, asked_nodes, spots_in}
 use Rattle.numa_reports.proofs.Beside.{both-fit}
 use Rattle.numa_reports.proofs.Periods.{range-repeats}
 use Rattle.numa_reports.proofs.filling.fill_next.Goals as goal
@@ -29,7 +28,8 @@ returns-in_err-take-clause-lack g c =
 
 pub returns-clause-free : goal.returns-clause-free
 returns-clause-free g c history stands planned = c.in_ok-fill_there.ensures.free
-    (range-repeats c.args.space.now c.args.plan.now history c.args.touch.task c.args.touch.cpu
+    (range-repeats c.args.asked.space.now c.args.asked.plan.now history c.args.asked.touch.task
+    c.args.asked.touch.cpu
     c.period_in-period.result c.args.range.now c.policy_of-policy.result stands planned
     c.requires.known c.requires.pages
     (c.policy_of-policy.ensures history stands) (c.period_in-period.ensures history stands))
@@ -41,8 +41,8 @@ returns-clause-told g c history stands planned =
       record {
         policy = c.policy_of-policy.ensures history stands;
         counts = λ node small. c.counts_behind.ensures node small
-            (both-fit c.args.placed (absent_nodes (spots_in c.args.placed)
-            (planned_nodes c.args.plan.now c.args.touch.task c.args.touch.cpu)) c.args.free.now
+            (both-fit c.args.asked.placed (absent_nodes (spots_in c.args.asked.placed)
+            (asked_nodes c.args.asked)) c.args.free.now
             c.fill_there.new.free c.args.range.now.first c.args.range.now.pages node free
             c.requires.small);
       },

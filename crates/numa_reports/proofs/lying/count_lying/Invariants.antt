@@ -1,13 +1,13 @@
 use Rattle.std.proofs.Common.{◌≡◌, ℕ, ◌-◌, ◌<◌, ◌≤◌, get_or, length}
-use Rattle.numa_placed.specs.Spots.{spot_at}
-use Rattle.numa_reports.specs.Lying.{planned_pages}
+use Rattle.numa_reports.specs.Lying.{planned_pages, spots_in}
 use Rattle.numa_reports.proofs.lying.count_lying.Given as goal
 
 abbrev pub invariant-loop-left : goal.invariant-loop-left
 invariant-loop-left l = record {
   few : l.left ≤ l.pages;
   counts : (node : ℕ) → node < 256 → get_or l.counts node 0
-      ≡ planned_pages l.plan (spot_at l.placed) l.touch.task l.first (l.pages - l.left) l.touch.cpu
+      ≡ planned_pages l.asked.plan.now (spots_in l.asked.placed) l.asked.touch.task l.first
+      (l.pages - l.left) l.asked.touch.cpu
       node;
   long : length l.counts ≡ 256;
 }

@@ -5,8 +5,8 @@ use Rattle.numa_reports.proofs.There.{few-there, range-lies}
 use Rattle.numa_reports.proofs.prediction.predict_next.Goals as goal
 
 pub move_counts-requires-clause-few : goal.move_counts-requires-clause-few
-move_counts-requires-clause-few g c = few-there c.args.plan.now (spots_in c.args.placed)
-    c.args.touch.task c.args.touch.cpu c.args.range.now.first c.args.range.now.pages
+move_counts-requires-clause-few g c = few-there c.args.asked.plan.now (spots_in c.args.asked.placed)
+    c.args.asked.touch.task c.args.asked.touch.cpu c.args.range.now.first c.args.range.now.pages
     c.count_there.new.counts (omega arith) c.in_ok-count_there.ensures.counts
 
 pub move_counts-requires-clause-room : goal.move_counts-requires-clause-room
@@ -30,8 +30,9 @@ returns-clause-told g c history stands planned = (
         omega (
           arith,
           c.in_ok-count_there.ensures.counts node small,
-          range-lies c.args.space.now c.args.plan.now history (spots_in c.args.placed)
-              c.args.touch.task c.args.touch.cpu node stands planned c.requires.known
+          range-lies c.args.asked.space.now c.args.asked.plan.now history (spots_in
+              c.args.asked.placed)
+              c.args.asked.touch.task c.args.asked.touch.cpu node stands planned c.requires.known
               c.args.range.now c.requires.pages,
         );
   },

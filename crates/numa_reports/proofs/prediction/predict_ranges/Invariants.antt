@@ -17,21 +17,25 @@ invariant-loop-range g l = record {
   all : (node : ℕ) → node < 256
       → get_or l.all node 0 + count_runs
       (λ page. is_number node
-      (planned_node l.plan (spots_in l.placed) l.touch.task l.touch.cpu page)) l.range-iterator
+      (planned_node l.asked.plan.now (spots_in l.asked.placed) l.asked.touch.task l.asked.touch.cpu
+      page)) l.range-iterator
       ≡ count_runs (λ page. is_number node
-      (planned_node l.plan (spots_in l.placed) l.touch.task l.touch.cpu page))
-      l.space.ranges;
-  apart : AreApart 0 l.space.ranges;
-  rest : AreLeft l.range-iterator l.space.ranges;
+      (planned_node l.asked.plan.now (spots_in l.asked.placed) l.asked.touch.task l.asked.touch.cpu
+      page))
+      l.asked.space.now.ranges;
+  apart : AreApart 0 l.asked.space.now.ranges;
+  rest : AreLeft l.range-iterator l.asked.space.now.ranges;
   lack : LacksOne g.T.TakeRange.lacks l.range-iterator
-      → LacksOne g.T.TakeRange.lacks l.space.ranges;
+      → LacksOne g.T.TakeRange.lacks l.asked.space.now.ranges;
   long : length l.all ≡ 256;
-  told : (history : List Command) → StandsFor l.space history
-      → PlanStandsFor l.space.machine l.plan history → (end : g.row.T.Denot)
-      → ToldEach g.T.TakeRange.told (IsLying l.space.machine history (spots_in l.placed) l.touch.task
-      l.touch.cpu)
+  told : (history : List Command) → StandsFor l.asked.space.now history
+      → PlanStandsFor l.asked.space.now.machine l.asked.plan.now history → (end : g.row.T.Denot)
+      → ToldEach g.T.TakeRange.told (IsLying l.asked.space.now.machine history (spots_in
+      l.asked.placed) l.asked.touch.task
+      l.asked.touch.cpu)
       l.range-iterator l.taker end
-      → ToldEach g.T.TakeRange.told (IsLying l.space.machine history (spots_in l.placed) l.touch.task
-      l.touch.cpu)
-      l.space.ranges l.fn.taker end;
+      → ToldEach g.T.TakeRange.told (IsLying l.asked.space.now.machine history (spots_in
+      l.asked.placed) l.asked.touch.task
+      l.asked.touch.cpu)
+      l.asked.space.now.ranges l.fn.taker end;
 }

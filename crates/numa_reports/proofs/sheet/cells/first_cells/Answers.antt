@@ -5,19 +5,19 @@ use Rattle.numa_reports.proofs.Refusing.{left-all, left-end, left-next, range-fa
 use Rattle.numa_reports.proofs.sheet.cells.first_cells.Goals as goal
 
 pub loop-range-init : goal.loop-range-init
-loop-range-init c = left-all c.into_iter-range-iterator.result c.args.space.now.ranges
+loop-range-init c = left-all c.into_iter-range-iterator.result c.args.asked.space.now.ranges
     (c.into_iter-range-iterator.ensures.into_iter_gives ∙ c.range_iter-range-items.ensures.runs)
     c.range_iter-range-items.ensures.rising
 
 pub loop-range-preserved : goal.loop-range-preserved
-loop-range-preserved c = left-next c.loop-range.range-iterator c.args.space.now.ranges
+loop-range-preserved c = left-next c.loop-range.range-iterator c.args.asked.space.now.ranges
     c.next.new.self c.in-Some.range c.loop-range.invariant c.in-Some.ensures.steps
 
 pub put_cells-requires : goal.put_cells-requires
 put_cells-requires c =
     omega (
       arith,
-      left-end c.loop-range.range-iterator c.args.space.now.ranges c.next.new.self
+      left-end c.loop-range.range-iterator c.args.asked.space.now.ranges c.next.new.self
           c.in-Some.range c.loop-range.invariant c.in-Some.ensures.steps,
     )
 
@@ -26,8 +26,8 @@ returns-in_err-put_cells c = record {
   err = λ history stands planned.
       let exit = err_from_is_err_and c.from_residual.result c.from_residual.ensures.1 in
       rw (exit.1, exit.2)
-      (range-fails c.args.space.now c.args.plan.now history c.loop-range.range-iterator
-      c.next.new.self c.in-Some.range c.args.touch.cpu (Refused c.in_err-put_cells.field-0.0)
+      (range-fails c.args.asked.space.now c.args.asked.plan.now history c.loop-range.range-iterator
+      c.next.new.self c.in-Some.range c.args.asked.touch.cpu (Refused c.in_err-put_cells.field-0.0)
       stands planned c.loop-range.invariant c.in-Some.ensures.steps c.in_err-put_cells.ensures);
 }
 
