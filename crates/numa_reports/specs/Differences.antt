@@ -12,15 +12,19 @@ use Rattle.numa_reports.specs.Moved.{goes_to}
 use Rattle.numa_reports.specs.declared.differences.SpanMove.{SpanMove}
 use Rattle.numa_reports.specs.declared.outlook.PageSpan.{PageSpan}
 
+-- pages that move, unless they stay on their node, or there are none
+abbrev pub move_if : SpanMove → List SpanMove
+move_if said = if said.from == said.to then [] else if said.moved == 0 then [] else said ∷ []
+
 -- so many pages of a span that go from one node to another, where they are any, and another
 abbrev pub move_by : PageSpan → ℕ → ℕ → ℕ → List SpanMove
-move_by span from to moved = if from == to then [] else if moved == 0 then [] else record {
+move_by span from to moved = move_if (record {
   first = span.first;
   pages = span.pages;
   moved = moved;
   from = from;
   to = to;
-} ∷ []
+})
 
 -- those from one node to each of so many, in order, as many as are counted
 abbrev pub moves_from : (ℕ → ℕ → ℕ) → PageSpan → ℕ → ℕ → List SpanMove

@@ -6,13 +6,13 @@ ghost use Rattle.numa_requests.specs.declared.command.Command.{Command};
 ghost use Rattle.numa_machine.specs.declared.refusal.PlaceRefusal.TheVariants.{BadCpu};
 ghost use Rattle.numa_reports.specs.declared.fault.ReportError.TheVariants.{Refused};
 ghost use Rattle.numa_reports.specs.Differences.{AreAllMoves, EitherLacks, HasNone, RefusesSome};
-ghost use Rattle.numa_reports.specs.Differences.{move_by, moves_from, moves_over, moves_within};
+ghost use Rattle.numa_reports.specs.Differences.{move_if, moves_from, moves_over, moves_within};
 ghost use Rattle.numa_reports.specs.Failing.{FailsBy, RefusesEither};
 ghost use Rattle.numa_reports.specs.Mapped.{span_of};
 ghost use Rattle.numa_reports.specs.Moved.{moves_in, planned_moves};
 
 use crate::fault::ReportError;
-use crate::moves::{self, ENTRIES, add_moves, empty_table};
+use crate::moves::{self, Change, ENTRIES, add_moves, empty_table};
 use crate::outlook::{PageSpan, common_spans, spans_of};
 use crate::touch::{Touch, has_node};
 use numa_machine::PlaceRefusal;
@@ -38,32 +38,25 @@ pub struct SpanMove {
 
 const _: () = prove!(size_of::<SpanMove>() == 32);
 
-/// Appends the pages of a span that go from a node to another one, if there are any.
-fn push_move(
-    table: &[u64],
-    span: PageSpan,
-    from: u8,
-    to: u8,
-    moves: &mut Vec<SpanMove>,
-) -> Result<(), AllocError>
-    requires entries { length table.now ≡ 65536 }
-    ensures { OnOk result (moves.new.items
-        ≡ moves.old.items ++ move_by span from to (moves_in table.now from to)) }
+/// The number of pages that go from a node to another one.
+fn moved_in(table: &[u64], from: u8, to: u8) -> u64
+    requires { length table.now ≡ 65536 }
+    ensures { result ≡ moves_in table.now from to }
 {
-    let moved = table[usize::from(from) * 256 + usize::from(to)];
-    if from == to {
+    table[usize::from(from) * 256 + usize::from(to)]
+}
+
+/// Appends pages of a span, unless they stay, or there are none.
+fn push_move(said: SpanMove, moves: &mut Vec<SpanMove>) -> Result<(), AllocError>
+    ensures { OnOk result (moves.new.items ≡ moves.old.items ++ move_if said) }
+{
+    if said.from == said.to {
         return Ok(());
     }
-    if moved == 0 {
+    if said.moved == 0 {
         return Ok(());
     }
-    moves.push(SpanMove {
-        first: span.first,
-        pages: span.pages,
-        moved,
-        from,
-        to,
-    })?;
+    moves.push(said)?;
     Ok(())
 }
 
@@ -80,8 +73,18 @@ fn push_from(
     ensures { OnOk result (moves.new.items
         ≡ moves.old.items ++ moves_from (moves_in table.now) span from nodes) }
 {
-    for to in 0..nodes {
-        push_move(table, span, from, to as u8, moves)?;
+    let PageSpan { first, pages } = span;
+    for node in 0..nodes {
+        let to = node as u8;
+        let moved = moved_in(table, from, to);
+        let said = SpanMove {
+            first,
+            pages,
+            moved,
+            from,
+            to,
+        };
+        push_move(said, moves)?;
     }
     Ok(())
 }
@@ -117,25 +120,23 @@ fn clear(table: &mut Vec<u64>)
 /// Appends the pages of a span that go to another node by the other plan. The table is empty before
 /// and afterwards.
 fn push_span(
-    before: &Plan,
-    after: &Plan,
+    change: Change<'_>,
     nodes: (u32, u32),
-    touch: Touch,
     span: PageSpan,
     table: &mut Vec<u64>,
     moves: &mut Vec<SpanMove>,
 ) -> Result<(), ReportError>
-    requires known { touch.cpu < before.now.nodes }
+    requires known { change.touch.cpu < change.before.now.nodes }
     requires few { (nodes.0 ≤ 256) × (nodes.1 ≤ 256) }
     requires none { HasNone table.old.items }
     ensures moves { OnOk result (moves.new.items ≡ moves.old.items ++ moves_within
-        (planned_moves before.now after.now touch.task span.first span.pages touch.cpu) span
-        nodes.0 nodes.1) }
+        (planned_moves change.entry.before.now change.entry.after.now change.entry.touch.task
+        span.first span.pages change.entry.touch.cpu) span nodes.0 nodes.1) }
     ensures none { OnOk result (HasNone table.new.items) }
-    ensures err { IfErr result (FailsBy
-        (RefusesEither before.now after.now span.first span.pages touch.cpu)) }
+    ensures err { IfErr result (FailsBy (RefusesEither change.entry.before.now
+        change.entry.after.now span.first span.pages change.entry.touch.cpu)) }
 {
-    add_moves(before, after, touch, span, table, &mut ())?;
+    add_moves(change, span, table, &mut ())?;
     push_all(table, span, nodes, moves)?;
     clear(table);
     Ok(())
@@ -144,23 +145,22 @@ fn push_span(
 /// The pages of spans that go to another node by the other plan.
 fn moves_of(
     alloc: Global,
-    before: &Plan,
-    after: &Plan,
+    change: Change<'_>,
     nodes: (u32, u32),
-    touch: Touch,
     spans: &[PageSpan],
 ) -> Result<Vec<SpanMove>, ReportError>
-    requires known { touch.cpu < before.now.nodes }
+    requires known { change.touch.cpu < change.before.now.nodes }
     requires few { (nodes.0 ≤ 256) × (nodes.1 ≤ 256) }
     ensures moves { IfOk result (λ moves. moves.items ≡ moves_over (λ span.
-        planned_moves before.now after.now touch.task span.first span.pages touch.cpu)
-        nodes.0 nodes.1 spans.now) }
-    ensures err { IfErr result (FailsBy (RefusesSome before.now after.now spans.now touch.cpu)) }
+        planned_moves change.entry.before.now change.entry.after.now change.entry.touch.task
+        span.first span.pages change.entry.touch.cpu) nodes.0 nodes.1 spans.now) }
+    ensures err { IfErr result (FailsBy (RefusesSome change.entry.before.now
+        change.entry.after.now spans.now change.entry.touch.cpu)) }
 {
     let mut table = empty_table(alloc, ENTRIES)?;
     let mut moves = Vec::new(alloc);
     for span in spans {
-        push_span(before, after, nodes, touch, *span, &mut table, &mut moves)?;
+        push_span(change, nodes, *span, &mut table, &mut moves)?;
     }
     Ok(moves)
 }
@@ -172,12 +172,12 @@ fn moves_of(
 ///
 /// # Errors
 /// `Refused(BadCpu)`: a machine has no node `cpu`. `Memory`: out of memory.
-pub fn all_moves(
+pub fn all_moves<'a>(
     alloc: Global,
     before: &Space,
-    old: &Plan,
+    old: &'a Plan,
     after: &Space,
-    new: &Plan,
+    new: &'a Plan,
     touch: Touch,
 ) -> Result<Vec<SpanMove>, ReportError>
     ensures ok { (history later : List Command) → StandsFor before.now history
@@ -205,5 +205,10 @@ pub fn all_moves(
     let ones = spans_of(alloc, before)?;
     let others = spans_of(alloc, after)?;
     let spans = common_spans(alloc, ones.as_slice(), others.as_slice())?;
-    moves_of(alloc, old, new, nodes, touch, spans.as_slice())
+    let change = Change {
+        before: old,
+        after: new,
+        touch,
+    };
+    moves_of(alloc, change, nodes, spans.as_slice())
 }

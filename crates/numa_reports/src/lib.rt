@@ -30,7 +30,7 @@ pub use fault::ReportError;
 pub use filling::{FreePages, fill_all};
 pub use outlook::{Outlook, PageSpan, common_spans, outlook_of};
 pub use prediction::{RangePrediction, TakeRange, predict_all, predict_range};
-pub use request::PredictionRequest;
+pub use request::{DifferenceRequest, PredictionRequest};
 pub use sheet::{
     ByProcess, DRAWN, Format, Items, LISTED, Largest, MoveSum, Object, Written, cycles_text,
     difference_more, difference_text, lying_text, prediction_text, shared_text,

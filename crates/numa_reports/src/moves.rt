@@ -21,6 +21,14 @@ pub(crate) const BLOCK: usize = 4096;
 /// The number of entries of a table.
 pub(crate) const ENTRIES: usize = 65_536;
 
+/// A touch of pages that go by one plan before, and by another after.
+#[derive(Clone, Copy)]
+pub(crate) struct Change<'a> {
+    pub(crate) before: &'a Plan,
+    pub(crate) after: &'a Plan,
+    pub(crate) touch: Touch,
+}
+
 /// Adds one page from a node to another.
 fn add_pair(table: &mut Vec<u64>, from: u8, to: u8)
     requires { HasRoomFor table.old.items 1 }
@@ -45,9 +53,7 @@ fn add_pairs(table: &mut Vec<u64>, before: &[u8], after: &[u8])
 
 /// Adds the pages of a span that fits both lists: from their node by one plan to that by the other.
 fn add_filled(
-    before: &Plan,
-    after: &Plan,
-    touch: Touch,
+    change: Change<'_>,
     first: u64,
     old: &mut [u8],
     new: &mut [u8],
@@ -56,22 +62,22 @@ fn add_filled(
     requires same { length new.old ≡ length old.old }
     requires room { HasRoomFor table.old.items (length old.old) }
     ensures ok { OnOk result (AddsMoves table.old.items table.new.items
-        (planned_moves before.now after.now touch.task first (length old.old) touch.cpu)) }
+        (planned_moves change.entry.before.now change.entry.after.now change.entry.touch.task
+        first (length old.old) change.entry.touch.cpu)) }
     ensures entries { length table.new.items ≡ 65536 }
-    ensures err { IfErr result
-        (RefusesEither before.now after.now first (length old.old) touch.cpu) }
+    ensures err { IfErr result (RefusesEither change.entry.before.now change.entry.after.now
+        first (length old.old) change.entry.touch.cpu) }
 {
-    before.fill(touch.task, first, touch.cpu, old)?;
-    after.fill(touch.task, first, touch.cpu, new)?;
+    let Touch { task, cpu } = change.touch;
+    change.before.fill(task, first, cpu, old)?;
+    change.after.fill(task, first, cpu, new)?;
     add_pairs(table, old, new);
     Ok(())
 }
 
 /// Adds the pages of a block.
 fn add_block(
-    before: &Plan,
-    after: &Plan,
-    touch: Touch,
+    change: Change<'_>,
     first: u64,
     pages: usize,
     table: &mut Vec<u64>,
@@ -79,56 +85,51 @@ fn add_block(
     requires few { pages ≤ 4096 }
     requires room { HasRoomFor table.old.items pages }
     ensures ok { OnOk result (AddsMoves table.old.items table.new.items
-        (planned_moves before.now after.now touch.task first pages touch.cpu)) }
+        (planned_moves change.entry.before.now change.entry.after.now change.entry.touch.task
+        first pages change.entry.touch.cpu)) }
     ensures entries { length table.new.items ≡ 65536 }
-    ensures err { IfErr result (RefusesEither before.now after.now first pages touch.cpu) }
+    ensures err { IfErr result (RefusesEither change.entry.before.now change.entry.after.now
+        first pages change.entry.touch.cpu) }
 {
     let mut old = [0u8; BLOCK];
     let mut new = [0u8; BLOCK];
-    add_filled(
-        before,
-        after,
-        touch,
-        first,
-        &mut old[..pages],
-        &mut new[..pages],
-        table,
-    )
+    add_filled(change, first, &mut old[..pages], &mut new[..pages], table)
 }
 
 /// Adds the pages of a span, block by block.
 pub(crate) fn add_moves<W: Watch>(
-    before: &Plan,
-    after: &Plan,
-    touch: Touch,
+    change: Change<'_>,
     span: PageSpan,
     table: &mut Vec<u64>,
     watch: &mut W,
 ) -> Result<(), PlaceRefusal>
-    requires known { touch.cpu < before.now.nodes }
+    requires known { change.touch.cpu < change.before.now.nodes }
     requires room { HasRoomFor table.old.items span.pages }
     ensures ok { (machine : Hardware) (old new : List Command)
-        → PlanStandsFor machine before.now old → PlanStandsFor machine after.now new
-        → touch.cpu < machine.nodes → OnOk result (AddsMoves table.old.items table.new.items
-        (meant_moves machine old new touch.task span.first span.pages touch.cpu)) }
+        → PlanStandsFor machine change.entry.before.now old
+        → PlanStandsFor machine change.entry.after.now new
+        → change.entry.touch.cpu < machine.nodes
+        → OnOk result (AddsMoves table.old.items table.new.items (meant_moves machine old new
+        change.entry.touch.task span.first span.pages change.entry.touch.cpu)) }
     ensures planned { OnOk result (AddsMoves table.old.items table.new.items
-        (planned_moves before.now after.now touch.task span.first span.pages touch.cpu)) }
+        (planned_moves change.entry.before.now change.entry.after.now change.entry.touch.task
+        span.first span.pages change.entry.touch.cpu)) }
     ensures entries { length table.new.items ≡ 65536 }
     ensures left { (left : ℕ) → HasRoomFor table.old.items left → span.pages ≤ left
         → OnOk result (HasRoomFor table.new.items (left - span.pages)) }
-    ensures err { IfErr result
-        (RefusesEither before.now after.now span.first span.pages touch.cpu) }
+    ensures err { IfErr result (RefusesEither change.entry.before.now change.entry.after.now
+        span.first span.pages change.entry.touch.cpu) }
 {
     let PageSpan { first, pages } = span;
     // Tells the proof that no run has a page above the last that can be mapped.
-    let _ = before.run_count();
+    let _ = change.before.run_count();
     let Some(end) = first.checked_add(pages) else {
         return Err(PlaceRefusal::Unmapped);
     };
     let mut page = first;
     while page < end {
         let part = (end - page).min(BLOCK as u64);
-        add_block(before, after, touch, page, part as usize, table)?;
+        add_block(change, page, part as usize, table)?;
         page += part;
         watch.pass(part);
     }

@@ -1,7 +1,9 @@
-//! Requests for predictions.
+//! Requests for predictions, and for differences.
 ghost use Rattle.std.specs.Prelude.{◌≡◌};
 
 use crate::filling::FreePages;
+use crate::outlook::Outlook;
+use crate::sheet::Format;
 use crate::touch::Touch;
 use numa_placed::Placed;
 use numa_plan::Plan;
@@ -34,4 +36,17 @@ impl<'a> PredictionRequest<'a> {
             free: &[],
         }
     }
+}
+
+/// A request: which pages go to another node of so many, if they are touched so in the state after
+/// a change instead of that before it.
+#[derive(Clone, Copy)]
+pub struct DifferenceRequest<'a> {
+    pub before: &'a Outlook,
+    pub after: &'a Outlook,
+    /// The number of nodes of the machine.
+    pub nodes: u32,
+    pub touch: Touch,
+    /// How the answer is written.
+    pub format: Format,
 }

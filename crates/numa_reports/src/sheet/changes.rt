@@ -5,13 +5,14 @@ ghost use Rattle.numa_machine.specs.Machine.{Hardware};
 ghost use Rattle.numa_requests.specs.declared.command.Command.{Command};
 ghost use Rattle.numa_machine.specs.declared.refusal.PlaceRefusal.TheVariants.{BadCpu};
 ghost use Rattle.numa_reports.specs.declared.fault.ReportError.TheVariants.{Refused};
-ghost use Rattle.numa_reports.specs.Failing.{MayFail, MovesMayFail};
-ghost use Rattle.numa_reports.specs.Mapped.{IsOutlook};
+ghost use Rattle.numa_reports.specs.Failing.{MovesMayFail};
+ghost use Rattle.numa_reports.specs.Mapped.{FailsForChange};
 ghost use Rattle.numa_reports.specs.Moved.{HasRoomFor};
 
 use crate::fault::ReportError;
-use crate::moves::{BLOCK, ENTRIES, add_moves, empty_table, has_node};
-use crate::outlook::{Outlook, PageSpan, common_spans};
+use crate::moves::{BLOCK, Change, ENTRIES, add_moves, empty_table, has_node};
+use crate::outlook::{PageSpan, common_spans};
+use crate::request::DifferenceRequest;
 use crate::sheet::by_process::MoveSum;
 use crate::sheet::fields::bytes;
 use crate::sheet::moved_parts::SpanTexts;
@@ -22,7 +23,6 @@ use crate::sheet::{Format, moved_objects, moved_pictures};
 use crate::touch::Touch;
 use crate::watch::Watch;
 use numa_machine::PlaceRefusal;
-use numa_plan::Plan;
 use std::alloc::{AllocError, Global};
 
 /// Writes the number of pages that go from a node to each other node, where it isn't 0.
@@ -185,45 +185,26 @@ impl Difference {
 
 /// Whether each page of a block that fits both lists goes to the same node by both plans. False if
 /// a plan lacks one.
-fn block_stays(
-    before: &Plan,
-    after: &Plan,
-    touch: Touch,
-    first: u64,
-    old: &mut [u8],
-    new: &mut [u8],
-) -> bool {
-    if before.fill(touch.task, first, touch.cpu, old).is_err() {
+fn block_stays(change: Change<'_>, first: u64, old: &mut [u8], new: &mut [u8]) -> bool {
+    let Touch { task, cpu } = change.touch;
+    if change.before.fill(task, first, cpu, old).is_err() {
         return false;
     }
-    if after.fill(touch.task, first, touch.cpu, new).is_err() {
+    if change.after.fill(task, first, cpu, new).is_err() {
         return false;
     }
     *old == *new
 }
 
 /// Whether each page of a span goes to the same node by both plans. False if a plan lacks one.
-fn stays<W: Watch>(
-    before: &Plan,
-    after: &Plan,
-    touch: Touch,
-    span: PageSpan,
-    watch: &mut W,
-) -> bool {
+fn stays<W: Watch>(change: Change<'_>, span: PageSpan, watch: &mut W) -> bool {
     let mut old = [0u8; BLOCK];
     let mut new = [0u8; BLOCK];
     let mut left = span.pages;
     while left > 0 {
         let page = span.first.saturating_add(span.pages - left);
         let part = left.min(BLOCK as u64) as usize;
-        if !block_stays(
-            before,
-            after,
-            touch,
-            page,
-            &mut old[..part],
-            &mut new[..part],
-        ) {
+        if !block_stays(change, page, &mut old[..part], &mut new[..part]) {
             return false;
         }
         left -= part as u64;
@@ -232,11 +213,11 @@ fn stays<W: Watch>(
     true
 }
 
-/// Counts the pages of a span.
-fn count_span<W: Watch>(
-    before: &Plan,
-    after: &Plan,
-    touch: Touch,
+/// Adds a span, and its pages to the total; nothing if all of them stay. At most twice its pages
+/// are passed.
+fn push_span<W: Watch>(
+    change: Change<'_>,
+    nodes: u32,
     span: PageSpan,
     difference: &mut Difference,
     watch: &mut W,
@@ -244,42 +225,23 @@ fn count_span<W: Watch>(
     requires { HasRoomFor difference.old.total.items difference.old.left }
     ensures room { OnOk result (HasRoomFor difference.new.total.items difference.new.left) }
     ensures err { (machine : Hardware) (old new : List Command)
-        → PlanStandsFor machine before.now old → PlanStandsFor machine after.now new
-        → IfErr result (MovesMayFail machine old new span.first span.pages touch.cpu) }
+        → PlanStandsFor machine change.entry.before.now old
+        → PlanStandsFor machine change.entry.after.now new
+        → IfErr result
+        (MovesMayFail machine old new span.first span.pages change.entry.touch.cpu) }
 {
-    if !has_node(before, touch.cpu) {
+    if stays(change, span, watch) {
+        watch.pass(span.pages);
+        return Ok(());
+    }
+    if !has_node(change.before, change.touch.cpu) {
         return Err(ReportError::Refused(PlaceRefusal::BadCpu));
     }
     let Some(left) = difference.left.checked_sub(span.pages) else {
         return Err(ReportError::Memory);
     };
-    add_moves(before, after, touch, span, &mut difference.total, watch)?;
+    add_moves(change, span, &mut difference.total, watch)?;
     difference.left = left;
-    Ok(())
-}
-
-/// Adds a span, and its pages to the total; nothing if all of them stay. At most twice its pages
-/// are passed.
-fn push_span<W: Watch>(
-    before: &Plan,
-    after: &Plan,
-    nodes: u32,
-    touch: Touch,
-    span: PageSpan,
-    difference: &mut Difference,
-    watch: &mut W,
-) -> Result<(), ReportError>
-    requires { HasRoomFor difference.old.total.items difference.old.left }
-    ensures room { OnOk result (HasRoomFor difference.new.total.items difference.new.left) }
-    ensures err { (machine : Hardware) (old new : List Command)
-        → PlanStandsFor machine before.now old → PlanStandsFor machine after.now new
-        → IfErr result (MovesMayFail machine old new span.first span.pages touch.cpu) }
-{
-    if stays(before, after, touch, span, watch) {
-        watch.pass(span.pages);
-        return Ok(());
-    }
-    count_span(before, after, touch, span, difference, watch)?;
     difference.add(span, nodes)?;
     Ok(())
 }
@@ -299,40 +261,33 @@ fn pages_of(spans: &[PageSpan]) -> u64 {
 /// As [`difference_text`].
 pub fn difference_more<W: Watch>(
     alloc: Global,
-    before: &Outlook,
-    after: &Outlook,
-    nodes: u32,
-    touch: Touch,
-    format: Format,
+    asked: DifferenceRequest<'_>,
     all: &mut MoveSum,
     watch: &mut W,
 ) -> Result<Vec<u8>, ReportError>
-    ensures err { (machine : Hardware) (old new : List Command) → nodes ≡ machine.nodes
-        → IsOutlook machine old before.now → IsOutlook machine new after.now
-        → IfErr result (MayFail nodes touch.cpu) }
-    ensures bad_cpu { nodes ≤ touch.cpu → result ≡ Err (Refused BadCpu) }
+    ensures err { FailsForChange asked.entry result }
+    ensures bad_cpu { asked.entry.nodes ≤ asked.entry.touch.cpu → result ≡ Err (Refused BadCpu) }
 {
-    if touch.cpu >= nodes {
+    let before = asked.before;
+    let after = asked.after;
+    if asked.touch.cpu >= asked.nodes {
         return Err(ReportError::Refused(PlaceRefusal::BadCpu));
     }
     let spans = common_spans(alloc, before.spans.as_slice(), after.spans.as_slice())?;
     watch.begin(pages_of(&spans).saturating_mul(2));
     let scale = Scale::of_spans(&spans);
-    let mut difference = Difference::new(alloc, format, touch, scale)?;
+    let mut difference = Difference::new(alloc, asked.format, asked.touch, scale)?;
+    let change = Change {
+        before: &before.plan,
+        after: &after.plan,
+        touch: asked.touch,
+    };
     for span in &spans {
-        push_span(
-            &before.plan,
-            &after.plan,
-            nodes,
-            touch,
-            *span,
-            &mut difference,
-            watch,
-        )?;
+        push_span(change, asked.nodes, *span, &mut difference, watch)?;
     }
     watch.end();
     all.add(difference.total.as_slice());
-    Ok(difference.end(nodes)?)
+    Ok(difference.end(asked.nodes)?)
 }
 
 /// The pages that go to another node, if the task touched each of them on a CPU of node `cpu` after
@@ -345,27 +300,11 @@ pub fn difference_more<W: Watch>(
 /// that its plan lacks. `Memory`: there is no memory for the text.
 pub fn difference_text<W: Watch>(
     alloc: Global,
-    before: &Outlook,
-    after: &Outlook,
-    nodes: u32,
-    touch: Touch,
-    format: Format,
+    asked: DifferenceRequest<'_>,
     watch: &mut W,
 ) -> Result<Vec<u8>, ReportError>
-    ensures err { (machine : Hardware) (old new : List Command) → nodes ≡ machine.nodes
-        → IsOutlook machine old before.now → IsOutlook machine new after.now
-        → IfErr result (MayFail nodes touch.cpu) }
-    ensures bad_cpu { nodes ≤ touch.cpu → result ≡ Err (Refused BadCpu) }
+    ensures err { FailsForChange asked.entry result }
+    ensures bad_cpu { asked.entry.nodes ≤ asked.entry.touch.cpu → result ≡ Err (Refused BadCpu) }
 {
-    let mut nothing = MoveSum::none(alloc);
-    difference_more(
-        alloc,
-        before,
-        after,
-        nodes,
-        touch,
-        format,
-        &mut nothing,
-        watch,
-    )
+    difference_more(alloc, asked, &mut MoveSum::none(alloc), watch)
 }

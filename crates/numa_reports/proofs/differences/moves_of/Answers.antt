@@ -12,15 +12,18 @@ returns-in_err-push_span-clause-err c =
     let exit = err_from_is_err_and c.from_residual-in_err-push_span.result
     c.from_residual-in_err-push_span.ensures.1 in
     let d : PageSpan = record { first = 0; pages = 0 } in
-    rw (exit.1, exit.2) (some-fails c.args.before.now c.args.after.now c.args.spans.now
-    c.loop-span.span-index d c.args.touch.cpu c.in_err-push_span.field-0.0 c.loop-span-test.true
+    rw (exit.1, exit.2) (some-fails c.args.change.before.now c.args.change.after.now
+    c.args.spans.now
+    c.loop-span.span-index d c.args.change.touch.cpu c.in_err-push_span.field-0.0
+    c.loop-span-test.true
     c.in_err-push_span.ensures.err)
 
 pub loop-span-preserved : goal.loop-span-preserved
 loop-span-preserved c =
     let d : PageSpan = record { first = 0; pages = 0 } in
-    let count : PageSpan → ℕ → ℕ → ℕ = λ span. planned_moves c.args.before.now c.args.after.now
-    c.args.touch.task span.first span.pages c.args.touch.cpu in
+    let count : PageSpan → ℕ → ℕ → ℕ = λ span. planned_moves c.args.change.before.now
+    c.args.change.after.now
+    c.args.change.touch.task span.first span.pages c.args.change.touch.cpu in
     record {
       moves = span-moves count c.args.nodes.0 c.args.nodes.1
           (drop c.loop-span.span-index c.args.spans.now)
@@ -34,8 +37,9 @@ loop-span-preserved c =
 
 pub returns-clause-moves : goal.returns-clause-moves
 returns-clause-moves c =
-    let count : PageSpan → ℕ → ℕ → ℕ = λ span. planned_moves c.args.before.now c.args.after.now
-    c.args.touch.task span.first span.pages c.args.touch.cpu in
+    let count : PageSpan → ℕ → ℕ → ℕ = λ span. planned_moves c.args.change.before.now
+    c.args.change.after.now
+    c.args.change.touch.task span.first span.pages c.args.change.touch.cpu in
     let none : drop c.loop-span.span-index c.args.spans.now ≡ [] =
     drop_all c.loop-span.span-index c.args.spans.now c.loop-span-test.false in
     sym (append-nil c.loop-span.moves.items)

@@ -16,8 +16,9 @@ returns-in_err-add_moves-clause-err c =
 
 pub returns-clause-moves : goal.returns-clause-moves
 returns-clause-moves c =
-    let planned = planned_moves c.args.before.now c.args.after.now c.args.touch.task
-    c.args.span.first c.args.span.pages c.args.touch.cpu in
+    let planned = planned_moves c.args.change.before.now c.args.change.after.now
+    c.args.change.touch.task
+    c.args.span.first c.args.span.pages c.args.change.touch.cpu in
     c.in_ok-push_all.ensures
     ∙ ap (λ l. c.args.moves.now.items ++ l)
     (within-same (moves_in c.deref.result.now) planned c.args.span c.args.nodes.0

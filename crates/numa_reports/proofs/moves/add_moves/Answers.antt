@@ -15,9 +15,11 @@ loop-page-init g c = record {
       omega (
         arith,
         none-moved (λ page.
-            is_number from (planned_first c.args.before.now c.args.touch.task page c.args.touch.cpu)
+            is_number from (planned_first c.args.change.before.now c.args.change.touch.task page
+            c.args.change.touch.cpu)
             && is_number to
-            (planned_first c.args.after.now c.args.touch.task page c.args.touch.cpu))
+            (planned_first c.args.change.after.now c.args.change.touch.task page
+            c.args.change.touch.cpu))
             c.args.span.first,
       );
   entries = c.requires.room.entries;
@@ -29,9 +31,11 @@ add_block-requires-clause-room g c = record {
   room = λ from to f t.
       let test : ℕ → Bool =
       λ page.
-      is_number from (planned_first c.args.before.now c.args.touch.task page c.args.touch.cpu)
+      is_number from (planned_first c.args.change.before.now c.args.change.touch.task page
+      c.args.change.touch.cpu)
       && is_number to
-      (planned_first c.args.after.now c.args.touch.task page c.args.touch.cpu) in
+      (planned_first c.args.change.after.now c.args.change.touch.task page c.args.change.touch.cpu)
+      in
       omega (
         arith,
         c.loop-page.invariant.counted from to f t,
@@ -48,9 +52,11 @@ loop-page-preserved g c = record {
   counted = λ from to f t.
       let test : ℕ → Bool =
       λ page.
-      is_number from (planned_first c.args.before.now c.args.touch.task page c.args.touch.cpu)
+      is_number from (planned_first c.args.change.before.now c.args.change.touch.task page
+      c.args.change.touch.cpu)
       && is_number to
-      (planned_first c.args.after.now c.args.touch.task page c.args.touch.cpu) in
+      (planned_first c.args.change.after.now c.args.change.touch.task page c.args.change.touch.cpu)
+      in
       omega (
         arith,
         c.loop-page.invariant.counted from to f t,
@@ -66,24 +72,29 @@ pub returns-clause-ok : goal.returns-clause-ok
 returns-clause-ok g c machine old new was is lt from to f t =
     let test : ℕ → Bool =
     λ page.
-    is_number from (planned_first c.args.before.now c.args.touch.task page c.args.touch.cpu)
-    && is_number to (planned_first c.args.after.now c.args.touch.task page c.args.touch.cpu) in
+    is_number from (planned_first c.args.change.before.now c.args.change.touch.task page
+    c.args.change.touch.cpu)
+    && is_number to (planned_first c.args.change.after.now c.args.change.touch.task page
+    c.args.change.touch.cpu) in
     let all : c.loop-page.page - c.args.span.first ≡ c.args.span.pages =
     omega (arith, c.loop-page.invariant.low, c.loop-page.invariant.high) in
     omega (
       arith,
       c.loop-page.invariant.counted from to f t,
       ap (λ (n : ℕ). count_pages test c.args.span.first n) all,
-      moves-meant machine c.args.before.now c.args.after.now old new c.args.touch.task
-          c.args.touch.cpu c.args.span.first c.args.span.pages from to was is lt,
+      moves-meant machine c.args.change.before.now c.args.change.after.now old new
+          c.args.change.touch.task
+          c.args.change.touch.cpu c.args.span.first c.args.span.pages from to was is lt,
     )
 
 pub returns-clause-planned : goal.returns-clause-planned
 returns-clause-planned g c from to f t =
     let test : ℕ → Bool =
     λ page.
-    is_number from (planned_first c.args.before.now c.args.touch.task page c.args.touch.cpu)
-    && is_number to (planned_first c.args.after.now c.args.touch.task page c.args.touch.cpu) in
+    is_number from (planned_first c.args.change.before.now c.args.change.touch.task page
+    c.args.change.touch.cpu)
+    && is_number to (planned_first c.args.change.after.now c.args.change.touch.task page
+    c.args.change.touch.cpu) in
     let all : c.loop-page.page - c.args.span.first ≡ c.args.span.pages =
     omega (arith, c.loop-page.invariant.low, c.loop-page.invariant.high) in
     omega (
@@ -94,15 +105,16 @@ returns-clause-planned g c from to f t =
 
 pub returns-in_default-clause-err : goal.returns-in_default-clause-err
 returns-in_default-clause-err g c =
-    inl (far-refused c.args.before.now c.args.span.first c.args.span.pages c.args.touch.cpu
+    inl (far-refused c.args.change.before.now c.args.span.first c.args.span.pages
+    c.args.change.touch.cpu
     c.run_count.ensures.apart c.requires.known (omega arith) (omega (arith, c.in_default.ensures)))
 
 pub returns-in_err-add_block-clause-err : goal.returns-in_err-add_block-clause-err
 returns-in_err-add_block-clause-err g c =
     let exit = err_from_is_err_and c.from_residual.result c.from_residual.ensures.1 in
     rw (exit.1, exit.2)
-    (both-part c.args.before.now c.args.after.now c.args.span.first c.args.span.pages
-    c.loop-page.page c.min-part.result c.args.touch.cpu c.in_err-add_block.field-0.0
+    (both-part c.args.change.before.now c.args.change.after.now c.args.span.first c.args.span.pages
+    c.loop-page.page c.min-part.result c.args.change.touch.cpu c.in_err-add_block.field-0.0
     c.loop-page.invariant.low (omega (arith, c.min-part.ensures))
     c.in_err-add_block.ensures.err)
 
@@ -112,9 +124,11 @@ returns-clause-left g c left has few = record {
   room = λ from to f t.
       let test : ℕ → Bool =
       λ page.
-      is_number from (planned_first c.args.before.now c.args.touch.task page c.args.touch.cpu)
+      is_number from (planned_first c.args.change.before.now c.args.change.touch.task page
+      c.args.change.touch.cpu)
       && is_number to
-      (planned_first c.args.after.now c.args.touch.task page c.args.touch.cpu) in
+      (planned_first c.args.change.after.now c.args.change.touch.task page c.args.change.touch.cpu)
+      in
       omega (
         arith,
         c.loop-page.invariant.counted from to f t,

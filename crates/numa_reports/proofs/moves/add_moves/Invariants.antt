@@ -7,7 +7,8 @@ invariant-loop-page g l = record {
   low : l.first ≤ l.page;
   high : l.page ≤ l.end;
   counted : AddsMoves l.fn.table.items l.table.items
-      (planned_moves l.before l.after l.touch.task l.first (l.page - l.first) l.touch.cpu);
+      (planned_moves l.change.before.now l.change.after.now l.change.touch.task l.first
+      (l.page - l.first) l.change.touch.cpu);
   entries : length l.table.items ≡ 65536;
 }
 
