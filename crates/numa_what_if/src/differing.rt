@@ -8,8 +8,8 @@ use numa_play::{
     shown_as, subject_of,
 };
 use numa_reports::{
-    ByProcess, Format, MoveSum, Outlook, PredictionRequest, Touch, Watch, difference_more,
-    difference_text, outlook_of,
+    ByProcess, DifferenceRequest, Format, MoveSum, Outlook, PredictionRequest, Touch, Watch,
+    difference_more, difference_text, outlook_of,
 };
 use numa_space::Space;
 use std::alloc::{AllocError, Global};
@@ -182,18 +182,25 @@ fn data_of(
 }
 
 /// The difference to an outlook, on machines with up to so many nodes, as a text, or as a page.
-pub(crate) fn difference_to<P: Watch>(
+pub(crate) fn difference_to<'a, P: Watch>(
     alloc: Global,
-    before: &Outlook,
+    before: &'a Outlook,
     view: &[u8],
     space: &Space,
-    after: &Outlook,
+    after: &'a Outlook,
     nodes: u32,
     asked: DiffAsked,
     watch: &mut P,
 ) -> Result<Vec<u8>, Halt> {
     let DiffAsked { touch, format, .. } = asked;
-    let text = difference_text(alloc, before, after, nodes, touch, format, watch);
+    let request = DifferenceRequest {
+        before,
+        after,
+        nodes,
+        touch,
+        format,
+    };
+    let text = difference_text(alloc, request, watch);
     let text = reported(text, nodes)?;
     let Format::Html(_) = format else {
         return Ok(text);
@@ -232,19 +239,25 @@ fn difference_of_one<P: Watch>(
 }
 
 /// The difference of a process to its state now: a text, or the data of a page.
-fn difference_in<P: Watch>(
+fn difference_in<'a, P: Watch>(
     alloc: Global,
-    one: &ProcessOutlook,
+    one: &'a ProcessOutlook,
     space: &Space,
-    after: &Outlook,
+    after: &'a Outlook,
     asked: DiffAsked,
     sum: &mut MoveSum,
     watch: &mut P,
 ) -> Result<Vec<u8>, Halt> {
     let nodes = space.machine().nodes();
     let DiffAsked { touch, format, .. } = asked;
-    let before = &one.outlook;
-    let text = difference_more(alloc, before, after, nodes, touch, format, sum, watch);
+    let request = DifferenceRequest {
+        before: &one.outlook,
+        after,
+        nodes,
+        touch,
+        format,
+    };
+    let text = difference_more(alloc, request, sum, watch);
     let text = reported(text, nodes)?;
     let Format::Html(_) = format else {
         return Ok(text);
