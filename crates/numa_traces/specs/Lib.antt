@@ -2,6 +2,7 @@ pub mod Accesses
 pub mod Hosting
 pub mod HostReading
 pub mod Placing
+pub mod PlanReading
 pub mod Reading
 pub mod Replaying
 pub mod Routes

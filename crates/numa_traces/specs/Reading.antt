@@ -1,52 +1,11 @@
 -- A trace that is read and replayed, line by line, up to the first that can't be.
-use Rattle.std.specs.Prelude.{◌≡◌, ◌==◌, ℕ, List, [], ◌∷◌, Option, None, Some, Result, Ok, Err}
-use Rattle.std.specs.Prelude.{MatchOption, if◌then◌else◌}
-use Rattle.numa_machine.specs.Machine.{Hardware}
-use Rattle.numa_plan.specs.Meaning.{PlanData}
-use Rattle.numa_traces.specs.Replaying.{EndsReplay, IsReplay}
-use Rattle.numa_traces.specs.declared.access.Access.{Access}
-use Rattle.numa_traces.specs.declared.access.TraceLine.{TraceLine}
-use Rattle.numa_traces.specs.declared.fault.AccessError.{AccessError}
+use Rattle.std.specs.Prelude.{◌≡◌, ℕ, List, MatchOption}
 use Rattle.numa_traces.specs.declared.fault.ReplayError.{ReplayError}
-use Rattle.numa_traces.specs.declared.fault.ReplayError.TheVariants.{Malformed, Named}
 use Rattle.numa_traces.specs.declared.reading.Replaying.{Replaying}
 
--- an access for the replay of one space, or of the process of a host that has this number: what
--- other processes do is left out
-abbrev pub access_for : Option ℕ → Option ℕ → Access → Result (Option Access) ReplayError
-access_for own None access = Ok (Some access)
-access_for None (Some process) access = Err Named
-access_for (Some own) (Some process) access = Ok (if own == process then Some access else None)
-
--- the access that a line has for it
-abbrev pub said_for : Option ℕ → Result (Option TraceLine) AccessError
-    → Result (Option Access) ReplayError
-said_for own (Err fault) = Err (Malformed fault)
-said_for own (Ok None) = Ok None
-said_for own (Ok (Some line)) = access_for own line.process line.access
-
--- before the first line
-abbrev pub IsBegun : Hardware → PlanData → Option ℕ → Replaying → Type 0
-IsBegun machine plan process replaying =
-    (replaying.plan.now ≡ plan) × (replaying.process ≡ process) × (replaying.fault ≡ None)
-    × IsReplay machine plan [] replaying.replay
-
--- a line with this access was replayed; where it has none, nothing has changed
-abbrev pub ReplaysLine : Result (Option Access) ReplayError → Replaying → Replaying → Type 0
-ReplaysLine (Err why) old new = ⊥
-ReplaysLine (Ok None) old new = new ≡ old
-ReplaysLine (Ok (Some access)) old new = (new.plan.now ≡ old.plan.now)
-    × (new.process ≡ old.process) × (new.fault ≡ old.fault)
-    × ((machine : Hardware) (trace : List Access) → IsReplay machine old.plan.now trace old.replay
-    → IsReplay machine old.plan.now (access ∷ trace) new.replay)
-
--- why a line with this access can't be replayed
-abbrev pub EndsAtLine : Result (Option Access) ReplayError → Replaying → ReplayError → Type 0
-EndsAtLine (Err fault) old why = why ≡ fault
-EndsAtLine (Ok None) old why = ⊥
-EndsAtLine (Ok (Some access)) old why = EndsReplay old.plan.now old.replay access why
-
 -- the next line, with this number, was replayed, or is the first that can't be
-abbrev pub TakesLine : ℕ → Result (Option Access) ReplayError → Replaying → Replaying → Type 0
-TakesLine place said old new = MatchOption new.fault (ReplaysLine said old new)
-    (λ ended. (ended.0 ≡ place) × EndsAtLine said old ended.1)
+abbrev pub TakesLine : {R : Type 0} → (List ℕ → R → R → Type 0)
+    → (List ℕ → R → ReplayError → Type 0) → ℕ → List ℕ → Replaying R → Replaying R → Type 0
+TakesLine replays ends place line old new = MatchOption new.fault
+    (replays line old.replay new.replay)
+    (λ ended. (ended.0 ≡ place) × ends line old.replay ended.1)

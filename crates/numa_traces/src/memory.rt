@@ -13,8 +13,8 @@ use std::mem;
 /// The number of frames that each node has left, and the node of each placed page.
 #[derive(Drop)]
 pub struct Memory {
-    nodes: BTreeMap<u64, u8>,
     free: Vec<u32>,
+    nodes: BTreeMap<u64, u8>,
 }
 
 impl Model for Memory {
@@ -51,8 +51,8 @@ impl Memory {
     {
         let free = all_frames(alloc, machine)?;
         Ok(Memory {
-            nodes: BTreeMap::new(alloc),
             free,
+            nodes: BTreeMap::new(alloc),
         })
     }
 
@@ -62,8 +62,8 @@ impl Memory {
         ensures { result ≡ record { pages = []; free = [] } }
     {
         Memory {
-            nodes: BTreeMap::new(alloc),
             free: Vec::new(alloc),
+            nodes: BTreeMap::new(alloc),
         }
     }
 

@@ -1,87 +1,56 @@
 //! Reading traces, line by line.
-ghost use Rattle.std.specs.Prelude.{◌≡◌, None, IfOk, IfErr, IsSome, OnOk};
+ghost use Rattle.std.specs.Prelude.{◌≡◌, None, IfErr, IsSome, OnOk};
 ghost use Rattle.numa_lines.specs.declared.fault.RunFault.TheVariants as run_fault;
-ghost use Rattle.numa_traces.specs.Accesses.{access_of};
-ghost use Rattle.numa_traces.specs.Reading.{EndsAtLine, IsBegun, ReplaysLine, TakesLine};
-ghost use Rattle.numa_traces.specs.Reading.{access_for, said_for};
+ghost use Rattle.numa_traces.specs.Reading.{TakesLine};
 ghost use Rattle.numa_traces.specs.declared.fault.ReplayError.TheVariants as fault;
 
-use crate::access::{Access, TraceLine, read_access};
 use crate::fault::ReplayError;
-use crate::replay::Replay;
 use numa_lines::{Lines, RunFault, TakeLine, read_all};
-use numa_machine::Machine;
-use numa_plan::Plan;
-use std::alloc::{AllocError, Global};
+use std::alloc::Global;
 use std::io::Read;
 
-/// The access that a line has for the replay of one space, or of the process of a host that has
-/// this number: what other processes do is left out.
-fn access_for(own: Option<u32>, line: TraceLine) -> Result<Option<Access>, ReplayError>
-    ensures { result ≡ access_for own line.process line.access }
-{
-    let Some(process) = line.process else {
-        return Ok(Some(line.access));
-    };
-    let Some(own) = own else {
-        return Err(ReplayError::Named);
-    };
-    if own == process {
-        return Ok(Some(line.access));
-    }
-    Ok(None)
+/// A replay that takes the lines of a trace.
+pub trait ReplayLine {
+    ghost use Rattle.std.specs.Prelude.{ℕ, List};
+    ghost use Rattle.numa_traces.specs.declared.fault.ReplayError.{ReplayError};
+
+    /// That a line was replayed in one state, which left another.
+    ghost replays: { List ℕ → Self → Self → Type 0 };
+
+    /// Why a line can't be replayed in a state.
+    ghost ends: { List ℕ → Self → ReplayError → Type 0 };
+
+    /// Replays the access of a line, if it has one.
+    ///
+    /// # Errors
+    /// Why it can't be replayed. Then the replay has ended.
+    fn replay_line(&mut self, line: &[u8]) -> Result<(), ReplayError>
+        ensures ok { OnOk result (replays line.now self.old self.new) }
+        ensures err { IfErr result (ends line.now self.old) };
 }
 
-/// The same of a line that isn't read yet.
-fn said_for(own: Option<u32>, line: &[u8]) -> Result<Option<Access>, ReplayError>
-    ensures { result ≡ said_for own (access_of line.now) }
-{
-    match read_access(line) {
-        Err(fault) => Err(ReplayError::Malformed(fault)),
-        Ok(None) => Ok(None),
-        Ok(Some(said)) => access_for(own, said),
-    }
-}
-
-/// The replay of a trace by a plan, up to the first line that can't be replayed.
+/// The replay of a trace, up to the first line that can't be replayed.
 #[derive(Drop)]
-pub struct Replaying<'a> {
-    plan: &'a Plan,
-    // The process of a host whose plan it is; none where there is one space.
-    process: Option<u32>,
-    replay: Replay,
+pub struct Replaying<R> {
+    replay: R,
     // The first line that can't be replayed, and why.
     fault: Option<(u64, ReplayError)>,
 }
 
-impl<'a> Replaying<'a> {
-    /// The state before the first line: no page of the machine is placed. The plan is for the
-    /// machine. Lines that name another process than this one are left out; without one no line may
-    /// name any.
-    ///
-    /// # Errors
-    /// `AllocError`: out of memory.
-    pub fn new(
-        alloc: Global,
-        machine: &Machine,
-        plan: &'a Plan,
-        process: Option<u32>,
-    ) -> Result<Replaying<'a>, AllocError>
-        ensures { IfOk result (IsBegun machine.now plan.now process) }
+impl<R> Replaying<R> {
+    /// Goes on from this replay, before the first line.
+    pub fn new(replay: R) -> Replaying<R>
+        ensures replay { result.replay ≡ replay }
+        ensures fault { result.fault ≡ None }
     {
-        match Replay::new(alloc, machine) {
-            Ok(replay) => Ok(Replaying {
-                plan,
-                process,
-                replay,
-                fault: None,
-            }),
-            Err(fault) => Err(fault),
+        Replaying {
+            replay,
+            fault: None,
         }
     }
 
     /// The replay of the lines so far, or of those before the first that can't be replayed.
-    pub fn replay(&self) -> &Replay
+    pub fn replay(&self) -> &R
         ensures { result.now ≡ self.now.replay }
     {
         &self.replay
@@ -93,23 +62,9 @@ impl<'a> Replaying<'a> {
     {
         self.fault
     }
-
-    /// Replays the access of a line.
-    fn take_access(&mut self, line: &[u8]) -> Result<(), ReplayError>
-        ensures ok { OnOk result
-            (ReplaysLine (said_for self.old.process (access_of line.now)) self.old self.new) }
-        ensures err { IfErr result
-            (EndsAtLine (said_for self.old.process (access_of line.now)) self.old) }
-    {
-        match said_for(self.process, line) {
-            Err(fault) => Err(fault),
-            Ok(None) => Ok(()),
-            Ok(Some(access)) => self.replay.take(self.plan, access),
-        }
-    }
 }
 
-impl TakeLine<()> for Replaying<'_> {
+impl<R: ReplayLine> TakeLine<()> for Replaying<R> {
     fn take(
         &mut self,
         _name: &str,
@@ -119,14 +74,14 @@ impl TakeLine<()> for Replaying<'_> {
     ) -> Result<(), RunFault>
         ensures over { IsSome self.old.fault → OnOk result (self.new ≡ self.old) }
         ensures next { self.old.fault ≡ None → OnOk result
-            (TakesLine place (said_for self.old.process (access_of line.now)) self.old self.new) }
-        ensures stop { IfErr result (λ why. (why ≡ run_fault.Memory) × EndsAtLine
-            (said_for self.old.process (access_of line.now)) self.old fault.NoMemory) }
+            (TakesLine R.replays R.ends place line.now self.old self.new) }
+        ensures stop { IfErr result (λ why. (why ≡ run_fault.Memory)
+            × R.ends line.now self.old.replay fault.NoMemory) }
     {
         if let Some(_) = self.fault {
             return Ok(());
         }
-        match self.take_access(line) {
+        match self.replay.replay_line(line) {
             Ok(()) => Ok(()),
             Err(ReplayError::NoMemory) => Err(RunFault::Memory),
             Err(fault) => {

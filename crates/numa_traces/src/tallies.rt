@@ -23,16 +23,14 @@ pub type Route = (u32, u32, Option<u8>);
 
 /// The numbers of accesses by their routes.
 #[derive(Drop)]
-pub struct Tallies {
-    tallies: BTreeMap<Route, AccessCounts>,
-}
+pub struct Tallies(BTreeMap<Route, AccessCounts>);
 
 impl Model for Tallies {
     ghost use Rattle.numa_traces.specs.Tallies.{Tallied};
 
     ghost Value = { Tallied };
 
-    ghost view = { λ a. a.tallies.entries };
+    ghost view = { λ a. a.0.entries };
 }
 
 /// The number of faults that an access is.
@@ -50,16 +48,14 @@ impl Tallies {
     pub fn new(alloc: Global) -> Tallies
         ensures { result ≡ [] }
     {
-        Tallies {
-            tallies: BTreeMap::new(alloc),
-        }
+        Tallies(BTreeMap::new(alloc))
     }
 
     /// The tally of a route.
     pub fn get(&self, route: Route) -> AccessCounts
         ensures { result ≡ tally_at self.now route }
     {
-        match self.tallies.get(&route) {
+        match self.0.get(&route) {
             Some(tally) => *tally,
             None => AccessCounts {
                 accesses: 0,
@@ -73,7 +69,7 @@ impl Tallies {
     pub fn iter(&self) -> Iter<'_, Route, AccessCounts>
         ensures { result ≡ self.now }
     {
-        self.tallies.iter()
+        self.0.iter()
     }
 
     /// Counts accesses of a route, the first of which is a fault or not.
@@ -95,10 +91,7 @@ impl Tallies {
         let Some(faults) = tally.faults.checked_add(fault_count(is_fault)) else {
             return Err(ReplayError::TooMany);
         };
-        if let Err(_) = self
-            .tallies
-            .insert(route, AccessCounts { accesses, faults })
-        {
+        if let Err(_) = self.0.insert(route, AccessCounts { accesses, faults }) {
             return Err(ReplayError::NoMemory);
         }
         Ok(())

@@ -21,10 +21,10 @@ returns-clause-counts c =
           (c.in-Some-checked_add.ensures.1 ∙ (λ j. (c.get-tally.ensures j).faults
           + c.fault_count.ensures j)) i;
     }) in
-    let here : written ≡ with_accesses (tally_at c.self.inside.tallies.entries c.args.route)
+    let here : written ≡ with_accesses (tally_at c.self.inside.0.entries c.args.route)
     c.args.count c.args.is_fault =
     is ∙ ap (λ tallies. with_accesses (tally_at tallies c.args.route) c.args.count c.args.is_fault)
     (sym c.self.view_is) in
     subst P c.self.view_is
-    (counted c.self.inside.tallies.entries c.insert.new.self.entries c.args.route written
+    (counted c.self.inside.0.entries c.insert.new.self.entries c.args.route written
     c.args.count c.args.is_fault c.in_default-insert.ensures.updates.0 here)
