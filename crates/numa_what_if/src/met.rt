@@ -4,7 +4,7 @@ use numa_plan::Plan;
 use numa_play::{Halt, reported, shown_as};
 use numa_reports::{Format, PredictionRequest, ReportError, Touch};
 use numa_space::Space;
-use numa_traces::{Replay, Replaying, placed_text, report_text};
+use numa_traces::{PlanReplay, Replay, Replaying, placed_text, report_text};
 use std::alloc::Global;
 
 /// The most runs of pages on one node that a page shows.
@@ -67,12 +67,12 @@ pub(crate) fn met(
     alloc: Global,
     space: &Space,
     plan: &Plan,
-    replaying: &Replaying<'_>,
+    replaying: &Replaying<PlanReplay<'_>>,
     format: Format,
 ) -> Result<Vec<u8>, Halt> {
     if let Some((place, fault)) = replaying.fault() {
         return Err(Halt::BadAccess(place, fault));
     }
-    let text = report_in(alloc, space, plan, replaying.replay(), format)?;
+    let text = report_in(alloc, space, plan, &replaying.replay().replay, format)?;
     shown_as(alloc, format, "replay", text)
 }

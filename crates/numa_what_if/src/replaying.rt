@@ -10,7 +10,7 @@ use numa_play::{
 };
 use numa_reports::{ByProcess, Format};
 use numa_space::Space;
-use numa_traces::{HostReplay, HostReplaying, Replaying, read_by, total_text};
+use numa_traces::{HostReplay, PlanReplay, Replaying, read_by, total_text};
 use std::alloc::Global;
 use std::io::{Read, Write};
 
@@ -89,9 +89,9 @@ fn begun_in<'a>(
     alloc: Global,
     planned: Planned<'a>,
     process: Option<u32>,
-) -> Result<Replaying<'a>, Halt> {
-    match Replaying::new(alloc, planned.space.machine(), planned.plan, process) {
-        Ok(replaying) => Ok(replaying),
+) -> Result<Replaying<PlanReplay<'a>>, Halt> {
+    match PlanReplay::new(alloc, planned.space.machine(), planned.plan, process) {
+        Ok(replay) => Ok(Replaying::new(replay)),
         Err(_) => Err(Halt::Stopped(RunFault::Memory)),
     }
 }
@@ -102,7 +102,7 @@ fn both_begun<'a>(
     planned: Planned<'a>,
     other: Option<Planned<'a>>,
     process: Option<u32>,
-) -> Result<ByBoth<Replaying<'a>>, Halt> {
+) -> Result<ByBoth<Replaying<PlanReplay<'a>>>, Halt> {
     let first = begun_in(alloc, planned, process)?;
     let Some(other) = other else {
         return Ok(ByBoth { first, other: None });
@@ -273,7 +273,7 @@ fn reports(
 fn met_in_each(
     alloc: Global,
     host: &Host,
-    replaying: &HostReplaying,
+    replaying: &Replaying<HostReplay>,
     format: Format,
 ) -> Result<Vec<u8>, Halt> {
     if let Some((place, fault)) = replaying.fault() {
@@ -290,15 +290,15 @@ fn both_hosts_begun(
     alloc: Global,
     host: &Host,
     other: Option<&Host>,
-) -> Result<ByBoth<HostReplaying>, Halt> {
-    let first = HostReplaying::new(begun(alloc, host)?);
+) -> Result<ByBoth<Replaying<HostReplay>>, Halt> {
+    let first = Replaying::new(begun(alloc, host)?);
     let Some(other) = other else {
         return Ok(ByBoth { first, other: None });
     };
     match begun(alloc, other) {
         Ok(other) => Ok(ByBoth {
             first,
-            other: Some(HostReplaying::new(other)),
+            other: Some(Replaying::new(other)),
         }),
         Err(halt) => {
             drop(first);
