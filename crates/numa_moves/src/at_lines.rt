@@ -160,13 +160,13 @@ impl<T> AtLines<T> {
     }
 }
 
-impl<T: TakeLine<()>> TakeLine<()> for AtLines<T> {
+impl<O, T: TakeLine<O>> TakeLine<O> for AtLines<T> {
     fn take(
         &mut self,
         name: &str,
         place: u64,
         line: &[u8],
-        output: &mut (),
+        output: &mut O,
     ) -> Result<(), RunFault> {
         match self.keep(name, place, line) {
             Ok(true) => self.taker.take(name, place, line, output),
@@ -175,7 +175,7 @@ impl<T: TakeLine<()>> TakeLine<()> for AtLines<T> {
         }
     }
 
-    fn hand_over(&mut self, output: &mut ()) -> Result<(), RunFault> {
+    fn hand_over(&mut self, output: &mut O) -> Result<(), RunFault> {
         self.taker.hand_over(output)
     }
 }

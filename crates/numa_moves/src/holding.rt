@@ -149,20 +149,6 @@ enum Act<'a> {
     Stay,
 }
 
-/// Moves the pages of a process if its allowed nodes have changed.
-fn follow_one(
-    alloc: Global,
-    holding: &mut Holding,
-    scene: Scene<'_>,
-    rooms: &mut Rooms,
-) -> Result<HoldingMoves, AllocError> {
-    let old = holding.allowed;
-    let new = scene.allowed(holding.process).unwrap_or(old);
-    let told = move_pages(alloc, holding, &old, &new, rooms)?;
-    holding.allowed = new;
-    Ok(told)
-}
-
 /// Does to the pages of a process what a line does.
 fn act_on(
     alloc: Global,
@@ -172,7 +158,12 @@ fn act_on(
 ) -> Result<HoldingMoves, AllocError> {
     let nodes = holding.allowed;
     match act {
-        Act::Follow(scene) => follow_one(alloc, holding, scene, rooms),
+        Act::Follow(scene) => {
+            let new = scene.allowed(holding.process).unwrap_or(nodes);
+            let told = move_pages(alloc, holding, &nodes, &new, rooms)?;
+            holding.allowed = new;
+            Ok(told)
+        }
         Act::Migrate(process, from, to) if process == holding.process => {
             move_pages(alloc, holding, from, &to.and(&nodes), rooms)
         }

@@ -60,7 +60,7 @@ impl Sheet {
 
     /// Writes the open span.
     fn close(&mut self) {
-        let Some(span) = self.span else {
+        let Some(span) = self.span.take() else {
             return;
         };
         let text = &mut self.text;
@@ -71,7 +71,6 @@ impl Sheet {
         }
         self.spans = self.spans.saturating_add(1);
         self.sum.clear(self.nodes);
-        self.span = None;
     }
 
     /// Adds a share; the one before it is of the same span, or that is closed.
