@@ -179,14 +179,13 @@ def answer_difference(program, name, plain, rows, faults, unjudged):
     """What is wrong with what the others tell and answer, or None."""
     with open(plain, "wb") as file:
         file.write(without_pages(rows))
-    # What is wrong with lines `at` isn't told where pages that are there don't matter.
+    # Why lines `at` are refused isn't told where pages that are there don't matter.
     others = {place: answer for place, answer in faults.items() if not is_at(rows[place - 1][0])}
-    early = sum(1 for line, answer in rows if answer == "bad state" and is_at(line))
     for words in questions(rows):
         status, output, error = call(program, *words, "--lenient", name)
         lines, count = told_by(name, TELLS_OTHER.sub(b"", error))
         lines = {place: it for place, it in lines.items() if not is_at(rows[place - 1][0])}
-        if set(lines) != set(others) or not 0 <= unjudged - count <= early:
+        if set(lines) != set(others) or count != unjudged:
             return f"{words[0]} tells of lines {sorted(lines)}, not of {sorted(others)}"
         as_plain = call(program, *words, "--lenient", plain)[:2]
         if status != as_plain[0] or BY_OTHER.sub(b"", output) != BY_OTHER.sub(b"", as_plain[1]):

@@ -53,7 +53,7 @@ pub struct Look {
     pub other: Twin,
     /// The process of a host, if messages are wanted of its lines alone.
     pub process: Option<u32>,
-    /// Whether what is wrong with a line `at` is told; else it isn't, since others tell it.
+    /// Whether it is told why a line `at` is refused; else others tell it, or it doesn't matter.
     pub tells_at: bool,
     /// Text or JSON.
     pub format: Format,
@@ -72,7 +72,7 @@ pub const PLAIN: Look = Look {
 /// refusal and, with hints, one for each line that a running kernel would treat differently.
 #[derive(Drop)]
 pub struct Findings<W> {
-    alloc: Global,
+    pub(crate) alloc: Global,
     script: HostScript,
     // The same script by the other rules, if requested.
     other: Option<HostScript>,
@@ -82,7 +82,7 @@ pub struct Findings<W> {
     // Whether the text whose lines are taken is binary, and whether one of its lines was fine.
     is_binary: bool,
     has_fine: bool,
-    output: Watched<W>,
+    pub(crate) output: Watched<W>,
     // What is told of a line.
     text: Vec<u8>,
     // The number of lines with a message, and of lines that weren't judged, since no machine was
@@ -418,9 +418,9 @@ fn hint_of_next(script: &HostScript, said: &ScriptLine<'_>) -> Result<Option<Hos
 }
 
 impl<W: Write> Findings<W> {
-    /// Whether others tell what is wrong with a line.
-    fn is_told_elsewhere(&self, said: &ScriptLine<'_>) -> bool {
-        !self.look.tells_at && is_at(said)
+    /// Whether what was found in a line is for others to tell: not that it comes too early.
+    fn is_told_elsewhere(&self, said: &ScriptLine<'_>, finding: &Finding) -> bool {
+        !self.look.tells_at && is_at(said) && !matches!(finding.detail, Detail::NoMachine)
     }
 
     /// Writes what was found in a line that doesn't lack memory, or counts it as not judged.
@@ -457,7 +457,7 @@ impl<W: Write> Findings<W> {
         if finding.fault.lacks_memory() {
             return Err(RunFault::Memory);
         }
-        if self.is_told_elsewhere(said) {
+        if self.is_told_elsewhere(said, &finding) {
             return Ok(());
         }
         self.tell_found(name, place, &finding, hint)

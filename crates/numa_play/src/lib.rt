@@ -13,6 +13,7 @@
 
 mod faults;
 mod findings;
+mod foremost;
 mod found_objects;
 mod halt;
 mod named;

@@ -1,11 +1,11 @@
 //! Questions about the state that scripts lead to: where pages would go or lie, which would go
 //! elsewhere, why, and what becomes of those that are there.
-use crate::words::texts::text_of;
-use crate::words::there::{opened, read_all, write_told};
-use numa_command_line::{JobFault, Outlet};
-use numa_console::{Asking, PacedPages, answered};
+use crate::words::texts::{reading_of, text_of};
+use numa_command_line::{JobFault, Outlet, Texts, open_all};
+use numa_console::{Asking, Paced, PacedPages, StandardError, answered, with_progress};
 use numa_play::{Ended, Halt, Scripts};
 use numa_reports::Watch;
+use numa_words::play_there;
 use std::io;
 use std::io::{IsTerminal, Read};
 use std::process::ExitCode;
@@ -26,19 +26,13 @@ where
     A: Read + Drop,
     P: Watch,
 {
-    let process = scripts.process;
-    let read = read_all(rt, scripts, texts_at, asking.task(), asking.twin());
-    let (mut findings, at) = match read {
-        Ok(read) => read,
-        Err(why) => return Err(Halt::Stopped(why)),
-    };
-    let mut faults = 0u64;
-    let text = text_of(rt, &mut findings, &at, process, asking, &mut faults, watch);
-    drop(at);
+    let (alloc, process) = (rt.alloc(), scripts.process);
+    let how = reading_of(asking);
+    let mut played = play_there(alloc, scripts, texts_at, how, StandardError { rt })?;
+    let text = text_of(alloc, &mut played, process, asking, watch);
     let mut output = outlet.writer(io::writer(rt));
-    let ended = write_told(&mut findings, text, faults, &mut output);
+    let ended = played.write(text, &mut output);
     drop(output);
-    drop(findings);
     ended
 }
 
@@ -60,6 +54,62 @@ where
     let answer = answer_to(rt, scripts, texts_at, asking, &outlet, &mut watch);
     watch.end();
     answered(rt, asking, answer, &outlet)
+}
+
+/// The file that states where pages lie; none if none is named.
+fn open_at<R>(rt: &R, at: &[String]) -> Result<Texts<R>, JobFault>
+where
+    R: Files + Input + Eprint + AllocGlobal,
+    R::Reader: IsTerminal,
+{
+    if at.is_empty() {
+        return Ok(Vec::new(rt.alloc()));
+    }
+    open_all(rt, at)
+}
+
+/// Opens the file that states where pages lie, if one is named. With `tells`, standard error shows
+/// how far reading of the scripts is.
+///
+/// # Errors
+/// `Usage`: the file can't be opened. `NoMemory`: out of memory.
+fn opened<'a, R, S>(
+    rt: &'a R,
+    scripts: Scripts<S>,
+    at: &[String],
+    tells: bool,
+) -> Result<(Scripts<Paced<'a, R, S>>, Texts<R>), JobFault>
+where
+    R: Clock + Files + Input + Eprint + AllocGlobal,
+    R::Reader: IsTerminal,
+    S: Read + Drop,
+{
+    let texts_at = match open_at(rt, at) {
+        Ok(texts) => texts,
+        Err(fault) => {
+            drop(scripts);
+            return Err(fault);
+        }
+    };
+    let Scripts {
+        texts,
+        rules,
+        process,
+    } = scripts;
+    match with_progress(rt, texts, tells) {
+        Ok(texts) => {
+            let scripts = Scripts {
+                texts,
+                rules,
+                process,
+            };
+            Ok((scripts, texts_at))
+        }
+        Err(_) => {
+            drop(texts_at);
+            Err(JobFault::NoMemory)
+        }
+    }
 }
 
 /// Answers a question about the state that scripts lead to. With `tells`, standard error shows how

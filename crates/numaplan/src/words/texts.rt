@@ -1,7 +1,5 @@
 //! The answers to questions about the state that scripts lead to, as texts.
 use crate::words::by_node::{joined, of_nodes};
-use crate::words::moves::{Answer, Playing, moves_of};
-use crate::words::there::{stated_in, tell_at};
 use numa_console::{Asking, Question};
 use numa_host_script::HostScript;
 use numa_lines::RunFault;
@@ -10,7 +8,10 @@ use numa_placed::Placed;
 use numa_play::{Findings, Halt, differ, page_meant, touches};
 use numa_reports::{AddressAsked, Format, FreePages, Touch, Watch};
 use numa_what_if::{DiffAsked, StatesBefore, difference_since, play_added, states_of};
-use numa_words::{AskedPages, explanation, prediction_there};
+use numa_words::{
+    Answer, AskedPages, LineFaults, Played, Playing, Reading, explanation, moves_of,
+    prediction_there, stated_in,
+};
 use std::alloc::Global;
 use std::io::Write;
 
@@ -121,19 +122,18 @@ fn goes_elsewhere(
 }
 
 /// Where pages would go.
-fn prediction<R: Eprint + AllocGlobal, T: Write, P: Watch>(
-    rt: &R,
+fn prediction<T: Write, P: Watch>(
+    alloc: Global,
     findings: &Findings<T>,
     meant: Meant<'_>,
     free: &[FreePages],
-    faults: &mut u64,
+    faults: &mut LineFaults,
     watch: &mut P,
 ) -> Result<Answer, Halt> {
-    let alloc = rt.alloc();
     let mut refused = Vec::new(alloc);
     let script = findings.script();
     let text = prediction_in(alloc, script, meant, free, &mut refused, watch);
-    tell_at(rt, faults, meant.stated, refused.as_slice());
+    faults.tell_refused(meant.stated, refused.as_slice());
     drop(refused);
     let text = text?;
     let is_other = match findings.other() {
@@ -178,15 +178,14 @@ fn difference_in<P: Watch>(
 }
 
 /// Plays the added lines; with a file that states where pages lie, returns what becomes of these.
-fn play<R: Eprint + AllocGlobal, T: Write>(
-    rt: &R,
+fn play<T: Write>(
+    alloc: Global,
     findings: &mut Findings<T>,
     meant: Meant<'_>,
     lines: &[String],
-    faults: &mut u64,
+    faults: &mut LineFaults,
 ) -> Result<Option<Answer>, Halt> {
     if meant.asking.at.is_empty() {
-        tell_at(rt, faults, meant.stated, &[]);
         return match play_added(findings, lines) {
             Ok(()) => Ok(None),
             Err(why) => Err(Halt::Stopped(why)),
@@ -200,7 +199,7 @@ fn play<R: Eprint + AllocGlobal, T: Write>(
         format: meant.asking.format,
     };
     let origin = Origin::Stated(meant.stated.lines.as_slice());
-    match moves_of(rt, findings, meant.stated, origin, playing, faults) {
+    match moves_of(alloc, findings, meant.stated, origin, playing, faults) {
         Ok(moves) => Ok(Some(moves)),
         Err(halt) => Err(halt),
     }
@@ -245,17 +244,16 @@ fn with_moves(
 }
 
 /// Plays the added lines, and returns which pages go elsewhere since these states.
-fn difference_by<R: Eprint + AllocGlobal, T: Write, P: Watch>(
-    rt: &R,
+fn difference_by<T: Write, P: Watch>(
+    alloc: Global,
     findings: &mut Findings<T>,
     meant: Meant<'_>,
     lines: &[String],
     states: (&StatesBefore, Option<&StatesBefore>),
-    faults: &mut u64,
+    faults: &mut LineFaults,
     watch: &mut P,
 ) -> Result<Answer, Halt> {
-    let alloc = rt.alloc();
-    let moves = play(rt, findings, meant, lines, faults)?;
+    let moves = play(alloc, findings, meant, lines, faults)?;
     let script = findings.script();
     let text = difference_in(alloc, states.0, script, meant, watch)?;
     let is_other = match (states.1, findings.other()) {
@@ -268,21 +266,21 @@ fn difference_by<R: Eprint + AllocGlobal, T: Write, P: Watch>(
 }
 
 /// Which pages go elsewhere after the added lines.
-fn difference<R: Eprint + AllocGlobal, T: Write, P: Watch>(
-    rt: &R,
+fn difference<T: Write, P: Watch>(
+    alloc: Global,
     findings: &mut Findings<T>,
     meant: Meant<'_>,
     lines: &[String],
-    faults: &mut u64,
+    faults: &mut LineFaults,
     watch: &mut P,
 ) -> Result<Answer, Halt> {
-    let before = states_in(rt.alloc(), findings.script(), meant)?;
+    let before = states_in(alloc, findings.script(), meant)?;
     let other = match findings.other() {
-        Some(other) => states_in(rt.alloc(), other, meant).ok(),
+        Some(other) => states_in(alloc, other, meant).ok(),
         None => None,
     };
     let states = (&before, other.as_ref());
-    let answer = difference_by(rt, findings, meant, lines, states, faults, watch);
+    let answer = difference_by(alloc, findings, meant, lines, states, faults, watch);
     drop(before);
     drop(other);
     answer
@@ -313,13 +311,13 @@ fn reasons<T: Write>(
 }
 
 /// What becomes of pages that are there.
-fn moves<R: Eprint + AllocGlobal, T: Write>(
-    rt: &R,
+fn moves<T: Write>(
+    alloc: Global,
     findings: &mut Findings<T>,
     meant: Meant<'_>,
     lines: &[String],
     free: &[FreePages],
-    faults: &mut u64,
+    faults: &mut LineFaults,
 ) -> Result<Answer, Halt> {
     let origin = match meant.touches.first() {
         Some(touch) => Origin::Touched(*touch),
@@ -332,25 +330,22 @@ fn moves<R: Eprint + AllocGlobal, T: Write>(
         free,
         format: meant.asking.format,
     };
-    moves_of(rt, findings, meant.stated, origin, playing, faults)
+    moves_of(alloc, findings, meant.stated, origin, playing, faults)
 }
 
 /// The answer.
-fn answer_of<R: Eprint + AllocGlobal, T: Write, P: Watch>(
-    rt: &R,
+fn answer_of<T: Write, P: Watch>(
+    alloc: Global,
     findings: &mut Findings<T>,
     meant: Meant<'_>,
-    faults: &mut u64,
+    faults: &mut LineFaults,
     watch: &mut P,
 ) -> Result<Answer, Halt> {
     match meant.asking.question {
-        Question::Predict(free) => prediction(rt, findings, meant, free, faults, watch),
-        Question::Diff(lines) => difference(rt, findings, meant, lines, faults, watch),
-        Question::Explain(address, pages) => {
-            tell_at(rt, faults, meant.stated, &[]);
-            reasons(rt.alloc(), findings, meant, address, pages)
-        }
-        Question::Moves(lines, free) => moves(rt, findings, meant, lines, free, faults),
+        Question::Predict(free) => prediction(alloc, findings, meant, free, faults, watch),
+        Question::Diff(lines) => difference(alloc, findings, meant, lines, faults, watch),
+        Question::Explain(address, pages) => reasons(alloc, findings, meant, address, pages),
+        Question::Moves(lines, free) => moves(alloc, findings, meant, lines, free, faults),
     }
 }
 
@@ -381,32 +376,42 @@ fn touches_in<T: Write>(
     }
 }
 
+/// How scripts are played for a question: lines that state where pages lie are kept for those about
+/// pages that are there.
+pub fn reading_of(asking: Asking<'_>) -> Reading {
+    let is_moves = matches!(asking.question, Question::Moves(..));
+    Reading {
+        task: asking.task(),
+        other: asking.twin(),
+        keeps_at: is_moves || !asking.at.is_empty(),
+    }
+}
+
 /// The answer after scripts, as a text. What is wrong with added lines is told, and so is what is
 /// to be remarked on the answer.
 ///
 /// # Errors
 /// Why there is no answer.
-pub fn text_of<R: Eprint + AllocGlobal, T: Write, P: Watch>(
-    rt: &R,
-    findings: &mut Findings<T>,
-    stated: &AtLines<PassOver>,
+pub fn text_of<T: Write, P: Watch>(
+    alloc: Global,
+    played: &mut Played<T>,
     process: Option<u32>,
     asking: Asking<'_>,
-    faults: &mut u64,
     watch: &mut P,
 ) -> Result<Vec<u8>, Halt> {
-    findings.note_all(asking.lines());
-    let touches = touches_in(rt.alloc(), findings, process, asking)?;
+    played.findings.note_all(asking.lines());
+    let touches = touches_in(alloc, &played.findings, process, asking)?;
     let meant = Meant {
         asking,
-        stated,
+        stated: &played.at,
         touches: touches.as_slice(),
         process,
     };
-    let answer = answer_of(rt, findings, meant, faults, watch);
+    let findings = &mut played.findings;
+    let answer = answer_of(alloc, findings, meant, &mut played.faults, watch);
     drop(touches);
     match answer {
-        Ok(answer) => remarked(findings, answer),
+        Ok(answer) => remarked(&mut played.findings, answer),
         Err(halt) => Err(halt),
     }
 }

@@ -1,10 +1,10 @@
 //! Playing lines that move pages that are there, and telling what becomes of these.
-use crate::words::there::{scene_of, tell, tell_at};
+use crate::there::{LineFaults, scene_of};
 use numa_host_script::HostScript;
 use numa_lines::{RunFault, TakeLine};
 use numa_mask::NodeMask;
 use numa_moves::{
-    Asked, AtLines, Holdings, MoveLine, Origin, PassOver, Step, moves_text, read_move,
+    Asked, AtLines, Holdings, MoveLine, Origin, PassOver, RefusedAt, Step, moves_text, read_move,
 };
 use numa_play::{Findings, Halt};
 use numa_reports::{Format, FreePages, ReportError};
@@ -67,33 +67,55 @@ fn process_of(named: Option<u32>, asked: Option<u32>) -> u32 {
     named.or(asked).unwrap_or(0)
 }
 
-/// Where pages lie before the first line. What is wrong with lines that state it is told, if
-/// `faults` counts it.
-fn begin<R: Eprint + AllocGlobal>(
-    rt: &R,
+/// Where pages lie before the first line. Lines that state it and are refused are noted.
+fn begin(
+    alloc: Global,
     script: &HostScript,
-    at: &AtLines<PassOver>,
     origin: Origin<'_>,
     playing: Playing<'_>,
-    faults: Option<&mut u64>,
+    refused: &mut Vec<RefusedAt>,
 ) -> Result<Course, Halt> {
     let scene = scene_of(script, playing.process, playing.format)?;
     let nodes = scene.nodes();
     judge_free(playing.free, nodes)?;
-    let mut refused = Vec::new(rt.alloc());
-    let holdings = Holdings::new(rt.alloc(), scene, origin, playing.free, &mut refused);
-    if let Some(faults) = faults {
-        tell_at(rt, faults, at, refused.as_slice());
-    }
-    drop(refused);
-    match holdings {
+    match Holdings::new(alloc, scene, origin, playing.free, refused) {
         Ok(holdings) => Ok(Course {
             holdings,
-            steps: Vec::new(rt.alloc()),
+            steps: Vec::new(alloc),
         }),
         Err(ReportError::Refused(_)) => Err(Halt::NoNode(nodes)),
         Err(ReportError::Memory) => Err(Halt::Stopped(RunFault::Memory)),
     }
+}
+
+/// The same, where it is told why such lines are refused.
+fn begin_told(
+    alloc: Global,
+    script: &HostScript,
+    at: &AtLines<PassOver>,
+    origin: Origin<'_>,
+    playing: Playing<'_>,
+    faults: &mut LineFaults,
+) -> Result<Course, Halt> {
+    let mut refused = Vec::new(alloc);
+    let course = begin(alloc, script, origin, playing, &mut refused);
+    faults.tell_refused(at, refused.as_slice());
+    drop(refused);
+    course
+}
+
+/// The same by the other rules, if scripts were played by those.
+fn begin_beside(
+    alloc: Global,
+    script: Option<&HostScript>,
+    origin: Origin<'_>,
+    playing: Playing<'_>,
+) -> Option<Course> {
+    let script = script?;
+    let mut refused = Vec::new(alloc);
+    let course = begin(alloc, script, origin, playing, &mut refused);
+    drop(refused);
+    course.ok()
 }
 
 /// Why the pages of a process may not migrate to a set, if they may not.
@@ -119,18 +141,17 @@ fn why_passed(line: &MoveLine, plays_all: bool) -> Option<&'static str> {
 }
 
 /// Plays a line in the scripts, if it is one of theirs, and tells what is wrong with it.
-fn play_line<R: Eprint, T: Write>(
-    rt: &R,
+fn play_line<T: Write>(
     findings: &mut Findings<T>,
     holdings: &Holdings,
     playing: Playing<'_>,
     place: u64,
     line: &str,
-    faults: &mut u64,
+    faults: &mut LineFaults,
 ) -> Result<(), Halt> {
     let moving = read_move(line.as_bytes());
     if let Some(why) = why_passed(&moving, playing.plays_all) {
-        tell(rt, faults, ADDED, place, why);
+        faults.tell(ADDED, place, why);
         return Ok(());
     }
     let MoveLine::Migrate { process, to, .. } = moving else {
@@ -140,7 +161,7 @@ fn play_line<R: Eprint, T: Write>(
         };
     };
     if let Some(why) = why_not(holdings, process_of(process, playing.process), &to) {
-        tell(rt, faults, ADDED, place, why);
+        faults.tell(ADDED, place, why);
     }
     Ok(())
 }
@@ -203,19 +224,18 @@ fn go_on_beside(
 }
 
 /// Plays the lines, and notes what each did to the pages that are there.
-fn play_lines<R: Eprint + AllocGlobal, T: Write>(
-    rt: &R,
+fn play_lines<T: Write>(
+    alloc: Global,
     findings: &mut Findings<T>,
     course: &mut Course,
     other: &mut Option<Course>,
     playing: Playing<'_>,
-    faults: &mut u64,
+    faults: &mut LineFaults,
 ) -> Result<(), Halt> {
-    let alloc = rt.alloc();
     let mut place = 1u64;
     for line in playing.lines {
         let line = line.as_str();
-        play_line(rt, findings, &course.holdings, playing, place, line, faults)?;
+        play_line(findings, &course.holdings, playing, place, line, faults)?;
         course.go_on(alloc, findings.script(), playing, line)?;
         go_on_beside(alloc, other, findings.other(), playing, line);
         place = place.saturating_add(1);
@@ -254,13 +274,13 @@ fn answer_of(
 ///
 /// # Errors
 /// Why there is no answer.
-pub fn moves_of<R: Eprint + AllocGlobal, T: Write>(
-    rt: &R,
+pub fn moves_of<T: Write>(
+    alloc: Global,
     findings: &mut Findings<T>,
     at: &AtLines<PassOver>,
     origin: Origin<'_>,
     playing: Playing<'_>,
-    faults: &mut u64,
+    faults: &mut LineFaults,
 ) -> Result<Answer, Halt> {
     let scene = scene_of(findings.script(), playing.process, playing.format)?;
     let told = Asked {
@@ -270,14 +290,11 @@ pub fn moves_of<R: Eprint + AllocGlobal, T: Write>(
         free: playing.free,
         format: playing.format,
     };
-    let mut course = begin(rt, findings.script(), at, origin, playing, Some(faults))?;
-    let mut other = match findings.other() {
-        Some(other) => begin(rt, other, at, origin, playing, None).ok(),
-        None => None,
-    };
-    let played = play_lines(rt, findings, &mut course, &mut other, playing, faults);
+    let mut course = begin_told(alloc, findings.script(), at, origin, playing, faults)?;
+    let mut other = begin_beside(alloc, findings.other(), origin, playing);
+    let played = play_lines(alloc, findings, &mut course, &mut other, playing, faults);
     let answer = match played {
-        Ok(()) => answer_of(rt.alloc(), &course, &other, told),
+        Ok(()) => answer_of(alloc, &course, &other, told),
         Err(halt) => Err(halt),
     };
     drop(course);

@@ -1,0 +1,312 @@
+//! Reading scripts and where pages lie that are there, telling what is wrong with lines about such
+//! pages, and writing an answer after them.
+use numa_host::Host;
+use numa_host_script::HostScript;
+use numa_lines::{RunFault, TakeLine};
+use numa_machine::Rules;
+use numa_moves::{AtLines, PassOver, RefusedAt, Scene, add_stated};
+use numa_placed::Placed;
+use numa_play::{Ended, Findings, Halt, Look, PLAIN, Scripts, Twin, answer};
+use numa_reports::{Format, Written};
+use numa_traces::read_by;
+use std::alloc::Global;
+use std::io::{Read, Write};
+
+/// The message for a line that begins as one that states where pages lie, and isn't one.
+const BAD_AT: &str = "bad words; write at START LENGTH NODE, in a host in P at START LENGTH NODE";
+
+/// What is told of in a host.
+fn scene_of_host(host: &Host, process: Option<u32>, format: Format) -> Result<Scene<'_>, Halt> {
+    match (process, format) {
+        (Some(process), _) => match host.process(process) {
+            Some(space) => Ok(Scene::One(Some(process), space)),
+            None => Err(Halt::NoProcess(process)),
+        },
+        (None, Format::Svg(_)) => Err(Halt::ManyProcesses),
+        (None, _) => Ok(Scene::Each(host)),
+    }
+}
+
+/// What is told of after a script: in a picture of one process.
+///
+/// # Errors
+/// `NoMachine`, `NoHost`, `NoProcess` or `ManyProcesses`.
+pub(crate) fn scene_of(
+    script: &HostScript,
+    process: Option<u32>,
+    format: Format,
+) -> Result<Scene<'_>, Halt> {
+    if let Some(host) = script.host() {
+        return scene_of_host(host, process, format);
+    }
+    let Some(script) = script.script() else {
+        return Err(Halt::NoMachine);
+    };
+    match script.core() {
+        None => Err(Halt::NoMachine),
+        Some(_) if process.is_some() => Err(Halt::NoHost),
+        Some(core) => Ok(Scene::One(None, core.space())),
+    }
+}
+
+/// What is wrong with lines about pages that are there: a message on each, and how many.
+#[derive(Drop)]
+pub struct LineFaults {
+    messages: Written,
+    count: u64,
+}
+
+impl LineFaults {
+    /// Nothing yet.
+    pub fn new(alloc: Global) -> LineFaults {
+        LineFaults {
+            messages: Written::new(alloc),
+            count: 0,
+        }
+    }
+
+    /// Adds what is wrong with a line.
+    pub(crate) fn tell(&mut self, name: &str, place: u64, why: &str) {
+        self.count = self.count.saturating_add(1);
+        let messages = &mut self.messages;
+        messages.put(name.as_bytes());
+        messages.put_form(b":$: ", &[place]);
+        messages.put(why.as_bytes());
+        messages.put(b"\n");
+    }
+
+    /// Adds which lines that state where pages lie are malformed.
+    fn tell_bad(&mut self, at: &AtLines<PassOver>) {
+        for place in &at.bad {
+            self.tell(at.name(place.text), place.line, BAD_AT);
+        }
+    }
+
+    /// Adds why lines that state where pages lie are refused.
+    pub fn tell_refused(&mut self, at: &AtLines<PassOver>, refused: &[RefusedAt]) {
+        for one in refused {
+            let RefusedAt { place, .. } = one;
+            self.tell(at.name(place.text), place.line, one.why());
+        }
+    }
+}
+
+/// Appends where pages lie after a script, of the one space or of each process in the order in
+/// which they were made, and notes the lines that are refused.
+///
+/// # Errors
+/// `NoMachine`, `NoHost`, `NoProcess`, or `Stopped`: out of memory.
+pub fn stated_in(
+    alloc: Global,
+    script: &HostScript,
+    at: &AtLines<PassOver>,
+    process: Option<u32>,
+    refused: &mut Vec<RefusedAt>,
+    there: &mut Vec<Placed>,
+) -> Result<(), Halt> {
+    let scene = scene_of(script, process, Format::Text)?;
+    match add_stated(alloc, scene, at.lines.as_slice(), refused, there) {
+        Ok(()) => Ok(()),
+        Err(_) => Err(Halt::Stopped(RunFault::Memory)),
+    }
+}
+
+/// How scripts are played.
+#[derive(Clone, Copy)]
+pub struct Reading {
+    /// The task that is asked for, if one is given.
+    pub task: Option<u32>,
+    /// The rules by which they are played too.
+    pub other: Twin,
+    /// Whether pages are there: then the lines that state where they lie are kept, of a host too,
+    /// and judged at the end. Else they are passed over, but for malformed and early ones.
+    pub keeps_at: bool,
+}
+
+/// Scripts that are played, and the lines of which some are kept.
+#[derive(Drop)]
+struct Keeping<T> {
+    at: AtLines<Findings<T>>,
+    keeps_at: bool,
+}
+
+/// Whether no machine is ready.
+fn lacks_machine(script: &HostScript) -> bool {
+    match script.script() {
+        Some(script) => script.core().is_none(),
+        None => false,
+    }
+}
+
+impl<T: Write> TakeLine<()> for Keeping<T> {
+    fn take(
+        &mut self,
+        name: &str,
+        place: u64,
+        line: &[u8],
+        output: &mut (),
+    ) -> Result<(), RunFault> {
+        if !self.keeps_at {
+            return self.at.taker.take(name, place, line, output);
+        }
+        let is_early = lacks_machine(self.at.taker.script());
+        let count = self.at.lines.len();
+        let taken = self.at.take(name, place, line, output);
+        if is_early {
+            // (It isn't judged, as no line is that wants a machine.)
+            self.at.lines.truncate(count);
+        }
+        taken
+    }
+
+    fn hand_over(&mut self, output: &mut ()) -> Result<(), RunFault> {
+        self.at.hand_over(output)
+    }
+}
+
+/// Scripts that were played, the lines that state where pages lie, and what is wrong with these.
+#[derive(Drop)]
+pub struct Played<T> {
+    /// The scripts, and what is wrong with their other lines.
+    pub findings: Findings<T>,
+    /// The lines.
+    pub at: AtLines<PassOver>,
+    /// Which of them are malformed.
+    pub faults: LineFaults,
+}
+
+/// The state before the first line.
+fn begin<T: Write + Drop>(
+    alloc: Global,
+    rules: Rules,
+    process: Option<u32>,
+    how: Reading,
+    told: T,
+) -> Result<Keeping<T>, Halt> {
+    let look = Look {
+        other: how.other,
+        tells_at: false,
+        ..PLAIN
+    };
+    let mut findings = Findings::new(alloc, rules, look, told).asking(process, how.task);
+    if findings.gather().is_err() {
+        drop(findings);
+        return Err(Halt::Stopped(RunFault::Memory));
+    }
+    Ok(Keeping {
+        at: AtLines::new(alloc, findings),
+        keeps_at: how.keeps_at,
+    })
+}
+
+/// Scripts that were played, and these lines with what is wrong with them.
+fn played_of<T: Write>(alloc: Global, findings: Findings<T>, at: AtLines<PassOver>) -> Played<T> {
+    let mut faults = LineFaults::new(alloc);
+    faults.tell_bad(&at);
+    Played {
+        findings,
+        at,
+        faults,
+    }
+}
+
+/// Plays the texts of scripts.
+fn read_scripts<S: Read + Drop, T: Write + Drop>(
+    alloc: Global,
+    texts: Vec<(String, S)>,
+    before: Keeping<T>,
+) -> Result<Keeping<T>, Halt> {
+    match read_by(alloc, texts, before) {
+        Ok(read) => Ok(read),
+        Err(why) => Err(Halt::Stopped(why)),
+    }
+}
+
+/// Plays scripts, and keeps the lines that state where pages lie, if they count: theirs, and those
+/// of further texts, which alone aren't played. What is wrong with other lines is written to
+/// `told`.
+///
+/// # Errors
+/// `Stopped`: a read or a write failed, or out of memory.
+pub fn play_there<S: Read + Drop, A: Read + Drop, T: Write + Drop>(
+    alloc: Global,
+    scripts: Scripts<S>,
+    texts_at: Vec<(String, A)>,
+    how: Reading,
+    told: T,
+) -> Result<Played<T>, Halt> {
+    let Scripts {
+        texts,
+        rules,
+        process,
+    } = scripts;
+    let read = match begin(alloc, rules, process, how, told) {
+        Ok(before) => read_scripts(alloc, texts, before),
+        Err(halt) => {
+            drop(texts);
+            Err(halt)
+        }
+    };
+    let read = match read {
+        Ok(read) => read,
+        Err(halt) => {
+            drop(texts_at);
+            return Err(halt);
+        }
+    };
+    let (findings, at) = read.at.parted();
+    match read_by(alloc, texts_at, at) {
+        Ok(at) => Ok(played_of(alloc, findings, at)),
+        Err(why) => {
+            drop(findings);
+            Err(Halt::Stopped(why))
+        }
+    }
+}
+
+/// Writes what is wrong with lines: first with those about pages that are there.
+fn tell_all<T: Write>(findings: &mut Findings<T>, faults: LineFaults) -> Result<(), RunFault> {
+    let LineFaults { messages, .. } = faults;
+    let mut messages = messages;
+    let text = messages.take();
+    drop(messages);
+    let Ok(text) = text else {
+        return Err(RunFault::Memory);
+    };
+    let told = findings.tell_first(text.as_slice());
+    drop(text);
+    match told {
+        Ok(()) => findings.end(),
+        Err(why) => Err(why),
+    }
+}
+
+impl<T: Write + Drop> Played<T> {
+    /// Writes an answer, if there is one, once all that is wrong with lines is told.
+    ///
+    /// # Errors
+    /// Why there is no answer.
+    pub fn write<W: Write>(
+        self,
+        text: Result<Vec<u8>, Halt>,
+        output: &mut W,
+    ) -> Result<Ended, Halt> {
+        let Played {
+            findings,
+            at,
+            faults,
+        } = self;
+        drop(at);
+        let mut findings = findings;
+        let has_faults = faults.count > 0;
+        if let Err(why) = tell_all(&mut findings, faults) {
+            drop(text);
+            drop(findings);
+            return Err(Halt::Stopped(why));
+        }
+        match answer(findings, text, output) {
+            Ok(_) if has_faults => Ok(Ended::Faulty),
+            ended => ended,
+        }
+    }
+}
