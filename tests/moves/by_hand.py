@@ -126,8 +126,38 @@ def try_lines(call, tell):
     return good
 
 
+# Words that ask about pages that are there, and those that pass over lines `at`.
+THERE = [["predict", "--task", "1", "--node", "0", "--at", "/dev/null"],
+         ["diff", "--task", "1", "--node", "0", "--at", "/dev/null", "--then", "mems 0"],
+         ["moves", "--then", "mems 0"]]
+ELSEWHERE = [["predict", "--task", "1", "--node", "0"], ["explain", "--task", "1", "--node", "0", "0x30000"],
+             ["diff", "--task", "1", "--node", "0", "--then", "mems 0"]]
+EARLY = "not judged, since no machine was ready: 1\n"
+
+
+def try_early(call, tell, room):
+    """Of two lines `at` before the machine the first comes too early, and the second is malformed: both
+    are told, also where no machine is there, and no page lies by them."""
+    good = True
+    with open(EXAMPLE + ".numaplan", encoding="utf-8") as file:
+        plain = file.read()
+    for is_there, all_words in (True, THERE), (False, ELSEWHERE):
+        for words in all_words:
+            bad = room + ("/early:2: bad words; write at" if is_there else "/early:2:12: bad words: too few")
+            for text in plain, "":
+                for name, lines in ("plain", ""), ("early", "at 0x30000 0x1000 2\nat 0x30000\n"):
+                    with open(f"{room}/{name}", "w", encoding="utf-8") as file:
+                        file.write(lines + text)
+                want = call(*words, room + "/plain")
+                status, answer, errors = call(*words, room + "/early")
+                is_so = (status, answer) == (3, want[1]) and errors.startswith(bad) and EARLY in errors
+                what = f"lines at that come too early, {'with' if text else 'without'} a machine: "
+                good &= tell(is_so, what + " ".join(words) + ("" if is_so else f": {status} {errors}"))
+    return good
+
+
 def try_faults(call, tell, room):
-    good = try_lines(call, tell) and try_others(call, tell, room)
+    good = try_lines(call, tell) and try_others(call, tell, room) and try_early(call, tell, room)
     for line, lines, want in FAULTS:
         with open(room + "/at", "w", encoding="utf-8") as file:
             file.write(line + "\n")
