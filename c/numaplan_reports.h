@@ -1,11 +1,16 @@
 /* numaplan_reports.h: the reports of numaplan, for C99 and C++. numaplan.h includes this file, and
  * its first page applies here too.
  *
- * Scripts. The first five calls play a script from a fresh start to its end and answer what the
- * program's commands `check`, `predict`, `diff`, `explain` and `replay` print, byte for byte. Lines
- * that are malformed or refused are skipped; a message reports each. A call reads a script, and
- * lines to add to it, as texts: messages call the script `-`, the lines `--then` and a trace
- * `trace`.
+ * Scripts. The first eight calls play a script from a fresh start to its end and answer what the
+ * program's commands `check`, `predict`, `diff`, `explain`, `replay` and `moves` print, byte for
+ * byte. Lines that are malformed or refused are skipped; a message reports each. A call reads a
+ * script, and lines to add to it, as texts: messages call the script `-`, the lines `--then`, a
+ * trace `trace` and a text of lines `at` `at`.
+ *
+ * Pages that are there. np_predict_at and np_moves_at are told where pages lie: lines `at START
+ * LENGTH NODE` say so, in a host `in P at ..`, of the script and of a further text `at`, whose other
+ * lines are passed over. The other calls are about first touches, and judge lines `at` as
+ * np_script_run does.
  *
  * Rooms. The answer stands at the start of `text`, and the messages after it. `report` gets how
  * many bytes each has. NP_NO_ROOM where both together are longer than the room: then `report` gives
@@ -155,6 +160,30 @@ uint32_t np_explain(const uint8_t *script, size_t length, const uint8_t *lines,
 uint32_t np_replay(const uint8_t *script, size_t length, const uint8_t *lines, size_t lines_length,
                    const uint8_t *trace, size_t trace_length, const np_question *asked,
                    uint8_t *text, size_t room, np_report *report);
+
+/* As np_predict, but pages that are there are counted where they lie, and take no free page
+ * (numaplan predict --at). `at` has lines `at`, and so may the script and the lines. There is no
+ * page for a browser, but text. */
+uint32_t np_predict_at(const uint8_t *script, size_t length, const uint8_t *lines,
+                       size_t lines_length, const uint8_t *at, size_t at_length,
+                       const np_question *asked, const np_free *free_pages, size_t free_count,
+                       uint8_t *text, size_t room, np_report *report);
+
+/* What becomes of pages that are there, line by line (numaplan moves --then): a line `mems`,
+ * `migrate`, `cgroup-mems` or `attach` each, of which the last may end with a line feed. `at` has
+ * lines `at`, and so may the script. Nodes take as many more pages as free_pages says; others never
+ * fill. The question's task and node don't count. NP_BAD_RULES; NP_BAD_FORMAT; NP_NO_MEMORY;
+ * NP_NO_MACHINE; NP_MANY_PROCESSES for a picture of a host; NP_NO_SUCH_NODE as np_predict. */
+uint32_t np_moves_at(const uint8_t *script, size_t length, const uint8_t *lines,
+                     size_t lines_length, const uint8_t *at, size_t at_length,
+                     const np_question *asked, const np_free *free_pages, size_t free_count,
+                     uint8_t *text, size_t room, np_report *report);
+
+/* The same of pages that lie where the task touched them on a CPU of the node, while every node had
+ * room (numaplan moves --node). Also NP_BAD_CPU. */
+uint32_t np_moves_touched(const uint8_t *script, size_t length, const uint8_t *lines,
+                          size_t lines_length, const np_question *asked, const np_free *free_pages,
+                          size_t free_count, uint8_t *text, size_t room, np_report *report);
 
 /* ---- reports on a core, by all accepted commands, published or not */
 

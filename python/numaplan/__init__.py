@@ -49,7 +49,7 @@ __all__ = [
     "Answer", "Bound", "Core", "Explanation", "Frame", "Group", "Host", "Move", "Moved",
     "PageRun", "Pages", "Placement", "Plan", "Policy", "Prediction", "Process", "Question", "Range",
     "Report", "Route", "Script", "Seat",
-    "check", "diff", "effective", "explain", "nodes", "nodes_text", "policy_text", "predict",
+    "check", "diff", "effective", "explain", "moves", "nodes", "nodes_text", "policy_text", "predict",
     "progress", "rebind", "replay", "sweep", "write_table",
     "AllTaken", "AnswerLost", "Astray", "BadAccess", "BadCpu", "BadDistance", "BadFormat",
     "BadLimits",
@@ -76,7 +76,7 @@ for _one in (Bound, Core, Explanation, Frame, Group, Host, Move, Moved, PageRun,
 if TYPE_CHECKING:
     from ._progress import progress
     from ._questions import Answer, Question
-    from ._reports import Report, check, diff, explain, predict, replay
+    from ._reports import Report, check, diff, explain, moves, predict, replay
     from ._sweeps import sweep
     from ._tables import write_table
 else:
@@ -84,7 +84,7 @@ else:
     _LATER = {name: module for module, names in {
         "_progress": ["progress"],
         "_questions": ["Answer", "Question"],
-        "_reports": ["Report", "check", "diff", "explain", "predict", "replay"],
+        "_reports": ["Report", "check", "diff", "explain", "moves", "predict", "replay"],
         "_sweeps": ["sweep"],
         "_tables": ["write_table"],
     }.items() for name in names}

@@ -141,6 +141,7 @@ class ToldRoute(ctypes.Structure):
 _HANDLE, _TEXT, _U32, _U64 = POINTER(Handle), c_char_p, c_uint32, c_uint64
 _ROOM = [POINTER(c_uint8), c_size_t, POINTER(c_size_t)]
 _ASKED, _TOLD = POINTER(AskedReport), [c_void_p, c_size_t, POINTER(ToldReport)]
+_THREE_TEXTS = [_TEXT, c_size_t] * 3
 _OPENED_BY = [_TEXT, c_size_t, POINTER(_U32), c_size_t, _TEXT, c_size_t, POINTER(Limits), _U32]
 _SIGNATURES = {
     "core_open_by": [_HANDLE, *_OPENED_BY, POINTER(Options)],
@@ -189,9 +190,12 @@ _SIGNATURES = {
     "answer_errno": [_U32, POINTER(_U32)],
     "check": [_TEXT, c_size_t, _ASKED, *_TOLD],
     "predict": [_TEXT, c_size_t, _TEXT, c_size_t, _ASKED, c_void_p, c_size_t, *_TOLD],
+    "predict_at": [*_THREE_TEXTS, _ASKED, c_void_p, c_size_t, *_TOLD],
+    "moves_at": [*_THREE_TEXTS, _ASKED, c_void_p, c_size_t, *_TOLD],
+    "moves_touched": [_TEXT, c_size_t, _TEXT, c_size_t, _ASKED, c_void_p, c_size_t, *_TOLD],
     "diff": [_TEXT, c_size_t, _TEXT, c_size_t, _ASKED, *_TOLD],
     "explain": [_TEXT, c_size_t, _TEXT, c_size_t, _ASKED, _U64, *_TOLD],
-    "replay": [_TEXT, c_size_t, _TEXT, c_size_t, _TEXT, c_size_t, _ASKED, *_TOLD],
+    "replay": [*_THREE_TEXTS, _ASKED, *_TOLD],
     "core_predict": [_HANDLE, _U32, _U32, POINTER(_U64 * 256)],
     "core_fill": [_HANDLE, _U32, _U32, POINTER(_U64 * 256)],
     "core_explain": [_HANDLE, _U32, _U64, _U32, POINTER(ToldExplanation)],

@@ -50,19 +50,41 @@ def check(script: Text, *, format: str = "text", rules: str = "document") -> Rep
 
 def predict(script: Text, lines: Sequence[str] = (), *, task: int = 1, node: int = 0,
             free: "Mapping[int, int] | None" = None, format: str = "json",
-            rules: str = "document") -> Report:
+            rules: str = "document", at: "Text | None" = None) -> Report:
     """Where all mapped pages would go after a script and further lines, if `task` touched each of
     them on a CPU of `node`; by `free` nodes have so many free pages, and others never run out. As
-    `numaplan predict` prints it, in the format "text", "json", "csv", "svg" or "html". Raises NoMachine,
+    `numaplan predict` prints it, in the format "text", "json", "csv", "svg" or "html". With `at`, the name
+    of a file or a text as bytes, pages that are there are counted where they lie: its lines
+    `at START LENGTH NODE` say where, and those of the script (at=b"": those alone). Raises NoMachine,
     BadCpu or NoSuchNode, whose `messages` are about the script's lines."""
-    named = [FreePages(u64("free pages", pages), u8("a node of free", each))
-             for each, pages in (free or {}).items()]
     name, text = read(script)
     asked = AskedReport(u32("task", task), u32("node", node), rules_number(rules),
                         format_number(format))
-    room = (FreePages * max(len(named), 1))(*named)
-    return _asked("predict", [text, joined(lines)], byref(asked), byref(room), c_size_t(len(named)),
-                  names={"-": name})
+    if at is None:
+        return _asked("predict", [text, joined(lines)], byref(asked), *_free(free), names={"-": name})
+    at_name, stated = read(at, "at")
+    return _asked("predict_at", [text, joined(lines), stated], byref(asked), *_free(free),
+                  names={"-": name, "at": at_name})
+
+
+def moves(script: Text, lines: Sequence[str], *, at: "Text | None" = None, task: int = 1,
+          node: "int | None" = None, free: "Mapping[int, int] | None" = None, format: str = "json",
+          rules: str = "document") -> Report:
+    """What becomes of pages that are there by each line (`mems`, `migrate`, `cgroup-mems` or
+    `attach`), as `numaplan moves --then` prints it, in the format "text", "json" or "svg". Lines
+    `at START LENGTH NODE` of the script and of `at`, the name of a file or a text as bytes, say where
+    pages lie; with `node` they lie where `task` touched them on a CPU of it. By `free` nodes take so
+    many more, and others never fill. Raises NoMachine, BadCpu, NoSuchNode, or ManyProcesses for a
+    picture of a host."""
+    if at is not None and node is not None:
+        raise ValueError("pages lie where lines of at say, or where a CPU of node touched them: not both")
+    name, text = read(script)
+    at_name, stated = read(b"" if at is None else at, "at")
+    asked = AskedReport(u32("task", task), u32("node", node or 0), rules_number(rules),
+                        format_number(format))
+    word, texts = ("moves_at", [stated]) if node is None else ("moves_touched", [])
+    return _asked(word, [text, joined(lines), *texts], byref(asked), *_free(free),
+                  names={"-": name, "at": at_name})
 
 
 def diff(script: Text, lines: Sequence[str], *, task: int = 1, node: int = 0, format: str = "text",
@@ -113,6 +135,14 @@ def read(text: Text, name: str = "-") -> tuple[str, bytes]:
 def joined(lines: Sequence[str]) -> bytes:
     """Lines as one text."""
     return "\n".join([lines] if isinstance(lines, str) else lines).encode()
+
+
+def _free(free: "Mapping[int, int] | None") -> "tuple[Any, c_size_t]":
+    """Free pages of nodes as a call takes them."""
+    named = [FreePages(u64("free pages", pages), u8("a node of free", each))
+             for each, pages in (free or {}).items()]
+    room = (FreePages * max(len(named), 1))(*named)
+    return byref(room), c_size_t(len(named))
 
 
 def _asked(word: str, texts: Sequence[bytes], *asked: Any, names: Mapping[str, str]) -> Report:

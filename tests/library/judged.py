@@ -74,6 +74,7 @@ CALLS = [
     (lambda task=0, cpu=0, first=16, pages=1: plan.counts(task, cpu, first, pages),
      {"task": 32, "cpu": 32, "first": 64, "pages": 64}),
     (lambda node=0, number=0: seat.give(node, number), {"node": 8, "number": 16}),
+    (lambda task=0: numaplan.moves(b"", [], task=task, node=0), {"task": 32}),
     (lambda **limits: Core([8, 8], FAR, **limits),
      {"workers": 32, "max_ranges": 32, "max_tasks": 32, "max_commands": 32}),
 ]
@@ -118,6 +119,11 @@ try:
     wrong.append("rows of other lengths are taken")
 except numaplan.BadNodeCount:
     pass
+
+# pages lie where one of both says
+want(raised(lambda: numaplan.moves(b"", [], at=b"", node=0)),
+     ("ValueError", "pages lie where lines of at say, or where a CPU of node touched them: not both"),
+     "at and node")
 
 # what is filled: 16 to 19 of task 9 go to node 0 from node 0, and to node 1 from node 1
 for buffer in (bytearray(b"####"), array("B", b"####"), (ctypes.c_uint8 * 4)(7, 7, 7, 7),

@@ -42,6 +42,8 @@ void rattle_dealloc(void *at) {
 #define HOST "machine 4 0-3 2 flat\nlimits 64 64 64\nmap 0x10000 0x8000 0x10\nmbend 1\n" \
     "mbind 0x10000 0x4000 weighted:0-2\nweight 1 3\ntask 1 interleave=static:0-3\nmap 1 1 1\n"
 #define LINES "mems 0-1\nmems 9\n# \xff"
+#define MOVES "mems 0-1\nmigrate 0 1\nmend 1\nmigrate 0 9\n"
+#define AT "at 0x10000 0x3000 2\nat 0x13000 0x9000 0\nat 1 1 1\nat 1\n"
 #define TRACE "# a trace\n1 0x10000 0\n2 0x10000 1 3\n1 0x17000 3\n"
 
 /* What a call is told to write into, and what it wrote. */
@@ -70,19 +72,22 @@ static uint32_t call(int which) {
     case 2: return np_diff(TEXT(HOST), TEXT(LINES), &asked, ROOM);
     case 3: return np_explain(TEXT(HOST), TEXT(LINES), &asked, 0x11, ROOM);
     case 4: return np_replay(TEXT(HOST), TEXT(LINES), TEXT(TRACE), &asked, ROOM);
-    case 5: return np_core_predict_text(&core, &asked, two, 2, ROOM);
-    case 6: return np_core_diff_text(&core, &other, &asked, ROOM);
-    case 7: return np_core_explain_text(&core, &asked, 0x11, ROOM);
-    case 8: return np_core_replay_text(&core, TEXT(TRACE), &asked, ROOM);
-    case 9: return np_core_predict(&core, 1, 1, &told.counts);
-    case 10: return np_core_fill(&core, 1, 1, &told.counts);
-    case 11: return np_core_explain(&core, 1, 0x11, 1, &told.explanation);
-    case 12: return np_core_diff(&core, &other, 1, 1, told.moves, 16, &told.count);
-    case 13: return np_core_replay(&core, trace, 3, told.routes, 16, &told.count);
+    case 5: return np_predict_at(TEXT(HOST), TEXT(LINES), TEXT(AT), &asked, two, 2, ROOM);
+    case 6: return np_moves_at(TEXT(HOST), TEXT(MOVES), TEXT(AT), &asked, two, 2, ROOM);
+    case 7: return np_moves_touched(TEXT(HOST), TEXT(MOVES), &asked, two, 2, ROOM);
+    case 8: return np_core_predict_text(&core, &asked, two, 2, ROOM);
+    case 9: return np_core_diff_text(&core, &other, &asked, ROOM);
+    case 10: return np_core_explain_text(&core, &asked, 0x11, ROOM);
+    case 11: return np_core_replay_text(&core, TEXT(TRACE), &asked, ROOM);
+    case 12: return np_core_predict(&core, 1, 1, &told.counts);
+    case 13: return np_core_fill(&core, 1, 1, &told.counts);
+    case 14: return np_core_explain(&core, 1, 0x11, 1, &told.explanation);
+    case 15: return np_core_diff(&core, &other, 1, 1, told.moves, 16, &told.count);
+    case 16: return np_core_replay(&core, trace, 3, told.routes, 16, &told.count);
     default: return NP_UNKNOWN;
     }
 }
-enum { CALLS = 14, WORDS = 9, FORMATS = 5 };
+enum { CALLS = 17, WORDS = 12, FORMATS = 5 };
 
 /* A core whose plan isn't made yet, and a copy with a command more. */
 static bool opens(void) {

@@ -81,6 +81,78 @@ static void words(void) {
     WANT(memcmp(room, "task 1 accesses=4 N0=4 D10=1 D20=3 placed=1", 43), 0);
 }
 
+/* Four interleaved pages, of which three lie on node 1, two by the text and one by a line of the
+ * script (docs/SCRIPT.md, at); a fifth that is stated isn't mapped. */
+#define THERE HOST "at 0x10000 0x1000 1\n"
+#define AT "at 0x11000 0x2000 1\nat 0x14000 0x1000 0\n# no line\n"
+
+static void there(void) {
+    np_free two = {2, 0};
+    forget();
+    WANT(np_predict_at(TEXT(THERE), TEXT(""), TEXT(AT), &asked, none, 0, room, sizeof room, &told),
+         NP_OK);
+    /* the fourth page goes to node 1, since its index is odd */
+    WANT(is_told("00010000-00014000 interleave:0-1 anon=4 N1=4 kernelpagesize_kB=4\n"
+                 "total anon=4 N1=4 kernelpagesize_kB=4\n",
+                 ""),
+         1);
+    forget();
+    /* lines `at` may stand among the lines, too; np_predict takes none as pages that are there */
+    WANT(np_predict_at(TEXT(HOST), TEXT("at 0x10000 0x4000 0"), TEXT(""), &asked, none, 0, room,
+                       sizeof room, &told),
+         NP_OK);
+    WANT(is_told("00010000-00014000 interleave:0-1 anon=4 N0=4 kernelpagesize_kB=4\n"
+                 "total anon=4 N0=4 kernelpagesize_kB=4\n",
+                 ""),
+         1);
+    forget();
+    WANT(np_moves_at(TEXT(THERE), TEXT("migrate 1 0\nmems 0\n"), TEXT(AT), &asked, &two, 1, room,
+                  sizeof room, &told),
+         NP_OK);
+    /* node 0 takes two of the three, the lowest first; the third finds no room, then as before */
+    WANT(is_told("then migrate 1 0\n"
+                 "00010000-00014000 placed=3 moved=2 N1->N0=2 noroom=1 N1=1\n"
+                 "total placed=3 moved=2 N1->N0=2 noroom=1 N1=1\nleft N0=0\n"
+                 "then mems 0\n"
+                 "00010000-00014000 placed=3 moved=0 stays=2 N0=2 noroom=1 N1=1\n"
+                 "total placed=3 moved=0 stays=2 N0=2 noroom=1 N1=1\nleft N0=0\n",
+                 ""),
+         1);
+    WANT(told.faulty, 0);
+    forget();
+    WANT(np_moves_touched(TEXT(THERE), TEXT("mems 1"), &asked, none, 0, room, sizeof room, &told),
+         NP_OK);
+    WANT(is_told("00010000-00014000 placed=4 moved=2 N0->N1=2 stays=2 N1=2\n"
+                 "total placed=4 moved=2 N0->N1=2 stays=2 N1=2\n",
+                 ""),
+         1);
+    forget();
+    WANT(np_moves_at(TEXT(THERE), TEXT(""), TEXT(""), &asked, none, 0, room, sizeof room, &told), NP_OK);
+    WANT(is_told("", ""), 1);
+    /* what is wrong with lines of each text: the script's, of which one comes too early, those of
+     * `at`, and those to be played */
+    forget();
+    WANT(np_moves_at(TEXT("at 0x10000 0x1000 0\n" HOST "bend 1\nat 0x10000"), TEXT("mems 7\ntask 1 bind:0"),
+                  TEXT("at 1 1 1\n\nat 1\n"), &asked, none, 0, room, sizeof room, &told),
+         NP_OK);
+    WANT(told.faulty, 1);
+    WANT(memcmp(room, "then mems 7\ntotal placed=0 moved=0\n", 35), 0);
+    room[told.answer + told.messages] = 0;
+    const char *said = (const char *)room + told.answer;
+    static const char *const each[] = {
+        "-:5:1: bad words: ", "\n-:6: bad words; write at START LENGTH NODE",
+        "\nat:3: bad words; write at START LENGTH NODE", "\nat:1: refused Unaligned EINVAL: ",
+        "\n--then:2: moves takes lines mems", "\n--then:1: refused NoSuchNode",
+        "\nnot judged, since no machine was ready: 1\n"};
+    for (size_t k = 0; k < sizeof each / sizeof each[0]; k++) {
+        const char *found = strstr(said, each[k]);
+        if (found == NULL)
+            printf("not told, or not in order: %s in %s\n", each[k], said);
+        WANT(found != NULL, 1);
+        said = found == NULL ? said : found;
+    }
+}
+
 /* With just enough room, with a byte less, with none; messages count too. */
 static void rooms(void) {
     for (int size = 0; size <= 2; size++) {
@@ -113,9 +185,33 @@ static void causes(void) {
     WANT(np_replay(TEXT(HOST), TEXT(""), TEXT(""), &other, room, sizeof room, &told), NP_BAD_FORMAT);
     WANT(np_diff(TEXT(HOST), TEXT(""), &other, room, sizeof room, &told), NP_BAD_FORMAT);
     WANT(np_explain(TEXT(HOST), TEXT(""), &other, 0, room, sizeof room, &told), NP_BAD_FORMAT);
+    WANT(np_moves_at(TEXT(HOST), TEXT(""), TEXT(""), &other, none, 0, room, sizeof room, &told),
+         NP_BAD_FORMAT);
+    WANT(np_predict_at(TEXT(HOST), TEXT(""), TEXT(""), &other, none, 0, room, sizeof room, &told),
+         NP_BAD_FORMAT);
+    other.rules = 2;
+    WANT(np_moves_touched(TEXT(HOST), TEXT(""), &other, none, 0, room, sizeof room, &told),
+         NP_BAD_RULES);
     WANT(told.answer == 77 && told.faulty == 77 && is_untouched(), 1);
     other = asked;
+    other.format = NP_FORMAT_SVG;
+    WANT(np_moves_at(TEXT("machine 1 0 0 flat\nhost\n"), TEXT("mems 0"), TEXT(""), &other, none, 0, room,
+                  sizeof room, &told),
+         NP_MANY_PROCESSES);
+    other = asked;
     other.cpu = 2;
+    WANT(np_moves_at(TEXT("limits 1 1 1"), TEXT("mems 0"), TEXT(""), &asked, none, 0, room, sizeof room,
+                  &told),
+         NP_NO_MACHINE);
+    WANT(np_moves_at(TEXT(HOST), TEXT("mems 0"), TEXT(""), &asked, &lacking, 1, room, sizeof room, &told),
+         NP_NO_SUCH_NODE);
+    WANT(np_moves_at(TEXT(HOST), TEXT("mems 0"), TEXT(""), &other, none, 0, room, sizeof room, &told),
+         NP_OK); /* where the node doesn't count */
+    WANT(np_moves_touched(TEXT(HOST), TEXT("mems 0"), &other, none, 0, room, sizeof room, &told),
+         NP_BAD_CPU);
+    WANT(np_predict_at(TEXT(HOST), TEXT(""), TEXT(""), &other, none, 0, room, sizeof room, &told),
+         NP_BAD_CPU);
+    forget();
     WANT(np_predict(TEXT("limits 1 1 1"), TEXT(""), &asked, none, 0, room, sizeof room, &told),
          NP_NO_MACHINE);
     WANT(told.answer + told.messages, 0);
@@ -315,6 +411,7 @@ static void texts(void) {
 
 int main(void) {
     words();
+    there();
     rooms();
     causes();
     cores();

@@ -14,10 +14,9 @@ PROGRAM, EXAMPLES = sys.argv[1:]
 TRACES = sorted(glob.glob(os.path.join(EXAMPLES, "*.trace")))
 SCRIPTS = sorted(set(glob.glob(os.path.join(EXAMPLES, "**", "*"), recursive=True)) - set(TRACES))
 SCRIPTS = [path for path in SCRIPTS if os.path.isfile(path)]
-# (The program passes over lines `at` that are malformed or come before a machine; the library reports them.)
-APART = ("interleaved-range.at", "pages-that-are-there.answers")
-SCRIPTS = [path for path in SCRIPTS if os.path.basename(path) not in APART]
 THEN = ["mems 0", "task 1 bend:0", "# \u00e9"]
+AT = os.path.join(EXAMPLES, "interleaved-range.at")
+MOVES = ["mems 0", "migrate 0,2 1", "task 1 bind:0", "mems 7", "migrate 1"]
 PAGES = [0, 0x10, 0x31]
 TOUCH = ["--task=1", "--node=0"]
 wrong, asked = [], 0
@@ -74,6 +73,7 @@ def each_word(script):
         same(f"predict with free pages {script}",
              program("predict", by, *TOUCH, "--format=json", "--free=0=2,1=0", script),
              library(numaplan.predict, script, free={0: 2, 1: 0}, rules=rules))
+        pages_there(script, rules, by)
         then = [f"--then={line}" for line in THEN]
         for form in ("text", "json", "svg", "html"):
             same(f"diff {script} {form}",
@@ -88,6 +88,25 @@ def each_word(script):
                 same(f"replay {script} {trace}",
                      program("replay", by, f"--format={form}", f"--trace={trace}", script),
                      library(numaplan.replay, script, trace, format=form, rules=rules))
+
+
+def pages_there(script, rules, by):
+    """The answers about pages that are there."""
+    for form in ("text", "json", "csv", "svg"):
+        same(f"predict --at {script} {form}",
+             program("predict", by, *TOUCH, "--free=0=2", f"--at={AT}", f"--format={form}", script),
+             library(numaplan.predict, script, free={0: 2}, format=form, rules=rules, at=AT))
+    then = [f"--then={line}" for line in MOVES]
+    for form in ("text", "json", "svg"):
+        same(f"moves --at {script} {form}",
+             program("moves", by, "--free=0=1", f"--at={AT}", f"--format={form}", *then, script),
+             library(numaplan.moves, script, MOVES, free={0: 1}, format=form, rules=rules, at=AT))
+        same(f"moves {script} {form}",
+             program("moves", by, f"--format={form}", *then, script),
+             library(numaplan.moves, script, MOVES, format=form, rules=rules))
+        same(f"moves --node {script} {form}",
+             program("moves", by, *TOUCH, f"--format={form}", *then, script),
+             library(numaplan.moves, script, MOVES, node=0, format=form, rules=rules))
 
 
 def of_cores():

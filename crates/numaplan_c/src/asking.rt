@@ -11,14 +11,18 @@ use std::alloc::{AllocError, Global};
 
 /// A question about the pages after a script and the lines behind it.
 #[derive(Drop)]
-struct Question<'a> {
-    script: ScriptText<'a>,
-    touch: Touch,
-    format: Format,
+pub(crate) struct Question<'a> {
+    pub(crate) script: ScriptText<'a>,
+    pub(crate) touch: Touch,
+    pub(crate) format: Format,
 }
 
 /// The question about a script, if its rules and its format are known.
-fn question_of<'a>(text: &'a [u8], then: &'a [u8], asked: &NpQuestion) -> Result<Question<'a>, u32>
+pub(crate) fn question_of<'a>(
+    text: &'a [u8],
+    then: &'a [u8],
+    asked: &NpQuestion,
+) -> Result<Question<'a>, u32>
     ensures { IfErr result (λ code. is_untold code ≡ true) }
 {
     let Some(rules) = rules_of(asked.rules) else {

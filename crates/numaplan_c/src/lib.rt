@@ -36,4 +36,5 @@ mod reports;
 mod scripts;
 mod standing;
 mod texts;
+mod there;
 mod version;

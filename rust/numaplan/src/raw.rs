@@ -261,6 +261,9 @@ extern "C" {
     pub(crate) fn np_script_answer(script: &mut Handle, answer: *mut u8, room: usize, length: &mut usize) -> u32;
     pub(crate) fn np_check(script: *const u8, length: usize, asked: &AskedReport, text: *mut u8, room: usize, report: &mut ToldReport) -> u32;
     pub(crate) fn np_predict(script: *const u8, length: usize, lines: *const u8, lines_length: usize, asked: &AskedReport, free_pages: *const FreePages, free_count: usize, text: *mut u8, room: usize, report: &mut ToldReport) -> u32;
+    pub(crate) fn np_predict_at(script: *const u8, length: usize, lines: *const u8, lines_length: usize, at: *const u8, at_length: usize, asked: &AskedReport, free_pages: *const FreePages, free_count: usize, text: *mut u8, room: usize, report: &mut ToldReport) -> u32;
+    pub(crate) fn np_moves_at(script: *const u8, length: usize, lines: *const u8, lines_length: usize, at: *const u8, at_length: usize, asked: &AskedReport, free_pages: *const FreePages, free_count: usize, text: *mut u8, room: usize, report: &mut ToldReport) -> u32;
+    pub(crate) fn np_moves_touched(script: *const u8, length: usize, lines: *const u8, lines_length: usize, asked: &AskedReport, free_pages: *const FreePages, free_count: usize, text: *mut u8, room: usize, report: &mut ToldReport) -> u32;
     pub(crate) fn np_diff(script: *const u8, length: usize, lines: *const u8, lines_length: usize, asked: &AskedReport, text: *mut u8, room: usize, report: &mut ToldReport) -> u32;
     pub(crate) fn np_explain(script: *const u8, length: usize, lines: *const u8, lines_length: usize, asked: &AskedReport, page: u64, text: *mut u8, room: usize, report: &mut ToldReport) -> u32;
     pub(crate) fn np_replay(script: *const u8, length: usize, lines: *const u8, lines_length: usize, trace: *const u8, trace_length: usize, asked: &AskedReport, text: *mut u8, room: usize, report: &mut ToldReport) -> u32;

@@ -127,10 +127,97 @@ impl<'a> Question<'a> {
     /// Where all mapped pages would go, where nodes (the first of each pair) have so many free pages;
     /// others never run out: `numaplan predict`.
     pub fn predict(&self, format: Format, free: &[(u8, u64)]) -> Result<Report, Unanswered> {
-        let (asked, free) = (self.asked(format), free.iter());
-        let free: Vec<_> = free.map(|&(node, pages)| FreePages { pages, node }).collect();
+        let (asked, free) = (self.asked(format), free_pages(free));
         told(|text, report| unsafe {
             raw::np_predict(
+                self.script.as_ptr(),
+                self.script.len(),
+                self.lines.as_ptr(),
+                self.lines.len(),
+                &asked,
+                free.as_ptr(),
+                free.len(),
+                text.as_mut_ptr(),
+                text.len(),
+                report,
+            )
+        })
+    }
+
+    /// The same, but pages that are there are counted where they lie, and take no free page: lines
+    /// `at START LENGTH NODE` say where, of this text, of the script and of the lines:
+    /// `numaplan predict --at`. There is no page for a browser, but text.
+    ///
+    /// ```
+    /// use numaplan::{Format, Question};
+    ///
+    /// let host = "machine 2 0-1 0 flat\nmap 0x10000 0x4000 0x10\n"; // (of task 1 on node 0)
+    /// let at = "at 0x10000 0x3000 1\n";
+    /// let report = Question::of(host).predict_at(at, Format::Text, &[])?;
+    /// assert_eq!(report.text.lines().last(), Some("total anon=4 N0=1 N1=3 kernelpagesize_kB=4"));
+    /// let report = Question { lines: "mems 1", ..Question::of(host) }.moves_touched(Format::Text, &[])?;
+    /// assert_eq!(report.text.lines().last(), Some("total placed=4 moved=4 N0->N1=4"));
+    /// # Ok::<(), numaplan::Unanswered>(())
+    /// ```
+    pub fn predict_at(&self, at: &str, format: Format, free: &[(u8, u64)]) -> Result<Report, Unanswered> {
+        let (asked, free) = (self.asked(format), free_pages(free));
+        told(|text, report| unsafe {
+            raw::np_predict_at(
+                self.script.as_ptr(),
+                self.script.len(),
+                self.lines.as_ptr(),
+                self.lines.len(),
+                at.as_ptr(),
+                at.len(),
+                &asked,
+                free.as_ptr(),
+                free.len(),
+                text.as_mut_ptr(),
+                text.len(),
+                report,
+            )
+        })
+    }
+
+    /// What becomes of pages that are there by each of the lines (`mems`, `migrate`, `cgroup-mems`,
+    /// `attach`): `numaplan moves`. Lines `at START LENGTH NODE`, of this text and of the script, say
+    /// where they lie. Nodes take so many more pages; others never fill.
+    ///
+    /// ```
+    /// use numaplan::{Format, Question};
+    ///
+    /// let host = "machine 2 0-1 0 flat\nmap 0x10000 0x4000 0x10\nat 0x10000 0x3000 1\n";
+    /// let report = Question { lines: "mems 0", ..Question::of(host) }.moves_at("", Format::Text, &[(0, 2)])?;
+    /// assert_eq!(report.text, "00010000-00014000 placed=3 moved=2 N1->N0=2 noroom=1 N1=1\n\
+    ///     total placed=3 moved=2 N1->N0=2 noroom=1 N1=1\nleft N0=0\n");
+    /// # Ok::<(), numaplan::Unanswered>(())
+    /// ```
+    pub fn moves_at(&self, at: &str, format: Format, free: &[(u8, u64)]) -> Result<Report, Unanswered> {
+        let (asked, free) = (self.asked(format), free_pages(free));
+        told(|text, report| unsafe {
+            raw::np_moves_at(
+                self.script.as_ptr(),
+                self.script.len(),
+                self.lines.as_ptr(),
+                self.lines.len(),
+                at.as_ptr(),
+                at.len(),
+                &asked,
+                free.as_ptr(),
+                free.len(),
+                text.as_mut_ptr(),
+                text.len(),
+                report,
+            )
+        })
+    }
+
+    /// The same of pages that lie where the task touched them on a CPU of the node, while every node had
+    /// room: `numaplan moves --node`.
+    pub fn moves_touched(&self, format: Format, free: &[(u8, u64)]) -> Result<Report, Unanswered> {
+        let (asked, free) = (self.asked(format), free_pages(free));
+        told(|text, report| unsafe {
+            raw::np_moves_touched(
                 self.script.as_ptr(),
                 self.script.len(),
                 self.lines.as_ptr(),
@@ -200,6 +287,11 @@ impl<'a> Question<'a> {
             )
         })
     }
+}
+
+/// Free pages of nodes as a call takes them.
+fn free_pages(free: &[(u8, u64)]) -> Vec<FreePages> {
+    free.iter().map(|&(node, pages)| FreePages { pages, node }).collect()
 }
 
 /// The report that a call writes into a room of bytes: at first of 64 KiB, then of what it needs.
