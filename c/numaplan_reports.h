@@ -161,9 +161,9 @@ uint32_t np_replay(const uint8_t *script, size_t length, const uint8_t *lines, s
                    const uint8_t *trace, size_t trace_length, const np_question *asked,
                    uint8_t *text, size_t room, np_report *report);
 
-/* As np_predict, but pages that are there are counted where they lie, and take no free page
- * (numaplan predict --at). `at` has lines `at`, and so may the script and the lines. There is no
- * page for a browser, but text. */
+/* As np_predict, with its answers, but pages that are there are counted where they lie, and take
+ * no free page (numaplan predict --at). `at` has lines `at`, and so may the script and the lines.
+ * There is no page for a browser, but text. */
 uint32_t np_predict_at(const uint8_t *script, size_t length, const uint8_t *lines,
                        size_t lines_length, const uint8_t *at, size_t at_length,
                        const np_question *asked, const np_free *free_pages, size_t free_count,
