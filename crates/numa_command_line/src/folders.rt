@@ -77,20 +77,17 @@ where
     Ok(())
 }
 
-/// Opens files and folders in order.
-fn add_worked<R>(rt: &R, names: &[String], texts: &mut Texts<R>) -> Result<(), JobFault>
+/// Opens a file or a folder's worked scripts by its name, and appends them to the open files.
+fn add_named<R>(rt: &R, name: &str, texts: &mut Texts<R>) -> Result<(), JobFault>
 where
     R: Files + Input + Eprint + AllocGlobal,
     R::Reader: IsTerminal,
 {
-    for name in names {
-        if is_folder(rt, name.as_str()) {
-            add_folder(rt, name.as_str(), texts)?;
-        } else {
-            add_file(rt, name.as_str(), texts)?;
-        }
+    if is_folder(rt, name) {
+        add_folder(rt, name, texts)
+    } else {
+        add_file(rt, name, texts)
     }
-    Ok(())
 }
 
 /// Opens worked scripts, each with its name: files, standard input, and those of folders.
@@ -103,8 +100,10 @@ where
     R::Reader: IsTerminal,
 {
     let mut texts = Vec::new(rt.alloc());
-    match add_worked(rt, names, &mut texts) {
-        Ok(()) => Ok(texts),
-        Err(fault) => Err(fault),
+    for name in names {
+        if let Err(fault) = add_named(rt, name.as_str(), &mut texts) {
+            return Err(fault);
+        }
     }
+    Ok(texts)
 }

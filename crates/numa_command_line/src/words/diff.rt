@@ -1,9 +1,9 @@
 //! `numaplan diff --task T --node N --then LINE [FILE]..`: reports which pages would go elsewhere.
-ghost use Rattle.std.specs.Prelude.{◌≡◌, codes, map};
+ghost use Rattle.std.specs.Prelude.{codes, map};
 ghost use Rattle.std.specs.String.{string_bytes};
 ghost use Rattle.numa_command_line.specs.Grammar.{IsReader, diff_arguments, diff_formats};
 ghost use Rattle.clap.specs.Words.{found_of, rows_of};
-ghost use Rattle.numa_command_line.specs.Asked.{diff_by, is_drawn, work_asked};
+ghost use Rattle.numa_command_line.specs.Asked.{diff_by, work_asked};
 ghost use Rattle.numa_command_line.specs.Jobs.{IsMade, question_of, work_of};
 ghost use Rattle.numa_command_line.specs.declared.command.Subcommand.TheVariants as word;
 
@@ -13,7 +13,7 @@ use crate::usage::{Argument, FILES, SubcommandHelp, Takes};
 use crate::words::asked;
 use crate::words::asked::{NODE, TASK};
 use crate::words::at::AT;
-use crate::words::format::{LARGEST, format_in, format_option};
+use crate::words::format::{COMPARED, LARGEST, format_in, is_drawn};
 use crate::words::lenient::LENIENT;
 use crate::words::process::PROCESS;
 use clap::ArgMatches;
@@ -31,9 +31,6 @@ const THEN: Argument = Argument {
     is_required: true,
     takes: Takes::Texts,
 };
-
-/// The option `--format FORMAT`.
-const FORMAT: Argument = format_option!["json", "svg", "html"];
 
 /// The help of the subcommand.
 static WORD: SubcommandHelp = SubcommandHelp {
@@ -58,7 +55,7 @@ nor a line says whose rules count, and a kernel's would give another answer, a l
 standard error says so.",
     reads_lines: true,
     arguments: &[
-        TASK, NODE, THEN, AT, PROCESS, FORMAT, LARGEST, LENIENT, FILES,
+        TASK, NODE, THEN, AT, PROCESS, COMPARED, LARGEST, LENIENT, FILES,
     ],
 };
 
@@ -67,17 +64,6 @@ pub fn word() -> &'static SubcommandHelp
     ensures { IsReader (codes "diff") diff_arguments diff_formats result.now }
 {
     &WORD
-}
-
-/// Whether a format is a picture or a page.
-fn is_drawn(format: Format) -> bool
-    ensures { result ≡ is_drawn format }
-{
-    match format {
-        Format::Svg(_) => true,
-        Format::Html(_) => true,
-        _ => false,
-    }
 }
 
 /// The question by these options.

@@ -3,7 +3,7 @@ ghost use Rattle.std.specs.Prelude.{codes};
 ghost use Rattle.numa_command_line.specs.Grammar.{IsReader, expect_arguments, test_formats};
 
 use crate::usage::{Argument, SubcommandHelp, Takes};
-use crate::words::format::format_option;
+use crate::words::format::TESTED;
 
 /// The argument `FILE..`.
 const WORKED: Argument = Argument {
@@ -13,9 +13,6 @@ const WORKED: Argument = Argument {
     is_required: true,
     takes: Takes::Files,
 };
-
-/// The option `--format FORMAT`.
-const FORMAT: Argument = format_option!["json", "tap"];
 
 /// The option `--ignore-versions`.
 const ANY_VERSION: Argument = Argument {
@@ -54,7 +51,7 @@ files get the answers that their lines get, in place of those that differ: each 
 beside itself and then replaced, and standard output shows the lines that change.\n\nThe \
 status is 0 if each file holds answers and all are as wanted, or are written anew, else 3.",
     reads_lines: true,
-    arguments: &[FORMAT, ANY_VERSION, UPDATE, WORKED],
+    arguments: &[TESTED, ANY_VERSION, UPDATE, WORKED],
 };
 
 /// The subcommand.

@@ -1,6 +1,7 @@
 //! The format of an answer: `--format FORMAT`.
 ghost use Rattle.std.specs.Prelude.{◌≡◌};
 ghost use Rattle.clap.specs.Words.{found_of, rows_of};
+ghost use Rattle.numa_command_line.specs.Asked.{is_drawn, is_page};
 ghost use Rattle.numa_command_line.specs.Values.{format_in, format_named};
 
 use crate::found::{small_at, text_at};
@@ -11,20 +12,33 @@ use numa_reports::{DRAWN, Format, LISTED};
 /// The option `--format FORMAT` of a subcommand that answers as text or in one of these formats.
 macro_rules! format_option {
     ($($name:literal),*) => {
-        $crate::usage::Argument {
+        Argument {
             name: "format",
             value: "FORMAT",
             help: "How the answer is written",
             is_required: false,
-            takes: $crate::usage::Takes::OneOf("text", &["text", $($name),*]),
+            takes: Takes::OneOf("text", &["text", $($name),*]),
         }
     };
 }
 
-pub(crate) use format_option;
-
 /// The option `--format FORMAT` of a subcommand that answers as text or JSON.
 pub const PLAIN: Argument = format_option!["json"];
+
+/// The option `--format FORMAT` of `expect`.
+pub const TESTED: Argument = format_option!["json", "tap"];
+
+/// The option `--format FORMAT` of `predict`.
+pub const PREDICTED: Argument = format_option!["json", "csv", "svg", "html"];
+
+/// The option `--format FORMAT` of `diff`.
+pub const COMPARED: Argument = format_option!["json", "svg", "html"];
+
+/// The option `--format FORMAT` of `moves`.
+pub const MOVED: Argument = format_option!["json", "svg"];
+
+/// The option `--format FORMAT` of `replay`.
+pub const REPLAYED: Argument = format_option!["json", "html"];
 
 /// The option `--largest N` of a subcommand that answers by a picture or a page.
 pub const LARGEST: Argument = Argument {
@@ -57,5 +71,25 @@ pub fn format_in(matches: &ArgMatches<'_>) -> Format
     match text_at(matches, "format") {
         Some(name) => format_of(name, small_at(matches, "largest")),
         None => Format::Text,
+    }
+}
+
+/// Whether a format is a page.
+pub fn is_page(format: Format) -> bool
+    ensures { result ≡ is_page format }
+{
+    match format {
+        Format::Html(_) => true,
+        _ => false,
+    }
+}
+
+/// Whether a format is a picture or a page.
+pub fn is_drawn(format: Format) -> bool
+    ensures { result ≡ is_drawn format }
+{
+    match format {
+        Format::Svg(_) => true,
+        _ => is_page(format),
     }
 }

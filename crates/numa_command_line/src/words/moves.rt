@@ -11,7 +11,7 @@ use crate::jobs::{JobFault, ScriptJob};
 use crate::usage::{Argument, FILES, SubcommandHelp, Takes};
 use crate::words::asked::one_touch_in;
 use crate::words::at::AT;
-use crate::words::format::{LARGEST, format_in, format_option};
+use crate::words::format::{LARGEST, MOVED, format_in};
 use crate::words::free::named;
 use crate::words::lenient::LENIENT;
 use crate::words::process::PROCESS;
@@ -58,9 +58,6 @@ bytes",
     takes: Takes::Text,
 };
 
-/// The option `--format FORMAT`.
-const FORMAT: Argument = format_option!["json", "svg"];
-
 /// The help of the subcommand.
 static WORD: SubcommandHelp = SubcommandHelp {
     name: "moves",
@@ -86,7 +83,7 @@ are some, unless --lenient is given, and if no machine is ready after the script
 on standard error says so.",
     reads_lines: true,
     arguments: &[
-        AT, TASK, NODE, THEN, FREE, PROCESS, FORMAT, LARGEST, LENIENT, FILES,
+        AT, TASK, NODE, THEN, FREE, PROCESS, MOVED, LARGEST, LENIENT, FILES,
     ],
 };
 

@@ -1,20 +1,20 @@
 //! `numaplan predict --task T --node N [--free NODE=PAGES,..] [FILE]..`: reports where pages would
 //! go after scripts.
-ghost use Rattle.std.specs.Prelude.{◌≡◌, codes, map};
+ghost use Rattle.std.specs.Prelude.{codes, map};
 ghost use Rattle.std.specs.String.{string_bytes};
 ghost use Rattle.numa_command_line.specs.Grammar.{IsReader, predict_arguments};
 ghost use Rattle.numa_command_line.specs.Grammar.{predict_formats};
 ghost use Rattle.clap.specs.Words.{found_of, rows_of};
-ghost use Rattle.numa_command_line.specs.Asked.{is_page, predict_by, work_asked};
+ghost use Rattle.numa_command_line.specs.Asked.{predict_by, work_asked};
 ghost use Rattle.numa_command_line.specs.Jobs.{IsMade, question_of, work_of};
 ghost use Rattle.numa_command_line.specs.declared.command.Subcommand.TheVariants as word;
 
 use crate::found::texts_at;
 use crate::jobs::{JobFault, PageQuestion, ScriptJob};
-use crate::usage::{Argument, FILES, SubcommandHelp};
+use crate::usage::{FILES, SubcommandHelp};
 use crate::words::asked::{NODE, TASK};
 use crate::words::at::AT;
-use crate::words::format::{LARGEST, format_in, format_option};
+use crate::words::format::{LARGEST, PREDICTED, format_in, is_page};
 use crate::words::free::FREE;
 use crate::words::lenient::LENIENT;
 use crate::words::process::PROCESS;
@@ -25,9 +25,6 @@ use std::alloc::Global;
 
 /// The message for pages that are there in a page.
 const NO_PAGE: &str = "error: '--at <FILE>' doesn't go with '--format html'\n";
-
-/// The option `--format FORMAT`.
-const FORMAT: Argument = format_option!["json", "csv", "svg", "html"];
 
 /// The help of the subcommand.
 static WORD: SubcommandHelp = SubcommandHelp {
@@ -53,7 +50,7 @@ line says whose rules count, and a kernel's would give another answer, a line on
 error says so.",
     reads_lines: true,
     arguments: &[
-        TASK, NODE, AT, PROCESS, FORMAT, LARGEST, FREE, LENIENT, FILES,
+        TASK, NODE, AT, PROCESS, PREDICTED, LARGEST, FREE, LENIENT, FILES,
     ],
 };
 
@@ -62,16 +59,6 @@ pub fn word() -> &'static SubcommandHelp
     ensures { IsReader (codes "predict") predict_arguments predict_formats result.now }
 {
     &WORD
-}
-
-/// Whether a format is a page.
-fn is_page(format: Format) -> bool
-    ensures { result ≡ is_page format }
-{
-    match format {
-        Format::Html(_) => true,
-        _ => false,
-    }
 }
 
 /// The question by these options.

@@ -10,7 +10,7 @@ ghost use Rattle.numa_command_line.specs.declared.command.Subcommand.TheVariants
 use crate::found::{is_on, texts_at};
 use crate::jobs::{JobFault, ScriptJob};
 use crate::usage::{Argument, FILES, SubcommandHelp, Takes};
-use crate::words::format::{LARGEST, format_in, format_option};
+use crate::words::format::{LARGEST, REPLAYED, format_in};
 use crate::words::lenient::LENIENT;
 use crate::words::process::PROCESS;
 use clap::ArgMatches;
@@ -24,9 +24,6 @@ const TRACE: Argument = Argument {
     is_required: true,
     takes: Takes::Text,
 };
-
-/// The option `--format FORMAT`.
-const FORMAT: Argument = format_option!["json", "html"];
 
 /// The help of the subcommand.
 static WORD: SubcommandHelp = SubcommandHelp {
@@ -50,7 +47,7 @@ unless --lenient is given, if no machine is ready after the scripts, and if a li
 trace can't be replayed. If neither --rules nor a line says whose rules count, and a kernel's \
 would give another answer, a line on standard error says so.",
     reads_lines: true,
-    arguments: &[TRACE, PROCESS, FORMAT, LARGEST, LENIENT, FILES],
+    arguments: &[TRACE, PROCESS, REPLAYED, LARGEST, LENIENT, FILES],
 };
 
 /// The subcommand.
