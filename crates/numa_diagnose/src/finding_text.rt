@@ -326,11 +326,23 @@ pub fn say_finding(text: &mut Vec<u8>, finding: &Finding) -> Result<(), AllocErr
     written.end(text)
 }
 
+/// Where a line stands: the name of its text, and its number there, from 1.
+#[derive(Clone, Copy)]
+pub struct LineAt<'a> {
+    pub name: &'a str,
+    pub place: u64,
+}
+
+/// Appends where a line stands.
+fn put_line(text: &mut Text, at: LineAt<'_>) {
+    text.put(at.name);
+    text.put_number(":", at.place);
+}
+
 /// Appends the position of a finding: the name of the text, the line, for bad words the column, and
 /// the process of a host, if one was told or asked the line.
-fn put_place(text: &mut Text, name: &str, place: u64, finding: &Finding) {
-    text.put(name);
-    text.put_number(":", place);
+fn put_place(text: &mut Text, at: LineAt<'_>, finding: &Finding) {
+    put_line(text, at);
     if let Some(column) = finding.detail.column() {
         text.put_number(":", column as u64);
     }
@@ -341,19 +353,13 @@ fn put_place(text: &mut Text, name: &str, place: u64, finding: &Finding) {
     }
 }
 
-/// Appends a message about a line: its position, by the name of its text and its number there from
-/// 1, and what is wrong with it.
+/// Appends a message about a line: its position, and what is wrong with it.
 ///
 /// # Errors
 /// `AllocError`: out of memory. A part may have been appended.
-pub fn say_line(
-    text: &mut Vec<u8>,
-    name: &str,
-    place: u64,
-    finding: &Finding,
-) -> Result<(), AllocError> {
+pub fn say_line(text: &mut Vec<u8>, at: LineAt<'_>, finding: &Finding) -> Result<(), AllocError> {
     let mut written = Text::of(text);
-    put_place(&mut written, name, place, finding);
+    put_place(&mut written, at, finding);
     put_finding(&mut written, finding);
     written.put("\n");
     written.end(text)
@@ -366,16 +372,14 @@ pub fn say_line(
 /// `AllocError`: out of memory. A part may have been appended.
 pub fn say_hint_line(
     text: &mut Vec<u8>,
-    name: &str,
-    place: u64,
+    at: LineAt<'_>,
     hint: &HostHint,
 ) -> Result<(), AllocError> {
     let Some(process) = hint.process else {
-        return say_hint(text, name, place, &hint.otherwise);
+        return say_hint(text, at.name, at.place, &hint.otherwise);
     };
     let mut written = Text::of(text);
-    written.put(name);
-    written.put_number(":", place);
+    put_line(&mut written, at);
     written.put_number(": process ", process as u64);
     written.put(": ");
     written.end(text)?;
@@ -389,15 +393,9 @@ pub fn say_hint_line(
 ///
 /// # Errors
 /// `AllocError`: out of memory. A part may have been appended.
-pub fn say_binary(
-    text: &mut Vec<u8>,
-    name: &str,
-    place: u64,
-    column: u64,
-) -> Result<(), AllocError> {
+pub fn say_binary(text: &mut Vec<u8>, at: LineAt<'_>, column: u64) -> Result<(), AllocError> {
     let mut written = Text::of(text);
-    written.put(name);
-    written.put_number(":", place);
+    put_line(&mut written, at);
     written.put_number(":", column);
     written.put(": bad words: ");
     written.put(BINARY);

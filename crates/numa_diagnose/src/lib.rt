@@ -22,5 +22,7 @@ mod pages;
 mod words;
 
 pub use finding::{Detail, Finding, judge};
-pub use finding_text::{BINARY, say_binary, say_finding, say_hint_line, say_line, say_unjudged};
+pub use finding_text::{
+    BINARY, LineAt, say_binary, say_finding, say_hint_line, say_line, say_unjudged,
+};
 pub use hint::{HostHint, hint_in, hint_of, judge_by_other};

@@ -2,11 +2,10 @@
 ghost use Rattle.std.specs.Prelude.{◌≡◌};
 ghost use Rattle.numa_play.specs.Faults.{ended_by, has_faults};
 
-use crate::found_objects::{put_binary, put_finding, put_hint, put_unjudged};
+use crate::found_objects::{Message, Said, put_message, put_unjudged, say_message};
 use crate::named::{Named, TasksNamed};
 use numa_diagnose::{
-    Detail, Finding, HostHint, hint_in, hint_of, judge, judge_by_other, say_binary, say_hint_line,
-    say_line, say_unjudged,
+    Detail, Finding, HostHint, LineAt, hint_in, hint_of, judge, judge_by_other, say_unjudged,
 };
 use numa_host_script::HostScript;
 use numa_lines::{RunFault, TakeLine, Watched};
@@ -175,18 +174,27 @@ impl<W: Write> Findings<W> {
         }
     }
 
-    /// Writes what was found in a line.
-    fn tell(&mut self, name: &str, place: u64, finding: &Finding) -> Result<(), RunFault> {
+    /// Writes a message about a line.
+    fn say(&mut self, message: Message<'_>) -> Result<(), RunFault> {
         self.text.clear();
         let text = &mut self.text;
         let said = match self.look.format {
-            Format::Json => put_finding(self.alloc, text, name, place, finding),
-            _ => say_line(text, name, place, finding),
+            Format::Json => put_message(self.alloc, text, message),
+            _ => say_message(text, message),
         };
         if said.is_err() {
             return Err(RunFault::Memory);
         }
         self.output.say(self.text.as_slice());
+        Ok(())
+    }
+
+    /// Writes what was found in a line, or that a text is binary.
+    fn tell<'a>(&mut self, name: &'a str, place: u64, said: Said<'a>) -> Result<(), RunFault> {
+        let at = LineAt { name, place };
+        if let Err(why) = self.say(Message { at, said }) {
+            return Err(why);
+        }
         self.told = self.told.saturating_add(1);
         Ok(())
     }
@@ -217,34 +225,9 @@ impl<W: Write> Findings<W> {
         if !self.is_wanted(hint.process) {
             return Ok(());
         }
-        self.text.clear();
-        let text = &mut self.text;
-        let said = match self.look.format {
-            Format::Json => put_hint(self.alloc, text, name, place, &hint),
-            _ => say_hint_line(text, name, place, &hint),
-        };
-        if said.is_err() {
-            return Err(RunFault::Memory);
-        }
-        self.output.say(self.text.as_slice());
-        Ok(())
-    }
-
-    /// Writes what was found in a line, and what a kernel would do differently with it.
-    fn tell_both(
-        &mut self,
-        name: &str,
-        place: u64,
-        finding: &Finding,
-        hint: Option<HostHint>,
-    ) -> Result<(), RunFault> {
-        if !self.is_wanted(finding.process) {
-            return Ok(());
-        }
-        match self.tell(name, place, finding) {
-            Ok(()) if !is_spent(finding) => self.tell_hint(name, place, hint),
-            told => told,
-        }
+        let at = LineAt { name, place };
+        let said = Said::Hint(&hint);
+        self.say(Message { at, said })
     }
 
     /// Plays a line by the other rules, if requested.
@@ -279,18 +262,10 @@ impl<W: Write> Findings<W> {
         };
         let column = (zero as u64).saturating_add(1);
         self.is_binary = true;
-        self.text.clear();
-        let text = &mut self.text;
-        let said = match self.look.format {
-            Format::Json => put_binary(self.alloc, text, name, place, column),
-            _ => say_binary(text, name, place, column),
-        };
-        if said.is_err() {
-            return Err(RunFault::Memory);
+        match self.tell(name, place, Said::Binary(column)) {
+            Ok(()) => Ok(true),
+            Err(why) => Err(why),
         }
-        self.output.say(self.text.as_slice());
-        self.told = self.told.saturating_add(1);
-        Ok(true)
     }
 
     /// Writes a remark of one line on an answer.
@@ -423,7 +398,8 @@ impl<W: Write> Findings<W> {
         !self.look.tells_at && is_at(said) && !matches!(finding.detail, Detail::NoMachine)
     }
 
-    /// Writes what was found in a line that doesn't lack memory, or counts it as not judged.
+    /// Writes what was found in a line that doesn't lack memory, and what a kernel would do
+    /// differently with it, or counts it as not judged.
     fn tell_found(
         &mut self,
         name: &str,
@@ -435,7 +411,13 @@ impl<W: Write> Findings<W> {
             self.unjudged = self.unjudged.saturating_add(1);
             return Ok(());
         }
-        self.tell_both(name, place, finding, hint)
+        if !self.is_wanted(finding.process) {
+            return Ok(());
+        }
+        match self.tell(name, place, Said::Fault(finding)) {
+            Ok(()) if !is_spent(finding) => self.tell_hint(name, place, hint),
+            told => told,
+        }
     }
 
     /// Plays a line, and writes what is wrong with it, and what a kernel would do differently.
@@ -465,13 +447,7 @@ impl<W: Write> Findings<W> {
 }
 
 impl<W: Write> TakeLine<()> for Findings<W> {
-    fn take(
-        &mut self,
-        name: &str,
-        place: u64,
-        line: &[u8],
-        _output: &mut (),
-    ) -> Result<(), RunFault> {
+    fn take(&mut self, name: &str, place: u64, line: &[u8], _: &mut ()) -> Result<(), RunFault> {
         if self.is_binary(name, place, line)? {
             return Ok(());
         }

@@ -1,10 +1,42 @@
-//! What is wrong with lines, as lines of JSON.
+//! Messages about lines, as text or as lines of JSON.
 ghost use Rattle.std.specs.Prelude.{◌≤◌, length};
 
-use numa_diagnose::{BINARY, Finding, HostHint, say_finding};
+use numa_diagnose::{
+    BINARY, Finding, HostHint, LineAt, say_binary, say_finding, say_hint_line, say_line,
+};
 use numa_reports::Object;
 use numa_rules::say_otherwise;
 use std::alloc::{AllocError, Global};
+
+/// What a message says of a line, or of the text that begins with it.
+#[derive(Clone, Copy)]
+pub(crate) enum Said<'a> {
+    /// What is wrong with the line.
+    Fault(&'a Finding),
+    /// That the text is binary, at this column.
+    Binary(u64),
+    /// What a running kernel would do differently with the line.
+    Hint(&'a HostHint),
+}
+
+/// A message about a line.
+#[derive(Clone, Copy)]
+pub(crate) struct Message<'a> {
+    pub(crate) at: LineAt<'a>,
+    pub(crate) said: Said<'a>,
+}
+
+/// Appends a message as text.
+///
+/// # Errors
+/// `AllocError`: out of memory. A part may have been appended.
+pub(crate) fn say_message(text: &mut Vec<u8>, message: Message<'_>) -> Result<(), AllocError> {
+    match message.said {
+        Said::Fault(finding) => say_line(text, message.at, finding),
+        Said::Binary(column) => say_binary(text, message.at, column),
+        Said::Hint(hint) => say_hint_line(text, message.at, hint),
+    }
+}
 
 /// The number of bytes before the first `: `, or all.
 fn answer_end(text: &[u8]) -> usize
@@ -18,13 +50,12 @@ fn answer_end(text: &[u8]) -> usize
     text.len()
 }
 
-/// An object of this kind about a line.
-fn object_of(alloc: Global, kind: &str, name: &str, place: u64) -> Object {
-    let mut object = Object::new(alloc);
-    object.put_text("kind", kind);
-    object.put_text("file", name);
-    object.put_number("line", place);
-    object
+/// The kind of the object of a message.
+fn kind_of(said: Said<'_>) -> &'static str {
+    match said {
+        Said::Hint(_) => "hint",
+        _ => "fault",
+    }
 }
 
 /// Adds the process of a host, if there is one.
@@ -41,67 +72,70 @@ fn put_parts(object: &mut Object, said: &[u8]) {
     object.put_bytes("cause", said[end..].strip_prefix(b": ").unwrap_or(&[]));
 }
 
-/// Appends an object with what is wrong with a line, as [`numa_diagnose::say_line`] says it.
-///
-/// # Errors
-/// `AllocError`: out of memory. A part may have been appended.
-pub(crate) fn put_finding(
-    alloc: Global,
-    text: &mut Vec<u8>,
-    name: &str,
-    place: u64,
-    finding: &Finding,
-) -> Result<(), AllocError> {
+/// Adds what is wrong with a line, as [`say_line`] says it.
+fn put_finding(alloc: Global, object: &mut Object, finding: &Finding) -> Result<(), AllocError> {
     let mut said = Vec::new(alloc);
     if let Err(fault) = say_finding(&mut said, finding) {
         return Err(fault);
     }
-    let mut object = object_of(alloc, "fault", name, place);
     if let Some(column) = finding.detail.column() {
         object.put_number("column", column as u64);
     }
-    put_process(&mut object, finding.process);
-    put_parts(&mut object, said.as_slice());
-    object.say_line(text)
+    put_process(object, finding.process);
+    put_parts(object, said.as_slice());
+    Ok(())
 }
 
-/// Appends an object which says that a text is binary, as [`numa_diagnose::say_binary`] says it.
-///
-/// # Errors
-/// `AllocError`: out of memory. A part may have been appended.
-pub(crate) fn put_binary(
-    alloc: Global,
-    text: &mut Vec<u8>,
-    name: &str,
-    place: u64,
-    column: u64,
-) -> Result<(), AllocError> {
-    let mut object = object_of(alloc, "fault", name, place);
+/// Adds that a text is binary, as [`say_binary`] says it.
+fn put_binary(object: &mut Object, column: u64) {
     object.put_number("column", column);
     object.put_text("answer", "bad words");
     object.put_text("cause", BINARY);
-    object.say_line(text)
 }
 
-/// Appends an object with what a running kernel would do differently with a line.
-///
-/// # Errors
-/// `AllocError`: out of memory. A part may have been appended.
-pub(crate) fn put_hint(
-    alloc: Global,
-    text: &mut Vec<u8>,
-    name: &str,
-    place: u64,
-    hint: &HostHint,
-) -> Result<(), AllocError> {
+/// Adds what a running kernel would do differently with a line, as [`say_hint_line`] says it.
+fn put_hint(alloc: Global, object: &mut Object, hint: &HostHint) -> Result<(), AllocError> {
     let mut said = Vec::new(alloc);
     if let Err(fault) = say_otherwise(&mut said, &hint.otherwise) {
         return Err(fault);
     }
-    let mut object = object_of(alloc, "hint", name, place);
-    put_process(&mut object, hint.process);
+    put_process(object, hint.process);
     object.put_bytes("cause", said.as_slice());
-    object.say_line(text)
+    Ok(())
+}
+
+/// Adds what a message says.
+fn put_said(alloc: Global, object: &mut Object, said: Said<'_>) -> Result<(), AllocError> {
+    match said {
+        Said::Fault(finding) => put_finding(alloc, object, finding),
+        Said::Binary(column) => {
+            put_binary(object, column);
+            Ok(())
+        }
+        Said::Hint(hint) => put_hint(alloc, object, hint),
+    }
+}
+
+/// Appends a message as an object.
+///
+/// # Errors
+/// `AllocError`: out of memory. A part may have been appended.
+pub(crate) fn put_message(
+    alloc: Global,
+    text: &mut Vec<u8>,
+    message: Message<'_>,
+) -> Result<(), AllocError> {
+    let mut object = Object::new(alloc);
+    object.put_text("kind", kind_of(message.said));
+    object.put_text("file", message.at.name);
+    object.put_number("line", message.at.place);
+    match put_said(alloc, &mut object, message.said) {
+        Ok(()) => object.say_line(text),
+        Err(fault) => {
+            drop(object);
+            Err(fault)
+        }
+    }
 }
 
 /// Appends an object with the number of lines that weren't judged.

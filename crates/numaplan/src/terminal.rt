@@ -1,7 +1,7 @@
 //! Scripts that are typed at a terminal.
 use crate::shell::{SHELL_LINES, answer_to, asked_of};
 use numa_console::{Answering, StandardError, fail};
-use numa_diagnose::{judge, say_line};
+use numa_diagnose::{LineAt, judge, say_line};
 use numa_host_script::HostScript;
 use numa_lines::{Lines, Respond, RunFault, TakeLine, read_all};
 use numa_play::Scripts;
@@ -97,7 +97,7 @@ fn find(
     let Some(finding) = judge(alloc, script, line, &parse(line)) else {
         return Ok(());
     };
-    match say_line(text, name, place, &finding) {
+    match say_line(text, LineAt { name, place }, &finding) {
         Ok(()) => Ok(()),
         Err(_) => Err(RunFault::Memory),
     }
@@ -172,13 +172,7 @@ impl<W: Write, T: Write> Typed<W, T> {
 }
 
 impl<W: Write, T: Write> TakeLine<()> for Typed<W, T> {
-    fn take(
-        &mut self,
-        name: &str,
-        place: u64,
-        line: &[u8],
-        _output: &mut (),
-    ) -> Result<(), RunFault> {
+    fn take(&mut self, name: &str, place: u64, line: &[u8], _: &mut ()) -> Result<(), RunFault> {
         if self.is_shell && name != "-" {
             return self.play(name, place, line);
         }
