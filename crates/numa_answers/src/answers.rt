@@ -40,27 +40,21 @@ fn put_answer(
 impl<A: Respond, W: Write> Answers<A, W> {
     /// Before the first line.
     pub fn new(alloc: Global, answerer: A, output: W) -> Answers<A, W> {
-        let mut output = Watched::new(output);
-        // If that fails, each text is written at once.
-        let _ = output.gather(alloc);
-        Answers {
+        let mut answers = Answers {
             alloc,
             answerer,
-            output,
+            output: Watched::new(output),
             answer: Vec::new(alloc),
             text: Vec::new(alloc),
-        }
+        };
+        // If that fails, each text is written at once.
+        let _ = answers.output.gather(alloc);
+        answers
     }
 }
 
 impl<A: Respond, W: Write> TakeLine<()> for Answers<A, W> {
-    fn take(
-        &mut self,
-        name: &str,
-        place: u64,
-        line: &[u8],
-        _output: &mut (),
-    ) -> Result<(), RunFault> {
+    fn take(&mut self, name: &str, place: u64, line: &[u8], _: &mut ()) -> Result<(), RunFault> {
         self.answer.clear();
         let Ok(()) = self.answerer.respond(line, &mut self.answer) else {
             return Err(RunFault::Memory);

@@ -24,13 +24,6 @@ pub(crate) struct Worked {
     pub(crate) first: u64,
 }
 
-/// How many lines of an answer are as wanted, and how many aren't.
-#[derive(Clone, Copy)]
-pub(crate) struct LineCounts {
-    pub(crate) same: u64,
-    pub(crate) different: u64,
-}
-
 /// The number of bytes before the first line feed, or all.
 pub(crate) fn line_end(text: &[u8]) -> usize
     ensures { result ≤ length text.now }
@@ -108,6 +101,13 @@ impl Worked {
         put_without_versions(&mut self.wanted, wanted.as_slice())?;
         put_without_versions(&mut self.given, self.answer.as_slice())
     }
+}
+
+/// How many lines of an answer are as wanted, and how many aren't.
+#[derive(Clone, Copy)]
+pub(crate) struct LineCounts {
+    pub(crate) same: u64,
+    pub(crate) different: u64,
 }
 
 /// Reports a line of an answer that isn't as wanted.

@@ -80,7 +80,8 @@ pub fn view_text<W: Watch>(
 }
 
 /// One of several predictions, as [`shared_text`], but in place of a page its data, where no page
-/// is there: the object of the state as its member `before`.
+/// is there: the object of the state as its member `before`. With `tells_left` the text has what
+/// named nodes have left then.
 ///
 /// # Errors
 /// As [`shared_text`].
@@ -88,13 +89,14 @@ pub fn shared_answer<W: Watch>(
     alloc: Global,
     asked: PredictionRequest<'_>,
     format: Format,
-    told: &[FreePages],
+    tells_left: bool,
     account: &mut Account,
     watch: &mut W,
 ) -> Result<Vec<u8>, ReportError>
     ensures free { asked.entry.free.now ≢ []
         → LeavesFree asked.entry account.old.free account.new.free result }
 {
+    let told: &[FreePages] = if tells_left { asked.free } else { &[] };
     let text = shared_text(alloc, asked, format, told, account, watch)?;
     let (None, Format::Html(number)) = (asked.placed, format) else {
         return Ok(text);

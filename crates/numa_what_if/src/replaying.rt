@@ -22,18 +22,12 @@ struct ByBoth<T> {
 }
 
 impl<T: TakeLine<()>> TakeLine<()> for ByBoth<T> {
-    fn take(
-        &mut self,
-        name: &str,
-        place: u64,
-        line: &[u8],
-        output: &mut (),
-    ) -> Result<(), RunFault> {
-        if let Err(why) = self.first.take(name, place, line, output) {
+    fn take(&mut self, name: &str, place: u64, line: &[u8], _: &mut ()) -> Result<(), RunFault> {
+        if let Err(why) = self.first.take(name, place, line, &mut ()) {
             return Err(why);
         }
         match &mut self.other {
-            Some(other) => other.take(name, place, line, output),
+            Some(other) => other.take(name, place, line, &mut ()),
             None => Ok(()),
         }
     }

@@ -1,5 +1,5 @@
 //! Predictions after scripts.
-use crate::each::{EachAsked, lacking_node, predict_each, predict_from};
+use crate::each::{EachAsked, predict_each, predict_from};
 use numa_host_script::HostScript;
 use numa_placed::Placed;
 use numa_play::{
@@ -16,15 +16,31 @@ use std::io::{Read, Write};
 fn prediction_in<P: Watch>(
     alloc: Global,
     space: &Space,
-    placed: Option<&Placed>,
     asked: EachAsked<'_>,
     watch: &mut P,
 ) -> Result<Vec<u8>, Halt> {
+    let placed = asked.there.first();
     let mut account = Account::new(asked.free);
-    let text = predict_from(alloc, space, placed, asked, asked.free, &mut account, watch)?;
+    let text = predict_from(alloc, space, placed, asked, true, &mut account, watch)?;
     match placed {
         Some(_) => Ok(text),
         None => shown_as(alloc, asked.format, "prediction", text),
+    }
+}
+
+/// The first node of `free` that a machine with `nodes` nodes lacks.
+fn lacking_node(free: &[FreePages], nodes: u32) -> Option<u8> {
+    match free.iter().find(|one| one.node as u32 >= nodes) {
+        Some(lacking) => Some(lacking.node),
+        None => None,
+    }
+}
+
+/// The nodes of the machine of one space or of all processes.
+fn nodes_of(subject: Subject<'_>) -> u32 {
+    match subject {
+        Subject::One(space) => space.machine().nodes(),
+        Subject::Each(host) => host.machine().nodes(),
     }
 }
 
@@ -36,15 +52,14 @@ fn prediction_of<P: Watch>(
     asked: EachAsked<'_>,
     watch: &mut P,
 ) -> Result<Vec<u8>, Halt> {
-    let space = match subject {
-        Subject::One(space) => space,
-        Subject::Each(host) => return predict_each(alloc, host, asked, watch),
-    };
-    let nodes = space.machine().nodes();
+    let nodes = nodes_of(subject);
     if let Some(node) = lacking_node(asked.free, nodes) {
         return Err(Halt::NoFreeNode(node, nodes));
     }
-    prediction_in(alloc, space, asked.there.first(), asked, watch)
+    match subject {
+        Subject::One(space) => prediction_in(alloc, space, asked, watch),
+        Subject::Each(host) => predict_each(alloc, host, asked, watch),
+    }
 }
 
 /// Where all mapped pages of a space would go, if they were touched now, as a text. Nodes in `free`
@@ -59,17 +74,13 @@ pub fn predict_space(
     format: Format,
     free: &[FreePages],
 ) -> Result<Vec<u8>, Halt> {
-    let nodes = space.machine().nodes();
-    if let Some(node) = lacking_node(free, nodes) {
-        return Err(Halt::NoFreeNode(node, nodes));
-    }
     let asked = EachAsked {
         touch: asked,
         format,
         free,
         there: &[],
     };
-    prediction_in(alloc, space, None, asked, &mut ())
+    prediction_of(alloc, Subject::One(space), asked, &mut ())
 }
 
 /// Where all mapped pages would go now, if they were touched, as lines: of a process, or of all of

@@ -25,14 +25,14 @@ pub(crate) struct EachAsked<'a> {
     pub(crate) there: &'a [Placed],
 }
 
-/// Where the pages of a space would go, by what the ones before it have left in the account. The
-/// text has what nodes of `told` have left then.
-pub(crate) fn predict_from<P: Watch>(
+/// Where the pages of a space would go, by what the ones before it have left in the account. With
+/// `tells_left` the text has what named nodes have left then.
+pub(crate) fn predict_from<'a, P: Watch>(
     alloc: Global,
-    space: &Space,
-    placed: Option<&Placed>,
-    asked: EachAsked<'_>,
-    told: &[FreePages],
+    space: &'a Space,
+    placed: Option<&'a Placed>,
+    asked: EachAsked<'a>,
+    tells_left: bool,
     account: &mut Account,
     watch: &mut P,
 ) -> Result<Vec<u8>, Halt>
@@ -51,7 +51,7 @@ pub(crate) fn predict_from<P: Watch>(
         touch: asked.touch,
         free: asked.free,
     };
-    let text = shared_answer(alloc, request, asked.format, told, account, watch);
+    let text = shared_answer(alloc, request, asked.format, tells_left, account, watch);
     drop(plan);
     reported(text, space.machine().nodes())
 }
@@ -72,7 +72,7 @@ fn predict_one<P: Watch>(
         process.now.space.machine history asked.entry.touch.task asked.entry.touch.cpu))
         account.old.free 0 (2 ^ 35)) }
 {
-    let text = predict_from(alloc, &process.space, placed, asked, &[], account, watch);
+    let text = predict_from(alloc, &process.space, placed, asked, false, account, watch);
     add_answer(answers, process, text)
 }
 
@@ -95,14 +95,6 @@ fn predict_all<P: Watch>(
     Ok(())
 }
 
-/// The first node of `free` that a machine with `nodes` nodes lacks.
-pub(crate) fn lacking_node(free: &[FreePages], nodes: u32) -> Option<u8> {
-    match free.iter().find(|one| one.node as u32 >= nodes) {
-        Some(lacking) => Some(lacking.node),
-        None => None,
-    }
-}
-
 /// Ends predictions with what all processes have together.
 fn ended(
     alloc: Global,
@@ -121,7 +113,7 @@ fn ended(
 /// the pages of a process take what those before it have left.
 ///
 /// # Errors
-/// `NoFreeNode`, `NoNode`, or `Stopped`: out of memory.
+/// `NoNode`, or `Stopped`: out of memory.
 pub(crate) fn predict_each<P: Watch>(
     alloc: Global,
     host: &Host,
@@ -129,9 +121,6 @@ pub(crate) fn predict_each<P: Watch>(
     watch: &mut P,
 ) -> Result<Vec<u8>, Halt> {
     let nodes = host.machine().nodes();
-    if let Some(node) = lacking_node(asked.free, nodes) {
-        return Err(Halt::NoFreeNode(node, nodes));
-    }
     if asked.touch.cpu >= nodes {
         return Err(Halt::NoNode(nodes));
     }

@@ -43,18 +43,24 @@ fn with_other(
     }
 }
 
+/// A space, and the same by the other rules, if lines are played by them too.
+#[derive(Clone, Copy)]
+struct ByRules<'a> {
+    space: &'a Space,
+    other: Option<&'a Space>,
+}
+
 /// Why a page would go where it goes, and by which rules, if that matters.
 fn reasons_in(
     alloc: Global,
-    space: &Space,
-    other: Option<&Space>,
+    spaces: ByRules<'_>,
     asked: Touch,
     said: &Explanation,
     format: Format,
 ) -> Result<Vec<u8>, Halt> {
-    let text = text_of(alloc, space, said)?;
-    let whole = match other {
-        Some(other) => with_other(text, space, other, asked, said.page)?,
+    let text = text_of(alloc, spaces.space, said)?;
+    let whole = match spaces.other {
+        Some(other) => with_other(text, spaces.space, other, asked, said.page)?,
         None => text,
     };
     Ok(shown(alloc, said, whole, format)?)
@@ -86,12 +92,8 @@ struct Asked {
 }
 
 /// Why a page of a space goes where it goes, or by which rules a span's pages go.
-fn reasons(
-    alloc: Global,
-    space: &Space,
-    other: Option<&Space>,
-    asked: Asked,
-) -> Result<Vec<u8>, Halt> {
+fn reasons(alloc: Global, spaces: ByRules<'_>, asked: Asked) -> Result<Vec<u8>, Halt> {
+    let space = spaces.space;
     let Asked {
         touch,
         pages: AskedPages { page: first, pages },
@@ -106,7 +108,7 @@ fn reasons(
         };
     }
     let said = explanation_of(alloc, space, touch, first)?;
-    let text = reasons_in(alloc, space, other, touch, &said, format);
+    let text = reasons_in(alloc, spaces, touch, &said, format);
     drop(said);
     text
 }
@@ -118,15 +120,18 @@ fn other_process(other: Option<&HostScript>, process: u32) -> Option<&Space> {
 }
 
 /// Adds why a page of a process goes where it goes; nothing if the process hasn't mapped it.
-fn add_reasons(
+fn add_reasons<'a>(
     alloc: Global,
-    process: &Process,
-    other: Option<&HostScript>,
+    process: &'a Process,
+    other: Option<&'a HostScript>,
     asked: Asked,
     answers: &mut ByProcess,
 ) -> Result<(), Halt> {
-    let other = other_process(other, process.id);
-    match reasons(alloc, &process.space, other, asked) {
+    let spaces = ByRules {
+        space: &process.space,
+        other: other_process(other, process.id),
+    };
+    match reasons(alloc, spaces, asked) {
         Err(Halt::Unmapped) => Ok(()),
         text => add_answer(answers, process, text),
     }
@@ -167,15 +172,18 @@ fn reasons_of_each(
 }
 
 /// Why pages go where they go after scripts, of which one was played by the other rules.
-fn reasons_after(
+fn reasons_after<'a>(
     alloc: Global,
-    script: &HostScript,
-    other: Option<&HostScript>,
+    script: &'a HostScript,
+    other: Option<&'a HostScript>,
     process: Option<u32>,
     asked: Asked,
 ) -> Result<Vec<u8>, Halt> {
     match subject_of(script, process) {
-        Ok(Subject::One(space)) => reasons(alloc, space, other_space(other, process), asked),
+        Ok(Subject::One(space)) => {
+            let other = other_space(other, process);
+            reasons(alloc, ByRules { space, other }, asked)
+        }
         Ok(Subject::Each(host)) => reasons_of_each(alloc, host, other, asked),
         Err(halt) => Err(halt),
     }
@@ -193,7 +201,8 @@ pub fn explain_space(
     format: Format,
 ) -> Result<Vec<u8>, Halt> {
     let said = explanation_of(alloc, space, asked, page)?;
-    let text = reasons_in(alloc, space, None, asked, &said, format);
+    let spaces = ByRules { space, other: None };
+    let text = reasons_in(alloc, spaces, asked, &said, format);
     drop(said);
     text
 }
@@ -271,13 +280,13 @@ pub fn explain<R: Read + Drop, W: Write, T: Write + Drop>(
     output: &mut W,
     told: T,
 ) -> Result<Ended, Halt> {
-    let process = scripts.process;
-    let mut findings = play(alloc, scripts, plain_by(Twin::Always), told)?;
     let asked = Asked {
         touch: asked,
         pages: asked_for,
         format,
     };
+    let process = scripts.process;
+    let mut findings = play(alloc, scripts, plain_by(Twin::Always), told)?;
     let text = explanation_after(alloc, &mut findings, process, asked);
     answer(findings, text, output)
 }
