@@ -28,11 +28,18 @@ pub struct Asking<'a> {
     pub format: Format,
     /// Whether malformed and refused lines are no error.
     pub lenient: bool,
+    /// Whether standard error shows how far reading and counting are.
+    pub tells: bool,
 }
 
 impl<'a> Asking<'a> {
     /// What a subcommand asks of a task.
-    pub fn of_pages(touch: TouchAsked, question: &'a PageQuestion, lenient: bool) -> Asking<'a> {
+    pub fn of_pages(
+        touch: TouchAsked,
+        question: &'a PageQuestion,
+        lenient: bool,
+        tells: bool,
+    ) -> Asking<'a> {
         let (at, question, format): (&'a [String], Question<'a>, Format) = match question {
             PageQuestion::Predict { at, format, free } => {
                 (at.as_slice(), Question::Predict(free.as_slice()), *format)
@@ -52,6 +59,7 @@ impl<'a> Asking<'a> {
             question,
             format,
             lenient,
+            tells,
         }
     }
 

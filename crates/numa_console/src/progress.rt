@@ -15,6 +15,19 @@ const PAGES: u64 = 1 << 20;
 /// The bytes of a megabyte, after which the clock is looked at again.
 const MEGABYTE: u64 = 1 << 20;
 
+/// The seconds since work began, if that is long ago and wasn't told in this second.
+fn due<R: Clock>(rt: &R, began: Option<Instant>, told: u64) -> Option<u64> {
+    let Ok(elapsed) = began?.elapsed(rt) else {
+        return None;
+    };
+    let seconds = elapsed.as_secs();
+    if seconds >= PATIENCE && seconds > told {
+        Some(seconds)
+    } else {
+        None
+    }
+}
+
 /// A text that tells how far it has been read, if that takes long.
 #[derive(Drop)]
 pub struct Paced<'a, R, S> {
@@ -46,14 +59,7 @@ impl<R: Clock + Eprint, S> Paced<'_, R, S> {
     /// Looks at the clock, and tells how far reading is, once a second.
     fn look(&mut self) {
         self.next = self.bytes.saturating_add(MEGABYTE);
-        let Some(began) = self.began else {
-            return;
-        };
-        let Ok(elapsed) = began.elapsed(self.rt) else {
-            return;
-        };
-        let seconds = elapsed.as_secs();
-        if seconds >= PATIENCE && seconds > self.told {
+        if let Some(seconds) = due(self.rt, self.began, self.told) {
             self.tell(seconds);
         }
     }
@@ -160,22 +166,16 @@ impl<'a, R: Clock + Eprint> PacedPages<'a, R> {
     /// Looks at the clock, and tells how far the work is, once a second.
     fn look(&mut self) {
         self.next = self.done.saturating_add(PAGES);
-        let Some(began) = self.began else {
+        let Some(seconds) = due(self.rt, self.began, self.told) else {
             return;
         };
-        let Ok(elapsed) = began.elapsed(self.rt) else {
-            return;
-        };
-        let seconds = elapsed.as_secs();
-        if seconds >= PATIENCE && seconds > self.told {
-            self.told = seconds;
-            let percent = self
-                .done
-                .saturating_mul(100)
-                .checked_div(self.pages)
-                .unwrap_or(100);
-            let _ = eprint!(self.rt; "\rnumaplan: {percent} % in {seconds} s ");
-        }
+        self.told = seconds;
+        let percent = self
+            .done
+            .saturating_mul(100)
+            .checked_div(self.pages)
+            .unwrap_or(100);
+        let _ = eprint!(self.rt; "\rnumaplan: {percent} % in {seconds} s ");
     }
 }
 

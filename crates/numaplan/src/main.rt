@@ -25,6 +25,7 @@ use std::rt::{Clock, Files};
 use std::sync::Wait;
 use std::thread::Threads;
 use std::{env, io};
+use words::replay::TraceAsked;
 use words::{asked, check, expect, replay, run, storm};
 
 /// The message for an argument that isn't UTF-8.
@@ -97,8 +98,8 @@ where
             question,
             lenient,
         } => {
-            let asking = Asking::of_pages(*asked, question, *lenient);
-            asked::answer(rt, scripts, asking, tells)
+            let asking = Asking::of_pages(*asked, question, *lenient, tells);
+            asked::answer(rt, scripts, asking)
         }
         ScriptJob::Moves {
             at,
@@ -114,14 +115,23 @@ where
                 question: Question::Moves(lines.as_slice(), free.as_slice()),
                 format: *format,
                 lenient: *lenient,
+                tells,
             };
-            asked::answer(rt, scripts, asking, tells)
+            asked::answer(rt, scripts, asking)
         }
         ScriptJob::Replay {
             trace,
             format,
             lenient,
-        } => replay::answer(rt, scripts, trace, *format, *lenient, tells),
+        } => {
+            let asked = TraceAsked {
+                files: trace.as_slice(),
+                format: *format,
+                lenient: *lenient,
+                tells,
+            };
+            replay::answer(rt, scripts, asked)
+        }
         ScriptJob::Shell => Ok(terminal::answer(rt, scripts, true)),
     }
 }

@@ -36,13 +36,12 @@ where
     ended
 }
 
-/// Answers, and ends. With `tells`, standard error shows how far counting is.
+/// Answers, and ends.
 fn answer_by<R, S, A>(
     rt: &R,
     scripts: Scripts<S>,
     texts_at: Vec<(String, A)>,
     asking: Asking<'_>,
-    tells: bool,
 ) -> ExitCode
 where
     R: Clock + Print + Eprint + AllocGlobal,
@@ -50,7 +49,7 @@ where
     A: Read + Drop,
 {
     let outlet = Outlet::new();
-    let mut watch = PacedPages::new(rt, tells);
+    let mut watch = PacedPages::new(rt, asking.tells);
     let answer = answer_to(rt, scripts, texts_at, asking, &outlet, &mut watch);
     watch.end();
     answered(rt, asking, answer, &outlet)
@@ -112,24 +111,18 @@ where
     }
 }
 
-/// Answers a question about the state that scripts lead to. With `tells`, standard error shows how
-/// far reading and counting are.
+/// Answers a question about the state that scripts lead to.
 ///
 /// # Errors
 /// `Usage`: a file can't be opened. `NoMemory`: out of memory.
-pub fn answer<R, S>(
-    rt: &R,
-    scripts: Scripts<S>,
-    asking: Asking<'_>,
-    tells: bool,
-) -> Result<ExitCode, JobFault>
+pub fn answer<R, S>(rt: &R, scripts: Scripts<S>, asking: Asking<'_>) -> Result<ExitCode, JobFault>
 where
     R: Clock + Files + Input + Print + Eprint + AllocGlobal,
     R::Reader: IsTerminal,
     S: Read + Drop,
 {
-    match opened(rt, scripts, asking.at, tells) {
-        Ok((scripts, texts_at)) => Ok(answer_by(rt, scripts, texts_at, asking, tells)),
+    match opened(rt, scripts, asking.at, asking.tells) {
+        Ok((scripts, texts_at)) => Ok(answer_by(rt, scripts, texts_at, asking)),
         Err(fault) => Err(fault),
     }
 }

@@ -8,14 +8,24 @@ use std::io::{IsTerminal, Read};
 use std::process::ExitCode;
 use std::rt::{Clock, Files};
 
+/// A trace that is to be replayed after scripts.
+#[derive(Clone, Copy)]
+pub struct TraceAsked<'a> {
+    /// Its file.
+    pub files: &'a [String],
+    pub format: Format,
+    /// Whether malformed and refused lines of scripts are no error.
+    pub lenient: bool,
+    /// Whether standard error shows how far reading is.
+    pub tells: bool,
+}
+
 /// Replays a trace after scripts.
 fn replay<R, S, T>(
     rt: &R,
     scripts: Scripts<S>,
-    name: &str,
+    asked: TraceAsked<'_>,
     traces: Vec<(String, T)>,
-    format: Format,
-    lenient: bool,
 ) -> ExitCode
 where
     R: Print + Eprint + AllocGlobal,
@@ -28,39 +38,35 @@ where
         rt.alloc(),
         scripts,
         traces,
-        format,
+        asked.format,
         Twin::UnlessChosen,
         &mut output,
         StandardError { rt },
     );
-    ended(rt, name, answer, lenient, &outlet)
+    let name = match asked.files.first() {
+        Some(name) => name.as_str(),
+        None => "",
+    };
+    ended(rt, name, answer, asked.lenient, &outlet)
 }
 
-/// Replays the trace of a file after scripts. With `tells`, standard error shows how far reading
-/// is.
+/// Replays the trace of a file after scripts.
 ///
 /// # Errors
 /// `Usage`: the trace can't be opened. `NoMemory`: out of memory.
 pub fn answer<R, S>(
     rt: &R,
     scripts: Scripts<S>,
-    trace: &[String],
-    format: Format,
-    lenient: bool,
-    tells: bool,
+    asked: TraceAsked<'_>,
 ) -> Result<ExitCode, JobFault>
 where
     R: Clock + Files + Input + Print + Eprint + AllocGlobal,
     R::Reader: IsTerminal,
     S: Read + Drop,
 {
-    let name = match trace.first() {
-        Some(name) => name.as_str(),
-        None => "",
-    };
-    match open_all(rt, trace) {
-        Ok(traces) => match with_progress(rt, traces, tells) {
-            Ok(traces) => Ok(replay(rt, scripts, name, traces, format, lenient)),
+    match open_all(rt, asked.files) {
+        Ok(traces) => match with_progress(rt, traces, asked.tells) {
+            Ok(traces) => Ok(replay(rt, scripts, asked, traces)),
             Err(_) => {
                 drop(scripts);
                 Err(JobFault::NoMemory)

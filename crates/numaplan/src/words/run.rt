@@ -3,9 +3,10 @@ use numa_answers::Answers;
 use numa_command_line::without_names;
 use numa_console::{Answering, Notice, fail, noticed_by};
 use numa_host_script::run_by;
-use numa_lines::{Echo, Joined, Lines, RunFault, Watched, read_all};
+use numa_lines::{Echo, Joined, RunFault, TakeLine, Watched};
 use numa_play::Scripts;
 use numa_reports::Format;
+use numa_traces::read_by;
 use std::alloc::{AllocError, Global};
 use std::io;
 use std::io::Read;
@@ -29,40 +30,19 @@ where
     run
 }
 
-/// Answers scripts, and writes each line beside its answer.
-fn echo_all<R, S>(rt: &R, scripts: Scripts<S>) -> Result<(), RunFault>
-where
-    R: Print + AllocGlobal,
-    S: Read + Drop,
-{
-    let Scripts { texts, rules, .. } = scripts;
-    let answering = Answering::new(rt.alloc(), rules);
-    let echo = Echo::new(rt.alloc(), answering, io::writer(rt));
-    let Ok(mut lines) = Lines::new(rt.alloc(), echo) else {
-        drop(texts);
-        return Err(RunFault::Memory);
-    };
-    let read = read_all(texts, &mut lines, &mut ());
-    drop(lines);
-    read
-}
-
-/// Answers scripts by lines of JSON.
-fn answer_by_objects<R, S>(rt: &R, scripts: Scripts<S>) -> Result<(), RunFault>
-where
-    R: Print + AllocGlobal,
-    S: Read + Drop,
-{
-    let Scripts { texts, rules, .. } = scripts;
-    let answering = Answering::new(rt.alloc(), rules);
-    let answers = Answers::new(rt.alloc(), answering, io::writer(rt));
-    let Ok(mut lines) = Lines::new(rt.alloc(), answers) else {
-        drop(texts);
-        return Err(RunFault::Memory);
-    };
-    let read = read_all(texts, &mut lines, &mut ());
-    drop(lines);
-    read
+/// Hands the lines of texts to a taker, and lets it go.
+fn hand_to<S: Read + Drop, T: TakeLine<()> + Drop>(
+    alloc: Global,
+    texts: Vec<(String, S)>,
+    taker: T,
+) -> Result<(), RunFault> {
+    match read_by(alloc, texts, taker) {
+        Ok(taker) => {
+            drop(taker);
+            Ok(())
+        }
+        Err(why) => Err(why),
+    }
 }
 
 /// Answers scripts in a format; with `echo`, writes each line too, as lines of JSON do anyway.
@@ -71,9 +51,17 @@ where
     R: Print + AllocGlobal,
     S: Read + Drop,
 {
+    let alloc = rt.alloc();
+    let rules = scripts.rules;
     match format {
-        Format::Json => answer_by_objects(rt, scripts),
-        _ if echo => echo_all(rt, scripts),
+        Format::Json => {
+            let answers = Answers::new(alloc, Answering::new(alloc, rules), io::writer(rt));
+            hand_to(alloc, scripts.texts, answers)
+        }
+        _ if echo => {
+            let echo = Echo::new(alloc, Answering::new(alloc, rules), io::writer(rt));
+            hand_to(alloc, scripts.texts, echo)
+        }
         _ => answer_all(rt, scripts),
     }
 }
