@@ -13,6 +13,7 @@ use std::mem::replace;
 /// What is answered of the value that a handle keeps, which the handle gets back. The method that
 /// asks returns `None` if the handle is closed. Where the answer changes the value, a pattern says
 /// of which kind it is.
+#[macro_export]
 macro_rules! of_kept {
     ($handle:expr, $alloc:expr, $kept:ident => $answer:expr) => {{
         let $kept = $handle.take($alloc)?;
@@ -27,7 +28,7 @@ macro_rules! of_kept {
         Some(answer)
     }};
     ($handle:expr, $alloc:expr, $kind:pat => $answer:expr) => {
-        $crate::handle::of_kept!($handle, $alloc, mut kept => match &mut *kept {
+        $crate::of_kept!($handle, $alloc, mut kept => match &mut *kept {
             $kind => $answer,
             _ => unreachable!(),
         })

@@ -6,6 +6,7 @@ ghost use Rattle.numaplan_handles.specs.Kinds.{CallsKept, host_of, is_host};
 ghost use Rattle.numa_requests.specs.declared.host_command.HostCommand.{HostCommand};
 
 use crate::handle::{Handle, of_kept};
+use crate::host_questions::host_kept;
 use crate::kept::Kept;
 use numa_host::Host;
 use numa_requests::{HostCommand, HostRefusal};
@@ -16,17 +17,6 @@ use std::alloc::{AllocError, Global};
 pub struct HostHandle {
     pub handle: Handle,
     ghost kind: { is_host handle.held.kept ≡ true },
-}
-
-/// The host that is kept.
-pub(crate) fn host_kept(kept: &Kept) -> &Host
-    requires host { is_host (Some kept.now) ≡ true }
-    ensures host { host_of (Some kept.now) ≡ Some result.now }
-{
-    let Kept::Host(host) = kept else {
-        unreachable!()
-    };
-    host
 }
 
 /// Carries out a command of a host.
@@ -54,19 +44,6 @@ impl HostHandle {
         self.handle.keep(alloc, Kept::Host(host))
     }
 
-    /// Puts a copy of the host into another, closed handle. Later commands to one of the two don't
-    /// affect the other. `None` if this handle is closed.
-    ///
-    /// # Errors
-    /// `AllocError`: out of memory.
-    pub fn copy(&mut self, alloc: Global, other: &mut HostHandle) -> Option<Result<(), AllocError>>
-        requires closed { host_in other.old ≡ None }
-        ensures same { host_in self.new ≡ host_in self.old }
-        ensures copied { IsShared (host_in self.old) result (host_in other.new) }
-    {
-        self.handle.share(alloc, &mut other.handle)
-    }
-
     /// Carries out a command of the host, or refuses it. `None` if the handle is closed.
     ///
     /// # Errors
@@ -83,5 +60,18 @@ impl HostHandle {
             (host_in self.old) result (host_in self.new) }
     {
         of_kept!(self.handle, alloc, kept => host_kept(&kept).version())
+    }
+
+    /// Puts a copy of the host into another, closed handle. Later commands to one of the two don't
+    /// affect the other. `None` if this handle is closed.
+    ///
+    /// # Errors
+    /// `AllocError`: out of memory.
+    pub fn copy(&mut self, alloc: Global, other: &mut HostHandle) -> Option<Result<(), AllocError>>
+        requires closed { host_in other.old ≡ None }
+        ensures same { host_in self.new ≡ host_in self.old }
+        ensures copied { IsShared (host_in self.old) result (host_in other.new) }
+    {
+        self.handle.share(alloc, &mut other.handle)
     }
 }

@@ -1,6 +1,6 @@
 //! Questions to a handle of a host: its groups, its processes, and what each of these answers.
 ghost use Rattle.std.specs.Prelude.{◌≡◌, ◌≤◌, ◌^◌, None, Some, IfOk, IfSome, List, length};
-ghost use Rattle.std.specs.Prelude.{slice_get};
+ghost use Rattle.std.specs.Prelude.{slice_get, true};
 ghost use Rattle.std.specs.Option.{option_map};
 ghost use Rattle.numa_compile.specs.Standing.{PlanStandsFor};
 ghost use Rattle.numa_host.specs.Standing.{HostStandsFor, member_of};
@@ -13,10 +13,12 @@ ghost use Rattle.numaplan_handles.specs.Handles.{host_in};
 ghost use Rattle.numaplan_handles.specs.Hosts.{ChoosesBy, CountsRanges, FindsPolicy, FindsRange};
 ghost use Rattle.numaplan_handles.specs.Hosts.{HasGroupAt, HasGroupNodes, HasGroups, HasProcessAt};
 ghost use Rattle.numaplan_handles.specs.Hosts.{HasProcesses, IsPlanned, OfHost, OfProcess};
+ghost use Rattle.numaplan_handles.specs.Kinds.{host_of, is_host};
 
 use crate::core_questions::range_of;
 use crate::handle::of_kept;
-use crate::host_handle::{HostHandle, host_kept};
+use crate::host_handle::HostHandle;
+use crate::kept::Kept;
 use crate::plan_handle::ChoiceRefusal;
 use crate::room::copy_items;
 use numa_compile::compile;
@@ -29,6 +31,17 @@ use numa_ranges::Run;
 use numa_requests::Request;
 use numa_space::{RangeRecord, Space};
 use std::alloc::Global;
+
+/// The host that is kept.
+pub(crate) fn host_kept(kept: &Kept) -> &Host
+    requires host { is_host (Some kept.now) ≡ true }
+    ensures host { host_of (Some kept.now) ≡ Some result.now }
+{
+    match kept {
+        Kept::Host(host) => host,
+        _ => unreachable!(),
+    }
+}
 
 /// The group at a place, the newest being at 0.
 fn group_at(host: &Host, place: usize) -> Option<ControlGroup>

@@ -30,6 +30,24 @@ fn migrate_kept(kept: &mut Kept, frame: Frame, node: u8) -> Result<Frame, Exchan
     }
 }
 
+/// Moves the frames of another seat to this one.
+fn join_kept(kept: &mut Kept, other: Kept)
+    requires seat { is_seat (Some kept.old) ≡ true }
+    requires other { is_seat (Some other) ≡ true }
+    requires together { AreTogether (seat_of (Some kept.old)) (seat_of (Some other)) }
+    ensures seat { is_seat (Some kept.new) ≡ true }
+    ensures joins { Joins (seat_of (Some kept.old)) (seat_of (Some other))
+        (seat_of (Some kept.new)) }
+{
+    let Kept::Seat(other) = other else {
+        unreachable!()
+    };
+    match kept {
+        Kept::Seat(seat) => seat.join(other),
+        _ => unreachable!(),
+    }
+}
+
 /// Splits a seat off.
 fn split_kept(kept: &mut Kept, alloc: Global) -> Result<Box<Kept>, NoMemory>
     requires seat { is_seat (Some kept.old) ≡ true }
@@ -47,24 +65,6 @@ fn split_kept(kept: &mut Kept, alloc: Global) -> Result<Box<Kept>, NoMemory>
         return Err(NoMemory);
     };
     Kept::Seat(made).on_heap(alloc).ok_or(NoMemory)
-}
-
-/// Moves the frames of another seat to this one.
-fn join_kept(kept: &mut Kept, other: Kept)
-    requires seat { is_seat (Some kept.old) ≡ true }
-    requires other { is_seat (Some other) ≡ true }
-    requires together { AreTogether (seat_of (Some kept.old)) (seat_of (Some other)) }
-    ensures seat { is_seat (Some kept.new) ≡ true }
-    ensures joins { Joins (seat_of (Some kept.old)) (seat_of (Some other))
-        (seat_of (Some kept.new)) }
-{
-    let Kept::Seat(other) = other else {
-        unreachable!()
-    };
-    match kept {
-        Kept::Seat(seat) => seat.join(other),
-        _ => unreachable!(),
-    }
 }
 
 impl SeatHandle {
@@ -89,14 +89,6 @@ impl SeatHandle {
         of_kept!(self.handle, alloc, Kept::Seat(seat) => seat.take(nodes))
     }
 
-    /// Gives back a frame, as [`OwnedSeat::give`], and returns whether the seat held it. `None` if
-    /// the handle is closed.
-    pub fn give(&mut self, alloc: Global, frame: Frame) -> Option<bool>
-        ensures { Calls (Returns frame) (seat_in self.old) result (seat_in self.new) }
-    {
-        of_kept!(self.handle, alloc, Kept::Seat(seat) => seat.give(frame))
-    }
-
     /// Exchanges a frame that the seat holds for one of a node, as [`OwnedSeat::exchange`]. `None`
     /// if the handle is closed.
     ///
@@ -108,9 +100,17 @@ impl SeatHandle {
         frame: Frame,
         node: u8,
     ) -> Option<Result<Frame, ExchangeRefusal>>
-        ensures { Calls (Migrates frame node) (seat_in self.old) result (seat_in self.new) }
+        ensures moved { Calls (Migrates frame node) (seat_in self.old) result (seat_in self.new) }
     {
         of_kept!(self.handle, alloc, mut kept => migrate_kept(&mut kept, frame, node))
+    }
+
+    /// Gives back a frame, as [`OwnedSeat::give`], and returns whether the seat held it. `None` if
+    /// the handle is closed.
+    pub fn give(&mut self, alloc: Global, frame: Frame) -> Option<bool>
+        ensures { Calls (Returns frame) (seat_in self.old) result (seat_in self.new) }
+    {
+        of_kept!(self.handle, alloc, Kept::Seat(seat) => seat.give(frame))
     }
 
     /// Puts a new seat at the same pools into another, closed handle. `None` if this one is closed.
