@@ -9,6 +9,17 @@ use numa_traces::ReplayError;
 use numa_words::AskedPages;
 use std::alloc::{AllocError, Global};
 
+/// The report of a word of the program, which appends its answer and the messages about lines to
+/// the texts of these names.
+macro_rules! report_by {
+    ($alloc:expr, $answer:ident, $told:ident => $word:expr) => {{
+        let mut $answer = Vec::new($alloc);
+        let mut $told = Vec::new($alloc);
+        let ended = $word;
+        report_of($answer, $told, ended)
+    }};
+}
+
 /// What is wrong with the lines of a script, and what a running kernel would do differently with
 /// one, as [`numa_play::check`] writes it: the answer, without messages.
 ///
@@ -33,19 +44,9 @@ pub fn predict(
     free: &[FreePages],
 ) -> Result<Report, AllocError> {
     let scripts = scripts_of(alloc, script)?;
-    let mut answer = Vec::new(alloc);
-    let mut told = Vec::new(alloc);
-    let ended = numa_words::predict(
-        alloc,
-        scripts,
-        asked,
-        format,
-        free,
-        &mut answer,
-        &mut told,
-        &mut (),
-    );
-    report_of(answer, told, ended)
+    report_by!(alloc, answer, told => {
+        numa_words::predict(alloc, scripts, asked, format, free, &mut answer, &mut told, &mut ())
+    })
 }
 
 /// The difference that lines make, after a script without them.
@@ -57,19 +58,9 @@ fn diff_by(
     format: Format,
 ) -> Result<Report, AllocError> {
     let scripts = first_of(alloc, script)?;
-    let mut answer = Vec::new(alloc);
-    let mut told = Vec::new(alloc);
-    let ended = numa_what_if::diff(
-        alloc,
-        scripts,
-        lines,
-        asked,
-        format,
-        &mut answer,
-        &mut told,
-        &mut (),
-    );
-    report_of(answer, told, ended)
+    report_by!(alloc, answer, told => {
+        numa_what_if::diff(alloc, scripts, lines, asked, format, &mut answer, &mut told, &mut ())
+    })
 }
 
 /// Which pages would go to another node after the lines behind a script than before them, as
@@ -101,18 +92,10 @@ pub fn explain(
     format: Format,
 ) -> Result<Report, AllocError> {
     let scripts = scripts_of(alloc, script)?;
-    let mut answer = Vec::new(alloc);
-    let mut told = Vec::new(alloc);
-    let ended = numa_words::explain(
-        alloc,
-        scripts,
-        asked,
-        AskedPages { page, pages: None },
-        format,
-        &mut answer,
-        &mut told,
-    );
-    report_of(answer, told, ended)
+    let pages = AskedPages { page, pages: None };
+    report_by!(alloc, answer, told => {
+        numa_words::explain(alloc, scripts, asked, pages, format, &mut answer, &mut told)
+    })
 }
 
 /// The message about a line of a trace that can't be replayed.
@@ -155,8 +138,8 @@ pub(crate) fn replay_of(
     }
 }
 
-/// What a trace meets after a script, as [`numa_what_if::replay`] writes it. Messages call the trace
-/// `trace`; the last is about the line that can't be replayed, if there is one.
+/// What a trace meets after a script, as [`numa_what_if::replay`] writes it. Messages call the
+/// trace `trace`; the last is about the line that can't be replayed, if there is one.
 ///
 /// # Errors
 /// `AllocError`: out of memory.

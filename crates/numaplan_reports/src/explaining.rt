@@ -8,7 +8,7 @@ ghost use Rattle.numaplan_reports.specs.Asked.{Explains, IsExplained};
 use numa_reports::Touch;
 use numa_rules::{Explanation, ReasonError, explain};
 use numa_space::Space;
-use numaplan_handles::{CoreHandle, Kept, core_kept};
+use numaplan_handles::{CoreHandle, Kept, core_kept, of_kept};
 use std::alloc::Global;
 
 /// Why a page of a space would go where it goes.
@@ -50,8 +50,5 @@ pub fn explain_core(
     ensures { Asks (λ answer. Explains (core_in core.old) touch.task page touch.cpu answer)
         (core_in core.old) result (core_in core.new) }
 {
-    let kept = core.handle.take(alloc)?;
-    let answer = explain_kept(&kept, alloc, touch, page);
-    core.handle.put(kept);
-    Some(answer)
+    of_kept!(core.handle, alloc, kept => explain_kept(&kept, alloc, touch, page))
 }

@@ -9,19 +9,14 @@ ghost use Rattle.numaplan_handles.specs.Kinds.{core_of, is_core};
 ghost use Rattle.numaplan_handles.specs.Steps.{Compiles};
 ghost use Rattle.numaplan_reports.specs.Asked.{Fills, IsFilled};
 
-use numa_plan::Plan;
+use numa_plan::{Plan, Tally};
 use numa_reports::{ReportError, Touch, fill_all};
 use numa_space::Space;
-use numaplan_handles::{CoreHandle, Kept, compile_kept, core_kept};
+use numaplan_handles::{CoreHandle, Kept, compile_kept, core_kept, of_kept};
 use std::alloc::Global;
 
 /// The pages of each node that remain free once all pages of a space are placed by its plan.
-fn fill_space(
-    space: &Space,
-    plan: &Plan,
-    touch: Touch,
-    free: &[u64; 256],
-) -> Result<[u64; 256], ReportError>
+fn fill_space(space: &Space, plan: &Plan, touch: Touch, free: &Tally) -> Result<Tally, ReportError>
     requires plan { (history : List Command) → StandsFor space.now history
         → PlanStandsFor space.now.machine plan.now history }
     ensures { IsFilled space.now touch.task touch.cpu free.now result }
@@ -34,12 +29,7 @@ fn fill_space(
 }
 
 /// The same for a core, by the plan of its accepted commands.
-fn fill_planned(
-    kept: &Kept,
-    plan: &Plan,
-    touch: Touch,
-    free: &[u64; 256],
-) -> Result<[u64; 256], ReportError>
+fn fill_planned(kept: &Kept, plan: &Plan, touch: Touch, free: &Tally) -> Result<Tally, ReportError>
     requires core { is_core (Some kept.now) ≡ true }
     requires plan { Compiles (core_of (Some kept.now)) plan.now }
     ensures { Fills (core_of (Some kept.now)) touch.task touch.cpu free.now result }
@@ -52,8 +42,8 @@ fn fill_kept(
     kept: &mut Kept,
     alloc: Global,
     touch: Touch,
-    free: &[u64; 256],
-) -> Result<[u64; 256], ReportError>
+    free: &Tally,
+) -> Result<Tally, ReportError>
     requires core { is_core (Some kept.old) ≡ true }
     ensures same { kept.new ≡ kept.old }
     ensures fills { Fills (core_of (Some kept.old)) touch.task touch.cpu free.now result }
@@ -82,8 +72,5 @@ pub fn fill_core(
     ensures { Asks (λ answer. Fills (core_in core.old) touch.task touch.cpu free.now answer)
         (core_in core.old) result (core_in core.new) }
 {
-    let mut kept = core.handle.take(alloc)?;
-    let answer = fill_kept(&mut kept, alloc, touch, free);
-    core.handle.put(kept);
-    Some(answer)
+    of_kept!(core.handle, alloc, mut kept => fill_kept(&mut kept, alloc, touch, free))
 }

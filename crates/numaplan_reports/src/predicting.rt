@@ -12,7 +12,7 @@ ghost use Rattle.numaplan_reports.specs.Asked.{IsPredicted, Predicts};
 use numa_plan::Plan;
 use numa_reports::{ReportError, Touch, predict_all};
 use numa_space::Space;
-use numaplan_handles::{CoreHandle, Kept, compile_kept, core_kept};
+use numaplan_handles::{CoreHandle, Kept, compile_kept, core_kept, of_kept};
 use std::alloc::Global;
 
 /// The number of pages of a space that would go to each node, by its plan.
@@ -61,8 +61,5 @@ pub fn predict_core(
     ensures { Asks (λ answer. Predicts (core_in core.old) touch.task touch.cpu answer)
         (core_in core.old) result (core_in core.new) }
 {
-    let mut kept = core.handle.take(alloc)?;
-    let answer = predict_kept(&mut kept, alloc, touch);
-    core.handle.put(kept);
-    Some(answer)
+    of_kept!(core.handle, alloc, mut kept => predict_kept(&mut kept, alloc, touch))
 }

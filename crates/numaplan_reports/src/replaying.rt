@@ -11,7 +11,7 @@ ghost use Rattle.numaplan_reports.specs.Compared.{IsPlanFor, IsReplayed, Replays
 use numa_plan::Plan;
 use numa_space::Space;
 use numa_traces::{Access, Replay, ReplayError, RouteCounts, replay_all, routes_of};
-use numaplan_handles::{CoreHandle, Kept, compile_kept, core_kept};
+use numaplan_handles::{CoreHandle, Kept, compile_kept, core_kept, of_kept};
 use std::alloc::Global;
 
 /// The routes of a replay, if there is memory for them.
@@ -92,8 +92,5 @@ pub fn replay_core(
     ensures { Asks (Replays (λ routes. routes.items) (core_in core.old) trace.now)
         (core_in core.old) result (core_in core.new) }
 {
-    let mut kept = core.handle.take(alloc)?;
-    let answer = replay_kept(&mut kept, alloc, trace);
-    core.handle.put(kept);
-    Some(answer)
+    of_kept!(core.handle, alloc, mut kept => replay_kept(&mut kept, alloc, trace))
 }

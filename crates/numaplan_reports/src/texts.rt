@@ -12,7 +12,7 @@ use numa_play::{Ended, Halt};
 use numa_reports::{Format, FreePages, Touch};
 use numa_what_if::{diff_spaces, replay_space};
 use numa_words::{explain_space, predict_space};
-use numaplan_handles::{CoreHandle, Kept, core_kept};
+use numaplan_handles::{CoreHandle, Kept, core_kept, of_kept};
 use std::alloc::{AllocError, Global};
 
 /// A text as an answer without messages, or why there is none.
@@ -29,20 +29,6 @@ fn report_by(alloc: Global, text: Result<Vec<u8>, Halt>) -> Result<Report, Alloc
     report_of(answer, Vec::new(alloc), ended)
 }
 
-/// Where all mapped pages of a core would go.
-fn predict_kept(
-    kept: &Kept,
-    alloc: Global,
-    asked: Touch,
-    format: Format,
-    free: &[FreePages],
-) -> Result<Report, AllocError>
-    requires core { is_core (Some kept.now) ≡ true }
-{
-    let space = core_kept(kept).space();
-    report_by(alloc, predict_space(alloc, space, asked, format, free))
-}
-
 /// Where all mapped pages of a core would go, as [`predict_space`] writes it, by all accepted
 /// commands. `None` if the handle is closed.
 ///
@@ -57,24 +43,9 @@ pub fn predict_core_text(
 ) -> Option<Result<Report, AllocError>>
     ensures { Asks (λ _. ⊤) (core_in core.old) result (core_in core.new) }
 {
-    let kept = core.handle.take(alloc)?;
-    let answer = predict_kept(&kept, alloc, asked, format, free);
-    core.handle.put(kept);
-    Some(answer)
-}
-
-/// Why a page of a core would go where it goes.
-fn explain_kept(
-    kept: &Kept,
-    alloc: Global,
-    asked: Touch,
-    page: u64,
-    format: Format,
-) -> Result<Report, AllocError>
-    requires core { is_core (Some kept.now) ≡ true }
-{
-    let space = core_kept(kept).space();
-    report_by(alloc, explain_space(alloc, space, asked, page, format))
+    of_kept!(core.handle, alloc, kept => {
+        report_by(alloc, predict_space(alloc, core_kept(&kept).space(), asked, format, free))
+    })
 }
 
 /// Why a page of a core would go where it goes, as [`explain_space`] writes it, by all accepted
@@ -91,10 +62,9 @@ pub fn explain_core_text(
 ) -> Option<Result<Report, AllocError>>
     ensures { Asks (λ _. ⊤) (core_in core.old) result (core_in core.new) }
 {
-    let kept = core.handle.take(alloc)?;
-    let answer = explain_kept(&kept, alloc, asked, page, format);
-    core.handle.put(kept);
-    Some(answer)
+    of_kept!(core.handle, alloc, kept => {
+        report_by(alloc, explain_space(alloc, core_kept(&kept).space(), asked, page, format))
+    })
 }
 
 /// What a trace meets on the machine of a core.
@@ -126,10 +96,7 @@ pub fn replay_core_text(
 ) -> Option<Result<Report, AllocError>>
     ensures { Asks (λ _. ⊤) (core_in core.old) result (core_in core.new) }
 {
-    let kept = core.handle.take(alloc)?;
-    let answer = replay_kept(&kept, alloc, trace, format);
-    core.handle.put(kept);
-    Some(answer)
+    of_kept!(core.handle, alloc, kept => replay_kept(&kept, alloc, trace, format))
 }
 
 /// Which pages would go to another node in the second core than in the first.
