@@ -88,6 +88,22 @@ pub(crate) enum Code {
     TooManyProcesses = 97,
     /// The allowed nodes of a process are its group's, and the weights the host's.
     GroupMems = 98,
+    /// There would be too many runs of pages.
+    TooManyRuns = 100,
+    /// A page lies on a node for which the policy doesn't ask.
+    Astray = 101,
+    /// A page is to move to a node that isn't there, or has no memory.
+    NoSuchTarget = 102,
+    /// A page is to move to a node that isn't allowed.
+    TargetNotAllowed = 103,
+    /// A page that is to move isn't mapped.
+    PageUnmapped = 104,
+    /// A page lies nowhere.
+    NotPlaced = 105,
+    /// A node has no room for a page that is to move to it.
+    NodeFull = 106,
+    /// A page lies somewhere already.
+    Occupied = 107,
 }
 
 /// The code of a command's refusal: most are in order from 10; a later one has a later number.
@@ -126,8 +142,8 @@ fn cause_code(cause: CoreRefusal) -> u32
         CoreRefusal::Idle => Code::Idle as u32,
         CoreRefusal::BadTry => Code::BadTry as u32,
         CoreRefusal::NotOwned => Code::NotOwned as u32,
-        CoreRefusal::BadCpu => Code::BadCpu as u32,
         CoreRefusal::Unmapped(_) => Code::Unmapped as u32,
+        CoreRefusal::BadCpu => Code::BadCpu as u32,
         CoreRefusal::NoSuchNode => refusal_code(Refusal::NoSuchNode),
         CoreRefusal::NoMemory => Code::NoMemory as u32,
     }

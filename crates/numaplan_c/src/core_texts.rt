@@ -7,6 +7,7 @@ ghost use Rattle.numaplan_handles.specs.Handles.{core_in};
 use crate::asking::free_by_node;
 use crate::keeping::ensure_open;
 use crate::reports::{NpFree, NpQuestion, NpReport, known_format, made, tell_made, touch_of};
+use numa_reports::Touch;
 use numaplan_handles::CoreHandle;
 use numaplan_reports::{
     Report, diff_cores_text, explain_core_text, predict_core_text, replay_core_text,
@@ -24,20 +25,30 @@ fn of_open(answer: Option<Result<Report, AllocError>>) -> Result<Report, u32>
     }
 }
 
+/// Writes a report on the core of a handle that was made, or returns why none was: `Closed` if the
+/// handle is closed.
+macro_rules! report_if_open {
+    ($handle:expr, $text:expr, $report:expr => $made:expr) => {{
+        ensure_open!($handle);
+        tell_made($made, $text, $report)
+    }};
+}
+
 /// Where all mapped pages of an open core would go.
 fn predicted(
     alloc: Global,
     core: &mut CoreHandle,
-    asked: &NpQuestion,
+    touch: Touch,
+    format: u32,
     free: &[NpFree],
 ) -> Result<Report, u32>
     requires open { is_some (core_in core.old) ≡ true }
     ensures same { core_in core.new ≡ core_in core.old }
     ensures untold { IfErr result (λ code. is_untold code ≡ true) }
 {
-    let format = known_format(asked.format)?;
+    let format = known_format(format)?;
     let free = free_by_node(alloc, free)?;
-    let answer = predict_core_text(alloc, core, touch_of(asked), format, free.as_slice());
+    let answer = predict_core_text(alloc, core, touch, format, free.as_slice());
     drop(free);
     of_open(answer)
 }
@@ -55,8 +66,9 @@ pub extern "C" fn np_core_predict_text(
     ensures { ReportedOf (core_in core.old) (core_in core.new) result text.old text.new report.old
         report.new }
 {
-    ensure_open!(core);
-    tell_made(predicted(alloc, core, asked, free), text, report)
+    report_if_open!(core, text, report => {
+        predicted(alloc, core, touch_of(asked), asked.format, free)
+    })
 }
 
 /// Which pages go to another node in the second of two open cores than in the first.
@@ -123,22 +135,16 @@ pub extern "C" fn np_core_explain_text(
     ensures { ReportedOf (core_in core.old) (core_in core.new) result text.old text.new report.old
         report.new }
 {
-    ensure_open!(core);
-    tell_made(explained(alloc, core, asked, page), text, report)
+    report_if_open!(core, text, report => explained(alloc, core, asked, page))
 }
 
 /// What a trace meets on the machine of an open core.
-fn replayed(
-    alloc: Global,
-    core: &mut CoreHandle,
-    trace: &[u8],
-    asked: &NpQuestion,
-) -> Result<Report, u32>
+fn replayed(alloc: Global, core: &mut CoreHandle, trace: &[u8], format: u32) -> Result<Report, u32>
     requires open { is_some (core_in core.old) ≡ true }
     ensures same { core_in core.new ≡ core_in core.old }
     ensures untold { IfErr result (λ code. is_untold code ≡ true) }
 {
-    let format = known_format(asked.format)?;
+    let format = known_format(format)?;
     of_open(replay_core_text(alloc, core, trace, format))
 }
 
@@ -155,6 +161,5 @@ pub extern "C" fn np_core_replay_text(
     ensures { ReportedOf (core_in core.old) (core_in core.new) result text.old text.new report.old
         report.new }
 {
-    ensure_open!(core);
-    tell_made(replayed(alloc, core, trace, asked), text, report)
+    report_if_open!(core, text, report => replayed(alloc, core, trace, asked.format))
 }

@@ -25,10 +25,10 @@ fn answer(alloc: Global, core: &mut CoreHandle, event: Event) -> u32
 }
 
 /// Carries out a command of the core in a handle, and returns the code of its reply.
-fn accept(alloc: Global, core: &mut CoreHandle, command: Command) -> u32
-    ensures { Answers (core_in core.old) (Event.Accept command) result (core_in core.new) }
-{
-    answer(alloc, core, Event::Accept(command))
+macro_rules! accept {
+    ($alloc:expr, $core:expr => $command:ident { $($field:ident),* }) => {
+        answer($alloc, $core, Event::Accept(Command::$command { $($field),* }))
+    };
 }
 
 /// Maps a span.
@@ -43,12 +43,7 @@ pub extern "C" fn np_core_map(
     ensures { Answers (core_in core.old) (Event.Accept (Command.Map start length offset)) result
         (core_in core.new) }
 {
-    let command = Command::Map {
-        start,
-        length,
-        offset,
-    };
-    accept(alloc, core, command)
+    accept!(alloc, core => Map { start, length, offset })
 }
 
 /// Unmaps the pages of a span.
@@ -62,7 +57,7 @@ pub extern "C" fn np_core_unmap(
     ensures { Answers (core_in core.old) (Event.Accept (Command.Unmap start length)) result
         (core_in core.new) }
 {
-    accept(alloc, core, Command::Unmap { start, length })
+    accept!(alloc, core => Unmap { start, length })
 }
 
 /// Sets the policy of a span's pages.
@@ -78,12 +73,7 @@ pub extern "C" fn np_core_mbind(
         (core_in core.old) result (core_in core.new) }
 {
     let spec = or_return!(read_policy(policy), word_code);
-    let command = Command::Mbind {
-        start,
-        length,
-        spec,
-    };
-    accept(alloc, core, command)
+    accept!(alloc, core => Mbind { start, length, spec })
 }
 
 /// Sets the policy of a task.
@@ -98,7 +88,7 @@ pub extern "C" fn np_core_set_task(
         (core_in core.old) result (core_in core.new) }
 {
     let spec = or_return!(read_policy(policy), word_code);
-    accept(alloc, core, Command::SetTask { task, spec })
+    accept!(alloc, core => SetTask { task, spec })
 }
 
 /// Gives a task the policy of another, or removes its policy if the other has none.
@@ -107,7 +97,7 @@ pub extern "C" fn np_core_inherit(alloc: Global, core: &mut CoreHandle, task: u3
     ensures { Answers (core_in core.old) (Event.Accept (Command.Inherit task from)) result
         (core_in core.new) }
 {
-    accept(alloc, core, Command::Inherit { task, from })
+    accept!(alloc, core => Inherit { task, from })
 }
 
 /// Sets the home node of the policies of a span's pages.
@@ -122,12 +112,7 @@ pub extern "C" fn np_core_set_home(
     ensures { Answers (core_in core.old) (Event.Accept (Command.SetHome start length node)) result
         (core_in core.new) }
 {
-    let command = Command::SetHome {
-        start,
-        length,
-        node,
-    };
-    accept(alloc, core, command)
+    accept!(alloc, core => SetHome { start, length, node })
 }
 
 /// Sets the weight of a node.
@@ -141,7 +126,7 @@ pub extern "C" fn np_core_set_weight(
     ensures { Answers (core_in core.old) (Event.Accept (Command.SetWeight node weight)) result
         (core_in core.new) }
 {
-    accept(alloc, core, Command::SetWeight { node, weight })
+    accept!(alloc, core => SetWeight { node, weight })
 }
 
 /// Sets the nodes on which memory may be placed.
@@ -151,7 +136,7 @@ pub extern "C" fn np_core_set_mems(alloc: Global, core: &mut CoreHandle, nodes: 
         (core_in core.old) result (core_in core.new) }
 {
     let mask = or_return!(read_list(nodes), list_code);
-    accept(alloc, core, Command::SetMems { mask })
+    accept!(alloc, core => SetMems { mask })
 }
 
 /// Publishes all accepted commands.

@@ -25,11 +25,11 @@ fn obey(alloc: Global, host: &mut HostHandle, command: HostCommand) -> u32
 }
 
 /// Carries out a command of one process.
-fn tell(alloc: Global, host: &mut HostHandle, process: u32, command: Command) -> u32
-    ensures { HostAnswers (host_in host.old) (HostCommand.In process command) result
-        (host_in host.new) }
-{
-    obey(alloc, host, HostCommand::In { process, command })
+macro_rules! tell {
+    ($alloc:expr, $host:expr, $process:expr => $command:ident { $($field:ident),* }) => {{
+        let command = Command::$command { $($field),* };
+        obey($alloc, $host, HostCommand::In { process: $process, command })
+    }};
 }
 
 /// Makes a group below another.
@@ -161,12 +161,7 @@ pub extern "C" fn np_host_map(
     ensures { HostAnswers (host_in host.old)
         (HostCommand.In process (Command.Map start length offset)) result (host_in host.new) }
 {
-    let command = Command::Map {
-        start,
-        length,
-        offset,
-    };
-    tell(alloc, host, process, command)
+    tell!(alloc, host, process => Map { start, length, offset })
 }
 
 /// Unmaps the pages of a process's span.
@@ -181,7 +176,7 @@ pub extern "C" fn np_host_unmap(
     ensures { HostAnswers (host_in host.old)
         (HostCommand.In process (Command.Unmap start length)) result (host_in host.new) }
 {
-    tell(alloc, host, process, Command::Unmap { start, length })
+    tell!(alloc, host, process => Unmap { start, length })
 }
 
 /// Sets the policy of the pages of a process's span.
@@ -199,12 +194,7 @@ pub extern "C" fn np_host_mbind(
         result (host_in host.new) }
 {
     let spec = or_return!(read_policy(policy), word_code);
-    let command = Command::Mbind {
-        start,
-        length,
-        spec,
-    };
-    tell(alloc, host, process, command)
+    tell!(alloc, host, process => Mbind { start, length, spec })
 }
 
 /// Sets the policy of a process's task.
@@ -221,7 +211,7 @@ pub extern "C" fn np_host_set_task(
         (host_in host.new) }
 {
     let spec = or_return!(read_policy(policy), word_code);
-    tell(alloc, host, process, Command::SetTask { task, spec })
+    tell!(alloc, host, process => SetTask { task, spec })
 }
 
 /// Gives a task of a process the policy of another, or removes its policy if the other has none.
@@ -236,7 +226,7 @@ pub extern "C" fn np_host_inherit(
     ensures { HostAnswers (host_in host.old)
         (HostCommand.In process (Command.Inherit task from)) result (host_in host.new) }
 {
-    tell(alloc, host, process, Command::Inherit { task, from })
+    tell!(alloc, host, process => Inherit { task, from })
 }
 
 /// Sets the home node of the policies of the pages of a process's span.
@@ -252,10 +242,5 @@ pub extern "C" fn np_host_set_home(
     ensures { HostAnswers (host_in host.old)
         (HostCommand.In process (Command.SetHome start length node)) result (host_in host.new) }
 {
-    let command = Command::SetHome {
-        start,
-        length,
-        node,
-    };
-    tell(alloc, host, process, command)
+    tell!(alloc, host, process => SetHome { start, length, node })
 }

@@ -205,7 +205,7 @@ pub extern "C" fn np_host_range(
     policy: &mut [u8],
     length: &mut usize,
 ) -> u32
-    ensures { Asked (host_in host.old) (host_in host.new) result
+    ensures told { Asked (host_in host.old) (host_in host.new) result
         ((range.new ≡ range.old) × (policy.new ≡ policy.old) × (length.new ≡ length.old))
         (λ kept. (answer : Option (Option (Run (Option PolicyRecord))))
         × OfHost (host_in host.old) (OfProcess process (FindsRange index) answer)

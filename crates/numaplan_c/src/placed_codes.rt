@@ -6,27 +6,6 @@ use crate::codes::{Code, refusal_code};
 use numa_pages::ChangeRefusal;
 use numa_requests::{MoveRefusal, PlacedRefusal, Refusal};
 
-/// The codes of causes that only pages have.
-#[derive(Clone, Copy)]
-pub(crate) enum PlacedCode {
-    /// There would be too many runs of pages.
-    TooManyRuns = 100,
-    /// A page lies on a node for which the policy doesn't ask.
-    Astray = 101,
-    /// A page is to move to a node that isn't there, or has no memory.
-    NoSuchTarget = 102,
-    /// A page is to move to a node that isn't allowed.
-    TargetNotAllowed = 103,
-    /// A page that is to move isn't mapped.
-    PageUnmapped = 104,
-    /// A page lies nowhere.
-    NotPlaced = 105,
-    /// A node has no room for a page that is to move to it.
-    NodeFull = 106,
-    /// A page lies somewhere already.
-    Occupied = 107,
-}
-
 /// The code of what stands against a change of pages.
 pub(crate) fn placed_code(cause: PlacedRefusal) -> u32
     ensures { result ≡ placed_code cause }
@@ -35,10 +14,10 @@ pub(crate) fn placed_code(cause: PlacedRefusal) -> u32
         PlacedRefusal::Unaligned => refusal_code(Refusal::Unaligned),
         PlacedRefusal::OutOfSpace => refusal_code(Refusal::OutOfSpace),
         PlacedRefusal::NoSuchNode => refusal_code(Refusal::NoSuchNode),
-        PlacedRefusal::Occupied => PlacedCode::Occupied as u32,
+        PlacedRefusal::Occupied => Code::Occupied as u32,
         PlacedRefusal::NodesNotAllowed => refusal_code(Refusal::NodesNotAllowed),
-        PlacedRefusal::Astray => PlacedCode::Astray as u32,
-        PlacedRefusal::TooManyRuns => PlacedCode::TooManyRuns as u32,
+        PlacedRefusal::Astray => Code::Astray as u32,
+        PlacedRefusal::TooManyRuns => Code::TooManyRuns as u32,
         PlacedRefusal::NoMemory => Code::NoMemory as u32,
     }
 }
@@ -48,12 +27,12 @@ pub(crate) fn move_code(cause: MoveRefusal) -> u32
     ensures { result ≡ move_code cause }
 {
     match cause {
-        MoveRefusal::NoSuchNode => PlacedCode::NoSuchTarget as u32,
-        MoveRefusal::NodesNotAllowed => PlacedCode::TargetNotAllowed as u32,
-        MoveRefusal::Unmapped => PlacedCode::PageUnmapped as u32,
-        MoveRefusal::NotPlaced => PlacedCode::NotPlaced as u32,
-        MoveRefusal::NoRoom => PlacedCode::NodeFull as u32,
-        MoveRefusal::TooManyRuns => PlacedCode::TooManyRuns as u32,
+        MoveRefusal::NoSuchNode => Code::NoSuchTarget as u32,
+        MoveRefusal::NodesNotAllowed => Code::TargetNotAllowed as u32,
+        MoveRefusal::Unmapped => Code::PageUnmapped as u32,
+        MoveRefusal::NotPlaced => Code::NotPlaced as u32,
+        MoveRefusal::NoRoom => Code::NodeFull as u32,
+        MoveRefusal::TooManyRuns => Code::TooManyRuns as u32,
         MoveRefusal::NoMemory => Code::NoMemory as u32,
     }
 }

@@ -12,7 +12,7 @@ ghost use Rattle.numaplan_handles.specs.Pages.{HasCounts, HasRoom, HasRuns};
 
 use crate::codes::Code;
 use crate::differences::write_items;
-use crate::placed_codes::{PlacedCode, placed_code};
+use crate::placed_codes::placed_code;
 use crate::plans::NpCounts;
 use numa_pages::PageRun;
 use numa_requests::PAGE_BYTES;
@@ -33,7 +33,7 @@ pub extern "C" fn np_pages_node(
 {
     match pages.node_at(alloc, address / PAGE_BYTES) {
         None => Code::Closed as u32,
-        Some(None) => PlacedCode::NotPlaced as u32,
+        Some(None) => Code::NotPlaced as u32,
         Some(Some(found)) => {
             *node = u32::from(found);
             0

@@ -76,9 +76,9 @@ fn keep_plan(alloc: Global, core: &mut CoreHandle, commands: Commands, plan: &mu
 /// Opens a handle with the plan of the published commands of a core.
 #[unsafe(no_mangle)]
 pub extern "C" fn np_core_plan(alloc: Global, core: &mut CoreHandle, plan: &mut PlanHandle) -> u32
-    ensures same { core_in core.new ≡ core_in core.old }
     ensures published { Makes Publishes (core_in core.old) (plan_in plan.old) result
         (plan_in plan.new) }
+    ensures same { core_in core.new ≡ core_in core.old }
 {
     keep_plan(alloc, core, Commands::Published, plan)
 }
@@ -90,9 +90,9 @@ pub extern "C" fn np_core_compile(
     core: &mut CoreHandle,
     plan: &mut PlanHandle,
 ) -> u32
-    ensures same { core_in core.new ≡ core_in core.old }
     ensures compiled { Makes Compiles (core_in core.old) (plan_in plan.old) result
         (plan_in plan.new) }
+    ensures same { core_in core.new ≡ core_in core.old }
 {
     keep_plan(alloc, core, Commands::Accepted, plan)
 }

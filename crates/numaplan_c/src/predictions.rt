@@ -63,7 +63,7 @@ pub extern "C" fn np_core_fill(
     cpu: u32,
     free: &mut NpCounts,
 ) -> u32
-    ensures { Asked (core_in core.old) (core_in core.new) result (free.new ≡ free.old)
+    ensures told { Asked (core_in core.old) (core_in core.new) result (free.new ≡ free.old)
         (λ kept. (answer : Result (List ℕ) ReportError)
         × Fills (core_in core.old) task cpu free.old.pages answer
         × TellsCounts answer result free.old.pages free.new.pages) }

@@ -11,7 +11,7 @@ ghost use Rattle.numaplan_c.specs.Scripts.{AreAnswers, line_code, length_told};
 ghost use Rattle.numaplan_c.specs.Texts.{IsWritten};
 
 use crate::codes::Code;
-use crate::keeping::{ensure_closed, memory_code};
+use crate::keeping::{ensure_closed, if_open, memory_code};
 use crate::options::rules_of;
 use crate::texts::{copy_code, length_copied, write};
 use numa_host_script::run_by;
@@ -117,13 +117,10 @@ pub extern "C" fn np_script_line(
         × ServesKept line.now (dialog_in script.old) (dialog_in script.new) answer
         × (length.new ≡ length_told answer length.old) }
 {
-    match script.line(alloc, line) {
-        None => Code::Closed as u32,
-        Some(answer) => {
-            *length = length_told(answer, *length);
-            line_code(answer)
-        }
-    }
+    if_open!(script.line(alloc, line), answer => {
+        *length = length_told(answer, *length);
+        line_code(answer)
+    })
 }
 
 /// Copies the answer to the last line.
@@ -138,13 +135,10 @@ pub extern "C" fn np_script_answer(
         ((room.new ≡ room.old) × (length.new ≡ length.old))
         (λ kept. IsWritten kept.answer.items result room.old room.new length.new) }
 {
-    match script.answer(alloc, room) {
-        None => Code::Closed as u32,
-        Some(told) => {
-            *length = length_copied(told);
-            copy_code(told)
-        }
-    }
+    if_open!(script.answer(alloc, room), told => {
+        *length = length_copied(told);
+        copy_code(told)
+    })
 }
 
 /// Frees a script.
