@@ -149,3 +149,15 @@ few-left old new None rooms_then from to first moved is =
     (is (spot_at old) None (λ page. refl) tt).1.few
 few-left old new (Some rooms) rooms_then from to first moved is =
     (is (spot_at old) (Some (room_of rooms)) (λ page. refl) (λ node small. refl)).1.few
+
+-- nothing has changed by one that was refused
+pub denied-still : (old new : List (Run Spot)) (rooms rooms_then : Option Rooms) (from to : ℕ)
+    (first : Option PlacedRefusal) (refusal : PlacedRefusal)
+    → Migrates old rooms from to first (Err refusal) new rooms_then
+    → (new ≡ old) × (rooms_then ≡ rooms)
+denied-still old new None rooms_then from to first refusal is =
+    let kept = is (spot_at old) None (λ page. refl) tt in
+    (kept.1, kept.2)
+denied-still old new (Some rooms) rooms_then from to first refusal is =
+    let kept = is (spot_at old) (Some (room_of rooms)) (λ page. refl) (λ node small. refl) in
+    (kept.1, kept.2)

@@ -6,13 +6,13 @@ use Rattle.std.proofs.lemmas.Bool.{cases_lt, le-leb}
 use Rattle.numa_machine.specs.Machine.{Hardware}
 use Rattle.numa_ranges.specs.declared.run.Run.{Run}
 use Rattle.numa_placed.specs.Refusals.{IsMoveRefusal, lacks_node, move_cause}
-use Rattle.numa_placed.specs.Shifts.{AreRooms, first_of, room_cause, room_moved}
+use Rattle.numa_placed.specs.Shifts.{AreRooms, first_of, room_cause, room_moved, room_of}
 use Rattle.numa_placed.specs.Spots.{spot_at, too_many}
 use Rattle.numa_requests.specs.declared.page_refusal.MoveRefusal.{MoveRefusal}
 use Rattle.numa_requests.specs.declared.page_refusal.MoveRefusal.TheVariants as move
 use Rattle.numa_placed.specs.declared.rooms.Rooms.{Rooms}
 use Rattle.numa_placed.specs.declared.spot.Spot.{Spot}
-use Rattle.numa_page_state.specs.Lying.{Ground}
+use Rattle.numa_page_state.specs.Lying.{Ground, nothing}
 use Rattle.numa_page_state.specs.Outcomes.{move_spots, room_cause_in, room_moved_in}
 use Rattle.numa_page_state.specs.Standing.{HaveRoom, MovesPage}
 use Rattle.numa_page_state.proofs.Judged.{move-none, move-told}
@@ -147,3 +147,16 @@ module _ (old new : List (Run Spot)) (basis : Ground) (page node : ℕ)
         same,
         ap Some kept,
       )
+
+-- nothing has changed by one that was refused
+pub move-denied-still : (old new : List (Run Spot)) (rooms rooms_then : Option Rooms)
+    (basis : Ground) (page node : ℕ) (refusal : MoveRefusal)
+    → MovesPage old rooms basis page node (Err refusal) new rooms_then
+    → (new ≡ old) × (rooms_then ≡ rooms)
+move-denied-still old new None rooms_then basis page node refusal is =
+    let kept = is (record nothing { spots = spot_at old }) (λ other. refl) tt in
+    (kept.1, kept.2)
+move-denied-still old new (Some rooms) rooms_then basis page node refusal is =
+    let kept = is (record nothing { spots = spot_at old; room = Some (room_of rooms) })
+    (λ other. refl) (λ node small. refl) in
+    (kept.1, kept.2)

@@ -25,6 +25,15 @@ pub record Process : Type 0 where
   pub history : List Command
   pub kept : Kept
 
+-- by a space that these commands led to
+abbrev pub process_in : SpaceState → List Command → Kept → Process
+process_in space history kept = record {
+  machine = space.machine;
+  bounds = space.bounds;
+  history = history;
+  kept = kept;
+}
+
 -- what pages that are there depend on: the machine, the allowed nodes, which pages are mapped, and
 -- which keep a frame
 pub record Ground : Type 0 where

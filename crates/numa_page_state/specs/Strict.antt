@@ -11,7 +11,6 @@ use Rattle.numa_ranges.specs.Runs.{in_pages}
 use Rattle.numa_space.specs.History.{page_of, page_count}
 use Rattle.numa_space.specs.Pages.{page_in}
 use Rattle.numa_requests.specs.declared.command.Command.{Command}
-use Rattle.numa_requests.specs.declared.command.Command.TheVariants.{Mbind}
 use Rattle.numa_requests.specs.declared.refusal.Refusal.{Refusal}
 use Rattle.numa_requests.specs.declared.refusal.Refusal.TheVariants.{Hole, NoMemory, TooManyRanges}
 use Rattle.numa_maps.specs.Residents.{Kept}
@@ -19,16 +18,21 @@ use Rattle.numa_placed.specs.Astray.{judged_pages, strict_cause_by}
 use Rattle.numa_placed.specs.declared.spot.Spot.{Spot}
 use Rattle.numa_page_state.specs.Lying.{Process}
 use Rattle.numa_page_state.specs.Outcomes.{is_astray_cause}
+use Rattle.numa_page_state.specs.Sending.{rebinding_in}
 use Rattle.numa_page_state.specs.declared.binding.Binding.{Binding}
+use Rattle.numa_page_state.specs.declared.sending.Rebinding.{Rebinding}
 
 -- a command that may be refused for pages: `default` takes policies away, and drops `strict`
 abbrev pub strict_binding : ℕ → ℕ → Specification → Option Binding
 strict_binding start bytes spec = if is_default spec then None
     else Some (record { start = start; length = bytes; list = spec.mask })
 
+abbrev pub strict_binding_of : Option Rebinding → Option Binding
+strict_binding_of None = None
+strict_binding_of (Some said) = strict_binding said.start said.length said.spec
+
 abbrev pub strict_binding_in : Command → Option Binding
-strict_binding_in (Mbind start bytes spec) = strict_binding start bytes spec
-strict_binding_in _ = None
+strict_binding_in command = strict_binding_of (rebinding_in command)
 
 -- a page of the span keeps a frame of another node than those of the list
 abbrev pub held_astray : Kept → ℕ → ℕ → ℕ → Bool

@@ -9,12 +9,13 @@ ghost use Rattle.numa_requests.specs.declared.command.Command.{Command};
 ghost use Rattle.numa_placed.specs.Astray.{strict_cause, strict_cause_by};
 ghost use Rattle.numa_placed.specs.Spots.{spot_at};
 ghost use Rattle.numa_placed.specs.declared.spot.Spot.{Spot};
-ghost use Rattle.numa_page_state.specs.Lying.{Lying};
+ghost use Rattle.numa_page_state.specs.Lying.{Lying, process_in};
 ghost use Rattle.numa_page_state.specs.Outcomes.{is_astray_cause};
 ghost use Rattle.numa_page_state.specs.Standing.{Lies, LiesAs};
 ghost use Rattle.numa_page_state.specs.Strict.{has_astray, held_astray, is_late};
 ghost use Rattle.numa_page_state.specs.Strict.{strict_binding, strict_binding_in};
 
+use crate::sending::rebinding_in;
 use crate::state::PageState;
 use numa_machine::{NoMemory, Rules};
 use numa_maps::Resident;
@@ -53,13 +54,9 @@ fn strict_binding(start: u64, length: u64, spec: &PolicySpec) -> Option<Binding>
 pub fn strict_binding_in(command: &Command) -> Option<Binding>
     ensures { result ≡ strict_binding_in command.now }
 {
-    match command {
-        Command::Mbind {
-            start,
-            length,
-            spec,
-        } => strict_binding(*start, *length, spec),
-        _ => None,
+    match rebinding_in(command) {
+        Some(said) => strict_binding(said.start, said.length, &said.spec),
+        None => None,
     }
 }
 
@@ -137,12 +134,7 @@ fn strays(space: &Space, resident: &Resident, said: &Binding, stated: bool) -> b
     ensures { (spots : ℕ → Spot) (history : List Command) → stated ≡ is_astray_cause
         (strict_cause_by space.now.machine.rules (page_at space.now.ranges) spots said.now.start
         said.now.length said.now.list) → StandsFor space.now history
-        → result ≡ has_astray (record {
-          machine = space.now.machine;
-          bounds = space.now.bounds;
-          history = history;
-          kept = resident.now;
-        }) spots said.now }
+        → result ≡ has_astray (process_in space.now history resident.now) spots said.now }
 {
     let first = said.start / PAGE_BYTES;
     let pages = judged_pages(space, first, page_count(said.length));
@@ -154,12 +146,8 @@ impl PageState {
     /// Whether a page of a span that is judged lies on another node than those of a list.
     pub fn has_astray(&self, space: &Space, resident: &Resident, said: &Binding) -> bool
         ensures { (lying : Lying) (history : List Command) → LiesAs self.now lying
-            → StandsFor space.now history → result ≡ has_astray (record {
-              machine = space.now.machine;
-              bounds = space.now.bounds;
-              history = history;
-              kept = resident.now;
-            }) lying.spots said.now }
+            → StandsFor space.now history → result ≡ has_astray
+            (process_in space.now history resident.now) lying.spots said.now }
     {
         let stated = judged_astray(&self.placed, space, said);
         strays(space, resident, said, stated)
@@ -175,12 +163,8 @@ pub fn has_astray(
     said: &Binding,
 ) -> bool
     ensures { (lying : Lying) (history : List Command) → Lies state.now lying
-        → StandsFor space.now history → result ≡ has_astray (record {
-          machine = space.now.machine;
-          bounds = space.now.bounds;
-          history = history;
-          kept = resident.now;
-        }) lying.spots said.now }
+        → StandsFor space.now history → result ≡ has_astray
+        (process_in space.now history resident.now) lying.spots said.now }
 {
     let stated = lies_astray(space, state, said);
     strays(space, resident, said, stated)

@@ -4,7 +4,7 @@ ghost use Rattle.std.specs.Prelude.{if◌then◌else◌, is_some, IsSome, OnOk};
 ghost use Rattle.numa_maps.specs.Residents.{Kept};
 ghost use Rattle.numa_placed.specs.Binds.{Asked};
 ghost use Rattle.numa_placed.specs.Refusals.{span_cause};
-ghost use Rattle.numa_page_state.specs.Lying.{Lying};
+ghost use Rattle.numa_page_state.specs.Lying.{Lying, process_in};
 ghost use Rattle.numa_page_state.specs.Outcomes.{cause_by, is_no_memory};
 ghost use Rattle.numa_page_state.specs.Sending.{below_end, command_of, lacks_room};
 ghost use Rattle.numa_page_state.specs.Sending.{rebinding_in};
@@ -215,12 +215,8 @@ pub fn sent(
     toucher: Toucher,
 ) -> Result<Option<Sending>, PlacedRefusal>
     ensures { (history : List Command) (lying : Lying) → StandsFor space.now history
-        → LiesAs state.now lying → Sends (record {
-          machine = space.now.machine;
-          bounds = space.now.bounds;
-          history = history;
-          kept = resident.now;
-        }) said.now toucher lying result }
+        → LiesAs state.now lying → Sends (process_in space.now history resident.now) said.now
+        toucher lying result }
 {
     let Ok(found) = with_policy(alloc, space, said) else {
         return Err(PlacedRefusal::NoMemory);
@@ -289,12 +285,8 @@ pub fn sent_from(
 ) -> Result<Option<Sending>, PlacedRefusal>
     ensures lies { (lying : Lying) → Lies state.old lying → Lies state.new lying }
     ensures sends { (history : List Command) (lying : Lying) → StandsFor space.now history
-        → Lies state.old lying → Sends (record {
-          machine = space.now.machine;
-          bounds = space.now.bounds;
-          history = history;
-          kept = resident.now;
-        }) said.now toucher lying result }
+        → Lies state.old lying → Sends (process_in space.now history resident.now) said.now
+        toucher lying result }
     ensures some { OnOk result (IsSome state.new) }
 {
     if begins_starved(alloc, state) {

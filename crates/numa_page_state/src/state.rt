@@ -1,7 +1,7 @@
 //! Where the pages of a process lie.
 ghost use Rattle.std.specs.Prelude.{◌≡◌, ◌==◌, ◌<◌, ℕ, Bool, Err, IfOk, None, Option, Some};
 ghost use Rattle.std.specs.Prelude.{if◌then◌else◌, is_some, true, false, [], IsSomeAnd};
-ghost use Rattle.std.specs.Prelude.{MatchOption};
+ghost use Rattle.std.specs.Prelude.{MatchOption, OnErr};
 ghost use Rattle.numa_mask.specs.NodeSet.{both};
 ghost use Rattle.numa_maps.specs.Residents.{Kept};
 ghost use Rattle.numa_placed.specs.Refusals.{migrate_cause, move_cause};
@@ -145,12 +145,11 @@ fn move_page(
     placed: &mut Placed,
     rooms: &mut Option<Rooms>,
     space: &Space,
-    _resident: &Resident,
     page: u64,
     node: u32,
 ) -> Result<(), MoveRefusal>
-    ensures { MovesPage placed.old rooms.old (ground_in space.now _resident.now) page node result
-        placed.new rooms.new }
+    ensures { MovesPage placed.old rooms.old (ground_in space.now []) page node result placed.new
+        rooms.new }
 {
     // Tells the proof that the machine has few nodes.
     let _ = space.machine().nodes();
@@ -187,18 +186,16 @@ impl PageState {
     pub fn copy(&self) -> Result<PageState, NoMemory>
         ensures { IfOk result (λ copy. copy ≡ self.now) }
     {
-        let Ok(placed) = self.placed.copy() else {
-            return Err(NoMemory);
-        };
-        let Ok(last) = self.last.copy() else {
-            return Err(NoMemory);
-        };
-        Ok(PageState {
-            placed,
-            rooms: self.rooms,
-            follows: self.follows,
-            last,
-        })
+        let placed = self.placed.copy()?;
+        match self.last.copy() {
+            Ok(last) => Ok(PageState {
+                placed,
+                rooms: self.rooms,
+                follows: self.follows,
+                last,
+            }),
+            Err(lack) => Err(lack),
+        }
     }
 
     /// The mapped pages of a span lie on a node.
@@ -210,8 +207,9 @@ impl PageState {
         length: u64,
         node: u32,
     ) -> Result<(), PlacedRefusal>
-        ensures { DoesAs self.old result self.new (Err PlacedRefusal.NoMemory) (λ refused at.
+        ensures does { DoesAs self.old result self.new (Err PlacedRefusal.NoMemory) (λ refused at.
             at_outcome refused (ground_in space.now resident.now) start length node at) }
+        ensures unchanged { OnErr result (self.new ≡ self.old) }
     {
         self.placed
             .state_beside(space, resident, start, length, node)
@@ -223,8 +221,9 @@ impl PageState {
     /// # Errors
     /// `NoSuchNode`: the machine lacks the node, or it has no memory.
     pub fn limit(&mut self, space: &Space, node: u32, pages: u64) -> Result<(), PlacedRefusal>
-        ensures { DoesAs self.old result self.new (Err PlacedRefusal.NoMemory) (λ refused at.
+        ensures does { DoesAs self.old result self.new (Err PlacedRefusal.NoMemory) (λ refused at.
             room_outcome space.now.machine node pages at) }
+        ensures unchanged { OnErr result (self.new ≡ self.old) }
     {
         if lacks_node(space.machine(), node) {
             return Err(PlacedRefusal::NoSuchNode);
@@ -256,6 +255,7 @@ impl PageState {
         ensures does { DoesAs self.old result self.new (Err PlacedRefusal.NoMemory) (λ refused at.
             migrate_outcome refused (ground_in space.now resident.now) from.now to.now at) }
         ensures last { IfOk result (IsLastShift self.new.last) }
+        ensures unchanged { OnErr result (self.new ≡ self.old) }
     {
         let moved = migrate(&mut self.placed, &mut self.rooms, space, from, to)?;
         let done = with_held(moved, Some(resident));
@@ -267,9 +267,10 @@ impl PageState {
 
     /// A page that keeps a frame stays there, and has moved if its node is the one asked for.
     fn stay(&mut self, space: &Space, page: u64, node: u32, from: u8) -> Result<(), MoveRefusal>
-        ensures { DoesAs self.old result self.new (Err MoveRefusal.NoMemory) (λ refused at.
+        ensures does { DoesAs self.old result self.new (Err MoveRefusal.NoMemory) (λ refused at.
             held_move_unless (move_cause space.now.machine space.now.allowed node
             (is_some (page_at space.now.ranges page)) (Spot.Held from)) at) }
+        ensures unchanged { OnErr result (self.new ≡ self.old) }
     {
         judge_move(space, page, node, Spot::Held(from))?;
         keep(&mut self.last, Last::Nodes(still()));
@@ -288,37 +289,26 @@ impl PageState {
         address: u64,
         node: u32,
     ) -> Result<(), MoveRefusal>
-        ensures { DoesAs self.old result self.new (Err MoveRefusal.NoMemory) (λ refused at.
+        ensures does { DoesAs self.old result self.new (Err MoveRefusal.NoMemory) (λ refused at.
             move_outcome refused (ground_in space.now resident.now) address node at) }
+        ensures unchanged { OnErr result (self.new ≡ self.old) }
     {
         let page = address / PAGE_BYTES;
         match resident.at(page) {
             Some(placement) => self.stay(space, page, node, placement.node),
-            None => self.send(space, resident, page, node),
+            None => self.send(space, page, node),
         }
     }
 
     /// A page that keeps no frame goes to a node.
-    fn send(
-        &mut self,
-        space: &Space,
-        _resident: &Resident,
-        page: u64,
-        node: u32,
-    ) -> Result<(), MoveRefusal>
-        ensures { DoesAs self.old result self.new (Err MoveRefusal.NoMemory) (λ refused at.
-            move_unless (move_cause_by refused (ground_in space.now _resident.now) page node at)
-            page node at) }
+    fn send(&mut self, space: &Space, page: u64, node: u32) -> Result<(), MoveRefusal>
+        ensures does { DoesAs self.old result self.new (Err MoveRefusal.NoMemory) (λ refused at.
+            move_unless (move_cause_by refused (ground_in space.now []) page node at) page node
+            at) }
+        ensures unchanged { OnErr result (self.new ≡ self.old) }
     {
         let spot = self.placed.at(page);
-        move_page(
-            &mut self.placed,
-            &mut self.rooms,
-            space,
-            _resident,
-            page,
-            node,
-        )?;
+        move_page(&mut self.placed, &mut self.rooms, space, page, node)?;
         keep(&mut self.last, Last::Nodes(told_of(node, spot)));
         Ok(())
     }
@@ -362,6 +352,7 @@ impl PageState {
         ensures does { DoesAs self.old result self.new (Err PlacedRefusal.NoMemory) (λ refused at.
             along_outcome refused resident.now old.now new.now at) }
         ensures last { IfOk result (IsLastShift self.new.last) }
+        ensures unchanged { OnErr result (self.new ≡ self.old) }
     {
         let moved = follow(&mut self.placed, &mut self.rooms, old, new)?;
         let done = with_held(moved, Some(resident));

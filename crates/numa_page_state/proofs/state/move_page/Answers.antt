@@ -1,4 +1,4 @@
-use Rattle.std.proofs.Common.{◌≤◌, arith, ap, ◌∙◌}
+use Rattle.std.proofs.Common.{◌≤◌, [], arith, ap, ◌∙◌}
 use Rattle.numa_machine.specs.Machine.{Hardware}
 use Rattle.numa_page_state.specs.Lying.{ground_in}
 use Rattle.numa_page_state.proofs.Moving.{moves-filling, moves-freely}
@@ -11,7 +11,7 @@ returns-in-None c =
     omega (arith, count, c.nodes.ensures.at_most) in
     rw c.in-None.is
     (moves-freely c.args.placed.now c.move_page.new.self
-    (ground_in c.args.space.now c.args._resident.now) c.args.page
+    (ground_in c.args.space.now []) c.args.page
     c.args.node few c.move_page.result c.move_page.ensures.accepted c.move_page.ensures.ok
     c.move_page.ensures.few c.move_page.ensures.err c.move_page.ensures.unchanged)
 
@@ -22,7 +22,7 @@ returns-in-Some c =
     omega (arith, count, c.nodes.ensures.at_most) in
     rw c.in-Some.is
     (moves-filling c.args.placed.now c.move_page_within.new.self
-    (ground_in c.args.space.now c.args._resident.now) c.args.page c.args.node few
+    (ground_in c.args.space.now []) c.args.page c.args.node few
     c.in-Some.have c.move_page_within.new.rooms
     c.move_page_within.result c.move_page_within.ensures.accepted c.move_page_within.ensures.ok
     c.move_page_within.ensures.taken c.move_page_within.ensures.few c.move_page_within.ensures.err

@@ -14,14 +14,14 @@ returns-in-At c =
     (replied c.args.kept.now c.at.new.self c.at.result (Err cause.NoMemory)
     (λ refused at. at_outcome refused (ground_in c.args.space.now c.args.resident.now)
     c.in-At.start c.in-At.length c.in-At.node at)
-    (page_reply reply.AtOk) c.at.ensures)
+    (page_reply reply.AtOk) c.at.ensures.does)
 
 pub returns-in-Room : goal.returns-in-Room
 returns-in-Room c =
     rw (c.in-Room.is, c.page_reply-in-Room.ensures)
     (replied c.args.kept.now c.limit.new.self c.limit.result (Err cause.NoMemory)
     (λ refused at. room_outcome c.args.space.now.machine c.in-Room.node c.in-Room.pages at)
-    (page_reply reply.RoomOk) c.limit.ensures)
+    (page_reply reply.RoomOk) c.limit.ensures.does)
 
 pub returns-in-MemoryMigrate : goal.returns-in-MemoryMigrate
 returns-in-MemoryMigrate c =
@@ -44,4 +44,4 @@ returns-in-Move c =
     (replied c.args.kept.now c.move_page.new.self c.move_page.result (Err move.NoMemory)
     (λ refused at. move_outcome refused (ground_in c.args.space.now c.args.resident.now)
     c.in-Move.address c.in-Move.node at)
-    (move_reply c.in-Move.node) c.move_page.ensures)
+    (move_reply c.in-Move.node) c.move_page.ensures.does)

@@ -3,7 +3,7 @@ use Rattle.std.proofs.lemmas.Result.{err_from_is_err_and}
 use Rattle.numa_mask.specs.NodeSet.{both}
 use Rattle.numa_placed.specs.Refusals.{migrate_cause}
 use Rattle.numa_page_state.specs.Lying.{motion}
-use Rattle.numa_page_state.proofs.Migrating.{few-left}
+use Rattle.numa_page_state.proofs.Migrating.{denied-still, few-left}
 use Rattle.numa_page_state.proofs.Served.{moved-denied, moved-done}
 use Rattle.numa_page_state.proofs.state.PageState.migrate.Goals as goal
 
@@ -42,6 +42,21 @@ returns-in_err-moved-clause-does c =
       follows = c.args.self.now.follows;
       last = c.args.self.now.last;
     }))
+
+pub returns-in_err-moved-clause-unchanged : goal.returns-in_err-moved-clause-unchanged
+returns-in_err-moved-clause-unchanged c =
+    let exit = err_from_is_err_and c.from_residual.result c.from_residual.ensures.1 in
+    let is = denied-still c.args.self.now.placed c.migrate.new.placed c.args.self.now.rooms
+    c.migrate.new.rooms c.args.from.now (both c.args.to.now c.args.space.now.allowed)
+    (migrate_cause c.args.space.now.allowed c.args.to.now) c.in_err-moved.field-0.0
+    c.in_err-moved.ensures in
+    rw exit.1 (
+    λ i. record {
+      placed = is.0 i;
+      rooms = is.1 i;
+      follows = c.args.self.now.follows;
+      last = c.args.self.now.last;
+    })
 
 pub with_held-done-requires : goal.with_held-done-requires
 with_held-done-requires c =

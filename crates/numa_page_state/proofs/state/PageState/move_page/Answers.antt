@@ -7,14 +7,14 @@ use Rattle.numa_page_state.specs.Standing.{DoesAs}
 use Rattle.numa_page_state.proofs.Served.{move_lack}
 use Rattle.numa_page_state.proofs.state.PageState.move_page.Goals as goal
 
-pub returns-in-Some : goal.returns-in-Some
-returns-in-Some c =
+pub returns-in-Some-clause-does : goal.returns-in-Some-clause-does
+returns-in-Some-clause-does c =
     subst (λ (p : Option Placement). DoesAs c.args.self.now c.stay.result c.stay.new.self
     move_lack (λ refused at. move_where p refused (ground_in c.args.space.now c.args.resident.now)
-    (page_of c.args.address) c.args.node at)) (sym c.in-Some.ensures.kept) c.stay.ensures
+    (page_of c.args.address) c.args.node at)) (sym c.in-Some.ensures.kept) c.stay.ensures.does
 
-pub returns-in-None : goal.returns-in-None
-returns-in-None c =
+pub returns-in-None-clause-does : goal.returns-in-None-clause-does
+returns-in-None-clause-does c =
     subst (λ (p : Option Placement). DoesAs c.args.self.now c.send.result c.send.new.self
     move_lack (λ refused at. move_where p refused (ground_in c.args.space.now c.args.resident.now)
-    (page_of c.args.address) c.args.node at)) (sym c.in-None.ensures.kept) c.send.ensures
+    (page_of c.args.address) c.args.node at)) (sym c.in-None.ensures.kept) c.send.ensures.does

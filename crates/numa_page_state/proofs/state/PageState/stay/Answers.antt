@@ -6,8 +6,8 @@ use Rattle.numa_placed.specs.declared.spot.Spot.TheVariants.{Held}
 use Rattle.numa_page_state.proofs.Served.{stays-denied, stays-there}
 use Rattle.numa_page_state.proofs.state.PageState.stay.Goals as goal
 
-pub returns : goal.returns
-returns c = λ lying lies.
+pub returns-clause-does : goal.returns-clause-does
+returns-clause-does c = λ lying lies.
     stays-there c.args.self.now (record {
       placed = c.args.self.now.placed;
       rooms = c.args.self.now.rooms;
@@ -18,8 +18,8 @@ returns c = λ lying lies.
     (is_some (page_at c.args.space.now.ranges c.args.page)) (Held c.args.from))
     c.still.result c.in_ok-judge_move.ensures.cause refl refl refl c.still.ensures c.keep.ensures
 
-pub returns-in_err-judge_move : goal.returns-in_err-judge_move
-returns-in_err-judge_move c =
+pub returns-in_err-judge_move-clause-does : goal.returns-in_err-judge_move-clause-does
+returns-in_err-judge_move-clause-does c =
     let exit = err_from_is_err_and c.from_residual.result c.from_residual.ensures.1 in
     rw (exit.1, exit.2) (λ lying lies.
     stays-denied c.args.self.now c.args.self.now lying lies
