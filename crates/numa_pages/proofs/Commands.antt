@@ -1,6 +1,7 @@
 -- What a command makes of a core and its pages.
 use Rattle.std.proofs.Common.{◌≡◌, ℕ, false, Some, None, List, Ok, refl}
 use Rattle.std.proofs.Common.{subst}
+use Rattle.std.proofs.lemmas.Result.{on_err_weaker}
 use Rattle.numa_core.specs.Standing.{setup_of}
 use Rattle.numa_maps.specs.Residents.{Kept}
 use Rattle.numa_placed.specs.declared.spot.Spot.{Spot}
@@ -12,7 +13,7 @@ use Rattle.numa_page_state.specs.Lying.{Lying, ground_in}
 use Rattle.numa_page_state.specs.Outcomes.{at_outcome, forgotten}
 use Rattle.numa_page_state.specs.Standing.{DoesAs, Forgets, LiesAs, Replaces}
 use Rattle.numa_pages.specs.Changes.{Accepts, Answers, PagesState, Places, cause_of_pages, lacking}
-use Rattle.std.specs.Prelude.{[], Result}
+use Rattle.std.specs.Prelude.{[], OnErr, Result}
 
 module _ (before after : PagesState) (start bytes : ℕ) (placed : List (Run Spot))
     (forgets : Forgets (Some before.state) start bytes (Ok (Some placed))) where
@@ -43,11 +44,12 @@ pub placed-so : (before after : PagesState) (space : SpaceState) (kept : Kept)
     → kept ≡ [] → after.core ≡ before.core
     → DoesAs before.state answer after.state lacking
     (λ refused at. at_outcome refused (ground_in space kept) start bytes node at)
-    → Places start bytes node before answer after
-placed-so before after space kept start bytes node answer same none core does = record {
+    → OnErr answer (after.state ≡ before.state) → Places start bytes node before answer after
+placed-so before after space kept start bytes node answer same none core does still = record {
   does = subst (λ (s : SpaceState). DoesAs before.state answer after.state lacking
       (λ refused at. at_outcome refused (ground_in s []) start bytes node at)) same
       (subst (λ (k : Kept). DoesAs before.state answer after.state lacking
       (λ refused at. at_outcome refused (ground_in space k) start bytes node at)) none does);
   core = core;
+  unchanged = on_err_weaker answer (λ state. λ i. record { core = core i; state = state i }) still;
 }

@@ -8,8 +8,9 @@ use Rattle.numa_placed.specs.declared.moved.Moved.{Moved}
 use Rattle.numa_requests.specs.declared.command.Command.{Command}
 use Rattle.numa_requests.specs.declared.command.Command.TheVariants.{SetMems}
 use Rattle.numa_requests.specs.declared.page_refusal.PlacedRefusal.{PlacedRefusal}
+use Rattle.numa_requests.specs.declared.page_refusal.PlacedRefusal.TheVariants as cause
 use Rattle.numa_space.specs.Standing.{SpaceState, StandsFor}
-use Rattle.numa_page_state.specs.Lying.{Lying}
+use Rattle.numa_page_state.specs.Lying.{Lying, process_in}
 use Rattle.numa_page_state.specs.Outcomes.{along_outcome}
 use Rattle.numa_page_state.specs.Sending.{asked_of, command_of}
 use Rattle.numa_page_state.specs.Standing.{DoesAs, LiesAs, Sends}
@@ -18,9 +19,9 @@ use Rattle.numa_page_state.specs.declared.sending.Sending.{Sending}
 use Rattle.numa_page_state.specs.declared.shift.Shift.{Shift}
 use Rattle.numa_page_state.specs.declared.state.PageState.{PageState}
 use Rattle.numa_page_state.proofs.Asking.{settles}
-use Rattle.numa_pages.specs.Changes.{Accepted, Answers, BindsBy, GoAlong, IsLast, Moving}
-use Rattle.numa_pages.specs.Changes.{MovesMems, PagesState, lacking, late_errno, process_of}
-use Rattle.numa_pages.specs.Changes.{shift_of}
+use Rattle.numa_pages.specs.Changes.{Accepted, Answers, BindsBy, GoAlong, IsLast, IsMovingCause}
+use Rattle.numa_pages.specs.Changes.{MovesMems, Moving, PagesState, lack_told, lacking, late_errno}
+use Rattle.numa_pages.specs.Changes.{process_of, shift_of}
 use Rattle.numa_pages.specs.declared.binding.Rebound.{Rebound}
 use Rattle.numa_pages.specs.declared.refusal.ChangeRefusal.TheVariants.{OfPages}
 
@@ -33,12 +34,8 @@ Found moving pages result = (history : List Command) (lying : Lying)
 abbrev pub FoundIn : Moving → PageState → SpaceState → Kept → Result (Option Sending) PlacedRefusal
     → Type 0
 FoundIn moving state space kept result = (history : List Command) (lying : Lying)
-    → StandsFor space history → LiesAs state lying → Sends (record {
-      machine = space.machine;
-      bounds = space.bounds;
-      history = history;
-      kept = kept;
-    }) moving.said moving.toucher lying result
+    → StandsFor space history → LiesAs state lying
+    → Sends (process_in space history kept) moving.said moving.toucher lying result
 
 pub found-so : (moving : Moving) (pages : PagesState) (space : SpaceState) (kept : Kept)
     (result came : Result (Option Sending) PlacedRefusal) → space ≡ pages.core.space
@@ -83,18 +80,43 @@ module _ (moving : Moving) (strict : Bool) (before after : PagesState) where
     unchanged = tt;
   }
 
--- the pages' runs lack
-pub lacks : (moving : Moving) (strict : Bool) (before : PagesState) (why : PlacedRefusal)
-    → Found moving before (Err why)
-    → BindsBy moving strict before (Err (OfPages why)) before
-lacks moving strict before why found = record {
-  core = tt;
-  pages = tt;
-  errno = tt;
-  setup = refl;
-  err = λ room history lying of lies. found history lying of lies room;
-  unchanged = refl;
-}
+-- something of the pages lacks
+module _ (moving : Moving) (strict : Bool) (before : PagesState) where
+  refuses : (why : PlacedRefusal) → IsMovingCause moving before (OfPages why)
+      → BindsBy moving strict before (Err (OfPages why)) before
+  refuses why is = record {
+    core = tt;
+    pages = tt;
+    errno = tt;
+    setup = refl;
+    err = is;
+    unchanged = refl;
+  }
+
+  pub lacks : (why : PlacedRefusal) → Found moving before (Err why)
+      → BindsBy moving strict before (Err (lack_told why)) before
+  lacks cause.NoMemory found = record {
+    core = tt;
+    pages = tt;
+    errno = tt;
+    setup = refl;
+    err = tt;
+    unchanged = refl;
+  }
+  lacks cause.Unaligned found =
+      refuses cause.Unaligned (λ history lying of lies. found history lying of lies refl)
+  lacks cause.OutOfSpace found =
+      refuses cause.OutOfSpace (λ history lying of lies. found history lying of lies refl)
+  lacks cause.NoSuchNode found =
+      refuses cause.NoSuchNode (λ history lying of lies. found history lying of lies refl)
+  lacks cause.Occupied found =
+      refuses cause.Occupied (λ history lying of lies. found history lying of lies refl)
+  lacks cause.NodesNotAllowed found =
+      refuses cause.NodesNotAllowed (λ history lying of lies. found history lying of lies refl)
+  lacks cause.Astray found =
+      refuses cause.Astray (λ history lying of lies. found history lying of lies refl)
+  lacks cause.TooManyRuns found =
+      refuses cause.TooManyRuns (λ history lying of lies. found history lying of lies refl)
 
 -- by the allowed nodes as they were read
 pub goes-so : (before : PagesState) (core : CoreState) (kept : Kept) (old new : ℕ)
@@ -125,14 +147,14 @@ module _ (mask : ℕ) (before after : PagesState) (core : CoreState)
     unchanged = tt;
   }
 
-  pub stayed : (why : PlacedRefusal) → after.core ≡ before.core
+  pub stayed : (why : PlacedRefusal) → after.core ≡ before.core → after.state ≡ before.state
       → GoAlong before core (Err why) after.state
       → MovesMems mask before (Err (OfPages why)) after
-  stayed why is along = record {
+  stayed why is still along = record {
     core = tt;
     pages = tt;
     told = tt;
     setup = ap setup_of is;
     err = (core, accepted, along);
-    unchanged = is;
+    unchanged = λ i. record { core = is i; state = still i };
   }

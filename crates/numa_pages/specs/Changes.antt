@@ -7,6 +7,7 @@ use Rattle.numa_core.specs.Standing.{CoreState, LeadsTo, core_step_after, setup_
 use Rattle.numa_core.specs.Steps.{accept_answer}
 use Rattle.numa_mode.specs.Policy.{Specification}
 use Rattle.numa_placed.specs.declared.moved.Moved.{Moved}
+use Rattle.numa_placed.specs.declared.spot.Spot.{Spot}
 use Rattle.numa_requests.specs.declared.command.Command.{Command}
 use Rattle.numa_requests.specs.declared.command.Command.TheVariants.{Map, Unmap, Mbind, SetTask}
 use Rattle.numa_requests.specs.declared.command.Command.TheVariants.{Inherit, SetHome, SetWeight}
@@ -19,7 +20,7 @@ use Rattle.numa_requests.specs.declared.page_refusal.PlacedRefusal.TheVariants a
 use Rattle.numa_requests.specs.declared.refusal.Refusal.{Refusal}
 use Rattle.numa_space.specs.Refusals.{refusal_of}
 use Rattle.numa_space.specs.Standing.{StandsFor}
-use Rattle.numa_page_state.specs.Lying.{Ground, Lying, Process, ground_in}
+use Rattle.numa_page_state.specs.Lying.{Ground, Lying, Process, ground_in, process_in}
 use Rattle.numa_page_state.specs.Outcomes.{Done, along_outcome, at_outcome, forgotten}
 use Rattle.numa_page_state.specs.Outcomes.{has_stated, is_no_memory, lack_of, migrate_outcome}
 use Rattle.numa_page_state.specs.Outcomes.{move_outcome, room_outcome}
@@ -44,12 +45,7 @@ pub record PagesState : Type 0 where
 
 -- the process of the core, with this history
 abbrev pub process_of : PagesState → List Command → Process
-process_of pages history = record {
-  machine = pages.core.space.machine;
-  bounds = pages.core.space.bounds;
-  history = history;
-  kept = [];
-}
+process_of pages history = process_in pages.core.space history []
 
 abbrev pub ground_of : PagesState → Ground
 ground_of pages = ground_in pages.core.space []
@@ -128,8 +124,12 @@ pub record Accepts (command : Command) (before : PagesState) (answer : Result �
 
 -- ---- a policy that pages have to lie by
 
--- whether pages stand against it: one lies astray, and nothing else that comes before them does.
--- `default` looks at no page
+-- whether a page that is judged lies astray; `default` looks at no page
+abbrev pub lies_astray : Option Binding → Process → (ℕ → Spot) → Bool
+lies_astray None process spots = false
+lies_astray (Some said) process spots = has_astray process spots said
+
+-- whether pages stand against it: one lies astray, and nothing else that comes before them does
 abbrev pub stands_astray : Option Binding → Process → Command → Lying → Bool
 stands_astray None process command at = false
 stands_astray (Some said) process command at = has_astray process at.spots said
@@ -140,12 +140,13 @@ abbrev pub is_astray : ℕ → ℕ → Specification → Process → Lying → B
 is_astray start bytes spec process at =
     stands_astray (strict_binding start bytes spec) process (Mbind start bytes spec) at
 
--- that is the answer where they do, and where they don't the core's is
-abbrev pub IsJudged : Bool → Result ℕ ChangeRefusal → Type 0
-IsJudged stands (Ok version) = stands ≡ false
-IsJudged stands (Err (OfSpace refusal)) = stands ≡ false
-IsJudged stands (Err (OfPages why)) = (why ≡ cause.Astray) × (stands ≡ true)
-IsJudged stands (Err NoMemory) = Unit {0}
+-- that is the answer where they do, and where they don't the core's is. Memory is wanted only where
+-- a page lies astray
+abbrev pub IsJudged : Bool → Bool → Result ℕ ChangeRefusal → Type 0
+IsJudged astray stands (Ok version) = stands ≡ false
+IsJudged astray stands (Err (OfSpace refusal)) = stands ≡ false
+IsJudged astray stands (Err (OfPages why)) = (why ≡ cause.Astray) × (stands ≡ true)
+IsJudged astray stands (Err NoMemory) = astray ≡ true
 
 -- why the core refuses a command, where it does
 abbrev pub IsRefused : CoreState → Command → ChangeRefusal → Type 0
@@ -160,7 +161,8 @@ pub record BindsStrictly (start bytes : ℕ) (spec : Specification) (before : Pa
       after.core)
   pub judged : (history : List Command) (lying : Lying) → StandsFor before.core.space history
       → LiesAs before.state lying
-      → IsJudged (is_astray start bytes spec (process_of before history) lying) answer
+      → IsJudged (lies_astray (strict_binding start bytes spec) (process_of before history)
+      lying.spots) (is_astray start bytes spec (process_of before history) lying) answer
   pub refused : IfErr answer (IsRefused before.core (Mbind start bytes spec))
   pub pages : after.state ≡ before.state
   pub setup : setup_of after.core ≡ setup_of before.core
@@ -196,11 +198,17 @@ pub record HaveMoved (moving : Moving) (before : PagesState) (told : Rebound) (a
   pub left : told.bound.left ≡ (sent_in [] (asked_of (process_of before history)
       moving.said moving.toucher) lying).left
 
--- why it is refused: by the core; or nothing there stands against it, and the pages' runs lack
+-- too many runs are the pages' cause, and lack of memory isn't
+abbrev pub lack_told : PlacedRefusal → ChangeRefusal
+lack_told cause.NoMemory = NoMemory
+lack_told why = OfPages why
+
+-- why it is refused: by the core; or nothing there stands against it, and the pages' runs are too
+-- many
 abbrev pub IsMovingCause : Moving → PagesState → ChangeRefusal → Type 0
 IsMovingCause moving pages (OfSpace refusal) =
     Answers pages.core (command_of moving.said) (Err refusal) pages.core
-IsMovingCause moving pages (OfPages why) = is_no_memory why ≡ false → (history : List Command)
+IsMovingCause moving pages (OfPages why) = (history : List Command)
     (lying : Lying) → StandsFor pages.core.space history → LiesAs pages.state lying
     → (refusal_of pages.core.space.machine pages.core.space.bounds history
     (command_of moving.said) ≡ None) × (lack_of false (sent_spots (asked_of
@@ -266,16 +274,17 @@ pub record MovesMems (mask : ℕ) (before : PagesState) (answer : Result Moved C
   pub told : IfOk answer (IsLast after.state)
   pub setup : setup_of after.core ≡ setup_of before.core
   pub err : IfErr answer (IsMemsCause mask before after.state)
-  pub unchanged : OnErr answer (after.core ≡ before.core)
+  pub unchanged : OnErr answer (after ≡ before)
 
 -- ---- pages alone
 
--- pages were changed as the outcome says, beside the core
+-- pages were changed as the outcome says, beside the core, or nothing has changed
 pub record Changes {A Cause : Type 0} (lack : Result A Cause)
     (outcome : Bool → Lying → Done A Cause) (before : PagesState) (answer : Result A Cause)
     (after : PagesState) : Type 0 where
   pub does : DoesAs before.state answer after.state lack outcome
   pub core : after.core ≡ before.core
+  pub unchanged : OnErr answer (after ≡ before)
 
 -- the mapped pages of a span were stated to lie on a node, or it is told why not
 abbrev pub Places : ℕ → ℕ → ℕ → PagesState → Result (Unit {0}) PlacedRefusal → PagesState → Type 0

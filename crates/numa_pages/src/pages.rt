@@ -1,6 +1,6 @@
 //! A core, and where its pages lie.
 ghost use Rattle.std.specs.Prelude.{◌≡◌, ℕ, Err, IfErr, IfOk, List, None, Ok, Some, false, true};
-ghost use Rattle.std.specs.Prelude.{is_some};
+ghost use Rattle.std.specs.Prelude.{OnErr, is_some};
 ghost use Rattle.numa_placed.specs.Refusals.{lacks_node};
 ghost use Rattle.numa_requests.specs.declared.page_refusal.PlacedRefusal.TheVariants.{NoSuchNode};
 ghost use Rattle.numa_requests.specs.declared.command.Command.{Command};
@@ -14,12 +14,12 @@ ghost use Rattle.numa_page_state.specs.Standing.{Forgets, LiesAs, Sends};
 ghost use Rattle.numa_page_state.specs.Strict.{strict_binding_in};
 ghost use Rattle.numa_pages.specs.Changes.{Accepted, Accepts, BindsBy, BindsMoving, BindsStrictly};
 ghost use Rattle.numa_pages.specs.Changes.{Limits, Migrates, MovesMems, MovesPage, Places};
-ghost use Rattle.numa_pages.specs.Changes.{cause_of_pages, lying_after, process_of, stands_astray};
-ghost use Rattle.numa_pages.specs.Changes.{unmaps};
+ghost use Rattle.numa_pages.specs.Changes.{cause_of_pages, lies_astray, lying_after, process_of};
+ghost use Rattle.numa_pages.specs.Changes.{stands_astray, unmaps};
 
 use crate::binding::{Rebound, late_errno};
 use crate::questions::{last_moved, room_at};
-use crate::refusal::ChangeRefusal;
+use crate::refusal::{ChangeRefusal, lack_told};
 use crate::trial::{TrialError, let_go, tried};
 use numa_core::Core;
 use numa_machine::NoMemory;
@@ -205,12 +205,16 @@ impl Pages {
     /// does.
     ///
     /// # Errors
-    /// `NoMemory`: out of memory for a copy of the space, on which the command is tried.
+    /// `NoMemory`: one lies astray, and there is no memory for a copy of the space, on which the
+    /// command is tried.
     fn stands_astray(&self, command: &Command) -> Result<bool, NoMemory>
-        ensures { IfOk result (λ stands. (history : List Command) (lying : Lying)
+        ensures ok { IfOk result (λ stands. (history : List Command) (lying : Lying)
             → StandsFor self.now.core.space history → LiesAs self.now.state lying → stands
             ≡ stands_astray (strict_binding_in command.now) (process_of self.now history)
             command.now lying) }
+        ensures astray { OnErr result ((history : List Command) (lying : Lying)
+            → StandsFor self.now.core.space history → LiesAs self.now.state lying → lies_astray
+            (strict_binding_in command.now) (process_of self.now history) lying.spots ≡ true) }
     {
         let Some(binding) = strict_binding_in(command) else {
             return Ok(false);
@@ -220,7 +224,10 @@ impl Pages {
         if !self.state.has_astray(space, &none, &binding) {
             return Ok(false);
         }
-        is_late_in(self.alloc, space, command)
+        match is_late_in(self.alloc, space, command) {
+            Ok(late) => Ok(late),
+            Err(lack) => Err(lack),
+        }
     }
 
     /// Sets the policy of a span's pages, unless one of them lies on a node that isn't in the
@@ -231,8 +238,8 @@ impl Pages {
     /// Nothing has changed. `OfSpace`: as [`Core::accept`]. `OfPages`: `Astray`, a page lies on
     /// another node, and nothing else stands against the command but `TooManyRanges` and
     /// `NoMemory`, which come behind it, and by the kernel's rules `Hole`: they look at the pages
-    /// before the range that ends at the first hole (`judged_pages`). `NoMemory`: out of memory for
-    /// a copy.
+    /// before the range that ends at the first hole (`judged_pages`). `NoMemory`: a page lies on
+    /// another node, and there is no memory for a copy.
     pub fn bind_strictly(
         &mut self,
         start: u64,
@@ -267,7 +274,7 @@ impl Pages {
     ///
     /// # Errors
     /// Nothing has changed. `OfSpace`: as [`Core::accept`]. `OfPages`: `TooManyRuns`, as
-    /// [`Placed::bind_astray`], or `NoMemory`.
+    /// [`Placed::bind_astray`]. `NoMemory`: out of memory.
     pub fn bind_moving(
         &mut self,
         start: u64,
@@ -296,7 +303,7 @@ impl Pages {
         ) {
             Ok(Some(sent)) => self.rebind(said, toucher, strict, sent),
             Ok(None) => self.refuse(said, toucher, strict),
-            Err(cause) => Err(ChangeRefusal::OfPages(cause)),
+            Err(cause) => Err(lack_told(cause)),
         }
     }
 

@@ -21,7 +21,7 @@ refuse-requires c =
 
 pub returns : goal.returns
 returns c =
-    rw (← c.self.view_is) (lacks
+    rw (← c.self.view_is, c.lack_told.ensures) (lacks
     (moving_of c.args.start c.args.length c.args.spec c.args.task c.args.cpu) c.args.strict
     (record { core = c.self.inside.core; state = c.self.inside.state }) c.in-Err.cause
     (found-so (moving_of c.args.start c.args.length c.args.spec c.args.task c.args.cpu)

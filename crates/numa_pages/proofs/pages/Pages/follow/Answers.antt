@@ -29,7 +29,7 @@ returns c =
     (record { core = c.self.inside.core; state = c.self.inside.state })
     (record { core = c.self.inside.core; state = c.move_along.new.self }) c.args.after
     (subst (λ (p : PagesState). Accepted p.core (SetMems c.args._mask) c.args.after)
-    (sym c.self.view_is) c.requires.accepted) c.in-Err.cause refl
+    (sym c.self.view_is) c.requires.accepted) c.in-Err.cause refl c.in-Err.ensures.unchanged
     (goes-so (record { core = c.self.inside.core; state = c.self.inside.state }) c.args.after
     c.new-none.result c.allowed-old.result c.allowed-new.result (Err c.in-Err.cause)
     c.move_along.new.self c.new-none.ensures

@@ -8,4 +8,4 @@ returns c =
     (record { core = c.self.inside.core; state = c.self.inside.state })
     (record { core = c.self.inside.core; state = c.at.new.self }) c.space.result.now
     c.new-none.result c.args.start c.args.length c.args.node c.at.result c.space.ensures.space
-    c.new-none.ensures refl c.at.ensures)
+    c.new-none.ensures refl c.at.ensures.does c.at.ensures.unchanged)
