@@ -14,7 +14,9 @@ use Rattle.numaplan_c.specs.Codes.{refusal_code}
 use Rattle.numaplan_c.specs.Compared.{IsListed}
 use Rattle.numaplan_c.specs.declared.placed_moves.NpBound.{NpBound}
 use Rattle.numaplan_c.specs.declared.placed_moves.NpMoves.{NpMoves}
+use Rattle.numaplan_handles.specs.Handles.{pages_in}
 use Rattle.numaplan_handles.specs.Pages.{OfPages}
+use Rattle.numaplan_handles.specs.declared.pages_handle.PagesHandle.{PagesHandle}
 
 -- ---- codes
 
@@ -54,27 +56,25 @@ done_code code_of (Err cause) = code_of cause
 -- the call did to what is kept what `told` says, answered by the number of its answer, and `tells`
 -- is what else it told; a closed handle answers 1, stays closed, and nothing is told
 abbrev pub PagesTell : {A : Type 0} → (A → ℕ) → (A → Type 0) → Type 0
-    → (PagesState → A → PagesState → Type 0) → Option PagesState → ℕ → Option PagesState → Type 0
+    → (PagesState → A → PagesState → Type 0) → PagesHandle → ℕ → PagesHandle → Type 0
 PagesTell {A} code_of tells untold told old code new =
-    (old ≡ None → (code ≡ 1) × (new ≡ None) × untold)
-    × ((pages : PagesState) → old ≡ Some pages → (answer : A) × (code ≡ code_of answer)
-    × tells answer × OfPages told old new answer)
+    (pages_in old ≡ None → (code ≡ 1) × (pages_in new ≡ None) × untold)
+    × ((pages : PagesState) → pages_in old ≡ Some pages → (answer : A) × (code ≡ code_of answer)
+    × tells answer × OfPages told (pages_in old) (pages_in new) answer)
 
 -- the same of a call that tells nothing else
 abbrev pub PagesAnswer : {A E : Type 0} → (E → ℕ)
-    → (PagesState → Result A E → PagesState → Type 0) → Option PagesState → ℕ → Option PagesState
-    → Type 0
+    → (PagesState → Result A E → PagesState → Type 0) → PagesHandle → ℕ → PagesHandle → Type 0
 PagesAnswer code_of told old code new =
     PagesTell (done_code code_of) (λ answer. Unit {0}) (Unit {0}) told old code new
 
 -- the same for a command with a word that is read first: a faulty word is told, by `fault_code` its
 -- fault, and changes nothing
 abbrev pub PagesAnswerRead : {W F A E : Type 0} → Result W F → (F → ℕ) → (E → ℕ)
-    → (W → PagesState → Result A E → PagesState → Type 0) → Option PagesState → ℕ
-    → Option PagesState → Type 0
+    → (W → PagesState → Result A E → PagesState → Type 0) → PagesHandle → ℕ → PagesHandle → Type 0
 PagesAnswerRead word fault_code code_of told old code new = MatchResult word
     (λ it. PagesAnswer code_of (told it) old code new)
-    (λ fault. (code ≡ fault_code fault) × (new ≡ old))
+    (λ fault. (code ≡ fault_code fault) × (pages_in new ≡ pages_in old))
 
 -- what went where is told; where it is refused, what stood there stays
 abbrev pub TellsMoved : {E : Type 0} → NpMoves → NpMoves → Result Moved E → Type 0
@@ -84,8 +84,8 @@ TellsMoved old new (Err cause) = new ≡ old
 
 -- a call that moves pages
 abbrev pub PagesMove : {E : Type 0} → (E → ℕ)
-    → (PagesState → Result Moved E → PagesState → Type 0) → Option PagesState → ℕ
-    → Option PagesState → NpMoves → NpMoves → Type 0
+    → (PagesState → Result Moved E → PagesState → Type 0) → PagesHandle → ℕ → PagesHandle
+    → NpMoves → NpMoves → Type 0
 PagesMove code_of told old code new moves moves-then = PagesTell (done_code code_of)
     (TellsMoved moves moves-then) (moves-then ≡ moves) told old code new
 
@@ -97,7 +97,7 @@ TellsBound old new (Err cause) = new ≡ old
 
 -- a call that moves pages by a policy
 abbrev pub PagesBind : (PagesState → Result Rebound ChangeRefusal → PagesState → Type 0)
-    → Option PagesState → ℕ → Option PagesState → NpBound → NpBound → Type 0
+    → PagesHandle → ℕ → PagesHandle → NpBound → NpBound → Type 0
 PagesBind told old code new bound bound-then = PagesTell (done_code change_code)
     (TellsBound bound bound-then) (bound-then ≡ bound) told old code new
 

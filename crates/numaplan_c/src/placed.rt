@@ -4,8 +4,7 @@ ghost use Rattle.numaplan_c.specs.Border.{Asked, Makes, Shares};
 ghost use Rattle.numaplan_handles.specs.Handles.{core_in, pages_in};
 ghost use Rattle.numaplan_handles.specs.Pages.{IsCoreOf, IsOpenedFrom};
 
-use crate::codes::Code;
-use crate::keeping::{ensure_closed, kept_code};
+use crate::keeping::{open_from, tell_if_open};
 use numaplan_handles::{CoreHandle, PagesHandle};
 use std::alloc::Global;
 
@@ -20,16 +19,7 @@ pub extern "C" fn np_pages_open(
     ensures opens { Makes IsOpenedFrom (core_in core.old) (pages_in pages.old) result
         (pages_in pages.new) }
 {
-    ensure_closed!(pages);
-    kept_code(pages.open(alloc, core))
-}
-
-/// Frees a core with its pages.
-#[unsafe(no_mangle)]
-pub extern "C" fn np_pages_close(alloc: Global, pages: &mut PagesHandle)
-    ensures { pages_in pages.new ≡ None }
-{
-    pages.handle.close(alloc)
+    open_from!(pages, pages.open(alloc, core))
 }
 
 /// Opens another handle with a copy of a core with its pages.
@@ -41,8 +31,7 @@ pub extern "C" fn np_pages_copy(
 ) -> u32
     ensures { Shares pages_in pages.old copy.old result pages.new copy.new }
 {
-    ensure_closed!(copy);
-    kept_code(pages.copy(alloc, copy))
+    open_from!(copy, pages.copy(alloc, copy))
 }
 
 /// Opens a handle of a core with a copy of the core.
@@ -56,8 +45,7 @@ pub extern "C" fn np_pages_core(
     ensures opens { Makes IsCoreOf (pages_in pages.old) (core_in core.old) result
         (core_in core.new) }
 {
-    ensure_closed!(core);
-    kept_code(pages.copy_core(alloc, core))
+    open_from!(core, pages.copy_core(alloc, core))
 }
 
 /// Returns the number of accepted commands.
@@ -66,11 +54,13 @@ pub extern "C" fn np_pages_version(alloc: Global, pages: &mut PagesHandle, versi
     ensures { Asked (pages_in pages.old) (pages_in pages.new) result (version.new ≡ version.old)
         (λ kept. (result ≡ 0) × (version.new ≡ kept.core.space.version)) }
 {
-    match pages.version(alloc) {
-        None => Code::Closed as u32,
-        Some(found) => {
-            *version = found;
-            0
-        }
-    }
+    tell_if_open!(version, pages.version(alloc))
+}
+
+/// Frees a core with its pages.
+#[unsafe(no_mangle)]
+pub extern "C" fn np_pages_close(alloc: Global, pages: &mut PagesHandle)
+    ensures { pages_in pages.new ≡ None }
+{
+    pages.handle.close(alloc)
 }

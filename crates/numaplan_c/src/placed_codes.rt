@@ -3,6 +3,7 @@ ghost use Rattle.std.specs.Prelude.{◌≡◌};
 ghost use Rattle.numaplan_c.specs.Placed.{change_code, done_code, move_code, placed_code};
 
 use crate::codes::{Code, refusal_code};
+use crate::keeping::or_return;
 use numa_pages::ChangeRefusal;
 use numa_requests::{MoveRefusal, PlacedRefusal, Refusal};
 
@@ -22,6 +23,14 @@ pub(crate) fn placed_code(cause: PlacedRefusal) -> u32
     }
 }
 
+/// The code of the result of a change of pages.
+pub(crate) fn set_code<A: Drop>(answer: Result<A, PlacedRefusal>) -> u32
+    ensures { result ≡ done_code placed_code answer }
+{
+    let _ = or_return!(answer, placed_code);
+    0
+}
+
 /// The code of what stands against moving a page.
 pub(crate) fn move_code(cause: MoveRefusal) -> u32
     ensures { result ≡ move_code cause }
@@ -35,6 +44,14 @@ pub(crate) fn move_code(cause: MoveRefusal) -> u32
         MoveRefusal::TooManyRuns => Code::TooManyRuns as u32,
         MoveRefusal::NoMemory => Code::NoMemory as u32,
     }
+}
+
+/// The code of the result of moving a page.
+pub(crate) fn moved_code(answer: Result<(), MoveRefusal>) -> u32
+    ensures { result ≡ done_code move_code answer }
+{
+    let _ = or_return!(answer, move_code);
+    0
 }
 
 /// The code of what stands against a change of a core and its pages.
@@ -52,28 +69,6 @@ pub(crate) fn change_code(cause: ChangeRefusal) -> u32
 pub(crate) fn changed_code<A: Drop>(answer: Result<A, ChangeRefusal>) -> u32
     ensures { result ≡ done_code change_code answer }
 {
-    match answer {
-        Ok(_) => 0,
-        Err(cause) => change_code(cause),
-    }
-}
-
-/// The code of the result of a change of pages.
-pub(crate) fn set_code<A: Drop>(answer: Result<A, PlacedRefusal>) -> u32
-    ensures { result ≡ done_code placed_code answer }
-{
-    match answer {
-        Ok(_) => 0,
-        Err(cause) => placed_code(cause),
-    }
-}
-
-/// The code of the result of moving a page.
-pub(crate) fn moved_code(answer: Result<(), MoveRefusal>) -> u32
-    ensures { result ≡ done_code move_code answer }
-{
-    match answer {
-        Ok(()) => 0,
-        Err(cause) => move_code(cause),
-    }
+    let _ = or_return!(answer, change_code);
+    0
 }

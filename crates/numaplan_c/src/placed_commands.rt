@@ -5,9 +5,9 @@ ghost use Rattle.numa_script.specs.Policies.{policy_of};
 ghost use Rattle.numa_requests.specs.declared.command.Command.{Command};
 ghost use Rattle.numaplan_c.specs.Codes.{list_code, word_code};
 ghost use Rattle.numaplan_c.specs.Placed.{PagesAnswer, PagesAnswerRead, change_code};
-ghost use Rattle.numaplan_handles.specs.Handles.{pages_in};
 
-use crate::codes::{Code, list_code, word_code};
+use crate::codes::{list_code, word_code};
+use crate::keeping::{if_open, or_return};
 use crate::placed_codes::changed_code;
 use numa_mask::read_list;
 use numa_mode::PolicySpec;
@@ -18,13 +18,9 @@ use std::alloc::Global;
 
 /// Carries out a command of the core in a handle, and returns the code of its result.
 fn accept(alloc: Global, pages: &mut PagesHandle, command: Command) -> u32
-    ensures { PagesAnswer change_code (Accepts command) (pages_in pages.old) result
-        (pages_in pages.new) }
+    ensures { PagesAnswer change_code (Accepts command) pages.old result pages.new }
 {
-    match pages.accept(alloc, &command) {
-        None => Code::Closed as u32,
-        Some(answer) => changed_code(answer),
-    }
+    if_open!(pages.accept(alloc, &command), answer => changed_code(answer))
 }
 
 /// Maps a span.
@@ -36,8 +32,8 @@ pub extern "C" fn np_pages_map(
     length: u64,
     offset: u64,
 ) -> u32
-    ensures { PagesAnswer change_code (Accepts (Command.Map start length offset))
-        (pages_in pages.old) result (pages_in pages.new) }
+    ensures { PagesAnswer change_code (Accepts (Command.Map start length offset)) pages.old
+        result pages.new }
 {
     let command = Command::Map {
         start,
@@ -55,8 +51,8 @@ pub extern "C" fn np_pages_unmap(
     start: u64,
     length: u64,
 ) -> u32
-    ensures { PagesAnswer change_code (Accepts (Command.Unmap start length)) (pages_in pages.old)
-        result (pages_in pages.new) }
+    ensures { PagesAnswer change_code (Accepts (Command.Unmap start length)) pages.old
+        result pages.new }
 {
     accept(alloc, pages, Command::Unmap { start, length })
 }
@@ -71,13 +67,9 @@ pub extern "C" fn np_pages_mbind(
     policy: &[u8],
 ) -> u32
     ensures { PagesAnswerRead (policy_of policy.now) word_code change_code
-        (λ spec. Accepts (Command.Mbind start length spec)) (pages_in pages.old) result
-        (pages_in pages.new) }
+        (λ spec. Accepts (Command.Mbind start length spec)) pages.old result pages.new }
 {
-    let spec = match read_policy(policy) {
-        Ok(spec) => spec,
-        Err(fault) => return word_code(fault),
-    };
+    let spec = or_return!(read_policy(policy), word_code);
     let command = Command::Mbind {
         start,
         length,
@@ -88,13 +80,9 @@ pub extern "C" fn np_pages_mbind(
 
 /// Sets a policy for a span, and returns the code of its result.
 fn bind(alloc: Global, pages: &mut PagesHandle, start: u64, length: u64, spec: PolicySpec) -> u32
-    ensures { PagesAnswer change_code (BindsStrictly start length spec) (pages_in pages.old) result
-        (pages_in pages.new) }
+    ensures { PagesAnswer change_code (BindsStrictly start length spec) pages.old result pages.new }
 {
-    match pages.bind_strictly(alloc, start, length, spec) {
-        None => Code::Closed as u32,
-        Some(answer) => changed_code(answer),
-    }
+    if_open!(pages.bind_strictly(alloc, start, length, spec), answer => changed_code(answer))
 }
 
 /// Sets the policy of a span's pages, unless one lies on another node than it asks for.
@@ -107,12 +95,9 @@ pub extern "C" fn np_pages_mbind_strictly(
     policy: &[u8],
 ) -> u32
     ensures { PagesAnswerRead (policy_of policy.now) word_code change_code
-        (BindsStrictly start length) (pages_in pages.old) result (pages_in pages.new) }
+        (BindsStrictly start length) pages.old result pages.new }
 {
-    let spec = match read_policy(policy) {
-        Ok(spec) => spec,
-        Err(fault) => return word_code(fault),
-    };
+    let spec = or_return!(read_policy(policy), word_code);
     bind(alloc, pages, start, length, spec)
 }
 
@@ -125,13 +110,9 @@ pub extern "C" fn np_pages_set_task(
     policy: &[u8],
 ) -> u32
     ensures { PagesAnswerRead (policy_of policy.now) word_code change_code
-        (λ spec. Accepts (Command.SetTask task spec)) (pages_in pages.old) result
-        (pages_in pages.new) }
+        (λ spec. Accepts (Command.SetTask task spec)) pages.old result pages.new }
 {
-    let spec = match read_policy(policy) {
-        Ok(spec) => spec,
-        Err(fault) => return word_code(fault),
-    };
+    let spec = or_return!(read_policy(policy), word_code);
     accept(alloc, pages, Command::SetTask { task, spec })
 }
 
@@ -143,8 +124,8 @@ pub extern "C" fn np_pages_inherit(
     task: u32,
     from: u32,
 ) -> u32
-    ensures { PagesAnswer change_code (Accepts (Command.Inherit task from)) (pages_in pages.old)
-        result (pages_in pages.new) }
+    ensures { PagesAnswer change_code (Accepts (Command.Inherit task from)) pages.old
+        result pages.new }
 {
     accept(alloc, pages, Command::Inherit { task, from })
 }
@@ -158,8 +139,8 @@ pub extern "C" fn np_pages_set_home(
     length: u64,
     node: u32,
 ) -> u32
-    ensures { PagesAnswer change_code (Accepts (Command.SetHome start length node))
-        (pages_in pages.old) result (pages_in pages.new) }
+    ensures { PagesAnswer change_code (Accepts (Command.SetHome start length node)) pages.old
+        result pages.new }
 {
     let command = Command::SetHome {
         start,
@@ -177,8 +158,8 @@ pub extern "C" fn np_pages_set_weight(
     node: u32,
     weight: u32,
 ) -> u32
-    ensures { PagesAnswer change_code (Accepts (Command.SetWeight node weight)) (pages_in pages.old)
-        result (pages_in pages.new) }
+    ensures { PagesAnswer change_code (Accepts (Command.SetWeight node weight)) pages.old
+        result pages.new }
 {
     accept(alloc, pages, Command::SetWeight { node, weight })
 }
@@ -187,12 +168,8 @@ pub extern "C" fn np_pages_set_weight(
 #[unsafe(no_mangle)]
 pub extern "C" fn np_pages_set_mems(alloc: Global, pages: &mut PagesHandle, nodes: &[u8]) -> u32
     ensures { PagesAnswerRead (list_of nodes.now) list_code change_code
-        (λ mask. Accepts (Command.SetMems mask)) (pages_in pages.old) result
-        (pages_in pages.new) }
+        (λ mask. Accepts (Command.SetMems mask)) pages.old result pages.new }
 {
-    let mask = match read_list(nodes) {
-        Ok(mask) => mask,
-        Err(fault) => return list_code(fault),
-    };
+    let mask = or_return!(read_list(nodes), list_code);
     accept(alloc, pages, Command::SetMems { mask })
 }

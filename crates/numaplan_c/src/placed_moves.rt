@@ -9,10 +9,11 @@ ghost use Rattle.numaplan_c.specs.Placed.{PagesAnswer, PagesBind, PagesMove, Tel
 ghost use Rattle.numaplan_c.specs.Placed.{TellsMoved, change_code, move_code, placed_code};
 ghost use Rattle.numaplan_handles.specs.Handles.{pages_in};
 
-use crate::codes::{Code, list_code, word_code};
+use crate::codes::{list_code, word_code};
+use crate::keeping::{if_open, or_return};
 use crate::placed_codes::{changed_code, moved_code, set_code};
 use numa_mask::{NodeMask, read_list};
-use numa_mode::PolicySpec;
+use numa_page_state::{Rebinding, Toucher};
 use numa_pages::{ChangeRefusal, Rebound};
 use numa_placed::Moved;
 use numa_script::policy::read_policy;
@@ -80,13 +81,9 @@ pub extern "C" fn np_pages_place(
     length: u64,
     node: u32,
 ) -> u32
-    ensures { PagesAnswer placed_code (Places start length node) (pages_in pages.old) result
-        (pages_in pages.new) }
+    ensures { PagesAnswer placed_code (Places start length node) pages.old result pages.new }
 {
-    match pages.place(alloc, start, length, node) {
-        None => Code::Closed as u32,
-        Some(answer) => set_code(answer),
-    }
+    if_open!(pages.place(alloc, start, length, node), answer => set_code(answer))
 }
 
 /// Says how many more pages a node takes.
@@ -97,13 +94,9 @@ pub extern "C" fn np_pages_set_room(
     node: u32,
     room: u64,
 ) -> u32
-    ensures { PagesAnswer placed_code (Limits node room) (pages_in pages.old) result
-        (pages_in pages.new) }
+    ensures { PagesAnswer placed_code (Limits node room) pages.old result pages.new }
 {
-    match pages.limit(alloc, node, room) {
-        None => Code::Closed as u32,
-        Some(answer) => set_code(answer),
-    }
+    if_open!(pages.limit(alloc, node, room), answer => set_code(answer))
 }
 
 /// Moves the page of an address to a node.
@@ -114,13 +107,9 @@ pub extern "C" fn np_pages_move(
     address: u64,
     node: u32,
 ) -> u32
-    ensures { PagesAnswer move_code (MovesPage address node) (pages_in pages.old) result
-        (pages_in pages.new) }
+    ensures { PagesAnswer move_code (MovesPage address node) pages.old result pages.new }
 {
-    match pages.move_page(alloc, address, node) {
-        None => Code::Closed as u32,
-        Some(answer) => moved_code(answer),
-    }
+    if_open!(pages.move_page(alloc, address, node), answer => moved_code(answer))
 }
 
 /// Moves pages from one set of nodes to the allowed nodes of another.
@@ -131,16 +120,13 @@ fn migrate(
     to: &NodeMask,
     moves: &mut NpMoves,
 ) -> u32
-    ensures { PagesMove placed_code (Migrates from.now to.now) (pages_in pages.old) result
-        (pages_in pages.new) moves.old moves.new }
+    ensures { PagesMove placed_code (Migrates from.now to.now) pages.old result pages.new moves.old
+        moves.new }
 {
-    match pages.migrate(alloc, from, to) {
-        None => Code::Closed as u32,
-        Some(answer) => {
-            tell(&answer, moves);
-            set_code(answer)
-        }
-    }
+    if_open!(pages.migrate(alloc, from, to), answer => {
+        tell(&answer, moves);
+        set_code(answer)
+    })
 }
 
 /// Moves pages from the nodes of one list to the allowed nodes of another.
@@ -153,36 +139,27 @@ pub extern "C" fn np_pages_migrate(
     moves: &mut NpMoves,
 ) -> u32
     ensures { MatchResult (list_of from.now) (λ old. MatchResult (list_of to.now)
-        (λ new. PagesMove placed_code (Migrates old new) (pages_in pages.old) result
-        (pages_in pages.new) moves.old moves.new)
+        (λ new. PagesMove placed_code (Migrates old new) pages.old result pages.new moves.old
+        moves.new)
         (λ fault. (result ≡ list_code fault) × (pages_in pages.new ≡ pages_in pages.old)
         × (moves.new ≡ moves.old)))
         (λ fault. (result ≡ list_code fault) × (pages_in pages.new ≡ pages_in pages.old)
         × (moves.new ≡ moves.old)) }
 {
-    let old = match read_list(from) {
-        Ok(mask) => mask,
-        Err(fault) => return list_code(fault),
-    };
-    let new = match read_list(to) {
-        Ok(mask) => mask,
-        Err(fault) => return list_code(fault),
-    };
+    let old = or_return!(read_list(from), list_code);
+    let new = or_return!(read_list(to), list_code);
     migrate(alloc, pages, &old, &new, moves)
 }
 
 /// Changes the allowed nodes, and moves the pages with them.
 fn follow(alloc: Global, pages: &mut PagesHandle, mask: NodeMask, moves: &mut NpMoves) -> u32
-    ensures { PagesMove change_code (MovesMems mask) (pages_in pages.old) result
-        (pages_in pages.new) moves.old moves.new }
+    ensures { PagesMove change_code (MovesMems mask) pages.old result pages.new moves.old
+        moves.new }
 {
-    match pages.move_mems(alloc, mask) {
-        None => Code::Closed as u32,
-        Some(answer) => {
-            tell(&answer, moves);
-            changed_code(answer)
-        }
-    }
+    if_open!(pages.move_mems(alloc, mask), answer => {
+        tell(&answer, moves);
+        changed_code(answer)
+    })
 }
 
 /// Sets the nodes on which memory may be placed, and moves the pages with them.
@@ -194,53 +171,30 @@ pub extern "C" fn np_pages_move_mems(
     moves: &mut NpMoves,
 ) -> u32
     ensures { MatchResult (list_of nodes.now) (λ mask. PagesMove change_code (MovesMems mask)
-        (pages_in pages.old) result (pages_in pages.new) moves.old moves.new)
+        pages.old result pages.new moves.old moves.new)
         (λ fault. (result ≡ list_code fault) × (pages_in pages.new ≡ pages_in pages.old)
         × (moves.new ≡ moves.old)) }
 {
-    let mask = match read_list(nodes) {
-        Ok(mask) => mask,
-        Err(fault) => return list_code(fault),
-    };
+    let mask = or_return!(read_list(nodes), list_code);
     follow(alloc, pages, mask, moves)
-}
-
-/// A span, and how a policy is set for it.
-#[derive(Clone, Copy, Drop)]
-struct Moving {
-    start: u64,
-    length: u64,
-    strict: bool,
-    task: u32,
-    cpu: u32,
 }
 
 /// Sets a policy, and moves the pages that lie on other nodes than it asks for.
 fn rebind(
     alloc: Global,
     pages: &mut PagesHandle,
-    moving: &Moving,
-    spec: PolicySpec,
+    said: Rebinding,
+    strict: bool,
+    toucher: Toucher,
     bound: &mut NpBound,
 ) -> u32
-    ensures { PagesBind (BindsMoving moving.now.start moving.now.length spec moving.now.strict
-        moving.now.task moving.now.cpu) (pages_in pages.old) result (pages_in pages.new)
-        bound.old bound.new }
+    ensures { PagesBind (BindsMoving said.start said.length said.spec strict toucher.task
+        toucher.cpu) pages.old result pages.new bound.old bound.new }
 {
-    let Moving {
-        start,
-        length,
-        strict,
-        task,
-        cpu,
-    } = *moving;
-    match pages.bind_moving(alloc, start, length, spec, strict, task, cpu) {
-        None => Code::Closed as u32,
-        Some(answer) => {
-            tell_bound(&answer, bound);
-            changed_code(answer)
-        }
-    }
+    if_open!(pages.bind_moving(alloc, said, strict, toucher), answer => {
+        tell_bound(&answer, bound);
+        changed_code(answer)
+    })
 }
 
 /// Sets the policy of a span's pages, and moves those that lie on other nodes than it asks for.
@@ -257,21 +211,16 @@ pub extern "C" fn np_pages_mbind_moving(
     bound: &mut NpBound,
 ) -> u32
     ensures { MatchResult (policy_of policy.now) (λ spec. PagesBind
-        (BindsMoving start length spec strict task cpu) (pages_in pages.old) result
-        (pages_in pages.new) bound.old bound.new)
+        (BindsMoving start length spec strict task cpu) pages.old result pages.new bound.old
+        bound.new)
         (λ fault. (result ≡ word_code fault) × (pages_in pages.new ≡ pages_in pages.old)
         × (bound.new ≡ bound.old)) }
 {
-    let spec = match read_policy(policy) {
-        Ok(spec) => spec,
-        Err(fault) => return word_code(fault),
-    };
-    let moving = Moving {
+    let spec = or_return!(read_policy(policy), word_code);
+    let said = Rebinding {
         start,
         length,
-        strict,
-        task,
-        cpu,
+        spec,
     };
-    rebind(alloc, pages, &moving, spec, bound)
+    rebind(alloc, pages, said, strict, Toucher { task, cpu }, bound)
 }

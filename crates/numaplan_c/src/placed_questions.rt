@@ -12,6 +12,7 @@ ghost use Rattle.numaplan_handles.specs.Pages.{HasCounts, HasRoom, HasRuns};
 
 use crate::codes::Code;
 use crate::differences::write_items;
+use crate::keeping::if_open;
 use crate::placed_codes::placed_code;
 use crate::plans::NpCounts;
 use numa_pages::PageRun;
@@ -31,14 +32,10 @@ pub extern "C" fn np_pages_node(
         (λ kept. TellsNode (node_of (spot_at kept.state.placed (page_of address))) result node.old
         node.new) }
 {
-    match pages.node_at(alloc, address / PAGE_BYTES) {
-        None => Code::Closed as u32,
-        Some(None) => Code::NotPlaced as u32,
-        Some(Some(found)) => {
-            *node = u32::from(found);
-            0
-        }
-    }
+    if_open!(pages.node_at(alloc, address / PAGE_BYTES), Code::NotPlaced, found => {
+        *node = u32::from(found);
+        0
+    })
 }
 
 /// Counts, for each node, the pages that lie on it.
@@ -51,13 +48,10 @@ pub extern "C" fn np_pages_counts(
     ensures { Asked (pages_in pages.old) (pages_in pages.new) result (counts.new ≡ counts.old)
         (λ kept. (result ≡ 0) × HasCounts counts.new.pages kept) }
 {
-    match pages.counts(alloc) {
-        None => Code::Closed as u32,
-        Some(found) => {
-            counts.pages = found;
-            0
-        }
-    }
+    if_open!(pages.counts(alloc), found => {
+        counts.pages = found;
+        0
+    })
 }
 
 /// Lists the runs of pages that lie on one node.
@@ -74,15 +68,14 @@ pub extern "C" fn np_pages_runs(
         × IfOk answer (λ runs. HasRuns runs kept)
         × TellsRuns answer result room.old room.new count.old count.new) }
 {
-    match pages.runs(alloc) {
-        None => Code::Closed as u32,
-        Some(Ok(runs)) => {
+    if_open!(pages.runs(alloc), answer => match answer {
+        Ok(runs) => {
             let code = write_items(runs.as_slice(), room, count);
             drop(runs);
             code
         }
-        Some(Err(_)) => Code::NoMemory as u32,
-    }
+        Err(_) => Code::NoMemory as u32,
+    })
 }
 
 /// Returns how many more pages a node takes.
@@ -97,12 +90,11 @@ pub extern "C" fn np_pages_room(
         (λ kept. (answer : Result ℕ PlacedRefusal) × HasRoom node answer kept
         × TellsRoom answer result room.old room.new) }
 {
-    match pages.room(alloc, node) {
-        None => Code::Closed as u32,
-        Some(Ok(found)) => {
+    if_open!(pages.room(alloc, node), answer => match answer {
+        Ok(found) => {
             *room = found;
             0
         }
-        Some(Err(cause)) => placed_code(cause),
-    }
+        Err(cause) => placed_code(cause),
+    })
 }

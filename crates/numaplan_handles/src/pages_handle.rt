@@ -2,12 +2,12 @@
 ghost use Rattle.std.specs.Prelude.{◌≡◌, Some, None, true, OnOk, OnErr, IfOk};
 ghost use Rattle.numa_pages.specs.Changes.{Accepts, BindsStrictly};
 ghost use Rattle.numaplan_handles.specs.Calls.{Calls, IsShared};
-ghost use Rattle.numaplan_handles.specs.Kinds.{CallsKept, core_of, is_core, is_pages, pages_of};
+ghost use Rattle.numaplan_handles.specs.Kinds.{core_of, is_core, is_pages, pages_of};
 ghost use Rattle.numaplan_handles.specs.Pages.{IsCoreOf, IsMade, IsOpenedFrom, OfPages};
 
 use crate::core_handle::CoreHandle;
 use crate::core_questions::core_kept;
-use crate::handle::Handle;
+use crate::handle::{Handle, of_kept};
 use crate::kept::Kept;
 use numa_core::Core;
 use numa_machine::NoMemory;
@@ -41,34 +41,6 @@ fn pages_of_core(kept: &Kept, alloc: Global) -> Result<Pages, NoMemory>
 {
     let core = core_kept(kept).copy()?;
     Pages::new(alloc, core)
-}
-
-/// Carries out a command of the core.
-fn accept_kept(kept: &mut Kept, command: &Command) -> Result<u64, ChangeRefusal>
-    requires pages { is_pages (Some kept.old) ≡ true }
-    ensures { CallsKept is_pages pages_of (OfPages (Accepts command.now)) kept.old result kept.new }
-{
-    match kept {
-        Kept::Pages(pages) => pages.accept(command),
-        _ => unreachable!(),
-    }
-}
-
-/// Sets a policy by which the pages have to lie.
-fn bind_kept(
-    kept: &mut Kept,
-    start: u64,
-    length: u64,
-    spec: PolicySpec,
-) -> Result<u64, ChangeRefusal>
-    requires pages { is_pages (Some kept.old) ≡ true }
-    ensures { CallsKept is_pages pages_of (OfPages (BindsStrictly start length spec)) kept.old
-        result kept.new }
-{
-    match kept {
-        Kept::Pages(pages) => pages.bind_strictly(start, length, spec),
-        _ => unreachable!(),
-    }
 }
 
 impl PagesHandle {
@@ -152,10 +124,7 @@ impl PagesHandle {
         ensures { Calls (OfPages (Accepts command.now)) (pages_in self.old) result
             (pages_in self.new) }
     {
-        let mut kept = self.handle.take(alloc)?;
-        let answer = accept_kept(&mut kept, command);
-        self.handle.put(kept);
-        Some(answer)
+        of_kept!(self.handle, alloc, Kept::Pages(pages) => pages.accept(command))
     }
 
     /// Sets a policy for a span, unless a page of it lies on another node than the policy asks for.
@@ -173,10 +142,9 @@ impl PagesHandle {
         ensures { Calls (OfPages (BindsStrictly start length spec)) (pages_in self.old) result
             (pages_in self.new) }
     {
-        let mut kept = self.handle.take(alloc)?;
-        let answer = bind_kept(&mut kept, start, length, spec);
-        self.handle.put(kept);
-        Some(answer)
+        of_kept!(self.handle, alloc, Kept::Pages(pages) => {
+            pages.bind_strictly(start, length, spec)
+        })
     }
 
     /// Puts a core into a closed handle of cores.

@@ -5,6 +5,7 @@ ghost use Rattle.numaplan_handles.specs.Handles.{pages_in};
 ghost use Rattle.numaplan_handles.specs.Pages.{AreRuns, HasCounts, HasNode, HasRoom, HasRuns};
 ghost use Rattle.numaplan_handles.specs.Pages.{TellsOf};
 
+use crate::handle::of_kept;
 use crate::pages_handle::{PagesHandle, pages_kept};
 use numa_machine::NoMemory;
 use numa_pages::{PageRun, list_runs};
@@ -28,10 +29,7 @@ impl PagesHandle {
         ensures { Asks (λ version. TellsOf (λ pages. version ≡ pages.core.space.version)
             (pages_in self.old)) (pages_in self.old) result (pages_in self.new) }
     {
-        let kept = self.handle.take(alloc)?;
-        let version = pages_kept(&kept).core().space().version();
-        self.handle.put(kept);
-        Some(version)
+        of_kept!(self.handle, alloc, kept => pages_kept(&kept).core().space().version())
     }
 
     /// The node on which a page lies, if it lies on one. `None` if the handle is closed.
@@ -39,10 +37,7 @@ impl PagesHandle {
         ensures { Asks (λ found. TellsOf (HasNode page found) (pages_in self.old))
             (pages_in self.old) result (pages_in self.new) }
     {
-        let kept = self.handle.take(alloc)?;
-        let found = pages_kept(&kept).placed().at(page).node();
-        self.handle.put(kept);
-        Some(found)
+        of_kept!(self.handle, alloc, kept => pages_kept(&kept).placed().at(page).node())
     }
 
     /// The number of pages that lie on each node. `None` if the handle is closed.
@@ -50,10 +45,7 @@ impl PagesHandle {
         ensures { Asks (λ counts. TellsOf (HasCounts counts) (pages_in self.old))
             (pages_in self.old) result (pages_in self.new) }
     {
-        let kept = self.handle.take(alloc)?;
-        let counts = pages_kept(&kept).placed().counts();
-        self.handle.put(kept);
-        Some(counts)
+        of_kept!(self.handle, alloc, kept => pages_kept(&kept).placed().counts())
     }
 
     /// The maximal runs of pages that lie on one node, in ascending order. `None` if the handle is
@@ -65,10 +57,7 @@ impl PagesHandle {
         ensures { Asks (λ answer. IfOk answer (λ list. TellsOf (HasRuns list.items)
             (pages_in self.old))) (pages_in self.old) result (pages_in self.new) }
     {
-        let kept = self.handle.take(alloc)?;
-        let answer = runs_of(alloc, pages_kept(&kept).placed());
-        self.handle.put(kept);
-        Some(answer)
+        of_kept!(self.handle, alloc, kept => runs_of(alloc, pages_kept(&kept).placed()))
     }
 
     /// How many more pages a node takes, 2^64 - 1 if it never fills. `None` if the handle is
@@ -80,9 +69,6 @@ impl PagesHandle {
         ensures { Asks (λ answer. TellsOf (HasRoom node answer) (pages_in self.old))
             (pages_in self.old) result (pages_in self.new) }
     {
-        let kept = self.handle.take(alloc)?;
-        let answer = pages_kept(&kept).room(node);
-        self.handle.put(kept);
-        Some(answer)
+        of_kept!(self.handle, alloc, kept => pages_kept(&kept).room(node))
     }
 }
