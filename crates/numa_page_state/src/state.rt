@@ -212,7 +212,7 @@ impl PageState {
         ensures unchanged { OnErr result (self.new ≡ self.old) }
     {
         self.placed
-            .state_beside(space, resident, start, length, node)
+            .state_beside(space, start, length, node, resident)
     }
 
     /// Says how many more pages a node takes; 2^64 - 1 if it never fills. Stating that pages lie on

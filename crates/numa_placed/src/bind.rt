@@ -14,7 +14,7 @@ ghost use Rattle.numa_placed.specs.Wholes.{AreWhole, IsKept};
 
 use crate::astray::is_astray;
 use crate::bound::Bound;
-use crate::change::Change;
+use crate::change::{Change, SpanChange};
 use crate::edit::{change_span, let_go, put};
 use crate::rooms::Rooms;
 use crate::spot::Spot;
@@ -128,7 +128,12 @@ fn send_page(
         return Ok(());
     };
     walk.rooms.pass_one(spot, node);
-    change_span(map, page, 1, Change::State(node))
+    let change = SpanChange {
+        first: page,
+        pages: 1,
+        change: Change::State(node),
+    };
+    change_span(map, change)
 }
 
 /// Sends the pages from one to another, which lie alike.

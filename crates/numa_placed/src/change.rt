@@ -4,13 +4,21 @@ ghost use Rattle.numa_placed.specs.Spots.{stated_spot, forgotten_spot, changed_s
 
 use crate::spot::Spot;
 
-/// A change of the pages of a span.
+/// A change of where a page lies.
 #[derive(Clone, Copy)]
 pub(crate) enum Change {
     /// They lie on a node, unless they are in a frame.
     State(u8),
     /// They lie nowhere, unless they are in a frame.
     Forget,
+}
+
+/// What becomes of the pages of a span.
+#[derive(Clone, Copy)]
+pub(crate) struct SpanChange {
+    pub first: u64,
+    pub pages: u64,
+    pub change: Change,
 }
 
 /// A page that is stated to lie on a node.

@@ -1,10 +1,10 @@
 //! Changing where the pages of a span lie.
-ghost use Rattle.std.specs.Prelude.{◌≡◌, ◌-◌, ◌^◌, OnOk, OnErr};
+ghost use Rattle.std.specs.Prelude.{◌≡◌, ◌-◌, ◌^◌, OnOk, OnErr, IfOk};
 ghost use Rattle.numa_ranges.specs.Maps.{IsSpan};
 ghost use Rattle.numa_placed.specs.Spots.{spot_at, changed_spot, changed_spots, run_count};
 ghost use Rattle.numa_placed.specs.Wholes.{AreWhole, IsChanged, IsEdit, IsKept};
 
-use crate::change::{Change, changed};
+use crate::change::{SpanChange, changed};
 use crate::spot::Spot;
 use numa_machine::NoMemory;
 use numa_ranges::RangeMap;
@@ -15,25 +15,21 @@ use std::mem::replace;
 pub(crate) const MOST_RUNS: usize = 1 << 20;
 
 /// Changes the pages of a span.
-pub(crate) fn change_span(
-    map: &mut RangeMap<Spot>,
-    first: u64,
-    pages: u64,
-    change: Change,
-) -> Result<(), NoMemory>
-    requires span { IsSpan first pages }
+pub(crate) fn change_span(map: &mut RangeMap<Spot>, span: SpanChange) -> Result<(), NoMemory>
+    requires span { IsSpan span.first span.pages }
     requires whole { AreWhole map.old.runs }
-    ensures ok { OnOk result (IsChanged first pages (changed_spot change) map.old.runs
-        map.new.runs) }
+    ensures ok { OnOk result (IsChanged span.first span.pages (changed_spot span.change)
+        map.old.runs map.new.runs) }
     ensures unchanged { OnErr result (map.new ≡ map.old) }
     ensures limit { map.new.max_ranges ≡ map.old.max_ranges }
 {
     // Tells the proof how many runs there are, before the change and after it.
     let _ = map.len();
+    let change = span.change;
     let change_one = |spot: &Spot| -> Spot
         ensures { result ≡ changed_spot change spot.now }
     { changed(change, *spot) };
-    let Ok(()) = map.update_span(first, pages, change_one) else {
+    let Ok(()) = map.update_span(span.first, span.pages, change_one) else {
         return Err(NoMemory);
     };
     let _ = map.len();
@@ -79,47 +75,42 @@ pub(crate) fn put(map: &mut RangeMap<Spot>, next: RangeMap<Spot>) -> Result<(), 
     Ok(())
 }
 
-/// Changes the pages of a span where there may be few runs too many: on a copy.
-fn edit_copy(
-    map: &mut RangeMap<Spot>,
-    first: u64,
-    pages: u64,
-    change: Change,
-) -> Result<(), PlacedRefusal>
-    requires span { IsSpan first pages }
-    requires kept { IsKept map.old }
-    ensures kept { IsKept map.new }
-    ensures edit { IsEdit (changed_spots first pages (changed_spot change) (spot_at map.old.runs))
-        map.old result map.new }
+/// A copy in which the pages of a span are changed.
+fn changed_copy(map: &RangeMap<Spot>, span: SpanChange) -> Result<RangeMap<Spot>, NoMemory>
+    requires span { IsSpan span.first span.pages }
+    requires whole { AreWhole map.now.runs }
+    ensures ok { IfOk result (λ next. IsChanged span.first span.pages (changed_spot span.change)
+        map.now.runs next.runs) }
+    ensures limit { IfOk result (λ next. next.max_ranges ≡ map.now.max_ranges) }
 {
     let Ok(mut next) = map.copy() else {
-        return Err(PlacedRefusal::NoMemory);
+        return Err(NoMemory);
     };
-    let Ok(()) = change_span(&mut next, first, pages, change) else {
-        let_go(next);
-        return Err(PlacedRefusal::NoMemory);
-    };
-    put(map, next)
+    match change_span(&mut next, span) {
+        Ok(()) => Ok(next),
+        Err(lack) => {
+            let_go(next);
+            Err(lack)
+        }
+    }
 }
 
 /// Changes the pages of a span, unless that makes too many runs. Each of the span's ends can make
-/// one: so far from the limit they aren't counted.
-pub(crate) fn edit(
-    map: &mut RangeMap<Spot>,
-    first: u64,
-    pages: u64,
-    change: Change,
-) -> Result<(), PlacedRefusal>
-    requires span { IsSpan first pages }
+/// one: so far from the limit they aren't counted, and else it is done on a copy.
+pub(crate) fn edit(map: &mut RangeMap<Spot>, span: SpanChange) -> Result<(), PlacedRefusal>
+    requires span { IsSpan span.first span.pages }
     requires kept { IsKept map.old }
     ensures kept { IsKept map.new }
-    ensures edit { IsEdit (changed_spots first pages (changed_spot change) (spot_at map.old.runs))
-        map.old result map.new }
+    ensures edit { IsEdit (changed_spots span.first span.pages (changed_spot span.change)
+        (spot_at map.old.runs)) map.old result map.new }
 {
     if map.len() > MOST_RUNS - 2 {
-        return edit_copy(map, first, pages, change);
+        let Ok(next) = changed_copy(map, span) else {
+            return Err(PlacedRefusal::NoMemory);
+        };
+        return put(map, next);
     }
-    let Ok(()) = change_span(map, first, pages, change) else {
+    let Ok(()) = change_span(map, span) else {
         return Err(PlacedRefusal::NoMemory);
     };
     Ok(())

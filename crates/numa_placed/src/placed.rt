@@ -19,16 +19,16 @@ ghost use Rattle.numa_placed.specs.declared.spot.Spot.TheVariants.{Nowhere};
 
 use crate::bind::{FaultingTask, bind_span};
 use crate::bound::Bound;
-use crate::change::Change;
+use crate::change::{Change, SpanChange};
 use crate::edit::{edit, placed_runs};
 use crate::filling::fill;
-use crate::judge::{judge_move, judge_room, lacks_node, move_outcome};
+use crate::judge::{judge_move, judge_room, move_outcome};
 use crate::moved::Moved;
 use crate::rooms::Rooms;
 use crate::shift::shift;
-use crate::spans::{span_of, state_others, state_span};
+use crate::spans::{span_of, state_others, state_span, stated_span};
 use crate::spot::Spot;
-use crate::tally::{counts, counts_within};
+use crate::tally::counts_within;
 use numa_machine::NoMemory;
 use numa_maps::Resident;
 use numa_mask::NodeMask;
@@ -130,7 +130,7 @@ impl Placed {
         ensures { (node : ℕ) → node < 256
             → slice_index result node ≡ pages_where (is_on node) (spot_at self.now) }
     {
-        counts(&self.map)
+        counts_within(&self.map, 0, 1 << 35)
     }
 
     /// The number of pages that lie on each node, of the `pages` pages from `first` on.
@@ -169,14 +169,11 @@ impl Placed {
     {
         // Tells the proof that there are few runs.
         let _ = &self.map;
-        let (first, pages) = span_of(start, length)?;
-        if lacks_node(space.machine(), node) {
-            return Err(PlacedRefusal::NoSuchNode);
-        }
-        if pages == 0 {
+        let said = stated_span(space, start, length, node)?;
+        if said.pages == 0 {
             return Ok(());
         }
-        state_span(&mut self.map, space, first, pages, node as u8)
+        state_span(&mut self.map, space, said)
     }
 
     /// States it, as `state` does, but of no page that keeps a frame: of such pages of the span
@@ -188,10 +185,10 @@ impl Placed {
     pub fn state_beside(
         &mut self,
         space: &Space,
-        resident: &Resident,
         start: u64,
         length: u64,
         node: u32,
+        resident: &Resident,
     ) -> Result<(), PlacedRefusal>
         ensures accepted { OnOk result
             (state_cause space.now.machine start length node ≡ None) }
@@ -206,14 +203,11 @@ impl Placed {
     {
         // Tells the proof that there are few runs.
         let _ = &self.map;
-        let (first, pages) = span_of(start, length)?;
-        if lacks_node(space.machine(), node) {
-            return Err(PlacedRefusal::NoSuchNode);
-        }
-        if pages == 0 {
+        let said = stated_span(space, start, length, node)?;
+        if said.pages == 0 {
             return Ok(());
         }
-        state_others(&mut self.map, space, resident, first, pages, node as u8)
+        state_others(&mut self.map, space, said, resident)
     }
 
     /// Takes away what was stated of the pages of a span, as is done when they are unmapped. Pages
@@ -240,7 +234,12 @@ impl Placed {
         if pages == 0 {
             return Ok(());
         }
-        edit(&mut self.map, first, pages, Change::Forget)
+        let change = SpanChange {
+            first,
+            pages,
+            change: Change::Forget,
+        };
+        edit(&mut self.map, change)
     }
 
     /// Moves the pages of a span that lie on other nodes than those of a list, as mbind(2) does
@@ -296,7 +295,12 @@ impl Placed {
         ensures unchanged { OnErr result (self.new ≡ self.old) }
     {
         judge_move(space, page, node, self.at(page))?;
-        let outcome = edit(&mut self.map, page, 1, Change::State(node as u8));
+        let change = SpanChange {
+            first: page,
+            pages: 1,
+            change: Change::State(node as u8),
+        };
+        let outcome = edit(&mut self.map, change);
         move_outcome(outcome)
     }
 
@@ -417,7 +421,12 @@ impl Placed {
         let spot = self.at(page);
         judge_move(space, page, node, spot)?;
         judge_room(rooms, node as u8, spot)?;
-        let outcome = edit(&mut self.map, page, 1, Change::State(node as u8));
+        let change = SpanChange {
+            first: page,
+            pages: 1,
+            change: Change::State(node as u8),
+        };
+        let outcome = edit(&mut self.map, change);
         if let Err(refusal) = move_outcome(outcome) {
             return Err(refusal);
         }

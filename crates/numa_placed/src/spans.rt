@@ -6,19 +6,28 @@ ghost use Rattle.numa_ranges.specs.Runs.{end_of, in_pages, page_at};
 ghost use Rattle.numa_space.specs.History.{page_of, page_count};
 ghost use Rattle.numa_placed.specs.Astray.{strict_span_cause};
 ghost use Rattle.numa_placed.specs.Binds.{span_below};
-ghost use Rattle.numa_placed.specs.Refusals.{span_cause};
+ghost use Rattle.numa_placed.specs.Refusals.{span_cause, state_cause};
 ghost use Rattle.numa_placed.specs.Spots.{changed_spots, forgotten_spot, passed_over, spot_at};
 ghost use Rattle.numa_placed.specs.Spots.{stated_beside, stated_spot, stated_spots};
 ghost use Rattle.numa_placed.specs.Wholes.{AreWhole, IsEdit, IsKept};
 
-use crate::change::Change;
+use crate::change::{Change, SpanChange};
 use crate::edit::{change_span, edit, let_go, put};
+use crate::judge::lacks_node;
 use crate::spot::Spot;
 use numa_machine::{NoMemory, Rules};
 use numa_maps::Resident;
 use numa_ranges::{RangeMap, Run};
 use numa_requests::{PAGE_BYTES, PlacedRefusal};
 use numa_space::{RangeRecord, Space};
+
+/// Pages of a span that are stated to lie on a node.
+#[derive(Clone, Copy)]
+pub(crate) struct StatedSpan {
+    pub first: u64,
+    pub pages: u64,
+    pub node: u8,
+}
 
 /// The end of the addresses of a space.
 const SPACE_END: u64 = 1 << 47;
@@ -83,6 +92,27 @@ pub(crate) fn span_by(rules: Rules, start: u64, length: u64) -> Result<(u64, u64
     }
 }
 
+/// The pages of a span that are stated to lie on a node.
+pub(crate) fn stated_span(
+    space: &Space,
+    start: u64,
+    length: u64,
+    node: u32,
+) -> Result<StatedSpan, PlacedRefusal>
+    ensures span { MatchResult result (λ said.
+        (state_cause space.now.machine start length node ≡ None)
+        × (said.first ≡ page_of start) × (said.pages ≡ page_count length) × (said.node ≡ node))
+        (λ refusal. state_cause space.now.machine start length node ≡ Some refusal) }
+    ensures within { IfOk result (λ said. said.first + said.pages ≤ 2 ^ 35) }
+{
+    let (first, pages) = span_of(start, length)?;
+    if lacks_node(space.machine(), node) {
+        return Err(PlacedRefusal::NoSuchNode);
+    }
+    let node = node as u8;
+    Ok(StatedSpan { first, pages, node })
+}
+
 /// The number of ranges that begin at a page or before it, by a binary search over the 65,536 that
 /// there can be. Only speed depends on it.
 fn ranges_up_to(space: &Space, first: u64) -> usize {
@@ -124,49 +154,70 @@ fn is_in_one(space: &Space, first: u64, pages: u64) -> bool
 fn state_range(
     map: &mut RangeMap<Spot>,
     range: &Run<RangeRecord>,
-    first: u64,
-    pages: u64,
-    node: u8,
+    said: StatedSpan,
 ) -> Result<(), NoMemory>
-    requires span { IsSpan first pages }
+    requires span { IsSpan said.first said.pages }
     requires range { end_of range.now ≤ 2 ^ 35 }
     requires whole { AreWhole map.old.runs }
     ensures whole { OnOk result (AreWhole map.new.runs) }
     ensures spots { OnOk result ((page : ℕ) → spot_at map.new.runs page
-        ≡ (if in_pages first pages page && in_pages range.now.first range.now.pages page
-        then stated_spot node (spot_at map.old.runs page) else spot_at map.old.runs page)) }
+        ≡ (if in_pages said.first said.pages page && in_pages range.now.first range.now.pages page
+        then stated_spot said.node (spot_at map.old.runs page) else spot_at map.old.runs page)) }
     ensures limit { map.new.max_ranges ≡ map.old.max_ranges }
 {
-    let from = first.max(range.first);
-    let to = (first + pages).min(range.first + range.pages);
+    let from = said.first.max(range.first);
+    let to = (said.first + said.pages).min(range.first + range.pages);
     if from >= to {
         return Ok(());
     }
-    change_span(map, from, to - from, Change::State(node))
+    let change = SpanChange {
+        first: from,
+        pages: to - from,
+        change: Change::State(said.node),
+    };
+    change_span(map, change)
 }
 
 /// States where the mapped pages of a span lie, range by range.
-fn state_ranges(
-    map: &mut RangeMap<Spot>,
-    space: &Space,
-    first: u64,
-    pages: u64,
-    node: u8,
-) -> Result<(), NoMemory>
-    requires span { IsSpan first pages }
+fn state_ranges(map: &mut RangeMap<Spot>, space: &Space, said: StatedSpan) -> Result<(), NoMemory>
+    requires span { IsSpan said.first said.pages }
     requires whole { AreWhole map.old.runs }
     ensures whole { OnOk result (AreWhole map.new.runs) }
     ensures spots { OnOk result ((page : ℕ) → spot_at map.new.runs page
-        ≡ stated_spots (λ p. is_some (page_at space.now.ranges p)) first pages node
-        (spot_at map.old.runs) page) }
+        ≡ stated_spots (λ p. is_some (page_at space.now.ranges p)) said.first said.pages
+        said.node (spot_at map.old.runs) page) }
     ensures limit { map.new.max_ranges ≡ map.old.max_ranges }
 {
     for range in space.range_iter() {
-        let Ok(()) = state_range(map, &range, first, pages, node) else {
+        let Ok(()) = state_range(map, &range, said) else {
             return Err(NoMemory);
         };
     }
     Ok(())
+}
+
+/// A copy in which it is stated where the mapped pages of a span lie.
+fn stated_copy(
+    map: &RangeMap<Spot>,
+    space: &Space,
+    said: StatedSpan,
+) -> Result<RangeMap<Spot>, NoMemory>
+    requires span { IsSpan said.first said.pages }
+    requires whole { AreWhole map.now.runs }
+    ensures whole { IfOk result (λ next. AreWhole next.runs) }
+    ensures spots { IfOk result (λ next. (page : ℕ) → spot_at next.runs page
+        ≡ stated_spots (λ p. is_some (page_at space.now.ranges p)) said.first said.pages
+        said.node (spot_at map.now.runs) page) }
+    ensures limit { IfOk result (λ next. next.max_ranges ≡ map.now.max_ranges) }
+{
+    let Ok(mut next) = map.copy() else {
+        return Err(NoMemory);
+    };
+    let Ok(()) = state_ranges(&mut next, space, said) else {
+        let_go(next);
+        return Err(NoMemory);
+    };
+    Ok(next)
 }
 
 /// Forgets a page, if it is one of a span.
@@ -182,15 +233,20 @@ fn forget_page(map: &mut RangeMap<Spot>, page: u64, first: u64, pages: u64) -> R
     if page < first || page - first >= pages {
         return Ok(());
     }
-    change_span(map, page, 1, Change::Forget)
+    let change = SpanChange {
+        first: page,
+        pages: 1,
+        change: Change::Forget,
+    };
+    change_span(map, change)
 }
 
 /// Forgets the pages of a span that keep a frame.
 fn pass_over(
     map: &mut RangeMap<Spot>,
-    resident: &Resident,
     first: u64,
     pages: u64,
+    resident: &Resident,
 ) -> Result<(), NoMemory>
     requires span { first + pages ≤ 2 ^ 35 }
     requires whole { AreWhole map.old.runs }
@@ -211,25 +267,19 @@ fn pass_over(
 pub(crate) fn state_others(
     map: &mut RangeMap<Spot>,
     space: &Space,
+    said: StatedSpan,
     resident: &Resident,
-    first: u64,
-    pages: u64,
-    node: u8,
 ) -> Result<(), PlacedRefusal>
-    requires span { IsSpan first pages }
+    requires span { IsSpan said.first said.pages }
     requires kept { IsKept map.old }
     ensures kept { IsKept map.new }
     ensures edit { IsEdit (stated_beside (λ p. is_some (page_at space.now.ranges p)) resident.now
-        first pages node (spot_at map.old.runs)) map.old result map.new }
+        said.first said.pages said.node (spot_at map.old.runs)) map.old result map.new }
 {
-    let Ok(mut next) = map.copy() else {
+    let Ok(mut next) = stated_copy(map, space, said) else {
         return Err(PlacedRefusal::NoMemory);
     };
-    let Ok(()) = state_ranges(&mut next, space, first, pages, node) else {
-        let_go(next);
-        return Err(PlacedRefusal::NoMemory);
-    };
-    let Ok(()) = pass_over(&mut next, resident, first, pages) else {
+    let Ok(()) = pass_over(&mut next, said.first, said.pages, resident) else {
         let_go(next);
         return Err(PlacedRefusal::NoMemory);
     };
@@ -241,24 +291,23 @@ pub(crate) fn state_others(
 pub(crate) fn state_span(
     map: &mut RangeMap<Spot>,
     space: &Space,
-    first: u64,
-    pages: u64,
-    node: u8,
+    said: StatedSpan,
 ) -> Result<(), PlacedRefusal>
-    requires span { IsSpan first pages }
+    requires span { IsSpan said.first said.pages }
     requires kept { IsKept map.old }
     ensures kept { IsKept map.new }
-    ensures edit { IsEdit (stated_spots (λ p. is_some (page_at space.now.ranges p)) first pages node
-        (spot_at map.old.runs)) map.old result map.new }
+    ensures edit { IsEdit (stated_spots (λ p. is_some (page_at space.now.ranges p))
+        said.first said.pages said.node (spot_at map.old.runs)) map.old result map.new }
 {
-    if is_in_one(space, first, pages) {
-        return edit(map, first, pages, Change::State(node));
+    if is_in_one(space, said.first, said.pages) {
+        let change = SpanChange {
+            first: said.first,
+            pages: said.pages,
+            change: Change::State(said.node),
+        };
+        return edit(map, change);
     }
-    let Ok(mut next) = map.copy() else {
-        return Err(PlacedRefusal::NoMemory);
-    };
-    let Ok(()) = state_ranges(&mut next, space, first, pages, node) else {
-        let_go(next);
+    let Ok(next) = stated_copy(map, space, said) else {
         return Err(PlacedRefusal::NoMemory);
     };
     put(map, next)

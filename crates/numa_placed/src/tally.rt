@@ -2,7 +2,7 @@
 ghost use Rattle.std.specs.Prelude.{◌≡◌, ◌+◌, ◌<◌, ◌≤◌, ◌^◌, ℕ, slice_index};
 ghost use Rattle.numa_placed.specs.Moves.{moved_node, goes, is_left, goes_from, AreTargets};
 ghost use Rattle.numa_placed.specs.Moves.{IsTally};
-ghost use Rattle.numa_placed.specs.Spots.{spot_at, is_on, pages_where, pages_if, pages_within};
+ghost use Rattle.numa_placed.specs.Spots.{spot_at, is_on, pages_if, pages_within};
 ghost use Rattle.numa_placed.specs.Spots.{part_pages};
 ghost use Rattle.numa_ranges.specs.Runs.{end_of};
 
@@ -62,29 +62,6 @@ fn add_run(tally: &mut Moved, run: &Run<Spot>, _old: &NodeMask, _new: &NodeMask)
                 tally.left += run.pages;
             }
         }
-    }
-}
-
-/// The number of pages that lie on each node.
-pub(crate) fn counts(map: &RangeMap<Spot>) -> [u64; 256]
-    ensures { (node : ℕ) → node < 256
-        → slice_index result node ≡ pages_where (is_on node) (spot_at map.now.runs) }
-{
-    let mut counts = [0; 256];
-    for run in map.iter() {
-        add_to_node(&mut counts, &run);
-    }
-    counts
-}
-
-/// Adds the pages of a run to those of its node.
-fn add_to_node(counts: &mut [u64; 256], run: &Run<Spot>)
-    requires room { (node : ℕ) → node < 256 → slice_index counts.old node + run.now.pages < 2 ^ 64 }
-    ensures { (node : ℕ) → node < 256 → slice_index counts.new node
-        ≡ slice_index counts.old node + pages_if (is_on node run.now.value) run.now.pages }
-{
-    if let Some(node) = run.value.node() {
-        counts[node as usize] += run.pages;
     }
 }
 

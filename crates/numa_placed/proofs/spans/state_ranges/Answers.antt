@@ -17,8 +17,8 @@ loop-range-init c =
           subst AreLeft (sym all)
           (record { low = 0; apart = c.range_iter-range-items.ensures.rising });
       spots = λ page. ap (λ (runs : List (Run (Option PolicyRecord))).
-          stated_spots (λ p. is_some (page_at runs p)) c.args.first c.args.pages c.args.node
-          (spot_at c.args.map.now.runs) page) all;
+          stated_spots (λ p. is_some (page_at runs p)) c.args.said.first c.args.said.pages
+          c.args.said.node (spot_at c.args.map.now.runs) page) all;
     }
 
 pub state_range-requires-clause-range : goal.state_range-requires-clause-range

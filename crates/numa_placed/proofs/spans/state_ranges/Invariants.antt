@@ -11,8 +11,8 @@ invariant-loop-range l = record {
   whole : AreWhole l.map.runs;
   limit : l.map.max_ranges ≡ l.fn.map.max_ranges;
   left : AreLeft l.range-iterator;
-  spots : (page : ℕ) → stated_spots (λ p. is_some (page_at l.range-iterator p)) l.first l.pages
-      l.node (spot_at l.map.runs) page
-      ≡ stated_spots (λ p. is_some (page_at l.space.ranges p)) l.first l.pages l.node
-      (spot_at l.fn.map.runs) page;
+  spots : (page : ℕ) → stated_spots (λ p. is_some (page_at l.range-iterator p)) l.said.first
+      l.said.pages l.said.node (spot_at l.map.runs) page
+      ≡ stated_spots (λ p. is_some (page_at l.space.ranges p)) l.said.first l.said.pages
+      l.said.node (spot_at l.fn.map.runs) page;
 }

@@ -1,22 +1,18 @@
-use Rattle.std.proofs.Common.{◌≡◌, is_some, false, ap, sym, ◌∙◌}
-use Rattle.numa_machine.specs.Machine.{Hardware}
+use Rattle.std.proofs.Common.{is_some}
 use Rattle.numa_ranges.specs.Runs.{page_at}
 use Rattle.numa_space.specs.History.{page_of, page_count}
-use Rattle.numa_placed.specs.Refusals.{lacks_node, state_cause}
+use Rattle.numa_placed.specs.Refusals.{state_cause}
 use Rattle.numa_placed.specs.Spots.{spot_at, stated_beside}
-use Rattle.numa_placed.proofs.Edits.{lack-refusal, state-free}
+use Rattle.numa_placed.proofs.Edits.{lack-refusal}
 use Rattle.numa_placed.proofs.placed.Placed.state_beside.Goals as goal
 
 pub returns-clause-err : goal.returns-clause-err
 returns-clause-err c =
-    let span = c.in_ok-first.ensures.span in
-    let there : lacks_node c.args.space.now.machine c.args.node ≡ false =
-    ap (λ (machine : Hardware). lacks_node machine c.args.node) (sym c.machine.ensures)
-    ∙ sym c.lacks_node.ensures.lacks ∙ c.if-lacks_node.false in
+    let span = c.in_ok-said.ensures.span in
     lack-refusal (state_cause c.args.space.now.machine c.args.start c.args.length c.args.node) _
     (stated_beside (λ p. is_some (page_at c.args.space.now.ranges p)) c.args.resident.now
     (page_of c.args.start) (page_count c.args.length) c.args.node (spot_at c.args.self.now))
     c.state_others.result
-    (state-free c.args.space.now.machine c.args.start c.args.length c.args.node span.0 there)
+    span.0
     (λ i. stated_beside (λ p. is_some (page_at c.args.space.now.ranges p)) c.args.resident.now
-    (span.1 i) (span.2 i) c.args.node (spot_at (c.self.view_is i))) c.state_others.ensures.edit.lack
+    (span.1 i) (span.2 i) (span.3 i) (spot_at (c.self.view_is i))) c.state_others.ensures.edit.lack

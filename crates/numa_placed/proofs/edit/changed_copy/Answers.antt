@@ -1,0 +1,12 @@
+use Rattle.std.proofs.Common.{subst}
+use Rattle.numa_ranges.specs.Ranges.{Ranges}
+use Rattle.numa_placed.specs.Spots.{changed_spot}
+use Rattle.numa_placed.specs.Wholes.{IsChanged}
+use Rattle.numa_placed.specs.declared.spot.Spot.{Spot}
+use Rattle.numa_placed.proofs.edit.changed_copy.Goals as goal
+
+pub returns-clause-ok : goal.returns-clause-ok
+returns-clause-ok c =
+    subst (λ (map : Ranges Spot). IsChanged c.args.span.first c.args.span.pages
+    (changed_spot c.args.span.change) map.runs c.change_span.new.map.runs) c.in-Ok.ensures
+    c.change_span.ensures.ok
