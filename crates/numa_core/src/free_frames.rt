@@ -141,24 +141,16 @@ fn free_number(
     None
 }
 
-/// The lowest frame of a node without an owner; each one below `from` has one.
-fn lowest_free(
-    places: &Places,
-    owners: &Vec<Option<u8>>,
-    marks: &Vec<u64>,
-    node: u8,
-    from: u32,
-) -> Option<Frame>
+/// The lowest frame of a node without an owner.
+fn lowest_free(places: &Places, owners: &Vec<Option<u8>>, taken: &Known, node: u8) -> Option<Frame>
     requires owners { vec_len owners.now ≡ frames_before places.now (length places.now) }
-    requires room { HasRoom places.now (vec_len marks.now) }
-    requires marked { AreMarked owners.now.items marks.now.items }
-    requires taken { (k : ℕ) → k < from → k < slice_index places.now node →
-        is_some (owner_at owners.now.items (place_in places.now node k)) ≡ true }
+    requires taken { AreTaken places.now owners.now.items taken.now }
     ensures lowest { (s : Setup) (world : World) → Shows s places.now owners.now.items world →
         result ≡ lowest_free s world node }
     ensures low { IfSome result (IsLow places.now owners.now.items) }
 {
-    let number = free_number(places, owners, marks, node, from)?;
+    let from = lowest_known(&taken.lowest, node);
+    let number = free_number(places, owners, &taken.marks, node, from)?;
     Some(Frame {
         node,
         number: number as u16,
@@ -181,8 +173,7 @@ pub(crate) fn first_free(
 {
     for rank in 0..nodes.len() {
         let node = nodes[rank];
-        let from = lowest_known(&taken.lowest, node);
-        if let Some(frame) = lowest_free(places, owners, &taken.marks, node, from) {
+        if let Some(frame) = lowest_free(places, owners, taken, node) {
             return Some(FreeFrame {
                 frame,
                 rank: rank as u32,
