@@ -37,64 +37,6 @@ impl TableRule<Option<()>, View, Vec<u32>> for CountedRule {
     ghost first = { λ _. newcomer };
 }
 
-/// A load of a frame word.
-struct LoadWord;
-
-impl Play<Option<()>, View> for LoadWord {
-    ghost use Rattle.numa_pool.specs.Steps.{IsLook};
-
-    ghost then = { IsLook };
-}
-
-/// A load that tells that the seat holds no frame twice.
-struct CheckOnce;
-
-impl Play<Option<()>, View> for CheckOnce {
-    ghost use Rattle.numa_pool.specs.Steps.{IsCheck};
-
-    ghost then = { IsCheck };
-}
-
-/// A fetch_or of one bit.
-struct SetBit;
-
-impl Play<Option<()>, View> for SetBit {
-    ghost use Rattle.numa_pool.specs.Steps.{IsAttempt};
-
-    ghost then = { IsAttempt };
-}
-
-/// A fetch_and of all bits but one.
-struct ClearBit;
-
-impl Play<Option<()>, View> for ClearBit {
-    ghost use Rattle.numa_pool.specs.Steps.{IsReturn};
-
-    ghost then = { IsReturn };
-}
-
-/// A new seat, which holds nothing.
-struct NewSeat;
-
-impl Split<View> for NewSeat {
-    ghost use Rattle.numa_pool.specs.Steps.{after_split, newborn};
-
-    ghost left = { after_split };
-
-    ghost right = { newborn };
-}
-
-/// The first seat takes over the frames of the second.
-struct JoinSeats;
-
-impl Join<View> for JoinSeats {
-    ghost use Rattle.numa_pool.specs.Steps.{spent, after_join};
-
-    ghost both = { after_join };
-
-    ghost spent = { spent };
-}
-
 /// The frame words, with their memory.
 #[derive(Drop)]
 pub(crate) struct FrameWords {
@@ -153,6 +95,15 @@ pub(crate) fn opening(
     Ok((FrameWords { table }, Token { seat }))
 }
 
+/// A load of a frame word.
+struct LoadWord;
+
+impl Play<Option<()>, View> for LoadWord {
+    ghost use Rattle.numa_pool.specs.Steps.{IsLook};
+
+    ghost then = { IsLook };
+}
+
 /// Loads a word of a node.
 pub(crate) fn look(words: &FrameWords, token: &mut Token, node: usize, word: usize) -> u64
     requires table { token.old.table ≡ words.now.table }
@@ -162,6 +113,15 @@ pub(crate) fn look(words: &FrameWords, token: &mut Token, node: usize, word: usi
 {
     let board = &words.table.shared;
     board.load::<LoadWord>(&mut token.seat, 64 * node + word)
+}
+
+/// A fetch_or of one bit.
+struct SetBit;
+
+impl Play<Option<()>, View> for SetBit {
+    ghost use Rattle.numa_pool.specs.Steps.{IsAttempt};
+
+    ghost then = { IsAttempt };
 }
 
 /// Sets the bit of a frame, and returns whether it was clear.
@@ -184,6 +144,15 @@ pub(crate) fn attempt(
     (found >> bit) & 1 == 0
 }
 
+/// A fetch_and of all bits but one.
+struct ClearBit;
+
+impl Play<Option<()>, View> for ClearBit {
+    ghost use Rattle.numa_pool.specs.Steps.{IsReturn};
+
+    ghost then = { IsReturn };
+}
+
 /// Clears the bit of a frame that the seat holds.
 pub(crate) fn clear(words: &FrameWords, token: &mut Token, node: usize, word: usize, bit: usize)
     requires table { token.old.table ≡ words.now.table }
@@ -194,6 +163,17 @@ pub(crate) fn clear(words: &FrameWords, token: &mut Token, node: usize, word: us
 {
     let board = &words.table.shared;
     board.fetch_and::<ClearBit>(&mut token.seat, 64 * node + word, !(1u64 << bit));
+}
+
+/// A new seat, which holds nothing.
+struct NewSeat;
+
+impl Split<View> for NewSeat {
+    ghost use Rattle.numa_pool.specs.Steps.{after_split, newborn};
+
+    ghost left = { after_split };
+
+    ghost right = { newborn };
 }
 
 /// A new seat, which holds nothing.
@@ -209,6 +189,17 @@ pub(crate) fn another(words: &FrameWords, token: &mut Token) -> Token
 }
 
 /// The first seat takes over the frames of the second.
+struct JoinSeats;
+
+impl Join<View> for JoinSeats {
+    ghost use Rattle.numa_pool.specs.Steps.{spent, after_join};
+
+    ghost both = { after_join };
+
+    ghost spent = { spent };
+}
+
+/// The first seat takes over the frames of the second.
 pub(crate) fn pour(words: &FrameWords, token: &mut Token, other: Token)
     requires { (token.old.table ≡ words.now.table) × (other.table ≡ words.now.table) }
     ensures { (token.new.table ≡ token.old.table)
@@ -217,6 +208,15 @@ pub(crate) fn pour(words: &FrameWords, token: &mut Token, other: Token)
     let Token { seat } = other;
     let board = &words.table.shared;
     board.join_seat::<JoinSeats>(&mut token.seat, seat);
+}
+
+/// A load that tells that the seat holds no frame twice.
+struct CheckOnce;
+
+impl Play<Option<()>, View> for CheckOnce {
+    ghost use Rattle.numa_pool.specs.Steps.{IsCheck};
+
+    ghost then = { IsCheck };
 }
 
 /// A load that tells that the seat holds no frame twice.
