@@ -1,5 +1,5 @@
 -- A desk beside the core's world. First what its calls do, as their contracts say it.
-use Rattle.std.specs.Prelude.{◌≡◌, ℕ, ◌+◌, [], ◌∷◌, Some, None, length, slice_get}
+use Rattle.std.specs.Prelude.{◌≡◌, ℕ, ◌+◌, ◌≤◌, List, [], ◌∷◌, Some, None, length, slice_get}
 use Rattle.numa_machine.specs.Machine.{Hardware}
 use Rattle.numa_space.specs.Limited.{Bounds}
 use Rattle.numa_space.specs.Refusals.{refusal_of}
@@ -7,7 +7,7 @@ use Rattle.numa_requests.specs.declared.command.Command.{Command}
 use Rattle.numa_publish.specs.Shown.{DeskState, accepted_commands, versions_after}
 use Rattle.numa_core.specs.World.{Setup, World}
 use Rattle.numa_core.specs.Executions.{CoreStep}
-use Rattle.numa_refinement.specs.LegalSteps.{IsLegal, after_core_step}
+use Rattle.numa_refinement.specs.LegalSteps.{IsLegal, HasPublished, after_core_step}
 
 -- a desk of this machine with these limits, as `Desk::new` makes it
 pub record IsNew (machine : Hardware) (bounds : Bounds) (desk : DeskState) : Type 0 where
@@ -46,3 +46,9 @@ pub record IsDeskOf (s : Setup) (world : World) (desk : DeskState) : Type 0 wher
 -- the step is legal in the world, and leads to a world whose desk this is
 abbrev pub LeadsTo : Setup → World → CoreStep → DeskState → Type 0
 LeadsTo s world m desk = IsLegal s world m × IsDeskOf s (after_core_step s world m) desk
+
+-- where the desk has published a version as new as the history, its world has published the history
+-- and the versions
+abbrev pub HasPublishedBy : DeskState → List Command → List ℕ → Type 0
+HasPublishedBy desk history versions = (s : Setup) (world : World) → IsDeskOf s world desk
+    → length history ≤ length desk.published → HasPublished world history versions

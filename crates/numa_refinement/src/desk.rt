@@ -8,7 +8,7 @@ ghost use Rattle.numa_core.specs.World.{Setup, World, opening};
 ghost use Rattle.numa_requests.specs.declared.event.CoreRefusal.{CoreRefusal};
 ghost use Rattle.numa_requests.specs.declared.event.Event.{Event};
 ghost use Rattle.numa_requests.specs.declared.event.CoreReply.{CoreReply};
-ghost use Rattle.numa_refinement.specs.Desks.{IsDeskOf, LeadsTo};
+ghost use Rattle.numa_refinement.specs.Desks.{HasPublishedBy, IsDeskOf, LeadsTo};
 ghost use Rattle.numa_refinement.specs.LegalSteps.{HasPublished, IsPublishedIn, core_step_of};
 
 use numa_fault::FaultWorker;
@@ -23,15 +23,14 @@ use std::sync::Wait;
 ///
 /// # Errors
 /// As `Desk::new`.
-pub fn open<R: Wait>(
-    rt: &R,
+pub fn open(
+    rt: &impl Wait,
     alloc: Global,
     machine: Machine,
     limits: Limits,
     readers: u32,
 ) -> Result<Desk, NoMemory>
-    requires some { 1 ≤ readers }
-    requires few { readers ≤ 64 }
+    requires { (1 ≤ readers) × (readers ≤ 64) }
     ensures opens { IfOk result (λ d. (s : Setup) → s.machine ≡ machine → s.bounds ≡ limits
         → IsDeskOf s opening d) }
 {
@@ -82,9 +81,7 @@ pub fn publish<R: Wait>(desk: &mut Desk, rt: &R) -> Result<Receipt, NoMemory>
 /// with any view: take its receipt.
 pub fn compare(desk: &Desk, receipt: &Receipt)
     requires { receipt.now.desk ≡ desk.now.desk }
-    ensures all { (s : Setup) (world : World) → IsDeskOf s world desk.now
-        → length receipt.now.history ≤ length desk.now.published
-        → HasPublished world receipt.now.history receipt.now.versions }
+    ensures all { HasPublishedBy desk.now receipt.now.history receipt.now.versions }
     ensures own { (s : Setup) (world : World) → IsDeskOf s world desk.now
         → length receipt.now.history ≤ length desk.now.published
         → IsPublishedIn world receipt.now.history }
@@ -100,9 +97,7 @@ pub fn compare(desk: &Desk, receipt: &Receipt)
 /// each of its earlier views showed.
 pub fn compare_reader(desk: &Desk, reader: &PlanReader)
     requires { desk.now.desk ≡ reader.now.desk }
-    ensures all { (s : Setup) (world : World) → IsDeskOf s world desk.now
-        → length reader.now.history ≤ length desk.now.published
-        → HasPublished world reader.now.history reader.now.versions }
+    ensures all { HasPublishedBy desk.now reader.now.history reader.now.versions }
     ensures views { (s : Setup) (world : World) → IsDeskOf s world desk.now
         → length reader.now.history ≤ length desk.now.published
         → (view : ViewState) → Extends view.history reader.now.history
@@ -119,9 +114,7 @@ pub fn compare_reader(desk: &Desk, reader: &PlanReader)
 /// `laws::answers_are_of_published_versions` says so of a list of answers.
 pub fn compare_worker(desk: &Desk, worker: &FaultWorker)
     requires { desk.now.desk ≡ worker.now.reader.desk }
-    ensures { (s : Setup) (world : World) → IsDeskOf s world desk.now
-        → length worker.now.reader.history ≤ length desk.now.published
-        → HasPublished world worker.now.reader.history worker.now.reader.versions }
+    ensures { HasPublishedBy desk.now worker.now.reader.history worker.now.reader.versions }
 {
     let published = desk.receipt();
     worker.compare(&published);
