@@ -60,24 +60,20 @@ fn opened(alloc: Global) -> Option<(Pools, PoolSeat)>
     opened
 }
 
-/// Publishes eight policies in a separate thread while a crew serves the requests. Returns the
+/// Publishes eight policies in a separate thread while the crew serves the requests. Returns the
 /// answers, and the seats of the crew, joined.
 fn served<K: DeskName + Send + Sync, R: Threads + Wait + Sync>(
     rt: &R,
     alloc: Global,
     desk: &SharedDesk<K>,
-    receipt: &Receipt,
     pools: &Pools,
-    seat: PoolSeat,
-    count: u32,
+    crew: Vec<FaultWorker>,
     requests: &[Request],
     gate: &Together,
 ) -> Option<(Vec<Answer>, PoolSeat)>
-    requires desk { receipt.now.desk ≡ K.desk }
-    requires seat { seat.table ≡ pools.now.table }
+    requires { All (λ (w : FaultWorker). w.seat.table ≡ pools.now.table) crew.items }
     ensures { IfSome result (λ served. served.1.table ≡ pools.now.table) }
 {
-    let crew = workers(rt, alloc, desk, receipt, pools, seat, count)?;
     let (all_published, (crew, answers)) = join(
         rt,
         move || change_policies(rt, desk, gate),
@@ -107,15 +103,15 @@ fn play<K: DeskName + Send + Sync, R: Threads + Wait + Sync>(
     submit(rt, desk, 0)?;
     let receipt = submit(rt, desk, 1)?;
     let (pools, seat) = opened(alloc)?;
-    match served(
-        rt, alloc, desk, &receipt, &pools, seat, count, requests, gate,
-    ) {
-        Some((answers, seat)) => Some((answers, pools.close(seat))),
-        None => {
-            drop(pools);
-            None
-        }
-    }
+    let Some(crew) = workers(rt, alloc, desk, &receipt, &pools, seat, count) else {
+        drop(pools);
+        return None;
+    };
+    let Some((answers, seat)) = served(rt, alloc, desk, &pools, crew, requests, gate) else {
+        drop(pools);
+        return None;
+    };
+    Some((answers, pools.close(seat)))
 }
 
 /// A storm on this desk. `None` if a call is refused.
