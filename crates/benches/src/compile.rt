@@ -2,7 +2,7 @@
 mod spaces;
 
 use crate::compile::spaces::spread;
-use crate::figures::{Figure, Subject, print as print_figures, put};
+use crate::figures::{Figure, Subject, Timed, print as print_figures, put};
 use crate::many::{FlatRow, POLICIES, RANGES, bind_page, choices, policy, rows_of, spec_of_bits};
 use numa_compile::{PlannedSpace, compile};
 use numa_plan::Plan;
@@ -118,6 +118,19 @@ impl<R: Print> Subject<R> for Planned {
     }
 }
 
+impl Timed for Call {
+    fn told(&self) -> (&'static str, u64) {
+        match self {
+            Call::Compile => ("compile", 1),
+            Call::PlainCopy => ("a plain copy with a look-up in a map for each range", 1),
+            Call::Bind => ("an mbind that edits its plan", TURNS),
+            Call::BindOwn => ("an mbind with a rule of its own", TURNS),
+            Call::Copy => ("a copy of its plan", TURNS),
+            Call::Predict => ("predict as text", 1),
+        }
+    }
+}
+
 /// How many runs a plan has.
 fn runs_of(plan: &Option<Plan>) -> u64 {
     match plan {
@@ -182,31 +195,11 @@ fn copy_into(alloc: Global, rows: &[FlatRow], copies: &mut Vec<FlatRow>) -> u64 
 }
 
 static FIGURES: [Figure<Call>; 5] = [
-    Figure {
-        name: "compile over a plain copy with a look-up in a map for each range",
-        call: (Call::Compile, 1),
-        baseline: (Call::PlainCopy, 1),
-    },
-    Figure {
-        name: "compile over an mbind that edits its plan",
-        call: (Call::Compile, 1),
-        baseline: (Call::Bind, TURNS),
-    },
-    Figure {
-        name: "compile over an mbind with a rule of its own",
-        call: (Call::Compile, 1),
-        baseline: (Call::BindOwn, TURNS),
-    },
-    Figure {
-        name: "compile over a copy of its plan",
-        call: (Call::Compile, 1),
-        baseline: (Call::Copy, TURNS),
-    },
-    Figure {
-        name: "predict as text over compile",
-        call: (Call::Predict, 1),
-        baseline: (Call::Compile, 1),
-    },
+    (Call::Compile, Call::PlainCopy),
+    (Call::Compile, Call::Bind),
+    (Call::Compile, Call::BindOwn),
+    (Call::Compile, Call::Copy),
+    (Call::Predict, Call::Compile),
 ];
 
 /// A space of `ranges` ranges, whose plan is made.

@@ -4,7 +4,7 @@ mod setting;
 
 use crate::fault::placing::{AtPools, placing_at};
 use crate::fault::setting::{desk_of, request_of};
-use crate::figures::{Figure, Subject, print as print_figures};
+use crate::figures::{Figure, Subject, Timed, print as print_figures};
 use numa_plan::Steps;
 use numa_publish::{Desk, PlanReader};
 use std::alloc::Global;
@@ -45,21 +45,9 @@ enum Call {
 }
 
 static FIGURES: [Figure<Call>; 3] = [
-    Figure {
-        name: "fault and release over enter, choice, leave, take and give",
-        call: (Call::Fault, FAULTS),
-        baseline: (Call::Parts, FAULTS),
-    },
-    Figure {
-        name: "fault_span of 4,096 pages over as many faults, for each page",
-        call: (Call::Span, PAGES),
-        baseline: (Call::Pages, PAGES),
-    },
-    Figure {
-        name: "take and give over a bare fetch_or and fetch_and",
-        call: (Call::Take, FAULTS),
-        baseline: (Call::Bits, FAULTS),
-    },
+    (Call::Fault, Call::Parts),
+    (Call::Span, Call::Pages),
+    (Call::Take, Call::Bits),
 ];
 
 impl<R: Print> Subject<R> for Faulting {
@@ -83,6 +71,19 @@ impl<R: Print> Subject<R> for Faulting {
 
     fn settle(&mut self) {
         self.placing.release_all();
+    }
+}
+
+impl Timed for Call {
+    fn told(&self) -> (&'static str, u64) {
+        match self {
+            Call::Fault => ("fault and release", FAULTS),
+            Call::Parts => ("enter, choice, leave, take and give", FAULTS),
+            Call::Span => ("fault_span of 4,096 pages", PAGES),
+            Call::Pages => ("as many faults, for each page", PAGES),
+            Call::Take => ("take and give", FAULTS),
+            Call::Bits => ("a bare fetch_or and fetch_and", FAULTS),
+        }
     }
 }
 

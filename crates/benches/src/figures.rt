@@ -4,10 +4,16 @@ use std::mem::replace;
 use std::rt::Clock;
 use std::time::Instant;
 
+/// A call that is timed.
+pub trait Timed {
+    /// What it does, and how often.
+    fn told(&self) -> (&'static str, u64);
+}
+
 /// What is measured: a value, with the calls that its figures compare.
 pub trait Subject<R> {
     /// Its calls, and those that are their baselines.
-    type Call;
+    type Call: Timed;
 
     /// Prints checksums of what its calls answer, the same in each run.
     fn checksums(&mut self, rt: &R) -> io::Result<()>;
@@ -19,12 +25,8 @@ pub trait Subject<R> {
     fn settle(&mut self);
 }
 
-/// A figure: its name, a call and its baseline, each with how often it does what the figure names.
-pub struct Figure<C> {
-    pub name: &'static str,
-    pub call: (C, u64),
-    pub baseline: (C, u64),
-}
+/// A figure: a call and its baseline.
+pub type Figure<C> = (C, C);
 
 /// How many rounds of a figure are timed.
 const ROUNDS: u32 = 30;
@@ -65,8 +67,8 @@ fn times_of<R: Clock, S: Subject<R>>(rt: &R, subject: &mut S, figure: &Figure<S:
         sum: 0,
     };
     for _ in 0..ROUNDS {
-        let (call, answered) = time(rt, subject, &figure.call.0);
-        let (baseline, beside) = time(rt, subject, &figure.baseline.0);
+        let (call, answered) = time(rt, subject, &figure.0);
+        let (baseline, beside) = time(rt, subject, &figure.1);
         times = Times {
             call: times.call.min(call),
             baseline: times.baseline.min(baseline),
@@ -81,12 +83,16 @@ fn each(spent: u64, count: u64) -> u128 {
     u128::from(spent) * 1_000 / u128::from(count.max(1))
 }
 
-/// Prints the ratio of two times, which are in picoseconds.
-fn print_ratio(rt: &impl Print, name: &str, call: u128, baseline: u128) -> io::Result<()> {
+/// Prints a figure: the ratio of its times for one call, and both times.
+fn print_ratio<C: Timed>(rt: &impl Print, figure: &Figure<C>, times: Times) -> io::Result<()> {
+    let (name, count) = figure.0.told();
+    let (base, base_count) = figure.1.told();
+    let call = each(times.call, count);
+    let baseline = each(times.baseline, base_count);
     let ratio = call.saturating_mul(100) / baseline.max(1);
     let (whole, part) = (ratio / 100, ratio % 100);
     let (call, baseline) = (call / 1_000, baseline / 1_000);
-    println!(rt; "{name}: {whole}.{part:02} ({call} ns over {baseline} ns)")
+    println!(rt; "{name} over {base}: {whole}.{part:02} ({call} ns over {baseline} ns)")
 }
 
 /// Prints the figures, and the sum of what all calls answered.
@@ -98,9 +104,7 @@ fn measure<R: Print + Clock, S: Subject<R>>(
     let mut sum = 0u64;
     for figure in figures {
         let times = times_of(rt, subject, figure);
-        let call = each(times.call, figure.call.1);
-        let baseline = each(times.baseline, figure.baseline.1);
-        print_ratio(rt, figure.name, call, baseline)?;
+        print_ratio(rt, figure, times)?;
         sum = sum.wrapping_add(times.sum);
     }
     println!(rt; "sum of answers {sum}")

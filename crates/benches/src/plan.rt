@@ -2,7 +2,7 @@
 mod checks;
 mod plans;
 
-use crate::figures::{Figure, Subject, print as print_figures};
+use crate::figures::{Figure, Subject, Timed, print as print_figures};
 use crate::many::{FlatRow, ROUND, lists_of, places_in, rows_of};
 use crate::plan::checks::{print_spread, print_whole};
 use crate::plan::plans::{spread, whole};
@@ -46,26 +46,10 @@ enum Call {
 }
 
 static FIGURES: [Figure<Call>; 4] = [
-    Figure {
-        name: "choice over partition_point of rows as large as runs",
-        call: (Call::Choice, ROUND),
-        baseline: (Call::Place, ROUND),
-    },
-    Figure {
-        name: "fill of 1 MiB of pages on one node over std's fill",
-        call: (Call::Fill(2), 1),
-        baseline: (Call::Set, 1),
-    },
-    Figure {
-        name: "fill of 1 MiB of pages in turn over a copy",
-        call: (Call::Fill(1), 1),
-        baseline: (Call::Copy, 1),
-    },
-    Figure {
-        name: "counts of 2^34 pages in turn over counts of 8 pages",
-        call: (Call::Counts(17_179_869_184), COUNTS),
-        baseline: (Call::Counts(8), COUNTS),
-    },
+    (Call::Choice, Call::Place),
+    (Call::Fill(2), Call::Set),
+    (Call::Fill(1), Call::Copy),
+    (Call::Counts(17_179_869_184), Call::Counts(8)),
 ];
 
 impl<R: Print> Subject<R> for TwoPlans {
@@ -88,6 +72,21 @@ impl<R: Print> Subject<R> for TwoPlans {
     }
 
     fn settle(&mut self) {}
+}
+
+impl Timed for Call {
+    fn told(&self) -> (&'static str, u64) {
+        match self {
+            Call::Choice => ("choice", ROUND),
+            Call::Place => ("partition_point of rows as large as runs", ROUND),
+            Call::Fill(2) => ("fill of 1 MiB of pages on one node", 1),
+            Call::Fill(_) => ("fill of 1 MiB of pages in turn", 1),
+            Call::Set => ("std's fill", 1),
+            Call::Copy => ("a copy", 1),
+            Call::Counts(8) => ("counts of 8 pages", COUNTS),
+            Call::Counts(_) => ("counts of 2^34 pages in turn", COUNTS),
+        }
+    }
 }
 
 /// One of the bytes.

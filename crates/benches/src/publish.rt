@@ -3,7 +3,7 @@ mod looks;
 mod spaces;
 
 use crate::compile::compile_into;
-use crate::figures::{Figure, Subject, print as print_figures};
+use crate::figures::{Figure, Subject, Timed, print as print_figures};
 use crate::many::{RANGES, lists_of};
 use crate::publish::looks::{choices, looks};
 use crate::publish::spaces::{bind_middle, desk_of};
@@ -42,18 +42,7 @@ enum Call {
     Publish,
 }
 
-static FIGURES: [Figure<Call>; 2] = [
-    Figure {
-        name: "enter, choice and leave over Plan::choice",
-        call: (Call::Look, LOOKS),
-        baseline: (Call::Ask, LOOKS),
-    },
-    Figure {
-        name: "compile over accept and publish, command after command",
-        call: (Call::Compile, 1),
-        baseline: (Call::Publish, COMMANDS),
-    },
-];
+static FIGURES: [Figure<Call>; 2] = [(Call::Look, Call::Ask), (Call::Compile, Call::Publish)];
 
 impl<R: Print + Wait> Subject<R> for Published<'_> {
     type Call = Call;
@@ -75,6 +64,17 @@ impl<R: Print + Wait> Subject<R> for Published<'_> {
 
     fn settle(&mut self) {
         drop(self.plan.take());
+    }
+}
+
+impl Timed for Call {
+    fn told(&self) -> (&'static str, u64) {
+        match self {
+            Call::Look => ("enter, choice and leave", LOOKS),
+            Call::Ask => ("Plan::choice", LOOKS),
+            Call::Compile => ("compile", 1),
+            Call::Publish => ("accept and publish, command after command", COMMANDS),
+        }
     }
 }
 

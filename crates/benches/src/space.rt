@@ -1,5 +1,5 @@
 //! Commands on a space of many ranges: a policy that splits one of them, and other allowed nodes.
-use crate::figures::{Figure, Subject, print as print_figures};
+use crate::figures::{Figure, Subject, Timed, print as print_figures};
 use crate::many::{bind, bind_page, eight_nodes, map, mixed, nodes_of, spec_of_bits};
 use numa_mode::PolicySpec;
 use numa_ranges::Run;
@@ -134,6 +134,8 @@ enum Call {
     Move,
 }
 
+static FIGURES: [Figure<Call>; 2] = [(Call::Split, Call::Move), (Call::Allow, Call::Move)];
+
 impl<R: Print> Subject<R> for Large {
     type Call = Call;
 
@@ -150,6 +152,16 @@ impl<R: Print> Subject<R> for Large {
     }
 
     fn settle(&mut self) {}
+}
+
+impl Timed for Call {
+    fn told(&self) -> (&'static str, u64) {
+        match self {
+            Call::Split => ("Mbind of a middle page", 2),
+            Call::Allow => ("SetMems", 2),
+            Call::Move => ("a move of half the vector", 2),
+        }
+    }
 }
 
 /// Carries out both commands; how many were accepted.
@@ -171,19 +183,6 @@ fn moved(rows: &mut Vec<Row>) -> u64 {
     }
     middle as u64
 }
-
-static FIGURES: [Figure<Call>; 2] = [
-    Figure {
-        name: "Mbind of a middle page over a move of half the vector",
-        call: (Call::Split, 2),
-        baseline: (Call::Move, 2),
-    },
-    Figure {
-        name: "SetMems over a move of half the vector",
-        call: (Call::Allow, 2),
-        baseline: (Call::Move, 2),
-    },
-];
 
 /// As many rows as there are ranges.
 fn rows_of(alloc: Global) -> Result<Vec<Row>, AllocError> {
