@@ -73,44 +73,46 @@ fn frame_search(rt: &impl Abort, core: &mut Core) {
     step(rt, core, &Event::Give(0, Frame { node: 1, number: 3 }));
 }
 
-/// All events between the marks.
-fn step_all(rt: &impl Abort, alloc: Global, core: &mut Core, commands: &[Command]) {
-    mark(rt, alloc);
+/// Accepts each command and publishes it at once, and has a frame found and given back.
+fn step_all(rt: &impl Abort, core: &mut Core, commands: &[Command]) {
     for command in commands {
         accept(rt, core, command);
     }
     frame_search(rt, core);
-    mark(rt, alloc);
 }
 
-#[test]
-fn events(rt: HostRuntime) {
-    let commands = commands_of(rt.alloc(), &COMMANDS).expect(&rt, "commands");
-    let mut core = core_for(&rt, rt.alloc());
-    step_all(&rt, rt.alloc(), &mut core, &commands);
-    same(&rt, &(core.published(), core.space().version()), &(18, 18));
-    drop(core);
-    drop(commands);
-}
-
-/// All commands between the marks, and then one publication of all.
-fn publish_all(rt: &impl Abort, alloc: Global, core: &mut Core, commands: &[Command]) {
-    mark(rt, alloc);
+/// Accepts all commands, and then publishes them together.
+fn publish_all(rt: &impl Abort, core: &mut Core, commands: &[Command]) {
     for command in commands {
         step(rt, core, &Event::Accept(*command));
     }
     step(rt, core, &Event::Publish);
+}
+
+/// All commands between the marks, published together or one by one.
+fn carry_out(rt: &impl Abort, alloc: Global, together: bool) {
+    let commands = commands_of(alloc, &COMMANDS).expect(rt, "commands");
+    let mut core = core_for(rt, alloc);
     mark(rt, alloc);
+    if together {
+        publish_all(rt, &mut core, &commands);
+    } else {
+        step_all(rt, &mut core, &commands);
+    }
+    mark(rt, alloc);
+    same(rt, &(core.published(), core.space().version()), &(18, 18));
+    drop(core);
+    drop(commands);
+}
+
+#[test]
+fn events(rt: HostRuntime) {
+    carry_out(&rt, rt.alloc(), false);
 }
 
 #[test]
 fn commands_together(rt: HostRuntime) {
-    let commands = commands_of(rt.alloc(), &COMMANDS).expect(&rt, "commands");
-    let mut core = core_for(&rt, rt.alloc());
-    publish_all(&rt, rt.alloc(), &mut core, &commands);
-    same(&rt, &(core.published(), core.space().version()), &(18, 18));
-    drop(core);
-    drop(commands);
+    carry_out(&rt, rt.alloc(), true);
 }
 
 /// Copies a core between the marks, and again if a growth was refused.

@@ -143,6 +143,9 @@ fn push_run(plan: &mut Plan, place: u32) -> bool
     requires none { plan.old.tasks ≡ [] }
     ensures { plan.new.tasks ≡ plan.old.tasks }
 {
+    let Some(_) = plan.policy_of(place) else {
+        return false;
+    };
     let first = u64::from(place) * 16;
     let mut steps = Steps::new();
     let (from, _) = plan.window(first, first + 8, &mut steps);
@@ -150,9 +153,6 @@ fn push_run(plan: &mut Plan, place: u32) -> bool
     if from < runs || runs > 1000 {
         return false;
     }
-    let Some(_) = plan.policy_of(place) else {
-        return false;
-    };
     let run = Run {
         first,
         pages: 8,
@@ -260,14 +260,14 @@ static EDITS: [Edit; 7] = [
 fn splice(plan: &mut Plan, place: u32) -> bool
     requires { place < 12 }
 {
+    let Some(_) = plan.policy_of(place) else {
+        return false;
+    };
     let first = u64::from(place) * 8 + 4;
     let mut steps = Steps::new();
     let (from, to) = plan.window(first, first + 4, &mut steps);
     // Tells the proof that the runs are apart.
     let _ = plan.run_count();
-    let Some(_) = plan.policy_of(place) else {
-        return false;
-    };
     let run = Run {
         first,
         pages: 4,

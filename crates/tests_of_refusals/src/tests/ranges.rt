@@ -68,8 +68,8 @@ fn take_all(rt: &impl Abort, map: &mut RangeMap<u32>, step: Step) {
     }
 }
 
-/// All steps: with the marks round them where `marked`.
-fn filled(rt: &impl Abort, alloc: Global, marked: bool) -> RangeMap<u32> {
+/// What a map shows after all steps: with the marks round them where `marked`.
+fn filled(rt: &impl Abort, alloc: Global, marked: bool) -> (usize, u64) {
     let mut map = RangeMap::new(alloc, 65_536);
     if marked {
         mark(rt, alloc);
@@ -80,14 +80,16 @@ fn filled(rt: &impl Abort, alloc: Global, marked: bool) -> RangeMap<u32> {
     if marked {
         mark(rt, alloc);
     }
-    map
+    let found = shown(&map);
+    drop(map);
+    found
 }
 
 #[test]
 fn spans(rt: HostRuntime) {
-    let map = filled(&rt, rt.alloc(), true);
-    let other = filled(&rt, rt.alloc(), false);
-    same(&rt, &shown(&map), &shown(&other));
-    drop(other);
-    drop(map);
+    same(
+        &rt,
+        &filled(&rt, rt.alloc(), true),
+        &filled(&rt, rt.alloc(), false),
+    );
 }
