@@ -307,14 +307,13 @@ module _ (old : SpaceState) (task : ℕ) (spec : Specification)
         go true = refl
         go false = refl
 
-    one-now : (if is_some (record_now old.allowed spec) then 1 else 0)
-        ≡ (if is_default spec then 0 else 1)
+    one-now : ◌≡◌ {A = ℕ} (if is_some (record_now old.allowed spec) then 1 else 0)
+        (if is_default spec then 0 else 1)
     one-now = go (is_default spec)
       where
-        go : (b : Bool)
-            → (if is_some (if b then None else Some (record_when_set spec old.allowed)) then 1 else
-            0)
-            ≡ (if b then 0 else 1)
+        go : (b : Bool) → ◌≡◌ {A = ℕ}
+            (if is_some (if b then None else Some (record_when_set spec old.allowed)) then 1 else 0)
+            (if b then 0 else 1)
         go true = refl
         go false = refl
 

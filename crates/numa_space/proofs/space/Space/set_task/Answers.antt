@@ -18,7 +18,7 @@ use Rattle.numa_space.proofs.Kept.{kept-answer}
 use Rattle.numa_space.proofs.space.Space.set_task.Goals as goal
 use Rattle.numa_space.proofs.space.Space.set_task.Goals.{In_default, In-Err}
 
-next : (c : In_default) → Inside
+abbrev next : (c : In_default) → Inside
 next c = record c.self.inside { tasks = c.give.new.tasks; version = c.self.inside.version + 1 }
 
 done : (c : In_default) → IsAnswer (shown_of c.self.inside) (SetTask c.args.task c.args.spec.now)
@@ -49,11 +49,11 @@ done c =
     set-given (shown_of c.self.inside) c.args.task c.args.spec.now room node c.give.new.tasks fits
     given
 
-pub invariant_of-self : goal.invariant_of-self
-invariant_of-self c =
-    kept-answer c.self.inside (next (goal.at.invariant_of-self c).In_default) (SetTask c.args.task
+pub invariant_of-self-2 : goal.invariant_of-self-2
+invariant_of-self-2 c =
+    kept-answer c.self.inside (next (goal.at.invariant_of-self-2 c).In_default) (SetTask c.args.task
     c.args.spec.now) (Ok (tt {0}))
-    c.self.invariant refl refl (done (goal.at.invariant_of-self c).In_default)
+    c.self.invariant refl refl (done (goal.at.invariant_of-self-2 c).In_default)
 
 pub returns-clause-answer : goal.returns-clause-answer
 returns-clause-answer c =
