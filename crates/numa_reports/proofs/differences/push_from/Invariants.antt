@@ -5,4 +5,4 @@ use Rattle.numa_reports.proofs.differences.push_from.Given as goal
 
 abbrev pub invariant-loop-node : goal.invariant-loop-node
 invariant-loop-node l = l.moves.items ≡ l.fn.moves.items
-    ++ moves_from (moves_in l.table) l.span l.from l.node
+    ++ moves_from (moves_in l.table) l.fn.span l.from l.node
