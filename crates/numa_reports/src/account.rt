@@ -1,20 +1,9 @@
 //! Free pages that the predictions of several processes share.
-ghost use Rattle.std.specs.Prelude.{◌≡◌, ◌≤◌, ◌^◌, List, Err, IfErr, OnOk, replicate};
-ghost use Rattle.numa_compile.specs.Standing.{PlanStandsFor};
-ghost use Rattle.numa_space.specs.Standing.{StandsFor};
-ghost use Rattle.numa_requests.specs.declared.command.Command.{Command};
-ghost use Rattle.numa_machine.specs.declared.refusal.PlaceRefusal.TheVariants.{BadCpu};
-ghost use Rattle.numa_reports.specs.declared.fault.ReportError.TheVariants.{Memory, Refused};
-ghost use Rattle.numa_reports.specs.Failing.{FailsForNode};
-ghost use Rattle.numa_reports.specs.Filled.{free_behind, nodes_of, with_named};
-ghost use Rattle.numa_reports.specs.Told.{IsFilling, LacksOne, ToldEach};
+ghost use Rattle.std.specs.Prelude.{◌≡◌, ◌^◌, replicate};
+ghost use Rattle.numa_reports.specs.Filled.{with_named};
 
 use crate::absent::both_of;
-use crate::fault::ReportError;
-use crate::filling::{FreePages, fill_all, free_from};
-use crate::prediction::TakeRange;
-use numa_plan::Plan;
-use numa_space::Space;
+use crate::filling::{FreePages, free_from};
 
 /// The most pages that the spaces of a host can map together.
 const ALL_PAGES: u64 = 1 << 47;
@@ -50,31 +39,4 @@ impl Account {
         self.taken = both_of(&self.taken, taken);
         self.pages = self.pages.saturating_add(pages);
     }
-}
-
-/// Takes from an account what one more space takes: as [`fill_all`], but the free pages are those
-/// that the spaces before have left.
-///
-/// # Errors
-/// As [`fill_all`].
-pub fn fill_more<T: TakeRange>(
-    space: &Space,
-    plan: &Plan,
-    task: u32,
-    cpu: u32,
-    account: &mut Account,
-    taker: &mut T,
-) -> Result<(), ReportError>
-    ensures ok { (history : List Command) → StandsFor space.now history
-        → PlanStandsFor space.now.machine plan.now history → OnOk result (account.new.free
-        ≡ free_behind (nodes_of space.now.machine history task cpu) account.old.free 0 (2 ^ 35)) }
-    ensures told { (history : List Command) → StandsFor space.now history
-        → PlanStandsFor space.now.machine plan.now history → OnOk result (ToldEach T.told
-        (IsFilling space.now.machine history task cpu account.old.free) space.now.ranges
-        taker.old taker.new) }
-    ensures err { FailsForNode space.now plan.now cpu result }
-    ensures lack { IfErr result (λ why. why ≡ Memory → LacksOne T.lacks space.now.ranges) }
-    ensures bad_cpu { space.now.machine.nodes ≤ cpu → result ≡ Err (Refused BadCpu) }
-{
-    fill_all(space, plan, task, cpu, &mut account.free, taker)
 }

@@ -23,7 +23,7 @@ mod touch;
 mod turns;
 mod watch;
 
-pub use account::{Account, fill_more};
+pub use account::Account;
 pub use asked::{AddressAsked, CpuAsked, TouchAsked};
 pub use differences::{SpanMove, all_moves};
 pub use fault::ReportError;
