@@ -392,11 +392,11 @@ pub fn reading_of(asking: Asking<'_>) -> Reading {
 ///
 /// # Errors
 /// Why there is no answer.
-pub fn text_of<T: Write, P: Watch>(
+pub fn text_of<'a, T: Write, P: Watch>(
     alloc: Global,
-    played: &mut Played<T>,
+    played: &'a mut Played<T>,
     process: Option<u32>,
-    asking: Asking<'_>,
+    asking: Asking<'a>,
     watch: &mut P,
 ) -> Result<Vec<u8>, Halt> {
     played.findings.note_all(asking.lines());
