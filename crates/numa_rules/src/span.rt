@@ -1,6 +1,6 @@
 //! Tests of the pages of a span.
 ghost use Rattle.std.specs.Prelude.{◌≡◌, ◌+◌, ◌<◌, ◌≤◌, ◌^◌, Some, None, MatchOption};
-ghost use Rattle.std.specs.Prelude.{true};
+ghost use Rattle.std.specs.Prelude.{is_some, true};
 ghost use Rattle.numa_ranges.specs.Maps.{any_page};
 ghost use Rattle.numa_ranges.specs.Runs.{page_at};
 ghost use Rattle.numa_space.specs.History.{page_count, page_of};
