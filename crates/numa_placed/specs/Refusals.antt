@@ -5,7 +5,7 @@ use Rattle.std.specs.Prelude.{Option, Some, None, if◌then◌else◌}
 use Rattle.numa_mask.specs.NodeSet.{has, both}
 use Rattle.numa_machine.specs.Machine.{Hardware}
 use Rattle.numa_space.specs.History.{page_count}
-use Rattle.numa_placed.specs.Spots.{is_placed, too_many}
+use Rattle.numa_placed.specs.Spots.{too_many}
 use Rattle.numa_placed.specs.declared.spot.Spot.{Spot}
 use Rattle.numa_placed.specs.declared.spot.Spot.TheVariants.{Nowhere, Stated, Held}
 use Rattle.numa_requests.specs.declared.page_refusal.PlacedRefusal.{PlacedRefusal}
