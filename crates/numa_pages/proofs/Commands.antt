@@ -1,5 +1,5 @@
 -- What a command makes of a core and its pages.
-use Rattle.std.proofs.Common.{◌≡◌, ℕ, false, Some, None, List, Ok, refl}
+use Rattle.std.proofs.Common.{◌≡◌, ℕ, Bool, false, Some, None, List, Ok, refl}
 use Rattle.std.proofs.Common.{subst}
 use Rattle.std.proofs.lemmas.Result.{on_err_weaker}
 use Rattle.numa_core.specs.Standing.{setup_of}
@@ -9,10 +9,11 @@ use Rattle.numa_ranges.specs.declared.run.Run.{Run}
 use Rattle.numa_requests.specs.declared.command.Command.TheVariants.{Unmap}
 use Rattle.numa_requests.specs.declared.page_refusal.PlacedRefusal.{PlacedRefusal}
 use Rattle.numa_space.specs.Standing.{SpaceState}
-use Rattle.numa_page_state.specs.Lying.{Lying, ground_in}
-use Rattle.numa_page_state.specs.Outcomes.{at_outcome, forgotten}
+use Rattle.numa_page_state.specs.Lying.{Ground, Lying, ground_in}
+use Rattle.numa_page_state.specs.Outcomes.{Done, forgotten}
 use Rattle.numa_page_state.specs.Standing.{DoesAs, Forgets, LiesAs, Replaces}
-use Rattle.numa_pages.specs.Changes.{Accepts, Answers, PagesState, Places, cause_of_pages, lacking}
+use Rattle.numa_pages.specs.Changes.{Accepts, Answers, Changes, PagesState, cause_of_pages}
+use Rattle.numa_pages.specs.Changes.{ground_of, lacking}
 use Rattle.std.specs.Prelude.{[], OnErr, Result}
 
 module _ (before after : PagesState) (start bytes : ℕ) (placed : List (Run Spot))
@@ -38,18 +39,19 @@ module _ (before after : PagesState) (start bytes : ℕ) (placed : List (Run Spo
     unchanged = tt;
   }
 
--- pages were stated to lie on a node
-pub placed-so : (before after : PagesState) (space : SpaceState) (kept : Kept)
-    (start bytes node : ℕ) (answer : Result (Unit {0}) PlacedRefusal) → space ≡ before.core.space
-    → kept ≡ [] → after.core ≡ before.core
+-- pages were changed by the space and the kept frames as they were read
+pub changed-so : {A : Type 0} (outcome : Bool → Ground → Lying → Done A PlacedRefusal)
+    (before after : PagesState) (space : SpaceState) (kept : Kept) (answer : Result A PlacedRefusal)
+    → space ≡ before.core.space → kept ≡ [] → after.core ≡ before.core
     → DoesAs before.state answer after.state lacking
-    (λ refused at. at_outcome refused (ground_in space kept) start bytes node at)
-    → OnErr answer (after.state ≡ before.state) → Places start bytes node before answer after
-placed-so before after space kept start bytes node answer same none core does still = record {
+    (λ refused at. outcome refused (ground_in space kept) at)
+    → OnErr answer (after.state ≡ before.state)
+    → Changes lacking (λ refused at. outcome refused (ground_of before) at) before answer after
+changed-so {A} outcome before after space kept answer same none core does still = record {
   does = subst (λ (s : SpaceState). DoesAs before.state answer after.state lacking
-      (λ refused at. at_outcome refused (ground_in s []) start bytes node at)) same
+      (λ refused at. outcome refused (ground_in s []) at)) same
       (subst (λ (k : Kept). DoesAs before.state answer after.state lacking
-      (λ refused at. at_outcome refused (ground_in space k) start bytes node at)) none does);
+      (λ refused at. outcome refused (ground_in space k) at)) none does);
   core = core;
   unchanged = on_err_weaker answer (λ state. λ i. record { core = core i; state = state i }) still;
 }
