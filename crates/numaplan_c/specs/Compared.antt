@@ -6,7 +6,6 @@ use Rattle.numa_traces.specs.declared.fault.ReplayError.{ReplayError}
 use Rattle.numa_traces.specs.declared.fault.ReplayError.TheVariants as fault
 use Rattle.numa_traces.specs.declared.routes.RouteCounts.{RouteCounts}
 use Rattle.numaplan_handles.specs.Room.{Copies}
-use Rattle.numaplan_c.specs.Codes.{place_code}
 use Rattle.numaplan_c.specs.Predictions.{fault_code}
 use Rattle.numaplan_c.specs.Texts.{copy_code, length_copied}
 

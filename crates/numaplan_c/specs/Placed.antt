@@ -1,5 +1,5 @@
 -- What the exported calls of pages that are there answer and do.
-use Rattle.std.specs.Prelude.{◌≡◌, ℕ, Option, Some, None, Result, Ok, Err, List, MatchResult, IfOk}
+use Rattle.std.specs.Prelude.{◌≡◌, ℕ, Option, Some, None, Result, Ok, Err, List, MatchResult}
 use Rattle.numa_pages.specs.Changes.{PagesState}
 use Rattle.numa_pages.specs.declared.binding.Rebound.{Rebound}
 use Rattle.numa_pages.specs.declared.listing.PageRun.{PageRun}
