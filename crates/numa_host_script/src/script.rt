@@ -110,6 +110,8 @@ impl HostScript {
     }
 
     /// Carries out a line `host`.
+    #[cold]
+    #[inline(never)]
     fn begin(&mut self, alloc: Global) -> Reply
         ensures { (session : Session) → SessionStandsFor self.old session → (refused : Bool)
             × SessionStandsFor self.new (begun refused session).session
@@ -189,6 +191,7 @@ impl HostScript {
     }
 
     /// Answers a question of a process.
+    #[inline(never)]
     fn answer<W: Write>(
         &self,
         alloc: Global,
@@ -213,6 +216,7 @@ impl HostScript {
     }
 
     /// Lists the ranges of a process.
+    #[inline(never)]
     fn list<W: Write>(&self, alloc: Global, process: u32, task: u32, output: &mut Watched<W>)
         ensures { (session : Session) → SessionStandsFor self.now session
             → Said W.contents output.old output.new

@@ -119,6 +119,7 @@ fn take_own(host: &mut Host, line: &Line<'_>) -> Reply
 }
 
 /// Carries out a line.
+#[inline(never)]
 pub(crate) fn take(host: &mut Host, said: &ScriptLine<'_>) -> HostTaken
     ensures { Takes host.old said.now result host.new }
 {

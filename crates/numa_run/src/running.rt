@@ -225,6 +225,7 @@ impl Running {
     }
 
     /// Lists the ranges, with their policies for a task, the placed pages and those that are there.
+    #[inline(never)]
     pub fn list<W: Write>(&self, task: u32, output: &mut Watched<W>)
         ensures { (state : State) → RunsAs self.now state
             → Said W.contents output.old output.new (there_listing

@@ -275,7 +275,10 @@ impl Script {
         }
     }
 
-    /// Carries out a line while no machine is ready.
+    /// Carries out a line while no machine is ready. It is a separate function, so that later lines
+    /// use no stack for it.
+    #[cold]
+    #[inline(never)]
     pub(crate) fn reply_first(&mut self, alloc: Global, line: &Line<'_>) -> Reply
         requires { self.old.running ≡ None }
         ensures { Replies self.old.settings None line.now
