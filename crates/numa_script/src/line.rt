@@ -346,15 +346,18 @@ fn alone<'a>(line: Line<'a>) -> ScriptLine<'a>
     }
 }
 
-/// The line of a keyword and the words after it.
+/// The line of a keyword and the words after it, which are malformed where they write none.
 #[inline(always)]
-fn script_after(keyword: Keyword, words: Words) -> Option<ScriptLine>
-    ensures { result ≡ script_after keyword words.entry }
+fn script_after(keyword: Keyword, words: Words) -> ScriptLine
+    ensures { result ≡ unwrap_or (script_after keyword words.entry) (alone Line.Malformed) }
 {
     if keyword.is_in() {
-        return in_line(words);
+        return in_line(words).unwrap_or(alone(Line::Malformed));
     }
-    Some(alone(line_after(keyword, words)?))
+    match line_after(keyword, words) {
+        Some(line) => alone(line),
+        None => alone(Line::Malformed),
+    }
 }
 
 /// Whether a word of the line is empty: there are two spaces in a row, or one at an end.
@@ -413,21 +416,22 @@ fn has_empty_text(keyword: Keyword, line: &[u8]) -> bool
 }
 
 /// The line that the words of a line write, of which none may be empty.
-fn of_words(line: &[u8]) -> Option<ScriptLine<'_>>
-    ensures { unwrap_or result (alone Line.Malformed) ≡ (if has_empty_word line.now
-        then alone Line.Malformed
+#[inline(always)]
+fn of_words(line: &[u8]) -> ScriptLine<'_>
+    ensures { result ≡ (if has_empty_word line.now then alone Line.Malformed
         else unwrap_or (words_line (words_of line.now)) (alone Line.Malformed)) }
 {
     let Some(begun) = begun(line) else {
-        return None;
+        return alone(Line::Malformed);
     };
     if has_empty_text(begun.0, line) {
-        return None;
+        return alone(Line::Malformed);
     }
     script_after(begun.0, begun.1)
 }
 
 /// Parses a line, which comes without its line feed.
+#[inline(never)]
 #[tactic(auto, unfolding(crate::specs::Lines::line_of))]
 pub fn parse(line: &[u8]) -> ScriptLine<'_>
     ensures { result ≡ line_of line.now }
@@ -438,5 +442,5 @@ pub fn parse(line: &[u8]) -> ScriptLine<'_>
     if line.len() > LIMIT {
         return alone(Line::Malformed);
     }
-    of_words(line).unwrap_or(alone(Line::Malformed))
+    of_words(line)
 }
