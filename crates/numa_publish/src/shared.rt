@@ -1,7 +1,8 @@
 //! Desks that threads share.
-ghost use Rattle.std.specs.Prelude.{◌≡◌, ◌∷◌, List, IfOk};
+ghost use Rattle.std.specs.Prelude.{◌≡◌, ◌∷◌, List, IfErr, IfOk};
 ghost use Rattle.numa_requests.specs.declared.command.Command.{Command};
 ghost use Rattle.numa_publish.specs.Shown.{new_reader};
+ghost use Rattle.numa_publish.specs.Submits.{IsRefusedBy};
 
 use crate::desk::{Desk, NoReader};
 use crate::reader::PlanReader;
@@ -11,19 +12,25 @@ use numa_requests::{Command, Refusal};
 use std::marker::{Brand, Model, PhantomData};
 use std::sync::{Mutex, Wait};
 
-/// A type-level name of a desk, by which its receipts and readers are known to belong together. It
-/// has no methods. A function that is generic in it is called with `Brand`, for its caller's desk.
+/// A type-level name of a desk and its limits, by which its receipts and readers are known to
+/// belong together. It has no methods. A function that is generic in it is called with `Brand`, for
+/// its caller's desk.
 pub trait DeskName {
     ghost use Rattle.numa_publish.specs.Shown.{DeskIdentity};
+    ghost use Rattle.numa_space.specs.Limited.{Bounds};
 
     ghost desk: { DeskIdentity };
+
+    ghost bounds: { Bounds };
 }
 
 impl DeskName for Brand {
     ghost use Rattle.numa_publish.specs.Knowing.{no_book};
-    ghost use Rattle.numa_publish.specs.Ghosts.{no_machine};
+    ghost use Rattle.numa_publish.specs.Ghosts.{no_bounds, no_machine};
 
     ghost desk = { record { book = no_book; machine = no_machine } };
+
+    ghost bounds = { no_bounds };
 }
 
 /// Why a submit returned no receipt.
@@ -43,14 +50,14 @@ struct NamedDesk<K: DeskName> {
 }
 
 impl<K: DeskName> Model for NamedDesk<K> {
-    ghost use Rattle.std.specs.Prelude.{◌≡◌};
     ghost use Rattle.numa_publish.specs.Shown.{DeskState};
+    ghost use Rattle.numa_publish.specs.Submits.{IsNamed};
 
     ghost Value = { DeskState };
 
     ghost view = { λ n. n.desk };
 
-    ghost invariant = { λ n. n.desk.desk ≡ K.desk };
+    ghost invariant = { λ n. IsNamed K.desk K.bounds n.desk };
 }
 
 impl<K: DeskName> NamedDesk<K> {
@@ -59,6 +66,7 @@ impl<K: DeskName> NamedDesk<K> {
         ensures desk { IfOk result (λ r. r.desk ≡ K.desk) }
         ensures newest { IfOk result (λ r.
             (before : List Command) × (r.history ≡ command.now ∷ before)) }
+        ensures err { IfErr result (IsRefusedBy K.desk.machine K.bounds command.now) }
     {
         self.desk.submit(rt, command)
     }
@@ -80,7 +88,8 @@ pub struct SharedDesk<K: DeskName> {
 impl<K: DeskName> SharedDesk<K> {
     /// Wraps a desk for sharing.
     pub fn new(desk: Desk) -> SharedDesk<K>
-        requires { desk.desk ≡ K.desk }
+        requires desk { desk.desk ≡ K.desk }
+        requires bounds { desk.bounds ≡ K.bounds }
     {
         SharedDesk {
             lock: Mutex::new(unsafe {
@@ -96,11 +105,13 @@ impl<K: DeskName> SharedDesk<K> {
     /// in front. It blocks for the lock, and like `Desk::publish` for views.
     ///
     /// # Errors
-    /// `Refused`: as `Desk::accept`; else `Held`: there is no memory to publish.
+    /// `Refused`: as `Desk::accept`, behind the commands that came before; else `Held`: it is
+    /// accepted behind them, and there is no memory to publish.
     pub fn submit<R: Wait>(&self, rt: &R, command: &Command) -> Result<Receipt, SubmitRefusal>
         ensures desk { IfOk result (λ r. r.desk ≡ K.desk) }
         ensures newest { IfOk result (λ r.
             (before : List Command) × (r.history ≡ command.now ∷ before)) }
+        ensures err { IfErr result (IsRefusedBy K.desk.machine K.bounds command.now) }
     {
         self.lock.lock(rt).submit(rt, command)
     }
@@ -117,7 +128,8 @@ impl<K: DeskName> SharedDesk<K> {
 
     /// Unwraps the desk, once no thread shares it.
     pub fn into_desk(self) -> Desk
-        ensures { result.desk ≡ K.desk }
+        ensures desk { result.desk ≡ K.desk }
+        ensures bounds { result.bounds ≡ K.bounds }
     {
         let SharedDesk { lock } = self;
         let NamedDesk { desk, of: _ } = ManuallyDrop::into_inner(lock.into_inner());

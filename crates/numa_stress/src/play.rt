@@ -144,7 +144,8 @@ fn play_to_the_end<K: DeskName + Send + Sync, R: Threads + Wait + Sync>(
     desk: Desk,
     count: u32,
 ) -> Option<StormReport>
-    requires { desk.desk ≡ K.desk }
+    requires desk { desk.desk ≡ K.desk }
+    requires bounds { desk.bounds ≡ K.bounds }
     ensures { IfSome result (λ report. report.workers ≡ count) }
 {
     let shared = SharedDesk::<K>::new(desk);

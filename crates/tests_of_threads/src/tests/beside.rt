@@ -164,7 +164,8 @@ fn look_beside<K: DeskName + Send + Sync>(
 
 /// The same on a desk that is shared.
 fn run<K: DeskName + Send + Sync>(rt: &(impl Threads + Wait + Abort + Sync), desk: Desk)
-    requires { desk.desk ≡ K.desk }
+    requires desk { desk.desk ≡ K.desk }
+    requires bounds { desk.bounds ≡ K.bounds }
 {
     let shared = SharedDesk::<K>::new(desk);
     let reader = shared.reader(rt).expect(rt, "a place");

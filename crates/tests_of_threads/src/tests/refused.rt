@@ -100,7 +100,8 @@ fn submitted<K: DeskName>(
     alloc: Global,
     desk: Desk,
 ) -> (Submitted, Submitted, Desk)
-    requires { desk.desk ≡ K.desk }
+    requires desk { desk.desk ≡ K.desk }
+    requires bounds { desk.bounds ≡ K.bounds }
 {
     let shared = SharedDesk::<K>::new(desk);
     let (hole, command) = (bind_a_hole(rt), prefer(rt, 0));
