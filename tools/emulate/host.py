@@ -36,6 +36,15 @@ def host_lines(rules=None):
         raise Unfit(f"{NODES} doesn't describe this machine ({fault}); write a file and name it by --machine") from fault
 
 
+def node_told(node):
+    """A node's CPUs as a list, and its kilobytes, as sysfs tells them; None what it doesn't."""
+    try:
+        size = re.search(r"MemTotal:\s*(\d+)", read(f"{NODES}/node{node}/meminfo"))
+        return read(f"{NODES}/node{node}/cpulist"), int(size[1]) if size else None
+    except OSError:
+        return None, None
+
+
 def nodes_of(task, pages):
     """By page the node on which it is; pages that are nowhere are left out."""
     found = {}

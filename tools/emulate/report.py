@@ -17,7 +17,7 @@ class Outcome:
 
     def __init__(self, words, machine, is_real):
         self.records = Records(words.record, "record" if is_real else "emulate") if words.record else None
-        self.path, self.report = words.report, Report(machine, is_real)
+        self.path, self.report = words.report, Report(machine, is_real, words)
         self.wanted = Wanted(words.expect) if words.expect else None
         machine.names_touchers = bool(words.report)
 
@@ -77,8 +77,8 @@ class Report:
     """By process and area where pages are, and the refused calls: of each address space at its end and at moments
     that were marked, and of those that stand when the report is written. shown.py writes it."""
 
-    def __init__(self, machine, is_real):
-        self.machine, self.is_real, self.parts, self.why = machine, is_real, [], None
+    def __init__(self, machine, is_real, words):
+        self.machine, self.is_real, self.words, self.parts, self.why = machine, is_real, words, [], None
 
     def add(self, space, word, state):
         self.parts.append(part_of(space, word, state))
@@ -91,10 +91,12 @@ class Report:
     def told(self, standing=()):
         """The whole report, as JSON has it; `standing`: (space, policy) of each that hasn't ended. Where the
         kernel placed the pages it has no sum of all."""
+        from .about import made_by  # (each start would take its time)
+
         parts = self.parts + [part_of(space, word, "running") for space, word in standing]
         hits = {node: count for node, (count, *_) in enumerate(self.machine.hits) if count}
-        return {"nodes": self.machine.count, "processes": parts, "placed": None if self.is_real else hits,
-                "raced": self.why}
+        return {**made_by(self.machine, self.is_real, self.words), "nodes": self.machine.count, "processes": parts,
+                "placed": None if self.is_real else hits, "raced": self.why}
 
 
 def part_of(space, word, state):

@@ -8,9 +8,7 @@ from collections import Counter
 from .made_up import pages_text
 from .words import Unfit
 
-COLORS = ("#a6cee3", "#fdbf6f", "#b2df8a", "#fb9a99", "#cab2d6", "#ffff99", "#dddddd", "#ffffff")
 MOST_TOUCHERS = 8  # that a row names
-WIDTH, HEIGHT = 600, 16  # of a bar that shows all pages of a row
 
 
 def write_report(path, told):
@@ -29,6 +27,19 @@ def write_report(path, told):
             os.replace(path + ".new", path)
     except OSError as fault:
         raise Unfit(f"{path}: {fault.strerror}") from fault
+
+
+def plain(text):
+    """A text from outside: what isn't UTF-8 or can't be shown is a question mark."""
+    shown = text.encode("utf-8", "replace").decode()
+    return "".join(letter if letter.isprintable() else "?" for letter in shown)
+
+
+def escaped(text):
+    """The same as text of a page or a picture."""
+    from html import escape  # (each start would take its time)
+
+    return escape(plain(text))
 
 
 # ---- text
@@ -85,9 +96,10 @@ def placed_text(told):
 
 
 def text_of(told):
-    parts = ["\n".join([heading(part), *map(row_text, part["ranges"]), total_text(part), *peak_texts(part),
-                        *map(refusal_text, part["refused"])]) for part in told["processes"]]
-    return "\n\n".join(parts + placed_text(told)) + "\n"
+    parts = [[heading(part), *map(row_text, part["ranges"]), total_text(part), *peak_texts(part),
+              *map(refusal_text, part["refused"])] for part in told["processes"]]
+    parts += [[text] for text in placed_text(told)]
+    return "\n\n".join("\n".join(map(plain, lines)) for lines in parts) + "\n"
 
 
 # ---- JSON
@@ -100,86 +112,19 @@ def json_of(told):
     return dumps(told, indent=1) + "\n"
 
 
-# ---- pictures
-
-
-def escaped(text):
-    """As text of a page or a picture; what isn't UTF-8 or can't be shown is a question mark."""
-    from html import escape
-
-    shown = text.encode("utf-8", "replace").decode()
-    return escape("".join(letter if letter.isprintable() else "?" for letter in shown))
-
-
-def bar(pages, left, top):
-    """A bar in which each node has its part of the pages."""
-    parts, at, all_ = [], 0.0, sum(pages.values())
-    for node, count in pages.items():
-        width = WIDTH * count / all_
-        parts.append(f'<rect x="{left + at:.1f}" y="{top}" width="{width:.1f}" height="{HEIGHT}" '
-                     f'fill="{COLORS[node % len(COLORS)]}" stroke="#333333" stroke-width="0.5">'
-                     f"<title>node {node}: {count} page{'s' * (count != 1)}</title></rect>")
-        if width >= 30:
-            parts.append(f'<text x="{left + at + width / 2:.1f}" y="{top + 12}" font-size="10" '
-                         f'text-anchor="middle">{node}</text>')
-        at += width
-    return "".join(parts)
+# ---- pictures and pages
 
 
 def svg_of(told):
-    """Each process, and each of its ranges, as a text and a bar; refused calls as texts."""
-    rows, top = [], 24
+    from .pictures import svg_of as drawn
 
-    def say(text, size=12, left=16):
-        nonlocal top
-        rows.append(f'<text x="{left}" y="{top}" font-size="{size}">{escaped(text)}</text>')
-        top += 18
-
-    for part in told["processes"]:
-        say(heading(part), 14)
-        for row in part["ranges"] + [part] * bool(part["pages"]):
-            say(total_text(row) if row is part else row_text(row))
-            rows.append(bar(row["pages"], 16, top - 12))
-            top += HEIGHT + 8
-        for text in peak_texts(part) + list(map(refusal_text, part["refused"])):
-            say(text)
-        top += 14
-    for text in placed_text(told):
-        say(text, 14)
-    return (f'<?xml version="1.0" encoding="UTF-8"?>\n<svg xmlns="http://www.w3.org/2000/svg" version="1.1" '
-            f'width="1100" height="{top}" viewBox="0 0 1100 {top}" font-family="monospace">\n'
-            '<rect width="1100" height="100%" fill="#ffffff"/>\n' + "\n".join(rows) + "\n</svg>\n")
-
-
-# ---- a page
-
-
-def cell_of(pages):
-    return f'<svg width="{WIDTH}" height="{HEIGHT + 2}">{bar(pages, 0, 1)}</svg>' if pages else ""
-
-
-def html_row(cells):
-    return "<tr>" + "".join(f"<td>{cell}</td>" for cell in cells) + "</tr>"
-
-
-def html_part(part):
-    rows = [html_row([f"{row['start']:08x}-{row['end']:08x}", escaped(row["policy"]),
-                      escaped("; ".join(notes_of(row))), sum(row["pages"].values()), pages_text(row["pages"]),
-                      cell_of(row["pages"])]) for row in part["ranges"]]
-    rows.append(html_row(["total", "", "", sum(part["pages"].values()), pages_text(part["pages"]),
-                          cell_of(part["pages"])]))
-    texts = peak_texts(part) + list(map(refusal_text, part["refused"]))
-    refused = "".join(f"<li>{escaped(text)}</li>" for text in texts)
-    return (f"<h2>{escaped(heading(part))}</h2>\n<table>\n<tr><th>addresses<th>policy<th>name<th>pages"
-            "<th>by node<th></tr>\n" + "\n".join(rows) + "\n</table>\n" + (f"<ul>{refused}</ul>\n" if refused else ""))
+    return drawn(told)
 
 
 def html_of(told):
-    return ('<!DOCTYPE html>\n<html lang="en">\n<head>\n<meta charset="utf-8">\n<title>Where pages are</title>\n'
-            "<style>body{font-family:sans-serif} table{border-collapse:collapse;font-family:monospace}"
-            " td,th{text-align:left;padding:2px 8px;border-bottom:1px solid #ddd}</style>\n</head>\n<body>\n"
-            "<h1>Where pages are</h1>\n" + "\n".join(map(html_part, told["processes"]))
-            + "".join(f"\n<p>{escaped(text)}</p>" for text in placed_text(told)) + "\n</body>\n</html>\n")
+    from .pages import html_of as written
+
+    return written(told)
 
 
 FORMS = {".json": json_of, ".svg": svg_of, ".html": html_of}
