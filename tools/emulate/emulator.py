@@ -14,7 +14,7 @@ from . import marks, tracing
 from .calls import ANSWERED
 from .common import pages_on
 from .cpus import OF_MADE_UP
-from .made_up import file_for
+from .made_up import HERE, file_for, from_root
 from .mappings import FOLLOWED
 from .prototypes import call_text, nodes_asked, result_text, words_of
 from .space import Space
@@ -189,10 +189,10 @@ class Emulator:
 
     def redirect(self, task, registers):
         """A file that is made up is opened in place of another one: its name is put below the stack."""
-        at = "rdi" if NAMES[registers.call()] == "open" else "rsi"
+        at, folder = ("rdi", HERE) if NAMES[registers.call()] == "open" else ("rsi", registers.rdi % 2**32)
         path = getattr(registers, at)
         try:
-            made = file_for(self, task, text_at(task.number, path))
+            made = file_for(self, task, from_root(task.number, folder, text_at(task.number, path)))
         except Failed:
             return None
         if made is None:

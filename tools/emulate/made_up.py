@@ -21,6 +21,7 @@ PROCESS = r"/proc/(self|thread-self|\d+)(?:/task/(\d+))?/(status|stat|numa_maps)
 MEMS_SET, CPU_SET = (rf"/sys/fs/cgroup/.*cpuset\.(?:{name}|{name}\.effective|effective_{name})$|/dev/cpuset/.*{name}$"
                      for name in ("mems", "cpus"))
 OF_NODE = re.escape(NODES) + r"/node(\d+)/(meminfo|numastat)$"
+HERE = 2**32 - 100  # AT_FDCWD, as an unsigned int: a path is of the folder in which the process is
 turns = count()
 
 
@@ -209,6 +210,16 @@ def text_of(all_, task, path):
         return (memory_text(all_.machine, node, all_.pages_on(node)) if found[2] == "meminfo"
                 else hits_text(all_.machine, node)) + "\n"
     return None
+
+
+def from_root(task, folder, path):
+    """A path as it is from the root; `folder` is what openat(2) names."""
+    if not path.startswith("/"):
+        try:
+            path = os.readlink(f"/proc/{task}/cwd" if folder == HERE else f"/proc/{task}/fd/{folder}") + "/" + path
+        except OSError:
+            return path  # (the kernel refuses it too)
+    return "/" + os.path.normpath(path).lstrip("/") if "//" in path or "/." in path else path
 
 
 def file_for(all_, task, path):
