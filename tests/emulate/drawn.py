@@ -106,6 +106,14 @@ def says_what_it_is_of():
     assert pictures.LOGARITHMS in of_picture(pictures.svg_of(told([large], 4)))[1]
 
 
+def touchers():
+    """A thread is named unless it is the process's first, alone and on one node."""
+    for threads, wanted in (([7], []), ([8], ["touched 5 by thread 8 on node 2"]),
+                            ([7, 8], ["touched 5 by thread 7 on node 2, 5 by thread 8 on node 2"])):
+        row = {**area(1, 4), "touched": [{"thread": thread, "node": 2, "pages": 5} for thread in threads]}
+        assert list(shown.notes_of(part([row]), row)) == ["anon:table", *wanted]
+
+
 def numbers():
     sizes = {1: "4 KiB", 252: "1,008 KiB", 255: "1,020 KiB", 256: "1 MiB", 33291: "130 MiB", 10**9: "3.73 TiB"}
     assert {pages: about.size_text(pages) for pages in sizes} == sizes
@@ -145,5 +153,5 @@ def harmless():
         assert "<script" not in forms[".svg"] + forms[".html"]
 
 
-for test in (same_colours, heights, nothing_hidden, says_what_it_is_of, numbers, harmless):
+for test in (same_colours, heights, nothing_hidden, says_what_it_is_of, touchers, numbers, harmless):
     test()

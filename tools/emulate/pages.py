@@ -35,8 +35,8 @@ def nodes_picture(told):
 
 
 def html_part(part, width_of):
-    rows = [html_row(f"{row['start']:08x}-{row['end']:08x}", row["policy"], "; ".join(notes_of(row)), row["pages"],
-                     width_of) for row in part["ranges"]]
+    rows = [html_row(f"{row['start']:08x}-{row['end']:08x}", row["policy"], "; ".join(notes_of(part, row)),
+                     row["pages"], width_of) for row in part["ranges"]]
     rows.append(html_row("total", "", "", part["pages"], width_of))
     texts = peak_texts(part) + list(map(refusal_text, part["refused"]))
     refused = "".join(f"<li>{escaped(text)}</li>" for text in texts)

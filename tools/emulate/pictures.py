@@ -260,7 +260,7 @@ def draw_part(picture, part, areas, width_of):
     rest, pages = [row for row in part["ranges"] if id(row) not in areas], {}
     for row in part["ranges"]:
         if id(row) in areas:
-            picture.bar(row["name"] or "anonymous", row["pages"], width_of, area_notes(row))
+            picture.bar(row["name"] or "anonymous", row["pages"], width_of, area_notes(part, row))
         else:
             add_to(pages, row["pages"])
     if 0 < len(rest) < len(part["ranges"]):
@@ -269,8 +269,8 @@ def draw_part(picture, part, areas, width_of):
     picture.say_some([refusal_text(one) for one in part["refused"]], "refused calls")
 
 
-def area_notes(row):
+def area_notes(part, row):
     yield f"{row['start']:08x}-{row['end']:08x} {clipped(row['policy'], 260, SMALL)} {by_node_text(row['pages'])}"
-    notes = [note for note in notes_of(row) if note != row["name"]]
+    notes = [note for note in notes_of(part, row) if note != row["name"]]
     if notes:
         yield "; ".join(notes)

@@ -51,17 +51,17 @@ def heading(part):
     return f"process {part['process']} {part['program']}{policy}{running}"
 
 
-def row_text(row):
-    notes = "; ".join(notes_of(row))
+def row_text(part, row):
+    notes = "; ".join(notes_of(part, row))
     return (f"{row['start']:08x}-{row['end']:08x} {row['policy']} anon={sum(row['pages'].values())}"
             f" {pages_text(row['pages'])} kernelpagesize_kB=4" + (f"  # {notes}" if notes else ""))
 
 
-def notes_of(row):
-    """The name of an area; who touched it, where that was more than one thread on one node; what isn't sure."""
+def notes_of(part, row):
+    """The name of an area; who touched it, where that wasn't the process's first thread on one node; what isn't sure."""
     yield from [row["name"]] * bool(row["name"])
     touched = sorted(row["touched"], key=lambda one: -one["pages"])
-    if len(touched) > 1:
+    if len(touched) > 1 or touched and touched[0]["thread"] != part["process"]:
         texts = [f"{one['pages']} by thread {one['thread']} on node {one['node']}" for one in touched[:MOST_TOUCHERS]]
         yield "touched " + ", ".join(texts) + ", .." * (len(touched) > MOST_TOUCHERS)
     if row["bounds"]:
@@ -96,7 +96,7 @@ def placed_text(told):
 
 
 def text_of(told):
-    parts = [[heading(part), *map(row_text, part["ranges"]), total_text(part), *peak_texts(part),
+    parts = [[heading(part), *(row_text(part, row) for row in part["ranges"]), total_text(part), *peak_texts(part),
               *map(refusal_text, part["refused"])] for part in told["processes"]]
     parts += [[text] for text in placed_text(told)]
     return "\n\n".join("\n".join(map(plain, lines)) for lines in parts) + "\n"
