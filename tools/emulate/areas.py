@@ -87,7 +87,8 @@ class ByQuestions:
             if told is None or told[3] >= end:
                 break
             start, name_size = told[4], told[11]
-            name = os.fsdecode(name_room[:name_size - 1]) if name_size else ""
+            # (a line's end as maps has it: a script's lines end there)
+            name = os.fsdecode(name_room[:name_size - 1]).replace("\n", "\\012") if name_size else ""
             area = area_of(told[3], told[4], bool(told[5] & SHARED), not told[5] & ACCESS, told[7], told[9:11],
                            told[8], name)
             if area:
