@@ -1,7 +1,7 @@
 -- What is told of a process is told of the commands that it has accepted.
 use Rattle.std.proofs.Common.{◌≡◌, ℕ, true, List, subst}
 use Rattle.numa_host.specs.Processes.{commands_of, is_there, members_of}
-use Rattle.numa_host.specs.Standing.{HostState, HostStandsFor}
+use Rattle.numa_host.specs.Standing.{HostState}
 use Rattle.numa_requests.specs.declared.host_command.HostCommand.{HostCommand}
 use Rattle.numa_machine.specs.Machine.{Hardware}
 use Rattle.numa_space.specs.Standing.{SpaceState, StandsFor}

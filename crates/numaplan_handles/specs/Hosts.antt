@@ -1,11 +1,10 @@
 -- What a handle of a host keeps, what a command does to it, and what it answers.
-use Rattle.std.specs.Prelude.{◌≡◌, ℕ, true, false, Option, Some, Result, Ok, Err, List, length, map}
+use Rattle.std.specs.Prelude.{◌≡◌, ℕ, true, false, Option, Some, Result, Ok, Err, List, length}
 use Rattle.std.specs.Prelude.{take, drop, slice_get, IfOk, MatchOption}
-use Rattle.std.specs.Option.{option_map}
 use Rattle.numa_compile.specs.Standing.{PlanStandsFor}
 use Rattle.numa_host.specs.Groups.{effective_mems, groups_of, is_group}
 use Rattle.numa_host.specs.Processes.{Member, commands_of, is_there, members_of}
-use Rattle.numa_host.specs.Standing.{HostState, HostStandsFor, IsHostApplied, member_of}
+use Rattle.numa_host.specs.Standing.{HostState, HostStandsFor, IsHostApplied}
 use Rattle.numa_requests.specs.declared.host_command.HostCommand.{HostCommand}
 use Rattle.numa_host.specs.declared.group.ControlGroup.{ControlGroup}
 use Rattle.numa_requests.specs.declared.host_refusal.HostRefusal.{HostRefusal}
@@ -20,7 +19,6 @@ use Rattle.numa_space.specs.Policies.{task_record}
 use Rattle.numa_space.specs.Refusals.{range_count_of}
 use Rattle.numa_space.specs.Standing.{place_refusal_of}
 use Rattle.numa_requests.specs.declared.command.Command.{Command}
-use Rattle.numa_machine.specs.declared.refusal.PlaceRefusal.{PlaceRefusal}
 use Rattle.numaplan_handles.specs.declared.plan_handle.ChoiceRefusal.{ChoiceRefusal}
 use Rattle.numaplan_handles.specs.declared.plan_handle.ChoiceRefusal.TheVariants as refused
 

@@ -1,4 +1,4 @@
-use Rattle.std.proofs.Common.{◌+◌, ◌*◌, Some, arith}
+use Rattle.std.proofs.Common.{◌*◌, Some, arith}
 use Rattle.tests_of_refusals.proofs.RunsApart.{pushed-apart}
 use Rattle.tests_of_refusals.proofs.tests.edits.push_run.Goals as goal
 
