@@ -10,25 +10,29 @@ from ._library import LIBRARY
 
 class Refused(Exception):
     """A call that was refused: each cause is a class of its own below this one. As a text it gives
-    the cause and what to do."""
+    the cause and what to do. It is also a ValueError, where something that was handed in is wrong in
+    itself or the object is closed; a LookupError, where the machine or the object lacks what was
+    named; a MemoryError; or an OSError, where the object doesn't allow it as it stands."""
 
     number: ClassVar[int] = 0
+    errno: int = 0  # (that Linux gives for the cause, errno(3); 0 where it has none)
     words: str = "the call was refused"
     messages: Sequence[str] = ()  # (what is wrong with lines of a script that was asked about)
 
     def __init_subclass__(cls, **rest: Any) -> None:
         super().__init_subclass__(**rest)
-        cls.__module__, cls.__doc__ = "numaplan", cls.words
+        cls.__module__, cls.__doc__, cls.errno = "numaplan", cls.words, _errno_of(cls.number)
+        if issubclass(cls, OSError):
+            cls.strerror = cls.words
 
     def __str__(self) -> str:
         return self.words
 
-    @property
-    def errno(self) -> int:
-        """The error number that Linux gives for the cause (errno(3)); 0 where it has none."""
-        number = c_uint32()
-        LIBRARY.np_answer_errno(self.number, byref(number))
-        return number.value
+
+def _errno_of(cause: int) -> int:
+    number = c_uint32()
+    LIBRARY.np_answer_errno(cause, byref(number))
+    return number.value
 
 
 Refused.__module__ = "numaplan"
@@ -37,27 +41,27 @@ Refused.__module__ = "numaplan"
 # ---- handles, memory, rooms
 
 
-class Closed(Refused):
+class Closed(Refused, ValueError):
     number, words = 1, "this keeps nothing, since it was closed; open a new one"
 
 
-class Open(Refused):
+class Open(Refused, ValueError):
     number, words = 2, "this keeps something already; close it first"
 
 
-class NoMemory(Refused):
+class NoMemory(Refused, MemoryError):
     number, words = 3, "out of memory; nothing has changed, so free some and call again"
 
 
-class NoRoom(Refused):
+class NoRoom(Refused, ValueError):
     number, words = 4, "the answer is longer than the room for it; call again with what it needs"
 
 
-class Unknown(Refused):
+class Unknown(Refused, LookupError):
     number, words = 5, "no answer has this number; numaplan.h has those that there are"
 
 
-class AnswerLost(Refused):
+class AnswerLost(Refused, MemoryError):
     number = 6
     words = "the line was served, without memory for its answer; free some and ask again"
 
@@ -65,177 +69,177 @@ class AnswerLost(Refused):
 # ---- commands
 
 
-class CommandsSpent(Refused):
+class CommandsSpent(Refused, OSError):
     number = 10
     words = ("as many commands as the limits allow were accepted; open a core with a higher"
              " max_commands")
 
 
-class Unaligned(Refused):
+class Unaligned(Refused, ValueError):
     number = 11
     words = "the start is no multiple of 4096; round it down, and the length up"
 
 
-class OutOfSpace(Refused):
+class OutOfSpace(Refused, ValueError):
     number, words = 12, "the span ends above address 2^47; use lower addresses"
 
 
-class EmptyLength(Refused):
+class EmptyLength(Refused, ValueError):
     number, words = 13, "the length is 0; map at least one byte"
 
 
-class BadOffset(Refused):
+class BadOffset(Refused, ValueError):
     number, words = 14, "the offset is 2^35 or more; it is in pages, not in bytes"
 
 
-class Overlap(Refused):
+class Overlap(Refused, OSError):
     number, words = 15, "a page of the span is mapped already; unmap it first"
 
 
-class Hole(Refused):
+class Hole(Refused, LookupError):
     number = 16
     words = "a page of the span isn't mapped; map it first, or bind each mapped part by itself"
 
 
-class NoSuchNode(Refused):
+class NoSuchNode(Refused, LookupError):
     number, words = 17, "the machine lacks the node; its nodes are numbered from 0"
 
 
-class BadWeight(Refused):
+class BadWeight(Refused, ValueError):
     number, words = 18, "the weight is 0 or above 255; choose one from 1 to 255"
 
 
-class NodesNotAllowed(Refused):
+class NodesNotAllowed(Refused, ValueError):
     number = 19
     words = ("the policy would have no node, or no node of set_mems has memory; name one that is"
              " allowed and has memory")
 
 
-class NotSupported(Refused):
+class NotSupported(Refused, OSError):
     number, words = 20, "a page of the span has a policy that takes no home; leave it out"
 
 
-class TooManyTasks(Refused):
+class TooManyTasks(Refused, OSError):
     number = 21
     words = ("as many tasks as the limits allow have a policy; set one to default, or open a core"
              " with a higher max_tasks")
 
 
-class TooManyRanges(Refused):
+class TooManyRanges(Refused, OSError):
     number = 22
     words = ("there would be more ranges than the limits allow; unmap some, or open a core with a"
              " higher max_ranges")
 
 
-class NoPolicyThere(Refused):
+class NoPolicyThere(Refused, LookupError):
     number = 23
     words = ("by the kernel's rules some page of the span needs a policy of its own; bind one first")
 
 
-class BadSpan(Refused):
+class BadSpan(Refused, ValueError):
     number, words = 24, "by the kernel's rules the span ends too high; use lower addresses"
 
 
-class NoNodes(Refused):
+class NoNodes(Refused, ValueError):
     number, words = 25, "by the kernel's rules set_mems needs a node; name one"
 
 
 # ---- events of workers, frames, questions
 
 
-class NoSuchWorker(Refused):
+class NoSuchWorker(Refused, LookupError):
     number, words = 30, "there are not so many workers; they are numbered from 0"
 
 
-class Busy(Refused):
+class Busy(Refused, OSError):
     number = 31
     words = ("the worker looks for a frame; let it win one, or exhaust its list, by look and"
              " try_frame")
 
 
-class Idle(Refused):
+class Idle(Refused, OSError):
     number, words = 32, "the worker looks for no frame; begin first"
 
 
-class BadTry(Refused):
+class BadTry(Refused, ValueError):
     number = 33
     words = ("the current node lacks the frame, or the worker has met it; touch finds a frame by"
              " itself")
 
 
-class NotOwned(Refused):
+class NotOwned(Refused, LookupError):
     number = 34
     words = "the frame isn't held here; give it back where it was taken, and once"
 
 
-class BadCpu(Refused):
+class BadCpu(Refused, LookupError):
     number, words = 35, "the machine lacks the node of the CPU; its nodes are numbered from 0"
 
 
-class Unmapped(Refused):
+class Unmapped(Refused, LookupError):
     number = 36
     words = ("the page isn't mapped, or isn't published yet where a worker looks; map it, or look"
              " at its number, which is address / 4096")
 
 
-class NoRange(Refused):
+class NoRange(Refused, LookupError):
     number, words = 37, "there are not so many ranges; they are counted from 0"
 
 
-class PlacedTwice(Refused):
+class PlacedTwice(Refused, ValueError):
     number, words = 38, "two of the placements are of one page; hand in one for each page"
 
 
-class Exhausted(Refused):
+class Exhausted(Refused, OSError):
     number = 41
     words = "each frame of each listed node is taken; give one back, and begin anew"
 
 
-class AllTaken(Refused):
+class AllTaken(Refused, OSError):
     number, words = 42, "each frame of each listed node is taken; give one back first"
 
 
 # ---- machines, limits, workers
 
 
-class BadNodeCount(Refused):
+class BadNodeCount(Refused, ValueError):
     number = 50
     words = ("no node, more than 256, or not one distance from each node to each; give one number"
              " of frames and one row of distances for each node")
 
 
-class NoMemoryNode(Refused):
+class NoMemoryNode(Refused, ValueError):
     number = 51
     words = "no node has memory, or one that the machine lacks; name some of its nodes"
 
 
-class BadDistance(Refused):
+class BadDistance(Refused, ValueError):
     number, words = 52, "a node isn't 10 from itself, or is 10 or less from another"
 
 
-class TooManyFrames(Refused):
+class TooManyFrames(Refused, ValueError):
     number = 53
     words = ("a node has more than 4096 frames, or some and no memory, or all have more than 65536;"
              " use less")
 
 
-class BadLimits(Refused):
+class BadLimits(Refused, ValueError):
     number, words = 54, "max_ranges is above 65536, or max_tasks above 1024; use less"
 
 
-class BadWorkers(Refused):
+class BadWorkers(Refused, ValueError):
     number, words = 55, "no worker, or more than 16; use 1 to 16"
 
 
-class BadRules(Refused):
+class BadRules(Refused, ValueError):
     number, words = 56, "no rules have this number; numaplan.h has those that there are"
 
 
-class BadOrders(Refused):
+class BadOrders(Refused, ValueError):
     number, words = 57, "no orders have this number; numaplan.h has those that there are"
 
 
-class BadFormat(Refused):
+class BadFormat(Refused, ValueError):
     number = 58
     words = "no format has this number; numaplan_reports.h has those that there are"
 
@@ -243,69 +247,69 @@ class BadFormat(Refused):
 # ---- lists of nodes, policy words
 
 
-class ListEmpty(Refused):
+class ListEmpty(Refused, ValueError):
     number = 60
     words = "nothing stands where a node should; name one, or leave out the comma"
 
 
-class ListBadDigit(Refused):
+class ListBadDigit(Refused, ValueError):
     number = 61
     words = "an item of the list is neither a nor a-b, in decimal of 1 to 4 digits"
 
 
-class ListBackwards(Refused):
+class ListBackwards(Refused, ValueError):
     number, words = 62, "a range of the list falls; turn it round"
 
 
-class ListTooHigh(Refused):
+class ListTooHigh(Refused, ValueError):
     number, words = 63, "a number of the list is above 255; nodes are 0 to 255"
 
 
-class UnknownMode(Refused):
+class UnknownMode(Refused, ValueError):
     number = 70
     words = "what stands before the colon is no policy with its flag; write as bind=static:0-1"
 
 
-class BothFlags(Refused):
+class BothFlags(Refused, ValueError):
     number, words = 71, "static and relative exclude each other; choose one"
 
 
-class NodesForbidden(Refused):
+class NodesForbidden(Refused, ValueError):
     number, words = 72, "default and local take no list; leave it out"
 
 
-class FlagsForbidden(Refused):
+class FlagsForbidden(Refused, ValueError):
     number = 73
     words = ("local takes no flag, nor does prefer without a list; leave it out, or name nodes")
 
 
-class NodesMissing(Refused):
+class NodesMissing(Refused, ValueError):
     number, words = 74, "the policy wants nodes; name them after a colon"
 
 
-class NoPolicy(Refused):
+class NoPolicy(Refused, ValueError):
     number, words = 75, "default is no policy; name one"
 
 
-class NoNodeAllowed(Refused):
+class NoNodeAllowed(Refused, ValueError):
     number, words = 76, "no node is allowed; name one"
 
 
 # ---- scripts and traces that are asked about
 
 
-class NoMachine(Refused):
+class NoMachine(Refused, ValueError):
     number = 80
     words = "no line of the script makes a machine; begin with one, as machine 2 0-1 8 flat"
 
 
-class BadAccess(Refused):
+class BadAccess(Refused, ValueError):
     number = 81
     words = "a line of the trace can't be replayed; the last message says which, and why"
     place: "int | None" = None  # (of an access that was given as a value, from 0)
 
 
-class ManyProcesses(Refused):
+class ManyProcesses(Refused, ValueError):
     number = 82
     words = "the script is a host's, and the answer is about one process"
 
@@ -313,43 +317,43 @@ class ManyProcesses(Refused):
 # ---- hosts
 
 
-class GroupExists(Refused):
+class GroupExists(Refused, OSError):
     number, words = 90, "there is a group of this number; choose another"
 
 
-class NoSuchGroup(Refused):
+class NoSuchGroup(Refused, LookupError):
     number, words = 91, "there is no group of this number, or not so many; make it by new_group"
 
 
-class TooManyGroups(Refused):
+class TooManyGroups(Refused, OSError):
     number, words = 92, "there are 1024 groups below the root, as many as a host may have"
 
 
-class RootGroup(Refused):
+class RootGroup(Refused, OSError):
     number = 93
     words = "the root has no list of its own; make a group below it, and attach processes to that"
 
 
-class Populated(Refused):
+class Populated(Refused, OSError):
     number = 94
     words = ("a process is in the group or below it, so its list can't be taken away; give it"
              " another list, or attach the process to another group first")
 
 
-class ProcessExists(Refused):
+class ProcessExists(Refused, OSError):
     number, words = 95, "there is a process of this number; choose another"
 
 
-class NoSuchProcess(Refused):
+class NoSuchProcess(Refused, LookupError):
     number = 96
     words = "there is no process of this number, or not so many; make it by new_process or fork"
 
 
-class TooManyProcesses(Refused):
+class TooManyProcesses(Refused, OSError):
     number, words = 97, "there are 4096 processes, as many as a host may have; let one exit first"
 
 
-class GroupMems(Refused):
+class GroupMems(Refused, OSError):
     number = 98
     words = ("the nodes that a process is allowed are those of its group; give the group a list, or"
              " attach the process to another")
@@ -358,44 +362,44 @@ class GroupMems(Refused):
 # ---- pages that are there
 
 
-class TooManyRuns(Refused):
+class TooManyRuns(Refused, OSError):
     number = 100
     words = ("there would be more than 1048576 runs of pages that lie on one node; state fewer, or"
              " move whole spans")
 
 
-class Astray(Refused):
+class Astray(Refused, OSError):
     number = 101
     words = ("a page of the span lies on a node for which the policy doesn't ask; move it first, or"
              " bind without strict")
 
 
-class NoSuchTarget(Refused):
+class NoSuchTarget(Refused, LookupError):
     number = 102
     words = ("the machine lacks the node to move to, or it has no memory; its nodes are numbered from"
              " 0")
 
 
-class TargetNotAllowed(Refused):
+class TargetNotAllowed(Refused, OSError):
     number = 103
     words = "the node to move to isn't allowed; name one that is, or allow it by set_mems"
 
 
-class PageUnmapped(Refused):
+class PageUnmapped(Refused, LookupError):
     number, words = 104, "the page that is to move isn't mapped; map it, and state where it lies"
 
 
-class NotPlaced(Refused):
+class NotPlaced(Refused, LookupError):
     number, words = 105, "the page lies nowhere; state where it lies, by place"
 
 
-class NodeFull(Refused):
+class NodeFull(Refused, OSError):
     number = 106
     words = ("the node has no room for the page; move another away from it, or give it room by"
              " set_room")
 
 
-class Occupied(Refused):
+class Occupied(Refused, OSError):
     number, words = 107, "the page lies somewhere already; unmap it first"
 
 

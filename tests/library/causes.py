@@ -7,6 +7,7 @@ import os
 import pickle
 import subprocess
 import sys
+from errno import EFAULT, EINVAL, ENODEV, ENOENT, ESRCH
 from types import FunctionType
 
 import numaplan
@@ -45,6 +46,22 @@ def of_rust():
         yield int(number), text
 
 
+# what a cause is that Linux has an error number for; and the others but for those that are a ValueError
+BY_NUMBER = {0: ValueError, EINVAL: ValueError, EFAULT: LookupError, ENODEV: LookupError, ENOENT: LookupError,
+             ESRCH: LookupError}
+OTHERS = {
+    **dict.fromkeys(["NoMemory", "AnswerLost"], MemoryError),
+    **dict.fromkeys(["BadCpu", "NoRange", "NoSuchNode", "NoSuchWorker", "NotOwned", "Unknown", "Unmapped"],
+                    LookupError),
+    **dict.fromkeys(["AllTaken", "Busy", "Exhausted", "Idle"], OSError),
+    **dict.fromkeys(["OutOfSpace", "NoNodes"], ValueError),  # (of an address, of an empty list)
+}
+
+
+def kind_of(name, number):
+    return OTHERS.get(name) or BY_NUMBER.get(number, OSError)
+
+
 # one class for each answer that is a failure
 causes = {number: cause.__name__ for number, cause in numaplan.CAUSES.items()}
 want(causes, dict(of_the_header()), "the causes")
@@ -57,6 +74,12 @@ for number, cause in numaplan.CAUSES.items():
     # words, and neither the class's name nor the number alone
     if len(text.split()) < 5 or name in text or text.endswith("."):
         wrong.append(f"{name} says {text!r}")
+    # and beside Refused of one class of Python's, by what it is
+    kinds = [kind for kind in (ValueError, LookupError, MemoryError, OSError) if issubclass(cause, kind)]
+    want(kinds, [kind_of(name, cause().errno)], f"what {name} is")
+    want(cause().errno, cause.errno, f"the error number of {name}")
+    if kinds == [OSError]:
+        want((cause().strerror, cause().filename), (text, None), f"what a reader of OSError sees of {name}")
 if len(sys.argv) > 2:
     told = {number: f"{cause.__name__}: {cause()}" for number, cause in numaplan.CAUSES.items()}
     want(dict(of_rust()), told, "the causes in Rust")
@@ -75,6 +98,20 @@ for call, text, number in [
         wrong.append(f"not refused: {text}")
     except Refused as cause:
         want((str(cause), cause.errno), (text, number), type(cause).__name__)
+
+# as Python's own classes, and as a fault that is sent to another process
+for kind, call in ((OSError, lambda: core.map(0x10000, 4096)), (ValueError, lambda: core.map(1, 4096)),
+                   (LookupError, lambda: core.mbind(0x20000, 4096, "bind:0"))):
+    try:
+        call()
+        wrong.append(f"no {kind.__name__}")
+    except kind as cause:
+        sent = pickle.loads(pickle.dumps(cause))
+        want((type(sent), str(sent), sent.errno), (type(cause), str(cause), cause.errno), "a pickled cause")
+lost = numaplan.BadAccess()
+lost.words, lost.messages, lost.place = "line 2", ["line 2"], 1
+sent = pickle.loads(pickle.dumps(lost))
+want((str(sent), sent.messages, sent.place), ("line 2", ["line 2"], 1), "a pickled cause with its messages")
 
 # as they are shown
 plan, seat, script, host = core.compile(), Seat([8, 8], FAR), Script(), Host([8, 8], FAR)
