@@ -6,6 +6,7 @@ from ctypes import byref, c_size_t, c_uint8, c_uint32
 from typing import Any, Callable
 
 from ._causes import NoRoom, refusal
+from ._judged import utf8
 from ._library import LIBRARY, NodeSet
 
 STILL = 40  # (no failure: a worker goes on)
@@ -33,9 +34,9 @@ def code_of(name: str, *arguments: Any) -> int:
     return code
 
 
-def encoded(words: str) -> tuple[bytes, int]:
+def encoded(name: str, words: str) -> tuple[bytes, int]:
     """A text as an argument: its bytes, and how many they are."""
-    data = words.encode()
+    data = utf8(name, words)
     return data, len(data)
 
 
@@ -43,10 +44,10 @@ def written(name: str, *arguments: Any, room: int = 1024) -> str:
     """What a call writes into a room of bytes; once more where it needs a larger one."""
     length = c_size_t()
     while True:
-        text = (c_uint8 * max(room, 1))()
+        into = (c_uint8 * max(room, 1))()
         try:
-            call(name, *arguments, text, room, byref(length))
-            return bytes(text[:length.value]).decode("utf-8", "surrogateescape")
+            call(name, *arguments, into, room, byref(length))
+            return bytes(into[:length.value]).decode("utf-8", "surrogateescape")
         except NoRoom:
             room = length.value
 

@@ -6,14 +6,15 @@ from __future__ import annotations
 from ctypes import Array, byref, c_size_t
 from typing import TYPE_CHECKING, Any, Callable, Iterable, Mapping, NamedTuple, Type, TypeVar
 
+from ._accesses import accesses_of
 from ._calls import code_of
 from ._causes import BadAccess, NoRoom, refusal
-from ._judged import format_number, u8, u32, u64
-from ._library import Access, AskedReport, FreePages, SpanMove, ToldRoute
+from ._judged import Numbers, Text, ensure, format_number, u32, u64
+from ._library import AskedReport, SpanMove, ToldRoute
 from ._owners import Owner, in_order
 
 if TYPE_CHECKING:
-    from ._reports import Report, Text
+    from ._reports import Report
 
 NO_FRAME = 256  # (NP_NO_FRAME)
 ROOM = 256  # structs, of which most answers have fewer
@@ -51,6 +52,7 @@ class CoreReports(Owner):
         with more commands, than in this one, if a task touched each of them now on a CPU of node
         `cpu`: for each span of pages that are mapped in both, how many go from which node to which
         other. Pages that one of the two lacks aren't compared. The time grows with the pages."""
+        ensure("after", after, CoreReports, "Core")
         if after is self:
             return []
         touch, (first, second) = (u32("task", task), u32("cpu", cpu)), in_order(self, after)
@@ -60,16 +62,16 @@ class CoreReports(Owner):
         return [Move(one.first, one.pages, one.moved, getattr(one, "from"), one.to)
                 for one in found]
 
-    def replay(self, trace: "Iterable[tuple[int, ...]]") -> list[Route]:
+    def replay(self, trace: "Iterable[Numbers]") -> list[Route]:
         """What a trace meets if no page is placed before it: the routes of its accesses, in order of
         task, of `cpu` and of node. An access is (task, page, cpu) or (task, page, cpu, count), with
-        the page by its number (address / 4096). Raises BadAccess, whose `place` is that of the first
+        the page by its number (address / 4096). A table of numbers of 64 bits with these columns, as
+        numpy.column_stack makes it, is taken as it lies in memory. Raises BadAccess, whose `place` is that of the first
         access that can't be replayed, from 0."""
-        accesses = [_access(*one) for one in trace]
-        whole = (Access * max(len(accesses), 1))(*accesses)
+        whole = accesses_of(trace)
         with self._alone():
             found = _listed(ToldRoute, lambda room, size, count: code_of(
-                "core_replay", self._at, whole, len(accesses), room, size, count))
+                "core_replay", self._at, whole, len(whole), room, size, count))
         return [Route(one.task, one.cpu, one.node if one.node < NO_FRAME else None, one.accesses,
                       one.faults)
                 for one in found]
@@ -78,19 +80,17 @@ class CoreReports(Owner):
                      format: str = "json") -> Report:
         """Where all mapped pages would go, as numaplan.predict does for a script. Raises BadCpu or
         NoSuchNode."""
-        from ._reports import answered
-        named = [FreePages(u64("free pages", pages), u8("a node of free", node))
-                 for node, pages in (free or {}).items()]
-        room, asked = (FreePages * max(len(named), 1))(*named), _question(task, cpu, format)
+        from ._reports import answered, free_of
+        asked, named = _question(task, cpu, format), free_of(free)
         with self._alone():
-            return answered("core_predict_text", self._at, asked, byref(room),
-                            c_size_t(len(named)))
+            return answered("core_predict_text", self._at, asked, *named)
 
     def diff_text(self, after: CoreReports, task: int = 1, cpu: int = 0, *,
                   format: str = "text") -> Report:
         """Which pages would go to another node in the core `after`, another than this one, than in
         this one, as numaplan.diff does for a script. Raises BadCpu."""
         from ._reports import answered
+        ensure("after", after, CoreReports, "Core")
         if after is self:
             raise ValueError("the two cores are one")
         asked, (first, second) = _question(task, cpu, format), in_order(self, after)
@@ -120,11 +120,6 @@ class CoreReports(Owner):
 def _question(task: int, cpu: int, format: str) -> Any:
     """A question about a core, which has rules of its own."""
     return byref(AskedReport(u32("task", task), u32("cpu", cpu), 0, format_number(format)))
-
-
-def _access(task: int, page: int, cpu: int, count: int = 1) -> Access:
-    """An access as the library takes it."""
-    return Access(u32("task", task), u64("page", page), u32("cpu", cpu), u32("count", count))
 
 
 def _listed(kind: "Type[_Struct]", call: "Callable[[Any, int, Any], int]") -> "Array[_Struct]":

@@ -7,7 +7,7 @@ from typing import Iterable, Iterator, Mapping, NamedTuple, Sequence
 
 from ._calls import STILL, encoded, members, written
 from ._core_reports import CoreReports
-from ._judged import list_of, u8, u16, u32, u64
+from ._judged import Nodes, Numbers, free_pages, list_of, u8, u16, u32, u64
 from ._library import Limits, PlacedPage, Span, StandingPolicy, ToldExplanation
 from ._machines import description, options_of, read_hardware
 from ._plans import Plan
@@ -86,11 +86,11 @@ class Core(CoreReports):
 
     _kind = "core"
 
-    def __init__(self, frames: Sequence[int], distances: Sequence[Sequence[int]],
-                 memory: "str | Sequence[int] | None" = None, workers: int = 1,
+    def __init__(self, frames: Numbers, distances: Iterable[Numbers],
+                 memory: "Nodes | None" = None, workers: int = 1,
                  max_ranges: int = 65536, max_tasks: int = 1024, max_commands: int = 2**32 - 1,
                  *, rules: str = "document", orders: str = "nearest",
-                 cpus: "str | Sequence[int] | None" = None):
+                 cpus: "Nodes | None" = None):
         """A machine: frames of each node, distances row by row, the nodes with memory (else those
         that have frames). By `rules` those of the "document" count, or of the running kernel
         ("linux"). By `orders` the "nearest" node comes first, of equal distances the lower number,
@@ -102,7 +102,7 @@ class Core(CoreReports):
              u32("workers", workers), byref(options_of(rules, orders, cpus)))
 
     @classmethod
-    def from_hardware(cls, text: str, frames: "Sequence[int] | None" = None, *, workers: int = 1,
+    def from_hardware(cls, text: str, frames: "Numbers | None" = None, *, workers: int = 1,
                       rules: str = "document", kernel_orders: bool = False,
                       memory_added: bool = False) -> Core:
         """A core of the machine that `numactl --hardware` or `lstopo --of xml` (hwloc 2) printed,
@@ -141,11 +141,11 @@ class Core(CoreReports):
     def mbind(self, start: int, length: int, policy: str) -> None:
         """Gives the pages of `length` bytes from address `start` on a policy of their own, as
         "bind:0-1" or "interleave=static:0-3" (mbind(2)); "default" takes it away."""
-        self._call("core_mbind", u64("start", start), u64("length", length), *encoded(policy))
+        self._call("core_mbind", u64("start", start), u64("length", length), *encoded("policy", policy))
 
     def set_task(self, task: int, policy: str) -> None:
         """Gives a task its policy (set_mempolicy(2)); "default" takes it away."""
-        self._call("core_set_task", u32("task", task), *encoded(policy))
+        self._call("core_set_task", u32("task", task), *encoded("policy", policy))
 
     def inherit(self, task: int, from_task: int) -> None:
         """Gives a task the policy that another has, or none, as a new thread has its maker's."""
@@ -161,7 +161,7 @@ class Core(CoreReports):
         """Gives a node its weight for weighted interleaving, from 1 to 255."""
         self._call("core_set_weight", u32("node", node), u32("weight", weight))
 
-    def set_mems(self, nodes: "str | Sequence[int]") -> None:
+    def set_mems(self, nodes: Nodes) -> None:
         """Changes the nodes on which memory may be placed, as "0-1" or [0, 1] (cpuset.mems)."""
         text = list_of("nodes", nodes)
         self._call("core_set_mems", text, len(text))
@@ -220,6 +220,7 @@ class Core(CoreReports):
 
     def range_at(self, address: int) -> "Range | None":
         """The range that has an address, in one search; None where it isn't mapped."""
+        address = u64("address", address)
         return self._first(address, address + 1)
 
     def _first(self, address: int, end: int) -> "Range | None":
@@ -230,7 +231,7 @@ class Core(CoreReports):
     def policy_at(self, address: int) -> "Policy | None":
         """The policy of its own that the range of an address has; None where it has none, or the
         address isn't mapped."""
-        policy = StandingPolicy()
+        policy, address = StandingPolicy(), u64("address", address)
         with self._alone():
             place = self._place_of(address)
             if any(self._ranges(place, address + 1)):
@@ -249,8 +250,7 @@ class Core(CoreReports):
         now on a CPU of node `cpu`, in order of address. By `free` nodes have so many free pages,
         and others never run out."""
         touch, counts = (u32("task", task), u32("cpu", cpu)), (c_uint64 * 256)()
-        named = {u8("a node of free", node): u64("free pages", pages)
-                 for node, pages in (free or {}).items()}
+        named = free_pages(free)
         room = [min(named.get(node, ALL_PAGES), ALL_PAGES) for node in range(256)]
         left = (c_uint64 * 256)(*room)
         with self._alone():

@@ -3,11 +3,11 @@
 from __future__ import annotations
 
 from ctypes import byref, c_size_t, c_uint8, c_uint64
-from typing import Iterator, NamedTuple, Sequence
+from typing import Iterable, Iterator, NamedTuple
 
 from ._calls import encoded, members
 from ._cores import Policy, Range, policy_of
-from ._judged import list_of, u32, u64
+from ._judged import Nodes, Numbers, list_of, u32, u64
 from ._library import Limits, NodeSet, Span, StandingPolicy, ToldGroup, ToldProcess
 from ._machines import description, options_of, read_hardware
 from ._owners import Owner
@@ -37,11 +37,11 @@ class Host(Owner):
 
     _kind = "host"
 
-    def __init__(self, frames: Sequence[int], distances: Sequence[Sequence[int]],
-                 memory: "str | Sequence[int] | None" = None, max_ranges: int = 65536,
+    def __init__(self, frames: Numbers, distances: Iterable[Numbers],
+                 memory: "Nodes | None" = None, max_ranges: int = 65536,
                  max_tasks: int = 1024, max_commands: int = 2**32 - 1, *,
                  rules: str = "document", orders: str = "nearest",
-                 cpus: "str | Sequence[int] | None" = None):
+                 cpus: "Nodes | None" = None):
         """A machine, described as for a Core. Of the limits, ranges and tasks are those of each
         process, and commands those of the host."""
         super().__init__()
@@ -84,7 +84,7 @@ class Host(Owner):
         """Makes a group below another, without a list of its own; the root is 0."""
         self._call("host_new_group", u32("group", group), u32("parent", parent))
 
-    def set_group_mems(self, group: int, nodes: "str | Sequence[int] | None") -> None:
+    def set_group_mems(self, group: int, nodes: "Nodes | None") -> None:
         """Gives a group a list of its own, as "0-1" or [0, 1] (cpuset.mems); None takes it away.
         The policies of each process whose allowed nodes change follow, in all or in none."""
         if nodes is None:
@@ -176,12 +176,12 @@ class Host(Owner):
         """Gives the pages of `length` bytes of a process from address `start` on a policy of their
         own, as "bind:0-1" (mbind(2)); "default" takes it away."""
         self._call("host_mbind", u32("process", process), u64("start", start),
-             u64("length", length), *encoded(policy))
+             u64("length", length), *encoded("policy", policy))
 
     def set_task(self, process: int, task: int, policy: str) -> None:
         """Gives a task of a process its policy (set_mempolicy(2)); "default" takes it away."""
         self._call("host_set_task", u32("process", process), u32("task", task),
-             *encoded(policy))
+             *encoded("policy", policy))
 
     def inherit(self, process: int, task: int, from_task: int) -> None:
         """Gives a task of a process the policy that another has, or none, as a new thread has its

@@ -5,29 +5,33 @@ from __future__ import annotations
 import os
 import sys
 from ctypes import byref, c_uint32
-from typing import Any, NamedTuple, Sequence
+from typing import Any, Iterable, NamedTuple
 
 from ._calls import call
 from ._causes import BadNodeCount
-from ._judged import list_of, orders_number, rules_number, u8s, u32
+from ._judged import Nodes, Numbers, list_of, listed, orders_number, rules_number, u8s, u32s
+from ._judged import utf8
 from ._library import Options
 
 HERE = os.path.dirname(os.path.abspath(__file__))
 
 
-def description(frames: Sequence[int], distances: Sequence[Sequence[int]],
-                 memory: "str | Sequence[int] | None") -> tuple[Any, ...]:
+def description(frames: Numbers, distances: Iterable[Numbers],
+                 memory: "Nodes | None") -> tuple[Any, ...]:
     """The arguments that describe a machine. Unless told, the nodes with memory have frames."""
+    counts = u32s("frames", frames)
     if memory is None:
-        memory = [node for node, count in enumerate(frames) if count]
-    if any(len(row) != len(frames) for row in distances):
+        memory = [node for node, count in enumerate(counts) if count]
+    text = list_of("memory", memory)
+    wanted = "it has to be rows of numbers, as [[10, 20], [20, 10]]"
+    rows = [u8s("distances", row) for row in listed("distances", distances, wanted)]
+    if any(len(row) != len(counts) for row in rows):
         raise BadNodeCount  # (rows of other lengths could be as many numbers in all)
-    text, table = list_of("memory", memory), b"".join(u8s("distances", row) for row in distances)
-    counts = (c_uint32 * len(frames))(*(u32("a number of frames", count) for count in frames))
-    return text, len(text), counts, len(frames), table, len(table)
+    table, each = b"".join(rows), (c_uint32 * len(counts))(*counts)
+    return text, len(text), each, len(counts), table, len(table)
 
 
-def options_of(rules: str, orders: str, cpus: "str | Sequence[int] | None") -> Options:
+def options_of(rules: str, orders: str, cpus: "Nodes | None") -> Options:
     """What a machine is opened by: whose rules count on it, whose orders it has, and for a kernel's
     orders the nodes that have CPUs, else all."""
     options = Options(rules_number(rules), orders_number(orders))
@@ -52,6 +56,7 @@ class Hardware(NamedTuple):
 def read_hardware(text: str, kernel_orders: bool, memory_added: bool) -> Hardware:
     """The machine of a text, as tools/machine-line writes it; ValueError with its words."""
     import subprocess  # (which imports much, for this alone)
+    utf8("text", text)
     options = ["--kernel-orders"] * kernel_orders + ["--memory-added"] * memory_added
     ran = subprocess.run([sys.executable, _machine_line(), *options], input=text, text=True,
                          encoding="utf-8", stdout=subprocess.PIPE, stderr=subprocess.PIPE)

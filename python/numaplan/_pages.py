@@ -3,12 +3,12 @@
 from __future__ import annotations
 
 from ctypes import byref, c_size_t, c_uint32, c_uint64
-from typing import NamedTuple, Sequence
+from typing import NamedTuple
 
 from ._calls import call, encoded
 from ._causes import NoRoom, NotPlaced
 from ._cores import Core
-from ._judged import list_of, u32, u64
+from ._judged import Nodes, ensure, list_of, u32, u64
 from ._library import PagesInRow, ToldBound, ToldMoves
 from ._owners import Owner
 
@@ -52,6 +52,7 @@ class Pages(Owner):
     def __init__(self, core: Core):
         """A copy of a core: its pages lie nowhere yet, and no node ever fills."""
         super().__init__()
+        ensure("core", core, Core, "Core")
         with core._alone():
             self._call("pages_open", core._at)
 
@@ -98,11 +99,11 @@ class Pages(Owner):
         "bind:0-1" (mbind(2)); "default" takes it away. If `strict`, raises Astray where one of them
         lies on a node that isn't in the policy's list as it is written (MPOL_MF_STRICT)."""
         name = "pages_mbind_strictly" if strict else "pages_mbind"
-        self._call(name, u64("start", start), u64("length", length), *encoded(policy))
+        self._call(name, u64("start", start), u64("length", length), *encoded("policy", policy))
 
     def set_task(self, task: int, policy: str) -> None:
         """Gives a task its policy (set_mempolicy(2)); "default" takes it away."""
-        self._call("pages_set_task", u32("task", task), *encoded(policy))
+        self._call("pages_set_task", u32("task", task), *encoded("policy", policy))
 
     def inherit(self, task: int, from_task: int) -> None:
         """Gives a task the policy that another has, or none, as a new thread has its maker's."""
@@ -118,7 +119,7 @@ class Pages(Owner):
         """Gives a node its weight for weighted interleaving, from 1 to 255."""
         self._call("pages_set_weight", u32("node", node), u32("weight", weight))
 
-    def set_mems(self, nodes: "str | Sequence[int]") -> None:
+    def set_mems(self, nodes: Nodes) -> None:
         """Changes the nodes on which memory may be placed, as "0-1" or [0, 1] (cpuset.mems). The
         pages stay where they lie, as in a cpuset of cgroup v1 without memory_migrate."""
         text = list_of("nodes", nodes)
@@ -173,14 +174,14 @@ class Pages(Owner):
 
     # ---- moves, as far as there is room
 
-    def move_mems(self, nodes: "str | Sequence[int]") -> Moved:
+    def move_mems(self, nodes: Nodes) -> Moved:
         """Changes the nodes on which memory may be placed, as "0-1" or [0, 1], and moves the pages
         along, as in a cpuset of cgroup v2, or of v1 with memory_migrate."""
         text, told = list_of("nodes", nodes), ToldMoves()
         self._call("pages_move_mems", text, len(text), byref(told))
         return _moved(told)
 
-    def migrate(self, old: "str | Sequence[int]", new: "str | Sequence[int]") -> Moved:
+    def migrate(self, old: Nodes, new: Nodes) -> Moved:
         """Moves pages from the nodes of one list to the allowed nodes of another
         (migrate_pages(2))."""
         before, after, told = list_of("old", old), list_of("new", new), ToldMoves()
@@ -200,7 +201,7 @@ class Pages(Owner):
         (MPOL_MF_STRICT too; "default" drops it)."""
         told = ToldBound()
         self._call("pages_mbind_moving", u64("start", start), u64("length", length),
-             *encoded(policy), strict, u32("task", task), u32("cpu", cpu), byref(told))
+             *encoded("policy", policy), strict, u32("task", task), u32("cpu", cpu), byref(told))
         return Bound(told.moved, told.left, told.error)
 
 

@@ -3,15 +3,15 @@
 from __future__ import annotations
 
 from ctypes import byref, c_size_t, c_uint8, c_uint32, c_uint64, memmove
-from typing import TYPE_CHECKING, Iterable, Iterator, SupportsIndex
+from typing import TYPE_CHECKING, Iterator, overload
 
 from ._calls import untyped
 from ._causes import refusal
-from ._judged import bytes_to_write, u32, u64
+from ._judged import Numbers, bytes_to_write, u32, u64, u64s
 from ._owners import Owner
 
 if TYPE_CHECKING:
-    from _typeshed import WriteableBuffer
+    from ._buffers import AnyBuffer, Buffer
 
 
 class Plan(Owner):
@@ -45,13 +45,20 @@ class Plan(Owner):
               found, 256, byref(count))
         return list(found[:count.value])
 
-    def choice_many(self, task: int, pages: Iterable[SupportsIndex], cpu: int,
-                    nodes: "WriteableBuffer | None" = None) -> WriteableBuffer:
+    @overload
+    def choice_many(self, task: int, pages: Numbers, cpu: int,
+                    nodes: None = None) -> bytearray: ...
+
+    @overload
+    def choice_many(self, task: int, pages: Numbers, cpu: int, nodes: AnyBuffer) -> AnyBuffer: ...
+
+    def choice_many(self, task: int, pages: Numbers, cpu: int,
+                    nodes: "Buffer | None" = None) -> Buffer:
         """The first node of the list of each of these pages (numbers, in any order), a byte each:
         in a new bytearray, or in the buffer that is handed in (a bytearray, a memoryview, an
-        array('B')), which has as many unsigned bytes as there are pages. Raises BadCpu, Unmapped;
-        then the buffer is as it was."""
-        numbers = [u64("a number of pages", page) for page in pages]
+        array('B'), numpy's of uint8), which has as many unsigned bytes as there are pages. Raises
+        BadCpu, Unmapped; then the buffer is as it was."""
+        numbers = u64s("pages", pages)
         found = (c_uint8 * max(len(numbers), 1))()
         fill, touch = untyped("plan_fill"), (c_uint32(u32("task", task)), c_uint32(u32("cpu", cpu)))
         with self._alone():
@@ -60,7 +67,7 @@ class Plan(Owner):
                 code = fill(self._at, *touch, first, byref(found, begin), c_size_t(count))
                 if code:
                     raise refusal(code)
-        into = bytearray(len(numbers)) if nodes is None else nodes
+        into: Buffer = bytearray(len(numbers)) if nodes is None else nodes
         place, room = bytes_to_write("nodes", into)
         if room != len(numbers):
             wanted = f"{len(numbers)} page{'s' * (len(numbers) != 1)}"
@@ -68,7 +75,7 @@ class Plan(Owner):
         memmove(place, found, room)
         return into
 
-    def fill(self, task: int, cpu: int, first: int, nodes: WriteableBuffer) -> None:
+    def fill(self, task: int, cpu: int, first: int, nodes: Buffer) -> None:
         """Writes the first node of each page's list into a bytearray, a memoryview, an array('B')
         or another buffer of unsigned bytes that can be written, without a copy: of as many pages
         from number `first` on as it has bytes. Another buffer is a TypeError. Raises BadCpu,

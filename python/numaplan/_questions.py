@@ -8,8 +8,8 @@ import re
 from typing import Any, Iterable, Mapping, NamedTuple, Sequence
 
 from ._causes import Refused
-from ._judged import rules_number, u8, u32, u64
-from ._reports import Text, diff, predict, replay
+from ._judged import Text, ensure_file, free_pages, lines_of, rules_number, u32
+from ._reports import diff, predict, replay
 
 
 class Question(NamedTuple):
@@ -81,22 +81,18 @@ def judged(question: "Question | tuple[Any, ...] | Text") -> Question:
         script=_named("script", one.script),
         trace=None if one.trace is None else _named("trace", one.trace),
         lines=_lines(one.lines), task=u32("task", one.task), node=u32("node", one.node),
-        free=None if one.free is None else {u8("a node of free", node): u64("free pages", pages)
-                                            for node, pages in one.free.items()})
+        free=None if one.free is None else free_pages(one.free))
 
 
 def _named(what: str, text: Text) -> "str | bytes":
-    if isinstance(text, bytes):
-        return text
-    if isinstance(text, (str, os.PathLike)):
-        return os.path.abspath(text)
-    raise TypeError(f"{what} is {text!r}; hand in the name of a file, or its text as bytes")
+    ensure_file(what, text)
+    return text if isinstance(text, bytes) else os.path.abspath(text)
 
 
 def _lines(lines: Iterable[str]) -> "tuple[str, ...]":
-    found = (lines,) if isinstance(lines, str) else tuple(lines)
+    found = lines_of(lines)
     for line in found:
-        if not isinstance(line, str) or "\n" in line or "\0" in line:
+        if "\n" in line or "\0" in line:
             raise ValueError(f"{line!r} among the lines is none; it has to be a text of one line")
     return found
 

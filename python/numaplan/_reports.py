@@ -5,14 +5,12 @@ from __future__ import annotations
 import json as _json
 import os
 from ctypes import byref, c_size_t, create_string_buffer, string_at
-from typing import Any, Mapping, NamedTuple, Sequence, Union
+from typing import Any, Iterable, Mapping, NamedTuple, Sequence
 
 from ._calls import code_of
 from ._causes import BadAccess, NoRoom, refusal
-from ._judged import format_number, rules_number, u8, u32, u64
+from ._judged import Text, ensure_file, format_number, free_pages, lines_of, rules_number, u32, u64
 from ._library import AskedReport, FreePages, ToldReport
-
-Text = Union[str, "os.PathLike[str]", bytes]
 
 ROOM = 1 << 16  # bytes, of which most answers have fewer
 
@@ -48,7 +46,7 @@ def check(script: Text, *, format: str = "text", rules: str = "document") -> Rep
     return Report(said.text, said.text.splitlines(), said.faulty)
 
 
-def predict(script: Text, lines: Sequence[str] = (), *, task: int = 1, node: int = 0,
+def predict(script: Text, lines: Iterable[str] = (), *, task: int = 1, node: int = 0,
             free: "Mapping[int, int] | None" = None, format: str = "json",
             rules: str = "document", at: "Text | None" = None) -> Report:
     """Where all mapped pages would go after a script and further lines, if `task` touched each of
@@ -61,13 +59,13 @@ def predict(script: Text, lines: Sequence[str] = (), *, task: int = 1, node: int
     asked = AskedReport(u32("task", task), u32("node", node), rules_number(rules),
                         format_number(format))
     if at is None:
-        return _asked("predict", [text, joined(lines)], byref(asked), *_free(free), names={"-": name})
+        return _asked("predict", [text, joined(lines)], byref(asked), *free_of(free), names={"-": name})
     at_name, stated = read(at, "at")
-    return _asked("predict_at", [text, joined(lines), stated], byref(asked), *_free(free),
+    return _asked("predict_at", [text, joined(lines), stated], byref(asked), *free_of(free),
                   names={"-": name, "at": at_name})
 
 
-def moves(script: Text, lines: Sequence[str], *, at: "Text | None" = None, task: int = 1,
+def moves(script: Text, lines: Iterable[str], *, at: "Text | None" = None, task: int = 1,
           node: "int | None" = None, free: "Mapping[int, int] | None" = None, format: str = "json",
           rules: str = "document") -> Report:
     """What becomes of pages that are there by each line (`mems`, `migrate`, `cgroup-mems` or
@@ -83,11 +81,11 @@ def moves(script: Text, lines: Sequence[str], *, at: "Text | None" = None, task:
     asked = AskedReport(u32("task", task), u32("node", node or 0), rules_number(rules),
                         format_number(format))
     word, texts = ("moves_at", [stated]) if node is None else ("moves_touched", [])
-    return _asked(word, [text, joined(lines), *texts], byref(asked), *_free(free),
+    return _asked(word, [text, joined(lines), *texts], byref(asked), *free_of(free),
                   names={"-": name, "at": at_name})
 
 
-def diff(script: Text, lines: Sequence[str], *, task: int = 1, node: int = 0, format: str = "text",
+def diff(script: Text, lines: Iterable[str], *, task: int = 1, node: int = 0, format: str = "text",
          rules: str = "document") -> Report:
     """Which pages would go to another node after the lines than after the script alone, as
     `numaplan diff --then` prints it. Raises NoMachine or BadCpu."""
@@ -97,7 +95,7 @@ def diff(script: Text, lines: Sequence[str], *, task: int = 1, node: int = 0, fo
     return _asked("diff", [text, joined(lines)], byref(asked), names={"-": name})
 
 
-def explain(script: Text, page: int, lines: Sequence[str] = (), *, task: int = 1, node: int = 0,
+def explain(script: Text, page: int, lines: Iterable[str] = (), *, task: int = 1, node: int = 0,
             format: str = "text", rules: str = "document") -> Report:
     """Why the page of a number (address / 4096) would go where it goes, as `numaplan explain` prints
     it. Raises NoMachine, BadCpu or Unmapped."""
@@ -108,7 +106,7 @@ def explain(script: Text, page: int, lines: Sequence[str] = (), *, task: int = 1
                   names={"-": name})
 
 
-def replay(script: Text, trace: Text, lines: Sequence[str] = (), *, format: str = "json",
+def replay(script: Text, trace: Text, lines: Iterable[str] = (), *, format: str = "json",
            rules: str = "document") -> Report:
     """Where the accesses of a trace go after a script, on a machine where no page is placed, as
     `numaplan replay` prints it, in the format "text", "json" or "html". A trace is the name of a file, or
@@ -126,21 +124,21 @@ def replay(script: Text, trace: Text, lines: Sequence[str] = (), *, format: str 
 
 def read(text: Text, name: str = "-") -> tuple[str, bytes]:
     """A text, and the name by which messages call it."""
+    ensure_file("script" if name == "-" else name, text)
     if isinstance(text, bytes):
         return name, text
     with open(text, "rb") as file:
         return os.fspath(text), file.read()
 
 
-def joined(lines: Sequence[str]) -> bytes:
+def joined(lines: Iterable[str]) -> bytes:
     """Lines as one text."""
-    return "\n".join([lines] if isinstance(lines, str) else lines).encode()
+    return "\n".join(lines_of(lines)).encode()
 
 
-def _free(free: "Mapping[int, int] | None") -> "tuple[Any, c_size_t]":
+def free_of(free: "Mapping[int, int] | None") -> "tuple[Any, c_size_t]":
     """Free pages of nodes as a call takes them."""
-    named = [FreePages(u64("free pages", pages), u8("a node of free", each))
-             for each, pages in (free or {}).items()]
+    named = [FreePages(pages, node) for node, pages in free_pages(free).items()]
     room = (FreePages * max(len(named), 1))(*named)
     return byref(room), c_size_t(len(named))
 

@@ -8,7 +8,7 @@ from typing import NoReturn
 
 from ._calls import encoded, untyped, written
 from ._causes import refusal
-from ._judged import rules_number
+from ._judged import rules_number, utf8
 from ._owners import Owner
 
 
@@ -37,7 +37,7 @@ class Script(Owner):
 
     def line(self, text: str) -> str:
         """Serves a line, and gives its answer, with its line feed; "" for a comment."""
-        data = text.encode()
+        data = utf8("text", text)
         with self._alone():
             if self._is_serving and not self._is_closed:
                 raise RuntimeError("it is serving a line; a handler of signals can't give another")
@@ -68,4 +68,4 @@ class Script(Owner):
     @staticmethod
     def run(text: str) -> str:
         """The answers to a whole script, as `numaplan run` prints them."""
-        return written("script_run", *encoded(text), room=65536)
+        return written("script_run", *encoded("text", text), room=65536)

@@ -3,9 +3,9 @@
 from __future__ import annotations
 
 from ctypes import byref, c_size_t
-from typing import NamedTuple, NoReturn, Sequence
+from typing import Iterable, NamedTuple, NoReturn
 
-from ._judged import u8, u8s, u16
+from ._judged import Nodes, Numbers, ensure, u8, u8s, u16
 from ._library import TakenFrame
 from ._machines import description
 from ._owners import Owner, in_order
@@ -25,8 +25,8 @@ class Seat(Owner):
 
     _kind = "seat"
 
-    def __init__(self, frames: Sequence[int], distances: Sequence[Sequence[int]],
-                 memory: "str | Sequence[int] | None" = None):
+    def __init__(self, frames: Numbers, distances: Iterable[Numbers],
+                 memory: "Nodes | None" = None):
         """The first seat at new pools of a machine's frames, described as for a core."""
         super().__init__()
         self._pools = object()
@@ -42,7 +42,7 @@ class Seat(Owner):
     def __copy__(self) -> NoReturn:
         raise TypeError("a Seat can't be copied, since one alone holds a frame: split it")
 
-    def take(self, nodes: Sequence[int]) -> Frame:
+    def take(self, nodes: Numbers) -> Frame:
         """Takes a free frame of the first of the listed nodes that has one; raises AllTaken where
         each frame of each was found taken."""
         frame, rank, listed = TakenFrame(), c_size_t(), u8s("nodes", nodes)
@@ -65,6 +65,7 @@ class Seat(Owner):
 
     def join(self, other: Seat) -> None:
         """Gets the frames that another seat at the same pools holds, which is closed."""
+        ensure("other", other, Seat, "Seat")
         if other is self or other._pools is not self._pools:
             raise ValueError("not another seat at the same pools")
         first, second = in_order(self, other)

@@ -5,8 +5,8 @@ from __future__ import annotations
 import csv
 from typing import Iterable, Mapping, TextIO
 
+from ._judged import Text
 from ._questions import Answer
-from ._reports import Text
 
 COLUMNS = ["number", "script", "trace", "lines", "task", "node", "failed", "faults", "total",
            "nodes", "moved", "moves", "distances", "placed", "exhausted", "unserved"]

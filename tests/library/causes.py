@@ -134,9 +134,9 @@ ran = subprocess.run(
      "print('sweep' in dir(numaplan), numaplan.sweep.__module__, numaplan.Answer.__module__)\n"
      "print(hasattr(numaplan, 'sweeps'))"], capture_output=True, text=True, check=True)
 want(ran.stdout.splitlines(), [
-    "numaplan._calls numaplan._causes numaplan._core_reports numaplan._cores numaplan._hosts"
-    " numaplan._judged numaplan._library numaplan._machines numaplan._owners numaplan._pages"
-    " numaplan._plans numaplan._scripts numaplan._seats numaplan._values",
+    "numaplan._accesses numaplan._calls numaplan._causes numaplan._core_reports numaplan._cores"
+    " numaplan._hosts numaplan._judged numaplan._library numaplan._machines numaplan._owners"
+    " numaplan._pages numaplan._plans numaplan._scripts numaplan._seats numaplan._values",
     "True numaplan._sweeps numaplan", "False"], "modules")
 
 # what a checker and `import *` see

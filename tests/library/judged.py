@@ -8,11 +8,12 @@ import sys
 from array import array
 
 import numaplan
-from numaplan import Core, Placement, Seat
+from numaplan import Core, Host, Pages, Placement, Script, Seat
 
 FAR = [[10, 20], [20, 10]]
-core, seat = Core([8, 8], FAR), Seat([8, 8], FAR)
+core, seat, host = Core([8, 8], FAR), Seat([8, 8], FAR), Host([8, 8], FAR)
 core.map(0x10000, 0x4000)
+pages = Pages(core)
 plan = core.compile()
 word = "bind:0"
 wrong = []
@@ -98,10 +99,47 @@ def judge(call, name, bits):
              f"{name} of {bits} bits")
     for value in (1.0, "1", None):
         if not (name in ("offset", "a number of memory") and value is None):
-            want((raised(lambda: call(value)) or "no fault")[0], "TypeError", f"{name} as {value!r}")
+            want(raised(lambda: call(value)),
+                 ("TypeError", f"{name} is {value!r}; it has to be a whole number"), f"{name} as {value!r}")
     want(raised(lambda: call((1 << bits) - 1)), None, f"the highest {name}")
 
 
+# what isn't a text, a list, a file or an object of the kind that a call takes
+TYPES = [
+    (lambda one: core.mbind(0x10000, 4096, one), "policy", "it has to be a text"),
+    (lambda one: core.set_task(1, one), "policy", "it has to be a text"),
+    (lambda one: pages.mbind(0x10000, 4096, one), "policy", "it has to be a text"),
+    (lambda one: host.set_task(1, 1, one), "policy", "it has to be a text"),
+    (lambda one: numaplan.effective("bind:0", one), "allowed", "it has to be a text"),
+    (numaplan.nodes, "text", "it has to be a text"),
+    (Script.run, "text", "it has to be a text"),
+    (Script().line, "text", "it has to be a text"),
+    (Core.from_hardware, "text", "it has to be a text"),
+    (Script, "rules", "it has to be 'document' or 'linux'"),
+    (lambda one: core.predict_text(format=one), "format", f"it has to be one of {numaplan._judged.FORMATS}"),
+    (core.set_mems, "nodes", "it has to be nodes, as '0-1' or [0, 1]"),
+    (lambda one: pages.migrate("0", one), "new", "it has to be nodes, as '0-1' or [0, 1]"),
+    (lambda one: Core(one, FAR), "frames", "it has to be numbers, as [0, 1]"),
+    (lambda one: Core([8], one), "distances", "it has to be rows of numbers, as [[10, 20], [20, 10]]"),
+    (lambda one: Core([8], [one]), "distances", "it has to be numbers, as [0, 1]"),
+    (seat.take, "nodes", "it has to be numbers, as [0, 1]"),
+    (lambda one: plan.choice_many(1, one, 0), "pages", "it has to be numbers, as [0, 1]"),
+    (core.replay, "trace", "it has to be accesses"),
+    (lambda one: core.replay([one]), "an access of the trace", numaplan._accesses.WANTED),
+    (lambda one: core.predict(1, 0, one), "free", "it has to be pages by node, as {0: 1024}"),
+    (lambda one: numaplan.predict(b"", free=one), "free", "it has to be pages by node, as {0: 1024}"),
+    (lambda one: numaplan.diff(b"", [one]), "one of the lines", "it has to be a text"),
+    (lambda one: numaplan.diff(b"", one), "lines", "it has to be texts"),
+    (numaplan.check, "script", "hand in the name of a file, or its text as bytes"),
+    (core.replay_text, "trace", "hand in the name of a file, or its text as bytes"),
+    (Pages, "core", "it has to be a Core"),
+    (lambda one: core.diff(one, 1, 0), "after", "it has to be a Core"),
+    (seat.join, "other", "it has to be a Seat"),
+]
+for call, name, wanted in TYPES:
+    want(raised(lambda: call(3)), ("TypeError", f"{name} is 3; {wanted}"), f"3 as {name}")
+want(raised(lambda: core.set_mems(b"0")),
+     ("TypeError", "nodes is b'0'; it has to be nodes, as '0-1' or [0, 1]"), "bytes as nodes")
 before = core.versions
 for call, numbers in CALLS:
     for name, bits in numbers.items():
@@ -160,15 +198,53 @@ FAULTY = [
     ((ctypes.c_uint32 * 2)(7, 7), "nodes has items of the format '<I'"),
     (b"##", "nodes is read-only"),
     (memoryview(bytearray(4)).toreadonly(), "nodes is read-only"),
-    (memoryview(bytearray(4))[::2], "underlying buffer is not C contiguous"),
-    ("##", ""),
-    ([0, 0], ""),
+    (memoryview(bytearray(4))[::2], "nodes has its bytes in several places; hand in a bytearray"),
+    ("##", "nodes is '##'; hand in a bytearray"),
+    ([0, 0], "nodes is [0, 0]; hand in a bytearray"),
 ]
 for buffer, text in FAULTY:
     for call in (lambda: plan.fill(9, 1, 16, buffer), lambda: plan.choice_many(9, [16, 17], 1, buffer)):
         kind, said = raised(call) or ("no fault", "")
         want((kind, said[:len(text)]), ("TypeError", text), f"a fill of {buffer!r}")
 want(list(FAULTY[0][0]), [7, 7], "items that aren't bytes")
+
+
+
+# ---- arrays
+
+
+def table(columns, *numbers, items="Q"):
+    """A table of numbers of 64 bits, as an array of numpy's is one."""
+    return memoryview(array(items, numbers)).cast("B").cast(items, (len(numbers) // columns, columns))
+
+
+with Core(array("I", [8, 8]), [array("B", row) for row in FAR]) as small:
+    want(small.versions, (0, 0), "a machine in arrays")
+for items in "Qq":
+    want(plan.choice_many(1, array(items, [18, 16, 18]), 1), bytearray(b"\1\1\1"), "pages in an array")
+want(raised(lambda: plan.choice_many(1, array("q", [18, -16]), 1)),
+     ("ValueError", f"a number of pages is -16; it has to be from 0 to {2**64 - 1}"), "a page below 0")
+accesses = [(1, 16, 0), (2**32 - 1, 17, 1), (1, 16, 0)]
+flat = [number for access in accesses for number in access]
+with Core([8, 8], FAR) as small:
+    small.map(0x10000, 0x4000)
+    small.map(2**47 - 4096, 4096)
+    routes = small.replay(accesses)
+    for items in "Qq":
+        want(small.replay(table(3, *flat, items=items)), routes, "a replay of a table")
+    want(small.replay(table(4, 1, 16, 0, 7, 1, 2**35 - 1, 1, 2**32 - 1)),
+         small.replay([(1, 16, 0, 7), (1, 2**35 - 1, 1, 2**32 - 1)]), "with counts, and the highest numbers")
+    for place, name, bits in ((0, "task", 32), (2, "cpu", 32), (3, "count", 32)):
+        odd = [1, 16, 0, 1]
+        odd[place] = 1 << bits
+        want(raised(lambda: small.replay(table(4, 1, 16, 0, 1, *odd))),
+             ("ValueError", f"{name} is {1 << bits}; it has to be from 0 to {(1 << bits) - 1}"),
+             f"{name} of a table")
+    want(raised(lambda: small.replay(table(3, 1, -16, 0, items="q"))),
+         ("ValueError", f"page is -16; it has to be from 0 to {2**64 - 1}"), "a page below 0 in a table")
+    want(small.replay(iter(())), [], "a replay of nothing")
+    want(raised(lambda: small.replay([(1, 16)])),
+         ("TypeError", f"an access of the trace is [1, 16]; {numaplan._accesses.WANTED}"), "two numbers")
 
 print("\n".join(wrong))
 sys.exit(bool(wrong))

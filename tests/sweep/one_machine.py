@@ -110,7 +110,7 @@ for fields, why in WHY:
     check(f"failed: {why[:40]}..", (answer.failed, answer.nodes, answer.json), (why, {}, ""))
 FAULTY = [
     (Question(RANGE, task=-1), "ValueError: task is -1; it has to be from 0 to 4294967295"),
-    (Question(RANGE, node="0"), "TypeError: 'str' object cannot be interpreted as an integer"),
+    (Question(RANGE, node="0"), "TypeError: node is '0'; it has to be a whole number"),
     (Question(3), "TypeError: script is 3; hand in the name of a file, or its text as bytes"),
     (Question(RANGE, lines=["a\nb"]),
      "ValueError: 'a\\nb' among the lines is none; it has to be a text of one line"),
