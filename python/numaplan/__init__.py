@@ -49,8 +49,8 @@ __all__ = [
     "Answer", "Bound", "Core", "Explanation", "Frame", "Group", "Host", "Move", "Moved",
     "PageRun", "Pages", "Placement", "Plan", "Policy", "Prediction", "Process", "Question", "Range",
     "Report", "Route", "Script", "Seat",
-    "check", "diff", "effective", "explain", "moves", "nodes", "nodes_text", "policy_text", "predict",
-    "progress", "rebind", "replay", "sweep", "write_table",
+    "check", "columns", "diff", "effective", "explain", "moves", "nodes", "nodes_text",
+    "policy_text", "predict", "progress", "rebind", "replay", "sweep", "write_table",
     "AllTaken", "AnswerLost", "Astray", "BadAccess", "BadCpu", "BadDistance", "BadFormat",
     "BadLimits",
     "BadNodeCount", "BadOffset",
@@ -78,7 +78,7 @@ if TYPE_CHECKING:
     from ._questions import Answer, Question
     from ._reports import Report, check, diff, explain, moves, predict, replay
     from ._sweeps import sweep
-    from ._tables import write_table
+    from ._tables import columns, write_table
 else:
     # what a program that asks a core doesn't need, by module: imported where it is first named
     _LATER = {name: module for module, names in {
@@ -86,7 +86,7 @@ else:
         "_questions": ["Answer", "Question"],
         "_reports": ["Report", "check", "diff", "explain", "moves", "predict", "replay"],
         "_sweeps": ["sweep"],
-        "_tables": ["write_table"],
+        "_tables": ["columns", "write_table"],
     }.items() for name in names}
 
     def __getattr__(name):

@@ -3,14 +3,19 @@
 from __future__ import annotations
 
 from ctypes import byref, c_size_t, c_uint8, c_uint64
-from typing import Iterable, Iterator, Mapping, NamedTuple, Sequence
+from typing import TYPE_CHECKING, Iterable, Iterator, Mapping, NamedTuple, Sequence
 
 from ._calls import STILL, encoded, members, written
-from ._core_reports import CoreReports
+from ._core_reports import CoreReports, predicting
 from ._judged import Nodes, Numbers, free_pages, list_of, u8, u16, u32, u64
 from ._library import Limits, PlacedPage, Span, StandingPolicy, ToldExplanation
 from ._machines import description, options_of, read_hardware
+from ._owners import counted
+from ._pictured import Pictured
 from ._plans import Plan
+
+if TYPE_CHECKING:
+    from ._columns import Columns
 
 NO_HOME = 256  # (NP_NO_HOME)
 
@@ -47,13 +52,28 @@ class Policy(NamedTuple):
     nodes: list[int]
 
 
-class Prediction(NamedTuple):
-    """Where all mapped pages would go: how many to each node that gets some, how many find no free
-    page, and what is left of the free pages of the nodes that were named."""
-
+class _Predicted(NamedTuple):
     nodes: dict[int, int]
     exhausted: int
     left: dict[int, int]
+
+
+class Prediction(_Predicted, Pictured):
+    """Where all mapped pages would go: how many to each node that gets some (`nodes`), how many find
+    no free page (`exhausted`), and what is `left` of the free pages of the nodes that were named. A
+    notebook shows it as the page of `predict_text`, as long as the core is open and as it was."""
+
+    def __repr__(self) -> str:
+        nodes = [f" N{node}={pages}" for node, pages in self.nodes.items()]
+        more = " .." * (len(nodes) > 16) + f" exhausted={self.exhausted}" * (self.exhausted > 0)
+        return f"<numaplan.Prediction:{''.join(nodes[:16])}{more or ' no page' * (not nodes)}>"
+
+    def columns(self) -> Columns:
+        """The pages by node, as Report.columns."""
+        from ._columns import columns_of
+        rows: "list[dict[str, int]]" = [
+            {"node": node, "pages": pages} for node, pages in self.nodes.items()]
+        return columns_of(["node", "pages"], rows + [{"pages": self.exhausted}] * (self.exhausted > 0))
 
 
 class Explanation(NamedTuple):
@@ -98,8 +118,10 @@ class Core(CoreReports):
         super().__init__()
         limits = Limits(u32("max_ranges", max_ranges), u32("max_tasks", max_tasks),
                         u32("max_commands", max_commands))
-        self._call("core_open_by", *description(frames, distances, memory), byref(limits),
-             u32("workers", workers), byref(options_of(rules, orders, cpus)))
+        machine = description(frames, distances, memory)
+        self._call("core_open_by", *machine, byref(limits), u32("workers", workers),
+                   byref(options_of(rules, orders, cpus)))
+        self._nodes = len(machine[2])
 
     @classmethod
     def from_hardware(cls, text: str, frames: "Numbers | None" = None, *, workers: int = 1,
@@ -116,13 +138,18 @@ class Core(CoreReports):
                    workers, rules=rules, orders=found.orders, cpus=found.cpus)
 
     def _shown(self) -> str:
-        return " of version {}, published {}".format(*self.versions)
+        count = c_size_t()
+        with self._alone():
+            self._call("core_ranges", byref(count))
+            version = self.versions[0]
+        return f"{counted(self._nodes, 'node')}, version {version}, {counted(count.value, 'range')}"
 
     def copy(self) -> Core:
         """A core that stands as this one does, to be asked "what if": what is done to one of the
         two doesn't change the other."""
         other = Core.__new__(Core)
         self._call("core_copy", other._at)
+        other._nodes = self._nodes
         return other
 
     __copy__ = copy
@@ -169,13 +196,6 @@ class Core(CoreReports):
     def publish(self) -> None:
         """Publishes all accepted commands: workers place pages by them from then on."""
         self._call("core_publish")
-
-    @property
-    def versions(self) -> tuple[int, int]:
-        """How many commands are accepted, and how many of them are published."""
-        accepted, published = c_uint64(), c_uint64()
-        self._call("core_versions", byref(accepted), byref(published))
-        return accepted.value, published.value
 
     def _range(self, place: int) -> Range:
         """The range at a place, from 0, in order of address."""
@@ -254,13 +274,15 @@ class Core(CoreReports):
         room = [min(named.get(node, ALL_PAGES), ALL_PAGES) for node in range(256)]
         left = (c_uint64 * 256)(*room)
         with self._alone():
+            again = self._asking(predicting(task, cpu, named))
             self._call("core_predict", *touch, byref(counts))
-            if not named:
-                return Prediction(_some(counts), 0, {})
-            self._call("core_fill", *touch, byref(left))
-        taken = [before - after for before, after in zip(room, left)]
+            if named:
+                self._call("core_fill", *touch, byref(left))
+        taken = [before - after for before, after in zip(room, left)] if named else list(counts)
         rest = {node: pages - taken[node] for node, pages in named.items()}
-        return Prediction(_some(taken), sum(counts) - sum(taken), rest)
+        found = Prediction(_some(taken), sum(counts) - sum(taken), rest)
+        found._again = again
+        return found
 
     def explain(self, task: int, page: int, cpu: int) -> Explanation:
         """Why the page of a number (address / 4096) would go where it goes by all accepted commands,

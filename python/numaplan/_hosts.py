@@ -10,7 +10,7 @@ from ._cores import Policy, Range, policy_of
 from ._judged import Nodes, Numbers, list_of, u32, u64
 from ._library import Limits, NodeSet, Span, StandingPolicy, ToldGroup, ToldProcess
 from ._machines import description, options_of, read_hardware
-from ._owners import Owner
+from ._owners import Owner, counted
 from ._plans import Plan
 
 
@@ -47,8 +47,9 @@ class Host(Owner):
         super().__init__()
         limits = Limits(u32("max_ranges", max_ranges), u32("max_tasks", max_tasks),
                         u32("max_commands", max_commands))
-        self._call("host_open", *description(frames, distances, memory), byref(limits),
-             byref(options_of(rules, orders, cpus)))
+        machine = description(frames, distances, memory)
+        self._call("host_open", *machine, byref(limits), byref(options_of(rules, orders, cpus)))
+        self._nodes = len(machine[2])
 
     @classmethod
     def from_hardware(cls, text: str, *, rules: str = "document", kernel_orders: bool = False,
@@ -60,13 +61,16 @@ class Host(Owner):
                    cpus=found.cpus)
 
     def _shown(self) -> str:
-        return f" of version {self.version}, {len(self)} processes"
+        with self._alone():
+            version, count = self.version, len(self)
+        return f"{counted(self._nodes, 'node')}, version {version}, {counted(count, 'process', 'es')}"
 
     def copy(self) -> Host:
         """A host that stands as this one does, to be asked "what if": what is done to one of the
         two doesn't change the other."""
         other = Host.__new__(Host)
         self._call("host_copy", other._at)
+        other._nodes = self._nodes
         return other
 
     __copy__ = copy

@@ -61,7 +61,8 @@ def u64(name: str, value: SupportsIndex) -> int:
     return _within(name, value, 2**64 - 1)
 
 
-def listed(name: str, values: Iterable[Any], wanted: str = "it has to be numbers, as [0, 1]") -> list[Any]:
+def listed(name: str, values: Iterable[Any],
+           wanted: str = "it has to be numbers, as [0, 1]") -> list[Any]:
     """What is in a list, an array or another iterable that is no text."""
     try:
         items = iter(values)

@@ -10,7 +10,7 @@ from types import TracebackType
 from typing import Any, ContextManager, NoReturn, SupportsIndex, TypeVar
 
 from ._calls import call
-from ._causes import Closed
+from ._causes import Closed, Refused
 from ._library import LIBRARY, Handle
 
 _Itself = TypeVar("_Itself", bound="Owner")
@@ -34,6 +34,7 @@ class Owner:
     _kind = ""
     _at: Any  # (byref of its struct)
     _is_closed: bool
+    _nodes = 0  # (of its machine)
     _lock: RLock  # (that a handler of signals takes again, in the middle of a call)
     _forks: int
 
@@ -94,9 +95,11 @@ class Owner:
 
     def __repr__(self) -> str:
         try:
-            shown = self._shown()
+            shown = f": {self._shown()}"
         except Closed:
             shown = ", closed"
+        except Refused:
+            shown = ""
         return f"<numaplan.{type(self).__name__}{shown}>"
 
     def __copy__(self) -> Any:
@@ -124,6 +127,11 @@ class Owner:
                 self._free()
             finally:
                 self._lock.release()
+
+
+def counted(number: int, what: str, more: str = "s") -> str:
+    """How many there are of what is named."""
+    return f"{number} {what}{more * (number != 1)}"
 
 
 def in_order(one: Owner, other: Owner) -> tuple[Owner, Owner]:

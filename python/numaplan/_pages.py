@@ -5,12 +5,12 @@ from __future__ import annotations
 from ctypes import byref, c_size_t, c_uint32, c_uint64
 from typing import NamedTuple
 
-from ._calls import call, encoded
+from ._calls import encoded
 from ._causes import NoRoom, NotPlaced
 from ._cores import Core
 from ._judged import Nodes, ensure, list_of, u32, u64
 from ._library import PagesInRow, ToldBound, ToldMoves
-from ._owners import Owner
+from ._owners import Owner, counted
 
 ENDLESS = 2**64 - 1  # (NP_ENDLESS)
 
@@ -55,15 +55,19 @@ class Pages(Owner):
         ensure("core", core, Core, "Core")
         with core._alone():
             self._call("pages_open", core._at)
+        self._nodes = core._nodes
 
     def _shown(self) -> str:
-        return f" of version {self.version}, {sum(self.counts().values())} pages"
+        with self._alone():
+            version, count = self.version, sum(self.counts().values())
+        return f"{counted(self._nodes, 'node')}, version {version}, {counted(count, 'page')}"
 
     def copy(self) -> Pages:
         """The same once more, to be asked "what if": what is done to one of the two doesn't change
         the other."""
         other = Pages.__new__(Pages)
         self._call("pages_copy", other._at)
+        other._nodes = self._nodes
         return other
 
     __copy__ = copy
@@ -72,6 +76,7 @@ class Pages(Owner):
         """A copy of the core, for plans, ranges, reports and all else that a core is asked."""
         core = Core.__new__(Core)
         self._call("pages_core", core._at)
+        core._nodes = self._nodes
         return core
 
     @property

@@ -20,7 +20,7 @@ class Plan(Owner):
     _kind = "plan"
 
     def _shown(self) -> str:
-        return f" of version {self.version}"
+        return f"version {self.version}"
 
     @property
     def version(self) -> int:

@@ -9,23 +9,51 @@ from typing import Any, Iterable, Mapping, NamedTuple, Sequence
 
 from ._calls import code_of
 from ._causes import BadAccess, NoRoom, refusal
+from ._columns import Columns, report_columns
 from ._judged import Text, ensure_file, format_number, free_pages, lines_of, rules_number, u32, u64
 from ._library import AskedReport, FreePages, ToldReport
+from ._owners import counted
+from ._pictured import Pictured
 
 ROOM = 1 << 16  # bytes, of which most answers have fewer
 
 
-class Report(NamedTuple):
-    """What a word of the program answered.
+class _Told(NamedTuple):
+    text: str
+    messages: list[str]
+    faulty: bool
+
+
+class Report(_Told, Pictured):
+    """What a word of the program answered. A notebook shows it as a page or a picture, where it has
+    one.
 
     text: the answer, as `numaplan WORD` prints it
     messages: what is wrong with lines of the script, which are passed over; with `check` these are
         the answer
     faulty: whether lines were malformed, refused or not judged"""
 
-    text: str
-    messages: list[str]
-    faulty: bool
+    def __repr__(self) -> str:
+        lines, messages = self.text.count("\n"), len(self.messages)
+        return (f"<numaplan.Report: {counted(lines, 'line')}, {counted(messages, 'message')}"
+                f"{', faulty' * self.faulty}>")
+
+    def columns(self, of: "str | None" = None) -> Columns:
+        """The answer as a table: a dict of columns of one length, by name, for pandas.DataFrame,
+        polars.DataFrame and the like. A column of whole numbers is an array.
+
+        The rows are by range and node, of `diff` and `moves` by range and by the nodes `from` and
+        `to`, of `replay` by task and node, or by distance (`of="distances"`). Of pages or accesses that
+        find no free page the node is None. Of a host each row has the process. `check` has a row for
+        each message, `explain` one for each explanation.
+
+        A report in another format than JSON is asked for once more in that; ValueError where that
+        can't be, since the core has changed or is closed, or the report comes from another process."""
+        is_json = self.text[:1] in ("", "{")
+        text = self.text if is_json else self._text_in("json")
+        if not is_json and not text:
+            raise ValueError("this report can't be asked for once more; ask for it by format='json'")
+        return report_columns(text, of)
 
     @property
     def json(self) -> Any:
@@ -42,8 +70,10 @@ def check(script: Text, *, format: str = "text", rules: str = "document") -> Rep
     is called `-` in JSON."""
     name, text = read(script)
     asked = AskedReport(0, 0, rules_number(rules), format_number(format))
-    said = _asked("check", [text], byref(asked), names={"-": name})
-    return Report(said.text, said.text.splitlines(), said.faulty)
+    said = _asked("check", [text], asked, names={"-": name})
+    report = Report(said.text, said.text.splitlines(), said.faulty)
+    report._again = said._again
+    return report
 
 
 def predict(script: Text, lines: Iterable[str] = (), *, task: int = 1, node: int = 0,
@@ -59,9 +89,9 @@ def predict(script: Text, lines: Iterable[str] = (), *, task: int = 1, node: int
     asked = AskedReport(u32("task", task), u32("node", node), rules_number(rules),
                         format_number(format))
     if at is None:
-        return _asked("predict", [text, joined(lines)], byref(asked), *free_of(free), names={"-": name})
+        return _asked("predict", [text, joined(lines)], asked, *free_of(free), names={"-": name})
     at_name, stated = read(at, "at")
-    return _asked("predict_at", [text, joined(lines), stated], byref(asked), *free_of(free),
+    return _asked("predict_at", [text, joined(lines), stated], asked, *free_of(free),
                   names={"-": name, "at": at_name})
 
 
@@ -81,7 +111,7 @@ def moves(script: Text, lines: Iterable[str], *, at: "Text | None" = None, task:
     asked = AskedReport(u32("task", task), u32("node", node or 0), rules_number(rules),
                         format_number(format))
     word, texts = ("moves_at", [stated]) if node is None else ("moves_touched", [])
-    return _asked(word, [text, joined(lines), *texts], byref(asked), *free_of(free),
+    return _asked(word, [text, joined(lines), *texts], asked, *free_of(free),
                   names={"-": name, "at": at_name})
 
 
@@ -92,7 +122,7 @@ def diff(script: Text, lines: Iterable[str], *, task: int = 1, node: int = 0, fo
     name, text = read(script)
     asked = AskedReport(u32("task", task), u32("node", node), rules_number(rules),
                         format_number(format))
-    return _asked("diff", [text, joined(lines)], byref(asked), names={"-": name})
+    return _asked("diff", [text, joined(lines)], asked, names={"-": name})
 
 
 def explain(script: Text, page: int, lines: Iterable[str] = (), *, task: int = 1, node: int = 0,
@@ -102,7 +132,7 @@ def explain(script: Text, page: int, lines: Iterable[str] = (), *, task: int = 1
     name, text = read(script)
     asked = AskedReport(u32("task", task), u32("node", node), rules_number(rules),
                         format_number(format))
-    return _asked("explain", [text, joined(lines)], byref(asked), u64("page", page),
+    return _asked("explain", [text, joined(lines)], asked, u64("page", page),
                   names={"-": name})
 
 
@@ -115,7 +145,7 @@ def replay(script: Text, trace: Text, lines: Iterable[str] = (), *, format: str 
     name, text = read(script)
     trace_name, accesses = read(trace, "trace")
     asked = AskedReport(0, 0, rules_number(rules), format_number(format))
-    return _asked("replay", [text, joined(lines), accesses], byref(asked),
+    return _asked("replay", [text, joined(lines), accesses], asked,
                   names={"-": name, "trace": trace_name})
 
 
@@ -150,6 +180,23 @@ def _asked(word: str, texts: Sequence[bytes], *asked: Any, names: Mapping[str, s
 
 
 def answered(word: str, *asked: Any, names: Mapping[str, str] = {}) -> Report:
+    """What a call answers, of which one argument is the question. It can be asked for once more."""
+    def again(number: int) -> Report:
+        each = [_in_format(one, number) if isinstance(one, AskedReport) else one for one in asked]
+        return _answered(word, *each, names=names)
+
+    (number,) = (one.format for one in asked if isinstance(one, AskedReport))
+    report = again(number)
+    report._again = again
+    return report
+
+
+def _in_format(one: AskedReport, number: int) -> Any:
+    """The same question in another format, as an argument."""
+    return byref(AskedReport(one.task, one.cpu, one.rules, number))
+
+
+def _answered(word: str, *asked: Any, names: Mapping[str, str]) -> Report:
     """What a call writes into a room of its own; once more where it needs a larger one."""
     size, told, code = ROOM, ToldReport(), NoRoom.number
     while code == NoRoom.number:

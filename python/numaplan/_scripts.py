@@ -9,7 +9,7 @@ from typing import NoReturn
 from ._calls import encoded, untyped, written
 from ._causes import refusal
 from ._judged import rules_number, utf8
-from ._owners import Owner
+from ._owners import Owner, counted
 
 
 class Script(Owner):
@@ -26,9 +26,12 @@ class Script(Owner):
         self._length = c_size_t()
         self._told = byref(self._length)
         self._serve, self._copy = untyped("script_line"), untyped("script_answer")
-        self._is_serving = False
+        self._is_serving, self._lines = False, 0
         self._make_room(4096)
         self._call("script_open_by", number)
+
+    def _shown(self) -> str:
+        return super()._shown() + counted(self._lines, "line")
 
     def _make_room(self, size: int) -> None:
         """A room for answers of so many bytes."""
@@ -44,6 +47,7 @@ class Script(Owner):
             self._is_serving = True
             try:
                 answer = self._served(data)
+                self._lines += 1
             finally:
                 self._is_serving = False
         return answer.decode("utf-8", "surrogateescape")

@@ -1,10 +1,11 @@
-"""Answers as a table. Not proved."""
+"""Answers as a table, in a file or as columns. Not proved."""
 
 from __future__ import annotations
 
 import csv
-from typing import Iterable, Mapping, TextIO
+from typing import Any, Iterable, Mapping, TextIO
 
+from ._columns import Columns, columns_of, named
 from ._judged import Text
 from ._questions import Answer
 
@@ -26,6 +27,36 @@ def write_table(answers: Iterable[Answer], file: TextIO) -> int:
         table.writerow(_record(one))
         failed += one.failed is not None
     return failed
+
+
+def columns(answers: Iterable[Answer], of: "str | None" = None) -> Columns:
+    """Answers as a table: a dict of columns of one length, by name, as Report.columns gives it. The
+    rows of an answer have its number, and the names of script and trace and the lines as `write_table`
+    writes them. They are by node, with pages, or accesses where there is a trace; by `of="moved"`, by
+    the nodes `from` and `to`; or by `of="distances"`. An answer that failed has one row, which says
+    why (`failed`)."""
+    tables = {"nodes": ["node"], "moved": ["from", "to"], "distances": ["distance"]}
+    by, rows = named(of, tables), []
+    units = dict.fromkeys(["pages"] * (by == "moved"))
+    for one in answers:
+        asked = one.question
+        unit = "pages" if asked.trace is None or by == "moved" else "accesses"
+        units.setdefault(unit)
+        own = {"number": one.number, "script": _name(asked.script), "trace": _name(asked.trace),
+               "lines": "; ".join(asked.lines)}
+        found = [{"failed": one.failed}] if one.failed is not None else _rows(one, by, unit)
+        rows += [{**own, **each} for each in found]
+    return columns_of(["number", "script", "trace", "lines", *tables[by], *units, "failed"], rows)
+
+
+def _rows(one: Answer, by: str, unit: str) -> "list[dict[str, Any]]":
+    """The rows of an answer; by node, at the end what finds none."""
+    if by == "moved":
+        return [{"from": a, "to": b, unit: pages} for (a, b), pages in sorted(one.moved.items())]
+    name, counts = ("node", one.nodes) if by == "nodes" else ("distance", one.distances)
+    without = one.unserved if unit == "accesses" else one.exhausted * (by == "nodes")
+    return [*({name: each, unit: count} for each, count in sorted(counts.items())),
+            *([{unit: without}] if without else [])]
 
 
 def _record(one: Answer) -> "list[object]":

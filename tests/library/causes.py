@@ -11,7 +11,7 @@ from errno import EFAULT, EINVAL, ENODEV, ENOENT, ESRCH
 from types import FunctionType
 
 import numaplan
-from numaplan import Core, Host, Pages, Plan, Refused, Script, Seat
+from numaplan import Core, Refused
 
 NO_FAILURES = {0, 40}  # NP_OK and NP_STILL
 FAR = [[10, 20], [20, 10]]
@@ -113,19 +113,6 @@ lost.words, lost.messages, lost.place = "line 2", ["line 2"], 1
 sent = pickle.loads(pickle.dumps(lost))
 want((str(sent), sent.messages, sent.place), ("line 2", ["line 2"], 1), "a pickled cause with its messages")
 
-# as they are shown
-plan, seat, script, host = core.compile(), Seat([8, 8], FAR), Script(), Host([8, 8], FAR)
-want(repr(core), "<numaplan.Core of version 1, published 0>", "a core")
-want(repr(plan), "<numaplan.Plan of version 1>", "a plan")
-want([repr(seat), repr(script)], ["<numaplan.Seat>", "<numaplan.Script>"], "a seat, a script")
-want(repr(host), "<numaplan.Host of version 0, 0 processes>", "a host")
-pages = Pages(core)
-want(repr(pages), "<numaplan.Pages of version 1, 0 pages>", "pages")
-for one in (core, pages, plan, seat, script, host):
-    one.close()
-    want(repr(one), f"<numaplan.{type(one).__name__}, closed>", "a closed one")
-want(repr(Plan()), "<numaplan.Plan, closed>", "a plan of nothing")
-
 # what is asked for later is imported later
 ran = subprocess.run(
     [sys.executable, "-c", "import sys, numaplan\n"
@@ -136,7 +123,7 @@ ran = subprocess.run(
 want(ran.stdout.splitlines(), [
     "numaplan._accesses numaplan._calls numaplan._causes numaplan._core_reports numaplan._cores"
     " numaplan._hosts numaplan._judged numaplan._library numaplan._machines numaplan._owners"
-    " numaplan._pages numaplan._plans numaplan._scripts numaplan._seats numaplan._values",
+    " numaplan._pages numaplan._pictured numaplan._plans numaplan._scripts numaplan._seats numaplan._values",
     "True numaplan._sweeps numaplan", "False"], "modules")
 
 # what a checker and `import *` see

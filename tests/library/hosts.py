@@ -32,7 +32,7 @@ def worked():
         assert host.choice(2, 9, 16, 0) == [1]
         assert host.groups() == [Group(5, 0, [2, 3])] and host.group_nodes(0) == [0, 1, 2, 3]
         assert host.processes() == list(host) == [Process(1, 5), Process(2, 0)]
-        assert repr(host) == "<numaplan.Host of version 8, 2 processes>"
+        assert repr(host) == "<numaplan.Host: 4 nodes, version 8, 2 processes>"
         assert host.ranges(1) == [Range(0x10000, 0x1000, 16, None)]
         policy = host.task_policy(1, 7)
         assert (policy.asked, policy.nodes, host.task_policy(1, 9)) == ([2], [3], None)

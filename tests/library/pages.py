@@ -42,7 +42,7 @@ def worked():
         pages.place(BASE + 0x4000, 0x1000, 2)
         assert pages.runs() == [PageRun(16, 2, 0), PageRun(18, 2, 1), PageRun(20, 1, 2)]
         assert pages.counts() == {0: 2, 1: 2, 2: 1}
-        assert repr(pages) == "<numaplan.Pages of version 2, 5 pages>"
+        assert repr(pages) == f"<numaplan.Pages: {NODES} nodes, version 2, 5 pages>"
         with pages.copy() as after:
             told = after.move_mems([1, 2, 3])
             assert told == Moved(5, 0, {(0, 1): 2, (1, 2): 2, (2, 3): 1})
