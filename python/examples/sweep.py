@@ -26,5 +26,5 @@ def main() -> int:
     return 3 if numaplan.write_table(numaplan.sweep(questions), sys.stdout) else 0
 
 
-if __name__ == "__main__":  # (processes of this machine may read this file again)
+if __name__ == "__main__":
     sys.exit(main())

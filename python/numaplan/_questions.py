@@ -5,7 +5,8 @@ from __future__ import annotations
 import json
 import os
 import re
-from typing import Any, Iterable, Mapping, NamedTuple, Sequence
+import time
+from typing import Any, Iterable, Mapping, NamedTuple, Sequence, Tuple
 
 from ._causes import Refused
 from ._judged import Text, ensure_file, free_pages, lines_of, rules_number, u32
@@ -63,6 +64,7 @@ class Answer(NamedTuple):
 
 
 Question.__module__ = Answer.__module__ = "numaplan"  # (as users name them, also in pickles)
+Numbered = Tuple[int, Question]  # (its place in a sweep)
 NONE = Question(b"")  # (stands in an answer on its way from a worker)
 
 
@@ -124,6 +126,16 @@ def answer(question: Question) -> Answer:
         return failure(f"can't read {fault.filename!r}: {fault.strerror}")
     except Exception as fault:
         return failure(f"{type(fault).__name__}: {fault}")
+
+
+def ask_all(some: "list[Numbered]") -> list[Answer]:
+    """The answers to questions, in their order, without the questions."""
+    answers = []
+    for _, question in some:
+        begun = time.monotonic()
+        one = answer(question)
+        answers.append(one._replace(seconds=time.monotonic() - begun))
+    return answers
 
 
 def _predicted(question: Question) -> Answer:

@@ -4,24 +4,18 @@ from __future__ import annotations
 
 import os
 import pickle
-import signal
-import tempfile
-import time
 from collections import deque
-from concurrent.futures import FIRST_COMPLETED, Executor, Future, ProcessPoolExecutor, wait
-from concurrent.futures.process import BrokenProcessPool
+from concurrent.futures import FIRST_COMPLETED, Executor, Future, wait
 from itertools import islice
 from operator import length_hint
-from typing import Any, Iterable, Iterator, Tuple
+from typing import Any, Iterable, Iterator
 
+from ._processes import Pool
 from ._progress import Progress
-from ._questions import Answer, Question, answer, failure, judged
+from ._questions import Answer, Numbered, Question, ask_all, failure, judged
 
-A_WHILE = 0.1  # seconds of work that a worker is handed at a time, if it gets as many questions
 MOST_AT_ONCE = 64
 TRIES = 3  # of a question whose worker is lost
-
-Numbered = Tuple[int, Question]
 
 
 def sweep(questions: "Iterable[Question | tuple[Any, ...]]", executor: "Executor | None" = None,
@@ -29,12 +23,13 @@ def sweep(questions: "Iterable[Question | tuple[Any, ...]]", executor: "Executor
     """Asks each question, and yields exactly one answer for each, as it is there and in any order,
     with the number of its question from 0. An answer says what failed, and why.
 
-    The questions go to processes of this machine, as many as `workers` or one a processor. Or they
-    go to the workers of an executor that is handed in: of concurrent.futures, Dask
-    (`client.get_executor()`) or MPI (mpi4py's `MPIPoolExecutor()`). These need this package;
-    `workers` is how many they are, if the executor doesn't say. They share nothing: a script or
-    trace that is named is read where it is asked about, by its absolute name, and one in bytes is
-    sent there. A worker answers in its own process, by `predict`, `diff` and `replay`.
+    The questions go to processes of this machine, as many as `workers` or one a processor, which
+    stay for the next sweep, and end with this process, or where a sweep is left. Or they go to the
+    workers of an executor that is handed in: of concurrent.futures, Dask (`client.get_executor()`)
+    or MPI (mpi4py's `MPIPoolExecutor()`). These need this package; `workers` is how many they are,
+    if the executor doesn't say. They share nothing: a script or trace that is named is read where it
+    is asked about, by its absolute name, and one in bytes is sent there. A worker answers in its own
+    process, by `predict`, `diff` and `replay`.
 
     Questions are taken from the iterable some time ahead of their answers. A faulty one is a
     ValueError or a TypeError. What a lost worker hadn't answered is asked again, without others
@@ -57,6 +52,8 @@ def sweep(questions: "Iterable[Question | tuple[Any, ...]]", executor: "Executor
 class _Workers:
     """The workers of an executor that is handed in."""
 
+    a_while = 0.1  # seconds of work that one is handed at a time, if it gets as many questions
+
     def __init__(self, executor: Executor, workers: "int | None") -> None:
         self.workers = workers or getattr(executor, "_max_workers", None) or 32
         self._executor = executor
@@ -70,52 +67,28 @@ class _Workers:
         answers: list[Answer] = future.result()
         return answers
 
-    def end(self) -> None:
-        """No more will be asked."""
+    def end(self, is_whole: bool) -> None:
+        """No more will be asked; all was answered, or nobody waits for the rest."""
 
 
 class _Processes(_Workers):
-    """Processes of this machine, which are made anew where one is lost. Questions and answers go by
-    files: where one is lost, Python may wait for ever to write the rest of a long question to its
-    pipe, or for the rest of its answer."""
+    """Processes of this machine."""
+
+    a_while = 0.02
 
     def __init__(self, workers: "int | None") -> None:
         self.workers = workers or len(os.sched_getaffinity(0))
-        self._files: dict[Future[Any], str] = {}
-        self._folder = tempfile.TemporaryDirectory(prefix="numaplan-")
-        self._executor = self._pool()
-
-    def _pool(self) -> Executor:
-        return ProcessPoolExecutor(self.workers, initializer=_begin_worker)
+        self._pool = Pool(self.workers)
 
     def submit(self, some: list[Numbered]) -> Future[Any]:
-        path = os.path.join(self._folder.name, str(some[0][0]))
-        with open(path, "wb") as file:
-            pickle.dump(some, file)
-        try:
-            future = self._executor.submit(_ask_file, path)
-        except BrokenProcessPool:
-            self._executor.shutdown()
-            self._executor = self._pool()
-            future = self._executor.submit(_ask_file, path)
-        self._files[future] = path
-        return future
+        return self._pool.submit(pickle.dumps(some, pickle.HIGHEST_PROTOCOL))
 
     def answers(self, future: Future[Any]) -> list[Answer]:
-        path = self._files.pop(future)
-        future.result()
-        with open(path, "rb") as file:
-            answers: list[Answer] = pickle.load(file)
-        os.unlink(path)
+        answers: list[Answer] = pickle.loads(future.result())
         return answers
 
-    def end(self) -> None:
-        # (they are ended and not asked to: one that was lost may have held the lock by which the
-        # others would hear of it, and then they and we would wait for ever)
-        for process in list((getattr(self._executor, "_processes", None) or {}).values()):
-            process.kill()
-        self._executor.shutdown(cancel_futures=True)
-        self._folder.cleanup()
+    def end(self, is_whole: bool) -> None:
+        self._pool.end(is_whole)
 
 
 class _Asking:
@@ -158,7 +131,7 @@ class _Asking:
     def _answered(self, some: list[Numbered], answers: list[Answer]) -> list[Answer]:
         """The answers with their questions. By how long they took, the next ones are handed out."""
         seconds = sum(each.seconds for each in answers) / len(answers)
-        self._size = max(1, min(MOST_AT_ONCE, int(A_WHILE / max(seconds, 1e-6))))
+        self._size = max(1, min(MOST_AT_ONCE, int(self._workers.a_while / max(seconds, 1e-6))))
         for number, _ in some:
             self._tries.pop(number, None)
         return [each._replace(number=number, question=question)
@@ -178,34 +151,7 @@ class _Asking:
         return ended
 
     def end(self) -> None:
-        """Takes back what isn't begun, and ends the processes of this sweep."""
+        """Takes back what isn't begun."""
         for future in self._out:
             future.cancel()
-        self._workers.end()
-
-
-# ---- in a worker
-
-
-def _begin_worker() -> None:
-    """An interrupt at the terminal ends the process that sweeps; a worker then ends with that."""
-    signal.signal(signal.SIGINT, lambda *_: None)
-
-
-def _ask_file(path: str) -> None:
-    """Puts answers in the place of the questions in a file."""
-    with open(path, "rb") as file:
-        some: list[Numbered] = pickle.load(file)
-    answers = ask_all(some)
-    with open(path, "wb") as file:
-        pickle.dump(answers, file)
-
-
-def ask_all(some: list[Numbered]) -> list[Answer]:
-    """The answers to questions, in their order, without the questions."""
-    answers = []
-    for _, question in some:
-        begun = time.monotonic()
-        one = answer(question)
-        answers.append(one._replace(seconds=time.monotonic() - begun))
-    return answers
+        self._workers.end(not self._out)

@@ -10,6 +10,7 @@ import signal
 import subprocess
 import sys
 import tempfile
+import time
 from concurrent.futures import ProcessPoolExecutor, ThreadPoolExecutor
 from concurrent.futures.process import BrokenProcessPool
 
@@ -22,7 +23,7 @@ TOP = os.path.join(HERE, "..", "..")
 RANGE = os.path.join(TOP, "examples", "interleaved-range.numaplan")
 TRACE = os.path.join(TOP, "examples", "replayed.trace")
 failed = 0
-multiprocessing.set_start_method("fork")  # (so that processes have what is put in place here)
+multiprocessing.set_start_method("fork")  # (so that those of an executor have what is put in place here)
 
 
 def check(what, got, wanted):
@@ -45,6 +46,27 @@ def one(*fields, **named):
     """The answer to one question."""
     (answer,) = sweep([Question(*fields, **named)], THREADS)
     return answer
+
+
+def workers_of(number):
+    """The processes that answer sweeps of another."""
+    said = subprocess.run(["ps", "-o", "pid=,args=", "--ppid", str(number)], stdout=subprocess.PIPE, text=True)
+    return [int(line.split()[0]) for line in said.stdout.splitlines() if "import serve" in line]
+
+
+def own_workers():
+    return workers_of(os.getpid())
+
+
+def left_of(numbers, seconds=20):
+    """Which of these processes still run once there was time to end."""
+    end = time.monotonic() + seconds
+    while time.monotonic() < end:
+        left = [number for number in numbers if os.path.exists(f"/proc/{number}")]
+        if not left:
+            break
+        time.sleep(0.05)
+    return left
 
 
 # ---- answers
@@ -129,43 +151,87 @@ def kill_one(answers, after):
     for count, each in enumerate(answers):
         yield each
         if count == after:
-            os.kill(multiprocessing.active_children()[0].pid, signal.SIGKILL)
+            os.kill(own_workers()[0], signal.SIGKILL)
 
 
 asked = [(hosts.script(number), None, hosts.THEN) for number in range(120)]
 for after in (5, 60):
     check(f"a worker killed after {after} answers: none is lost or doubled",
           hosts.faults(list(kill_one(sweep(asked, workers=4), after)), 120), [])
-answer_it = numaplan._sweeps.answer
-
+DEADLY = """import os, signal
+import numaplan._questions as questions
+answer_it = questions.answer
 
 def deadly(question):
-    """Answers, but for one question, which ends its worker."""
+    # Answers, but for one question, which ends its worker.
     if question.lines == ("deadly",):
         os.kill(os.getpid(), signal.SIGKILL)
     return answer_it(question)
 
-
-numaplan._sweeps.answer = deadly  # (which processes that begin now have, too)
-answers = list(sweep(asked + [(RANGE, None, ["deadly"])], workers=3))
-ended = [(each.number, each.failed[:35]) for each in answers if each.failed]
+questions.answer = deadly
+"""
+with tempfile.TemporaryDirectory() as folder:
+    with open(os.path.join(folder, "sitecustomize.py"), "w") as file:
+        file.write(DEADLY)  # (which each process that begins now has)
+    numaplan._processes.end_kept()
+    path, os.environ["PYTHONPATH"] = os.environ["PYTHONPATH"], f"{folder}:{os.environ['PYTHONPATH']}"
+    answers = list(sweep(asked + [(RANGE, None, ["deadly"])], workers=3))
+    numaplan._processes.end_kept()
+    os.environ["PYTHONPATH"] = path
+ended = [(each.number, each.failed) for each in answers if each.failed]
 check("a question that ends each worker fails, and no other",
       (ended, hosts.faults([each for each in answers if not each.failed], 120)),
-      ([(120, "no answer came, 3 times: BrokenProc")], []))
+      ([(120, "no answer came, 3 times: ChildProcessError: a worker ended with status -9")], []))
+answer_it = numaplan._questions.answer
+exec(DEADLY)
 with ProcessPoolExecutor(2) as pool:
     try:
         list(sweep([(RANGE, None, ["deadly"])] * 3, pool))
         check("an executor that is broken is told", "nothing", "BrokenProcessPool")
     except BrokenProcessPool:
         check("an executor that is broken is told", "told", "told")
-numaplan._sweeps.answer = answer_it
+numaplan._questions.answer = answer_it
 
-# ---- ends
+# ---- processes that are kept, and ends
 
-for each in sweep(asked, workers=2):
-    break
-del each
-check("a sweep that is left leaves no process", multiprocessing.active_children(), [])
+check("two sweeps have the same processes",
+      [(len(list(sweep(asked, workers=2))), own_workers()) for _ in range(2)][::-1],
+      [(120, own_workers())] * 2)
+first, second = sweep(asked, workers=1), sweep(asked, workers=2)
+answers = [next(first)], [next(second)]
+check("two sweeps at a time", [hosts.faults(begun + list(rest), 120) for begun, rest in zip(answers, (first, second))],
+      [[], []])
+os.kill(own_workers()[0], signal.SIGKILL)
+check("one that ended meanwhile is none of them", hosts.faults(list(sweep(asked, workers=3)), 120), [])
+begun = sweep(asked, workers=3)
+next(begun)
+kept = own_workers()
+child = os.fork()
+if child == 0:  # (which neither uses nor ends what is its parent's)
+    numaplan._processes.end_kept()
+    begun.close()
+    done = hosts.faults(list(sweep(asked[:2], workers=1)), 2) == [] and not set(own_workers()) & set(kept)
+    numaplan._processes.end_kept()
+    os._exit(0 if done else 1)
+check("a child by a fork sweeps with processes of its own", os.waitpid(child, 0)[1], 0)
+check("and its parent's sweep goes on", (len(list(begun)), own_workers()), (119, kept))
+begun = sweep(asked, workers=2)
+next(begun)
+begun.close()
+numaplan._processes.end_kept()
+check("a sweep that is left ends its processes", own_workers(), [])
+check("so does a faulty question", raised(lambda: list(sweep(asked[:50] + [Question(3)], workers=2))),
+      "TypeError: script is 3; hand in the name of a file, or its text as bytes")
+numaplan._processes.end_kept()
+check("and leaves no process", own_workers(), [])
+with tempfile.NamedTemporaryFile("w", suffix=".py") as file:
+    file.write("import multiprocessing, sys, numaplan\nmultiprocessing.set_start_method(sys.argv[1])\n"
+               "print(*(one.nodes for one in numaplan.sweep([b'machine 1 0 0 flat\\nmap 0 4096 0\\n'])))\n")
+    file.flush()
+    for method in ("fork", "spawn", "forkserver"):
+        ran = subprocess.run([sys.executable, file.name, method], stdin=subprocess.DEVNULL, capture_output=True,
+                             text=True)
+        check(f"a program without a main part, by {method}", (ran.stdout, ran.stderr), ("{0: 1}\n", ""))
 LONG = """if True:
     import sys, numaplan, numaplan._progress
     numaplan._progress.FIRST = 0.1
@@ -183,18 +249,15 @@ def start(count, **ends):
     return subprocess.Popen(words, text=True, start_new_session=True, **ends)
 
 
-def in_session(leader):
-    """The processes of a session that still run."""
-    said = subprocess.run(["ps", "-o", "pid=", "-s", str(leader)], stdout=subprocess.PIPE, text=True)
-    return said.stdout.split()
-
-
-long = start(10**7, stdout=subprocess.PIPE, stderr=subprocess.PIPE)
-long.stdout.readline()
-os.killpg(long.pid, signal.SIGINT)
-check("an interrupt ends a sweep, and without a word of its workers", long.communicate(timeout=20),
-      ("interrupted\n", ""))
-check("and leaves no process", in_session(long.pid), [])
+for number, what, words in ((signal.SIGINT, "an interrupt", ("interrupted\n", "")),
+                            (signal.SIGTERM, "a signal that nobody handles", ("", "")),
+                            (signal.SIGKILL, "a kill", ("", ""))):
+    long = start(10**7, stdout=subprocess.PIPE, stderr=subprocess.PIPE)
+    long.stdout.readline()
+    kept = workers_of(long.pid)
+    os.killpg(long.pid, number)
+    check(f"{what} ends a sweep, and without a word of its workers", long.communicate(timeout=20), words)
+    check("and leaves no process", (len(kept), left_of(kept)), (2, []))
 
 # ---- progress
 
