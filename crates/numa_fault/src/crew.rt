@@ -1,6 +1,6 @@
 //! Crews: several workers at once, each in its own thread.
 ghost use Rattle.std.specs.Prelude.{◌≡◌, ℕ, ◌+◌, ◌/◌, ◌<◌, ◌≤◌, [], ◌∷◌, ◌++◌, length};
-ghost use Rattle.std.specs.Prelude.{reverse};
+ghost use Rattle.std.specs.Prelude.{reverse, IsSome, ◌↔◌};
 ghost use Rattle.std.specs.Prelude.{slice_index_or, IsTrue, IfOk, IfErr, IfSome, OnOk, OnErr};
 ghost use Rattle.std.specs.List.{All};
 ghost use Rattle.numa_fault.specs.Crew.{column, AreApart, AreAtEnd, ArePlacedApart, AreWithin};
@@ -97,6 +97,7 @@ impl Crew {
     pub fn join(pools: &Pools, workers: Vec<FaultWorker>) -> Option<PoolSeat>
         requires { All (λ (w : FaultWorker). w.seat.table ≡ pools.now.table) workers.items }
         ensures apart { AreApart workers.items }
+        ensures some { IsSome result ↔ (0 < length workers.items) }
         ensures seat { IfSome result (λ seat. (seat.table ≡ pools.now.table)
             × IsJoined workers.items seat) }
     {
@@ -126,6 +127,7 @@ impl Crew {
         requires { (seat.table ≡ pools.now.table) × (seat.log ≡ []) × (seat.unlogged ≡ no_other) }
         ensures seats { IfOk result (λ workers. IsFirstCrew workers.items
             × All (λ (w : FaultWorker). w.seat.table ≡ pools.now.table) workers.items) }
+        ensures number { IfOk result (λ workers. length workers.items ≡ length readers.items) }
         ensures desks { (desk : DeskIdentity)
             → All (λ (r : PlanReader). r.desk ≡ desk) readers.items
             → IfOk result (λ workers.
@@ -147,7 +149,9 @@ impl Crew {
     /// Whether the receipt, of the workers' desk, shows all that they have seen.
     pub fn are_within(workers: &[FaultWorker], receipt: &Receipt) -> bool
         requires { All (λ (w : FaultWorker). w.reader.desk ≡ receipt.now.desk) workers.now }
-        ensures { IsTrue result
+        ensures is { IsTrue result ↔ All (λ (w : FaultWorker).
+            length w.reader.history ≤ length receipt.now.history) workers.now }
+        ensures within { IsTrue result
             → AreWithin receipt.now.history receipt.now.versions workers.now }
     {
         for w in 0..workers.len() {
@@ -166,6 +170,7 @@ impl Crew {
         requires desk { All (λ (w : FaultWorker). w.reader.desk ≡ receipt.now.desk)
             workers.items }
         ensures apart { AreApart workers.items }
+        ensures some { IsSome result ↔ (0 < length workers.items) }
         ensures end { IfSome result (λ r. AreAtEnd pools.frames workers.items r.0.taken) }
         ensures within { IfSome result (λ r. IsTrue r.1
             → AreWithin receipt.now.history receipt.now.versions workers.items) }
@@ -193,6 +198,7 @@ impl Crew {
         requires tables { All (λ (w : FaultWorker). w.seat.table ≡ pools.table) workers.items }
         requires desk { All (λ (w : FaultWorker). w.reader.desk ≡ receipt.now.desk)
             workers.items }
+        ensures refusal { IfErr result (λ refusal. CrewRefuses (length workers.items) refusal) }
         ensures apart { IfOk result (λ r. ArePlacedApart r.0.items) }
         ensures end { IfOk result (λ r.
             (ended : IsEnded pools.frames requests.now workers.items r.0.items r.1.taken)
@@ -201,7 +207,7 @@ impl Crew {
         let mut workers = workers;
         let answers = Crew::run(rt, alloc, &mut workers, &pools, requests, gate)?;
         let Some((closed, within)) = Crew::end(pools, workers, receipt) else {
-            return Err(CrewRefusal::NoWorkers);
+            unreachable!()
         };
         Ok((answers, closed, within))
     }

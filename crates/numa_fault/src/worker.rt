@@ -170,7 +170,9 @@ impl FaultWorker {
     /// Whether the receipt, of the worker's desk, shows all that the worker has seen.
     pub fn is_within(&self, receipt: &Receipt) -> bool
         requires { receipt.now.desk ≡ self.now.reader.desk }
-        ensures { IsTrue result → Extends self.now.reader.history receipt.now.history
+        ensures is { IsTrue result ↔ length self.now.reader.history ≤ length receipt.now.history }
+        ensures extends { IsTrue result
+            → Extends self.now.reader.history receipt.now.history
             × Extends self.now.reader.versions receipt.now.versions }
     {
         let Some(reader) = &self.reader else {

@@ -30,4 +30,4 @@ returns-clause-end c requests before answers crew many served =
 pub returns-clause-within : goal.returns-clause-within
 returns-clause-within c told = subst (λ (ws : List WorkerState).
     AreWithin c.args.receipt.now.history c.args.receipt.now.versions ws) c.deref.ensures.value
-    (c.are_within-within.ensures told)
+    (c.are_within-within.ensures.within told)

@@ -1,4 +1,4 @@
-use Rattle.std.proofs.Common.{◌≡◌, length}
+use Rattle.std.proofs.Common.{◌≡◌, ◌+◌, length}
 use Rattle.std.specs.List.{All}
 use Rattle.numa_publish.specs.Shown.{DeskIdentity}
 use Rattle.numa_publish.specs.declared.reader.PlanReader.{PlanReader}
@@ -12,6 +12,7 @@ decreases-loop-reader l = length l.readers.items
 
 abbrev pub invariant-loop-reader : goal.invariant-loop-reader
 invariant-loop-reader l = record {
+  number : length l.workers.items + length l.readers.items + 1 ≡ length l.fn.readers.items;
   seats : AreEnlisted l.pools l.workers.items l.first;
   desks : (m : DeskIdentity) → All (λ (r : PlanReader). r.desk ≡ m) l.fn.readers.items
       → All (λ (r : PlanReader). r.desk ≡ m) l.readers.items
