@@ -7,14 +7,17 @@
  * Handles. A core, a core with its pages, a plan, a seat, a script and a host are kept by handles
  * of 16 bytes that begin as zero bytes, as in `np_core core = {0};`. A handle owns what it keeps
  * until it is closed. It must not be copied, and its fields are the library's: C neither reads nor
- * writes them. Closing a closed handle does nothing. No call takes a `const` handle: a question,
- * too, takes what is kept out of its handle, and puts it back before it answers.
+ * writes them. Closing a closed handle does nothing. A call that takes a `const` handle only looks
+ * at it; each other one, even a question, takes what is kept out of its handle, and puts it back
+ * before it answers.
  *
- * Threads. A handle may go to another thread, ordered by a lock, a start or a join, and is given to
- * one call at a time. A plan never changes: np_plan_share keeps it in a handle for each thread that
- * reads it, and np_seat_split makes a seat for each thread that takes frames. The library starts no
- * thread, waits for nothing and never ends the process. So it has no desk and no reader: a program
- * that swaps the plan of running threads does so under a lock of its own.
+ * Threads. A handle may go to another thread, ordered by a lock, a start or a join. Calls that take
+ * it `const` may run in any number of threads at once, and wait for nothing: those that ask a plan,
+ * which never changes, and np_plan_share, by which a plan outlives the handle of another thread.
+ * Each other call has its handle to itself: np_plan_close too, which comes after all questions of
+ * other threads. np_seat_split makes a seat for each thread that takes frames. The library starts
+ * no thread, waits for nothing and never ends the process. So it has no desk and no reader: a
+ * program that swaps the plan of running threads does so under a lock of its own.
  *
  * Pointers are not null, not even where a length is 0, and hold for the call; no two of one call
  * overlap. Texts are bytes with a length, without a zero at the end.
@@ -145,8 +148,10 @@ enum np_answer {
     NP_TARGET_NOT_ALLOWED = 103, /* EACCES: the node isn't allowed */
     NP_PAGE_UNMAPPED = 104,      /* EFAULT: the page isn't mapped */
     NP_NOT_PLACED = 105,         /* ENOENT: the page lies nowhere */
-    NP_NODE_FULL = 106,          /* ENOMEM: the node has no room for the page */
-    NP_OCCUPIED = 107            /* EEXIST: the page lies somewhere; no call answers so yet */
+    NP_NODE_FULL = 106,          /* ENOMEM: the node has no room for the page, or for so many */
+    NP_OCCUPIED = 107,           /* EEXIST: the page lies somewhere; no call answers so yet */
+    NP_NO_SUCH_CPU = 108,        /* EINVAL: the machine lacks the node of the task's CPU */
+    NP_SPAN_UNMAPPED = 109       /* ENOMEM: a page of the span that is touched isn't mapped */
 };
 
 /* ---- types */
@@ -367,30 +372,30 @@ uint32_t np_core_compile(np_core *core, np_plan *plan);
  * NP_NO_MEMORY. */
 uint32_t np_core_plan(np_core *core, np_plan *plan);
 
-/* Keeps the same plan in `other`, for another thread. NP_OPEN, NP_CLOSED, NP_NO_MEMORY. */
-uint32_t np_plan_share(np_plan *plan, np_plan *other);
+/* Keeps the same plan in `other`, which may outlive `plan`. NP_OPEN, NP_CLOSED, NP_NO_MEMORY. */
+uint32_t np_plan_share(const np_plan *plan, np_plan *other);
 
 /* Lets go of the plan, which is freed with its last handle. */
 void np_plan_close(np_plan *plan);
 
 /* How many commands the plan was made of. NP_CLOSED. */
-uint32_t np_plan_version(np_plan *plan, uint64_t *version);
+uint32_t np_plan_version(const np_plan *plan, uint64_t *version);
 
 /* Writes the list of nodes of a page at the start of `nodes`, in the order in which memory is
  * looked for on them, and how many they are (1 to 256) to `count`. NP_NO_ROOM where `room` is less:
  * then `count` is what is needed, and `nodes` is as it was. NP_CLOSED, NP_BAD_CPU, NP_UNMAPPED. */
-uint32_t np_plan_choice(np_plan *plan, uint32_t task, uint64_t page, uint32_t cpu, uint8_t *nodes,
-                        size_t room, size_t *count);
+uint32_t np_plan_choice(const np_plan *plan, uint32_t task, uint64_t page, uint32_t cpu,
+                        uint8_t *nodes, size_t room, size_t *count);
 
 /* Writes the first node of each page's list, for `pages` pages from `first` on.
  * NP_CLOSED, NP_BAD_CPU, NP_UNMAPPED. */
-uint32_t np_plan_fill(np_plan *plan, uint32_t task, uint32_t cpu, uint64_t first, uint8_t *nodes,
-                      size_t pages);
+uint32_t np_plan_fill(const np_plan *plan, uint32_t task, uint32_t cpu, uint64_t first,
+                      uint8_t *nodes, size_t pages);
 
 /* Counts, for `pages` pages from `first` on, how many have each node first. The time doesn't grow
  * with the pages. NP_CLOSED, NP_BAD_CPU, NP_UNMAPPED. */
-uint32_t np_plan_counts(np_plan *plan, uint32_t task, uint32_t cpu, uint64_t first, uint64_t pages,
-                        np_counts *counts);
+uint32_t np_plan_counts(const np_plan *plan, uint32_t task, uint32_t cpu, uint64_t first,
+                        uint64_t pages, np_counts *counts);
 
 /* ---- sets of nodes, and policy words. A set is a value: nothing is to be freed. */
 

@@ -2,12 +2,14 @@
  * and its first page applies here too.
  *
  * A core says where a page would go when it is first touched. An np_pages keeps a core together
- * with where its pages lie: a caller states that pages lie on nodes, and then they go where Linux
- * moves them: when the allowed nodes change, by migrate_pages(2), move_pages(2) and mbind(2). Each
- * command for that core is given to the np_pages, so that what it says of the pages fits the core
- * as it is: of a page that was unmapped nothing is stated any more.
+ * with where its pages lie: a caller states that pages lie on nodes, or has a task touch them for
+ * the first time; and then they go where Linux moves them: when the allowed nodes change, by
+ * migrate_pages(2), move_pages(2) and mbind(2). Each command for that core is given to the
+ * np_pages, so that what it says of the pages fits the core as it is: a page that was unmapped lies
+ * nowhere any more.
  *
- * Pages lie only where it was stated. Frames that workers take (np_core_touch, seats) are separate.
+ * Pages lie only where it was stated, and where they went since. Frames that workers take
+ * (np_core_touch, seats) are separate.
  * There are at most 1,048,576 runs of pages that lie on one node. */
 #ifndef NUMAPLAN_PLACED_H
 #define NUMAPLAN_PLACED_H
@@ -34,6 +36,12 @@ typedef struct np_moves {
     uint8_t to[256];
 } np_moves;
 
+/* What a task's first touches of the pages of a span did: how many went to a node, how many found
+ * no node with room, and how many went to each node. */
+typedef struct np_arrived {
+    uint64_t placed, exhausted, nodes[256];
+} np_arrived;
+
 /* What a policy did to the pages of its span: how many went to another node; how many had to go
  * and found no node with room; and the error number that mbind(2) answers all the same, 5 (EIO)
  * or 0. */
@@ -54,9 +62,11 @@ typedef struct np_page_run {
 #if defined(__cplusplus) && __cplusplus >= 201103L
 static_assert(sizeof(np_pages) == 16 && sizeof(np_page_run) == 24, "a handle, a struct");
 static_assert(sizeof(np_moves) == 2320 && sizeof(np_bound) == 24, "structs");
+static_assert(sizeof(np_arrived) == 2064, "a struct");
 #elif defined(__STDC_VERSION__) && __STDC_VERSION__ >= 201112L
 _Static_assert(sizeof(np_pages) == 16 && sizeof(np_page_run) == 24, "a handle, a struct");
 _Static_assert(sizeof(np_moves) == 2320 && sizeof(np_bound) == 24, "structs");
+_Static_assert(sizeof(np_arrived) == 2064, "a struct");
 #endif
 
 /* ---- opening and closing */
@@ -86,8 +96,9 @@ uint32_t np_pages_version(np_pages *pages, uint64_t *version);
 
 uint32_t np_pages_map(np_pages *pages, uint64_t start, uint64_t length, uint64_t offset);
 
-/* Then nothing is stated any more of the pages of the span. It tries that on a copy of the runs
- * of pages, if something is stated of them. First of all: NP_TOO_MANY_RUNS. */
+/* Then the pages of the span lie nowhere any more, and give back the room that they took. It tries
+ * that on a copy of the runs of pages, if one of them lies somewhere. First of all:
+ * NP_TOO_MANY_RUNS. */
 uint32_t np_pages_unmap(np_pages *pages, uint64_t start, uint64_t length);
 
 uint32_t np_pages_mbind(np_pages *pages, uint64_t start, uint64_t length, const uint8_t *policy,
@@ -114,12 +125,24 @@ uint32_t np_pages_mbind_strictly(np_pages *pages, uint64_t start, uint64_t lengt
 
 /* States that the mapped pages of a span lie on a node; what isn't mapped is passed over. A
  * later statement counts. In this order: NP_UNALIGNED, NP_OUT_OF_SPACE; NP_NO_SUCH_NODE, also
- * for a node without memory; NP_TOO_MANY_RUNS, NP_NO_MEMORY. */
+ * for a node without memory; NP_NODE_FULL where more pages come to the node than it takes;
+ * NP_TOO_MANY_RUNS; NP_NO_MEMORY, which may also come before those two. */
 uint32_t np_pages_place(np_pages *pages, uint64_t start, uint64_t length, uint32_t node);
 
-/* Says how many more pages a node takes: each page that moves there takes one, and each that
- * moves away gives one back. np_pages_place takes none. NP_ENDLESS, as at first: it never fills.
- * NP_NO_SUCH_NODE, also for a node without memory. Needs no memory. */
+/* Touches each page of a span for the first time, as a task on a CPU of the node `cpu` does that
+ * writes to it (madvise(2), MADV_POPULATE_WRITE): the lowest page first, each that lies nowhere
+ * goes to the first node of its list that has room by then. Pages that lie somewhere are passed
+ * over; one that finds no room stays nowhere, and the next go on. What that did is written to
+ * `arrived`, where NP_OK is answered. It is no command: the version stays. In this order:
+ * NP_UNALIGNED, NP_OUT_OF_SPACE; NP_NO_SUCH_CPU, where the machine lacks the node;
+ * NP_SPAN_UNMAPPED; NP_TOO_MANY_RUNS, NP_NO_MEMORY. */
+uint32_t np_pages_populate(np_pages *pages, uint64_t start, uint64_t length, uint32_t task,
+                           uint32_t cpu, np_arrived *arrived);
+
+/* Says how many more pages a node takes from now on: each page that comes to it (by a statement, a
+ * first touch or a move) takes one, and each that leaves it (by a later statement, a move or an
+ * unmap) gives one back. NP_ENDLESS, as at first: it never fills. NP_NO_SUCH_NODE, also for a node
+ * without memory. Needs no memory. */
 uint32_t np_pages_set_room(np_pages *pages, uint32_t node, uint64_t room);
 
 /* Writes how many more pages a node takes. NP_NO_SUCH_NODE, as above. */

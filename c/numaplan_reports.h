@@ -10,7 +10,7 @@
  * Pages that are there. np_predict_at and np_moves_at are told where pages lie: lines `at START
  * LENGTH NODE` say so, in a host `in P at ..`, of the script and of a further text `at`, whose other
  * lines are passed over. The other calls are about first touches, and judge lines `at` as
- * np_script_run does.
+ * np_script_run does; np_explain says too where the lines of a script put its page.
  *
  * Rooms. The answer stands at the start of `text`, and the messages after it. `report` gets how
  * many bytes each has. NP_NO_ROOM where both together are longer than the room: then `report` gives
@@ -146,8 +146,9 @@ uint32_t np_predict(const uint8_t *script, size_t length, const uint8_t *lines,
 uint32_t np_diff(const uint8_t *script, size_t length, const uint8_t *lines, size_t lines_length,
                  const np_question *asked, uint8_t *text, size_t room, np_report *report);
 
-/* Why the page of a number (its address divided by 4,096) would go where it goes (numaplan
- * explain). NP_BAD_RULES; NP_BAD_FORMAT; NP_NO_MEMORY; NP_NO_MACHINE; NP_BAD_CPU;
+/* Why the page of a number (its address divided by 4,096) would go where it goes; of one that is
+ * there also where it lies, and from which nodes, or with which nodes full, it would come there
+ * (numaplan explain). NP_BAD_RULES; NP_BAD_FORMAT; NP_NO_MEMORY; NP_NO_MACHINE; NP_BAD_CPU;
  * NP_UNMAPPED. */
 uint32_t np_explain(const uint8_t *script, size_t length, const uint8_t *lines,
                     size_t lines_length, const np_question *asked, uint64_t page, uint8_t *text,
@@ -223,7 +224,7 @@ uint32_t np_core_replay(np_core *core, const np_access *trace, size_t length, np
 
 /* ---- the same as texts: what the program prints of a script with these commands. The question's
  * rules don't count, since a core has its own; np_core_explain_text doesn't say by which other
- * rules a page would go elsewhere. NP_CLOSED, then as the calls for scripts */
+ * rules a page would go elsewhere, nor where it lies. NP_CLOSED, then as the calls for scripts */
 
 /* As np_predict. NP_BAD_FORMAT; NP_NO_MEMORY; NP_NO_SUCH_NODE; NP_BAD_CPU. */
 uint32_t np_core_predict_text(np_core *core, const np_question *asked, const np_free *free_pages,

@@ -8,9 +8,9 @@
 
 Addresses and lengths are in bytes, pages are numbered by address / 4096. A refused call raises the
 class that is named as its cause, and has changed nothing. A number that the library can't hold is a
-ValueError. Threads may share each object: a call waits while another thread is in a call of it. The
-library is looked for in NUMAPLAN_LIBRARY, then beside this module, then where the system keeps
-libraries. Not proved; what it calls is.
+ValueError. Threads may share each object: a call waits while another thread is in a call of it; but
+calls of a plan run at once. The library is looked for in NUMAPLAN_LIBRARY, then beside this module,
+then where the system keeps libraries. Not proved; what it calls is.
 """
 
 from __future__ import annotations
@@ -30,7 +30,7 @@ from ._causes import ListBackwards, ListBadDigit, ListEmpty, ListTooHigh, ManyPr
 from ._causes import NoMemory, NoMemoryNode, NoNodes
 from ._causes import NodeFull, NoNodeAllowed, NoPolicy, NoPolicyThere, NoRange, NoRoom, NoSuchNode
 from ._causes import NoSuchTarget, NotPlaced, Occupied, PageUnmapped, TargetNotAllowed, TooManyRuns
-from ._causes import NoSuchWorker, NodesForbidden
+from ._causes import NoSuchCpu, NoSuchWorker, NodesForbidden, SpanUnmapped
 from ._causes import NodesMissing, NodesNotAllowed, NotOwned, NotSupported, Open, OutOfSpace
 from ._causes import Overlap, PlacedTwice, Refused, TooManyFrames, TooManyRanges, TooManyTasks
 from ._causes import Unaligned, Unknown, UnknownMode, Unmapped
@@ -38,7 +38,7 @@ from ._core_reports import Move, Route
 from ._cores import Core, Explanation, Placement, Policy, Prediction, Range
 from ._hosts import Group, Host, Process
 from ._library import LIBRARY
-from ._pages import Bound, Moved, PageRun, Pages
+from ._pages import Arrived, Bound, Moved, PageRun, Pages
 from ._plans import Plan
 from ._scripts import Script
 from ._seats import Frame, Seat
@@ -46,7 +46,7 @@ from ._values import effective, nodes, nodes_text, policy_text, rebind
 
 __version__ = "0.10.0"
 __all__ = [
-    "Answer", "Bound", "Core", "Explanation", "Frame", "Group", "Host", "Move", "Moved",
+    "Answer", "Arrived", "Bound", "Core", "Explanation", "Frame", "Group", "Host", "Move", "Moved",
     "PageRun", "Pages", "Placement", "Plan", "Policy", "Prediction", "Process", "Question", "Range",
     "Report", "Route", "Script", "Seat",
     "check", "columns", "diff", "effective", "explain", "moves", "nodes", "nodes_text",
@@ -62,15 +62,15 @@ __all__ = [
     "ListBackwards", "ListBadDigit", "ListEmpty", "ListTooHigh", "ManyProcesses", "NoMachine",
     "NoMemory",
     "NoMemoryNode", "NoNodeAllowed", "NoNodes", "NoPolicy", "NodeFull", "NoSuchTarget", "NotPlaced",
-    "Occupied", "PageUnmapped", "TargetNotAllowed", "TooManyRuns",
+    "NoSuchCpu", "Occupied", "PageUnmapped", "SpanUnmapped", "TargetNotAllowed", "TooManyRuns",
     "NoPolicyThere", "NoRange", "NoRoom", "NoSuchNode", "NoSuchWorker", "NodesForbidden",
     "NodesMissing", "NodesNotAllowed", "NotOwned", "NotSupported", "Open", "OutOfSpace", "Overlap",
     "PlacedTwice", "Refused", "TooManyFrames", "TooManyRanges", "TooManyTasks", "Unaligned",
     "Unknown", "UnknownMode", "Unmapped",
 ]
 # (as users name them, also where they are pickled)
-for _one in (Bound, Core, Explanation, Frame, Group, Host, Move, Moved, PageRun, Pages, Placement,
-             Plan, Policy, Prediction, Process, Range, Route, Script, Seat):
+for _one in (Arrived, Bound, Core, Explanation, Frame, Group, Host, Move, Moved, PageRun, Pages,
+             Placement, Plan, Policy, Prediction, Process, Range, Route, Script, Seat):
     _one.__module__ = __name__
 
 if TYPE_CHECKING:

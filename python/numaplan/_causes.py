@@ -395,12 +395,21 @@ class NotPlaced(Refused, LookupError):
 
 class NodeFull(Refused, OSError):
     number = 106
-    words = ("the node has no room for the page; move another away from it, or give it room by"
-             " set_room")
+    words = ("the node has no room for the page, or for so many; move others away from it, or give it"
+             " room by set_room")
 
 
 class Occupied(Refused, OSError):
     number, words = 107, "the page lies somewhere already; unmap it first"
+
+
+class NoSuchCpu(Refused, LookupError):
+    number = 108
+    words = "the machine lacks the node of the task's CPU; its nodes are numbered from 0"
+
+
+class SpanUnmapped(Refused, LookupError):
+    number, words = 109, "a page of the span isn't mapped; map it first, or touch each mapped part"
 
 
 CAUSES: dict[int, type[Refused]] = {cause.number: cause for cause in Refused.__subclasses__()}

@@ -111,10 +111,11 @@ class Core(CoreReports):
                  max_ranges: int = 65536, max_tasks: int = 1024, max_commands: int = 2**32 - 1,
                  *, rules: str = "document", orders: str = "nearest",
                  cpus: "Nodes | None" = None):
-        """A machine: frames of each node, distances row by row, the nodes with memory (else those
-        that have frames). By `rules` those of the "document" count, or of the running kernel
-        ("linux"). By `orders` the "nearest" node comes first, of equal distances the lower number,
-        or each node has the order that a "kernel" makes where these nodes have `cpus` (else all)."""
+        """A machine: frames of each node, for workers alone, distances row by row, the nodes with
+        memory (else those that have frames, or all where none has). By `rules` those of the
+        "document" count, or of the running kernel ("linux"). By `orders` the "nearest" node comes
+        first, of equal distances the lower number, or each node has the order that a "kernel" makes
+        where these nodes have `cpus` (else all)."""
         super().__init__()
         limits = Limits(u32("max_ranges", max_ranges), u32("max_tasks", max_tasks),
                         u32("max_commands", max_commands))
@@ -125,17 +126,23 @@ class Core(CoreReports):
 
     @classmethod
     def from_hardware(cls, text: str, frames: "Numbers | None" = None, *, workers: int = 1,
-                      rules: str = "document", kernel_orders: bool = False,
+                      rules: "str | None" = None, kernel_orders: bool = False,
                       memory_added: bool = False) -> Core:
-        """A core of the machine that `numactl --hardware` or `lstopo --of xml` (hwloc 2) printed,
-        as numaplan-machine-line reads it. Frames are pages of 4,096 bytes; unless they are handed
-        in, a node of more than 4,096 leaves all without any, since questions don't ask for them. By
-        `kernel_orders` the machine has a kernel's orders, and by `memory_added` too those that it
-        made again once memory came to a node after the boot. A text of another form, and a machine
-        that numaplan can't hold, is a ValueError."""
+        """A core of the machine of a text, as numaplan-machine-line reads it: what `numactl
+        --hardware` or `lstopo --of xml` (hwloc 2) printed, hwloc's synthetic text, a script, of
+        which the lines rules, cpus, machine and weight count, or "live", this machine. Frames are
+        pages of 4,096 bytes; unless they are handed in, a node of more than 4,096 leaves all
+        without any, since questions don't ask for them. The rules are the script's, else the
+        "document" ones. By `kernel_orders` the machine has a kernel's orders (a script says itself
+        whether it has), and by `memory_added` too those that it made again once memory came to a
+        node after the boot. A text of another form, and a machine that numaplan can't hold, is a
+        ValueError."""
         found = read_hardware(text, kernel_orders, memory_added)
-        return cls(found.frames if frames is None else frames, found.distances, found.memory,
-                   workers, rules=rules, orders=found.orders, cpus=found.cpus)
+        core = cls(found.frames if frames is None else frames, found.distances, found.memory, workers,
+                   rules=rules or found.rules or "document", orders=found.orders, cpus=found.cpus)
+        for node, weight in found.weights.items():
+            core.set_weight(node, weight)
+        return core
 
     def _shown(self) -> str:
         count = c_size_t()
@@ -280,7 +287,7 @@ class Core(CoreReports):
                 self._call("core_fill", *touch, byref(left))
         taken = [before - after for before, after in zip(room, left)] if named else list(counts)
         rest = {node: pages - taken[node] for node, pages in named.items()}
-        found = Prediction(_some(taken), sum(counts) - sum(taken), rest)
+        found = Prediction(by_node(taken), sum(counts) - sum(taken), rest)
         found._again = again
         return found
 
@@ -353,8 +360,8 @@ def policy_of(told: StandingPolicy) -> "Policy | None":
     return Policy(told.mode, home, members(told.asked), members(told.nodes))
 
 
-def _some(counts: Iterable[int]) -> dict[int, int]:
-    """The numbers of the nodes that have some."""
+def by_node(counts: Iterable[int]) -> dict[int, int]:
+    """The nodes that have some, and how many."""
     return {node: count for node, count in enumerate(counts) if count}
 
 

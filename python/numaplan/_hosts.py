@@ -52,13 +52,15 @@ class Host(Owner):
         self._nodes = len(machine[2])
 
     @classmethod
-    def from_hardware(cls, text: str, *, rules: str = "document", kernel_orders: bool = False,
+    def from_hardware(cls, text: str, *, rules: "str | None" = None, kernel_orders: bool = False,
                       memory_added: bool = False) -> Host:
-        """A host on the machine that `numactl --hardware` or `lstopo --of xml` (hwloc 2) printed,
-        as Core.from_hardware reads it."""
+        """A host on the machine of a text, as Core.from_hardware reads it."""
         found = read_hardware(text, kernel_orders, memory_added)
-        return cls(found.frames, found.distances, found.memory, rules=rules, orders=found.orders,
-                   cpus=found.cpus)
+        host = cls(found.frames, found.distances, found.memory, orders=found.orders, cpus=found.cpus,
+                   rules=rules or found.rules or "document")
+        for node, weight in found.weights.items():
+            host.set_weight(node, weight)
+        return host
 
     def _shown(self) -> str:
         with self._alone():

@@ -68,6 +68,12 @@ class ToldMoves(ctypes.Structure):
                 ("to", c_uint8 * 256)]
 
 
+class ToldArrived(ctypes.Structure):
+    """np_arrived."""
+
+    _fields_ = [("placed", c_uint64), ("exhausted", c_uint64), ("nodes", c_uint64 * 256)]
+
+
 class ToldBound(ctypes.Structure):
     """np_bound."""
 
@@ -240,6 +246,7 @@ _SIGNATURES = {
     "pages_set_weight": [_HANDLE, _U32, _U32],
     "pages_set_mems": [_HANDLE, _TEXT, c_size_t],
     "pages_place": [_HANDLE, _U64, _U64, _U32],
+    "pages_populate": [_HANDLE, _U64, _U64, _U32, _U32, POINTER(ToldArrived)],
     "pages_set_room": [_HANDLE, _U32, _U64],
     "pages_room": [_HANDLE, _U32, POINTER(_U64)],
     "pages_node": [_HANDLE, _U64, POINTER(_U32)],

@@ -12,16 +12,18 @@ from ._causes import BadNodeCount
 from ._judged import Nodes, Numbers, list_of, listed, orders_number, rules_number, u8s, u32s
 from ._judged import utf8
 from ._library import Options
+from ._values import nodes
 
 HERE = os.path.dirname(os.path.abspath(__file__))
 
 
 def description(frames: Numbers, distances: Iterable[Numbers],
                  memory: "Nodes | None") -> tuple[Any, ...]:
-    """The arguments that describe a machine. Unless told, the nodes with memory have frames."""
+    """The arguments that describe a machine. Unless told, the nodes with memory have frames; where none
+    has, all are nodes with memory."""
     counts = u32s("frames", frames)
     if memory is None:
-        memory = [node for node, count in enumerate(counts) if count]
+        memory = [node for node, count in enumerate(counts) if count or not any(counts)]
     text = list_of("memory", memory)
     wanted = "it has to be rows of numbers, as [[10, 20], [20, 10]]"
     rows = [u8s("distances", row) for row in listed("distances", distances, wanted)]
@@ -44,32 +46,53 @@ def options_of(rules: str, orders: str, cpus: "Nodes | None") -> Options:
 
 
 class Hardware(NamedTuple):
-    """A machine as a core is opened by it."""
+    """A machine as a core or a host is opened by it, and its weights."""
 
     frames: list[int]
     distances: list[list[int]]
     memory: str
     orders: str
     cpus: "str | None"
+    rules: "str | None"
+    weights: dict[int, int]
 
 
 def read_hardware(text: str, kernel_orders: bool, memory_added: bool) -> Hardware:
-    """The machine of a text, as tools/machine-line writes it; ValueError with its words."""
+    """The machine of a text, as tools/machine-line reads it; ValueError with its words."""
     import subprocess  # (which imports much, for this alone)
     utf8("text", text)
     options = ["--kernel-orders"] * kernel_orders + ["--memory-added"] * memory_added
+    options += ["live"] * (text == "live")
     ran = subprocess.run([sys.executable, _machine_line(), *options], input=text, text=True,
                          encoding="utf-8", stdout=subprocess.PIPE, stderr=subprocess.PIPE)
     if ran.returncode != 0:
         raise ValueError(ran.stderr.strip().replace("machine-line: ", ""))
-    *others, line = ran.stdout.splitlines()
-    _, count, memory, each, table = line.split(" ")
-    frames = [int(item) for item in each.split(",")]
-    kernel, rows = table.startswith("kernel:"), table.replace("kernel:", "").split(";")
+    lines: dict[str, list[list[str]]] = {}
+    for line in ran.stdout.splitlines():
+        word, *rest = line.split(" ")
+        lines.setdefault(word, []).append(rest)
+    last = {word: rows[-1] for word, rows in lines.items()}
+    count, memory, each, table = last["machine"]
+    is_kernel, rows = table.startswith("kernel:"), table.replace("kernel:", "")
     return Hardware(
-        frames if len(frames) == int(count) else frames * int(count),
-        [[int(item) for item in row.split(",")] for row in rows], memory,
-        "kernel" if kernel else "nearest", others[0].split(" ")[1] if others else None)
+        frames_of(int(count, 0), memory, each), rows_of(int(count, 0), rows), memory,
+        "kernel" if is_kernel else "nearest", last["cpus"][0] if "cpus" in last and is_kernel else None,
+        last["rules"][0] if "rules" in last else None,
+        {int(node, 0): int(weight, 0) for node, weight in lines.get("weight", [])})
+
+
+def frames_of(count: int, memory: str, each: str) -> list[int]:
+    """The frames of each node, where one number is of every node with memory."""
+    frames = [int(item) for item in each.split(",")]
+    if len(frames) == count:
+        return frames
+    return [frames[0] if node in nodes(memory) else 0 for node in range(count)]
+
+
+def rows_of(count: int, table: str) -> list[list[int]]:
+    if table == "flat":
+        return [[10 if one == other else 20 for other in range(count)] for one in range(count)]
+    return [[int(item) for item in row.split(",")] for row in table.split(";")]
 
 
 def _machine_line() -> str:

@@ -7,9 +7,9 @@ from typing import NamedTuple
 
 from ._calls import encoded
 from ._causes import NoRoom, NotPlaced
-from ._cores import Core
+from ._cores import Core, by_node
 from ._judged import Nodes, ensure, list_of, u32, u64
-from ._library import PagesInRow, ToldBound, ToldMoves
+from ._library import PagesInRow, ToldArrived, ToldBound, ToldMoves
 from ._owners import Owner, counted
 
 ENDLESS = 2**64 - 1  # (NP_ENDLESS)
@@ -33,6 +33,15 @@ class Moved(NamedTuple):
     flows: dict[tuple[int, int], int]
 
 
+class Arrived(NamedTuple):
+    """What a task's first touches of the pages of a span did: how many went to a node, how many found no
+    node with room, and how many went to each node that got some."""
+
+    placed: int
+    exhausted: int
+    nodes: dict[int, int]
+
+
 class Bound(NamedTuple):
     """What a policy did to the pages of its span: how many went to another node, how many had to go and
     found no node with room, and the error number that mbind(2) answers all the same, 5 (EIO) or 0."""
@@ -43,9 +52,9 @@ class Bound(NamedTuple):
 
 
 class Pages(Owner):
-    """A core together with where its pages lie: as it is stated, and then where Linux moves them. It
-    has a copy of the core, and each command of that is given here; of a page that is unmapped nothing
-    is stated any more. Frames that workers take are apart."""
+    """A core together with where its pages lie: as it is stated, or a task touches them first, and then
+    where Linux moves them. It has a copy of the core, and each command of that is given here; a page
+    that is unmapped lies nowhere any more. Frames that workers take are apart."""
 
     _kind = "pages"
 
@@ -96,7 +105,7 @@ class Pages(Owner):
 
     def unmap(self, start: int, length: int) -> None:
         """Unmaps the pages of `length` bytes from address `start` on, those that are mapped; then
-        nothing is stated of them any more."""
+        they lie nowhere, and give back the room that they took."""
         self._call("pages_unmap", u64("start", start), u64("length", length))
 
     def mbind(self, start: int, length: int, policy: str, *, strict: bool = False) -> None:
@@ -134,13 +143,25 @@ class Pages(Owner):
 
     def place(self, start: int, length: int, node: int) -> None:
         """States that the mapped pages of `length` bytes from address `start` on lie on a node; a
-        later statement counts."""
+        later statement counts. Raises NodeFull where more come to the node than it takes."""
         self._call("pages_place", u64("start", start), u64("length", length),
              u32("node", node))
 
+    def populate(self, start: int, length: int, task: int = 0, cpu: int = 0) -> Arrived:
+        """Touches each page of `length` bytes from address `start` on for the first time, as a task on
+        the node `cpu` does that writes to it (madvise(2), MADV_POPULATE_WRITE): the lowest first, each
+        that lies nowhere goes to the first node of its list that has room by then. Pages that lie
+        somewhere are passed over; one that finds no room stays nowhere, and the next go on. Raises
+        SpanUnmapped where one isn't mapped."""
+        told = ToldArrived()
+        self._call("pages_populate", u64("start", start), u64("length", length),
+             u32("task", task), u32("cpu", cpu), byref(told))
+        return Arrived(told.placed, told.exhausted, by_node(told.nodes))
+
     def set_room(self, node: int, pages: "int | None") -> None:
-        """Says how many more pages a node takes: each page that moves there takes one, and each that
-        moves away gives one back; `place` takes none. None, as at first: it never fills."""
+        """Says how many more pages a node takes from now on: each page that comes to it (by `place`,
+        `populate` or a move) takes one, and each that leaves it (by a later `place`, a move or `unmap`)
+        gives one back. None, as at first: it never fills."""
         room = ENDLESS if pages is None else u64("pages", pages)
         self._call("pages_set_room", u32("node", node), room)
 
@@ -163,7 +184,7 @@ class Pages(Owner):
         """How many pages lie on each node that has some."""
         counts = (c_uint64 * 256)()
         self._call("pages_counts", byref(counts))
-        return {node: pages for node, pages in enumerate(counts) if pages}
+        return by_node(counts)
 
     def runs(self) -> list[PageRun]:
         """The runs of pages that lie on one node, in order of address and as long as they can be."""

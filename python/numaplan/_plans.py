@@ -3,21 +3,48 @@
 from __future__ import annotations
 
 from ctypes import byref, c_size_t, c_uint8, c_uint32, c_uint64, memmove
-from typing import TYPE_CHECKING, Iterator, overload
+from typing import TYPE_CHECKING, Any, Iterator, overload
 
-from ._calls import untyped
+from ._calls import call, untyped
 from ._causes import refusal
 from ._judged import Numbers, bytes_to_write, u32, u64, u64s
+from ._library import LIBRARY, Handle
 from ._owners import Owner
 
 if TYPE_CHECKING:
     from ._buffers import AnyBuffer, Buffer
 
 
+class _Kept(Handle):
+    """The handle of a plan, which is closed once no call of it is under way any more, and nothing
+    else refers to it."""
+
+    def __del__(self, _close: Any = LIBRARY.np_plan_close, _byref: Any = byref) -> None:
+        # (the defaults are there to the end of the interpreter)
+        _close(_byref(self))
+
+
 class Plan(Owner):
-    """A plan: the list of nodes of each page."""
+    """A plan: the list of nodes of each page. Threads ask it at once, and none waits: a plan never
+    changes. `close` waits for none either: the plan is freed when the last call of it ends."""
 
     _kind = "plan"
+
+    def __init__(self) -> None:
+        self._at = byref(_Kept())
+
+    def _call(self, name: str, *arguments: Any) -> int:
+        # (what is taken here refers to the handle for as long as the call takes)
+        return call(name, self._at, *arguments)
+
+    def _outlive_fork(self) -> None:
+        """In a child: no call of a plan is half done."""
+
+    def close(self) -> None:
+        self._at = byref(_Kept())
+
+    def __del__(self) -> None:
+        """Its handle closes itself."""
 
     def _shown(self) -> str:
         return f"version {self.version}"
@@ -30,7 +57,7 @@ class Plan(Owner):
         return version.value
 
     def share(self) -> Plan:
-        """The same plan, for a thread that isn't to wait for calls of this one."""
+        """The same plan once more, which stays when this one is closed."""
         other = Plan()
         self._call("plan_share", other._at)
         return other
@@ -61,12 +88,12 @@ class Plan(Owner):
         numbers = u64s("pages", pages)
         found = (c_uint8 * max(len(numbers), 1))()
         fill, touch = untyped("plan_fill"), (c_uint32(u32("task", task)), c_uint32(u32("cpu", cpu)))
-        with self._alone():
-            for begin, count in _runs(numbers):
-                first = c_uint64(numbers[begin] if count else 0)
-                code = fill(self._at, *touch, first, byref(found, begin), c_size_t(count))
-                if code:
-                    raise refusal(code)
+        kept = self._at
+        for begin, count in _runs(numbers):
+            first = c_uint64(numbers[begin] if count else 0)
+            code = fill(kept, *touch, first, byref(found, begin), c_size_t(count))
+            if code:
+                raise refusal(code)
         into: Buffer = bytearray(len(numbers)) if nodes is None else nodes
         place, room = bytes_to_write("nodes", into)
         if room != len(numbers):

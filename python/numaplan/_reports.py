@@ -127,8 +127,9 @@ def diff(script: Text, lines: Iterable[str], *, task: int = 1, node: int = 0, fo
 
 def explain(script: Text, page: int, lines: Iterable[str] = (), *, task: int = 1, node: int = 0,
             format: str = "text", rules: str = "document") -> Report:
-    """Why the page of a number (address / 4096) would go where it goes, as `numaplan explain` prints
-    it. Raises NoMachine, BadCpu or Unmapped."""
+    """Why the page of a number (address / 4096) would go where it goes, and of one that is there where
+    it lies and how it would come there, as `numaplan explain` prints it. Raises NoMachine, BadCpu or
+    Unmapped."""
     name, text = read(script)
     asked = AskedReport(u32("task", task), u32("node", node), rules_number(rules),
                         format_number(format))

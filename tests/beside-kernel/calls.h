@@ -179,7 +179,7 @@ static int carry_out_of_task(const char *line, char *answer, int size)
 	int task, cpu;
 	if (sscanf(line, "task %d %127s", &task, policy) == 2)
 		tell(set_task(read_policy(policy)), answer, size);
-	else if (sscanf(line, "place %d %li %d", &task, &address, &cpu) == 3)
+	else if (sscanf(line, "place %d %lx %d", &task, &address, &cpu) == 3)
 		place(address, cpu, answer, size);
 	else
 		return 0;
@@ -191,13 +191,13 @@ static int carry_out_of_memory(const char *line)
 {
 	unsigned long start, length, node;
 	char word[128];
-	if (sscanf(line, "map %li %li", &start, &length) == 2)
+	if (sscanf(line, "map %lx %lx", &start, &length) == 2)
 		return map(start, length);
-	if (sscanf(line, "unmap %li %li", &start, &length) == 2)
+	if (sscanf(line, "unmap %lx %lx", &start, &length) == 2)
 		return munmap((void *)start, length) ? errno : 0;
-	if (sscanf(line, "mbind %li %li %127s", &start, &length, word) == 3)
+	if (sscanf(line, "mbind %lx %lx %127s", &start, &length, word) == 3)
 		return set_span(start, length, read_policy(word));
-	if (sscanf(line, "home %li %li %lu", &start, &length, &node) == 3)
+	if (sscanf(line, "home %lx %lx %lu", &start, &length, &node) == 3)
 		return set_home(start, length, node);
 	return ENOSYS;
 }

@@ -13,11 +13,15 @@ import sys
 sys.path.append(os.path.dirname(os.path.abspath(__file__)) + "/../model")
 
 import model
+from commands import span_of
 from compare import opening, read_seen, run, short
+from space import piece_at
 
 ROWS = {
     "untouched": "move of a page that was never touched (6.1)",
     "unknown": "lines by which pages left a full node and others came or stayed, taken as they lay",
+    "hole": "lines populate over a hole, of which a kernel had written to the pages in front",
+    "behind": "of them to those behind it too (6.1)",
     "again": "lines by which a page found room on a filled node, where some was free again",
 }
 
@@ -41,6 +45,8 @@ def short_of_move(answer):
         return "EIO"
     if words[0] in ("at", "room", "memory-migrate"):
         return words[1] if words[1] == "ok" else answer
+    if "placed" in words:
+        return "ok" if words[4] == "0" else "full"
     return short(answer)
 
 
@@ -60,6 +66,8 @@ class Follower:
         if line.startswith(("mems ", "migrate ")):
             placed.stated.update({-1 - node: node for node in own})
         answer = model.answer(self.state, line)
+        if is_hole(line, answer):
+            self.write(line, True)
         for node in own:
             placed.stated.pop(-1 - node, None)
         left = {old for old, _ in placed.flows}
@@ -68,12 +76,31 @@ class Follower:
             came |= set(placed.stated.values())  # (a page may find its own node first)
         return None if left & came & set(placed.rooms) else answer
 
+    def write(self, line, is_front):
+        """A kernel has written to the pages of a span in front of its first hole, or to all others."""
+        _, start, length, task, cpu = line.split(" ")
+        first, end = span_of(int(start, 16), int(length, 16))
+        for page in range(first, end):
+            if piece_at(self.state.space, page):
+                model.answer(self.state, f"populate {page * 4096} 4096 {task} {cpu}")
+            elif is_front:
+                break
+
+    def counts(self):
+        """What numa_maps counts of the script's pages, by node."""
+        counts = collections.Counter(self.nodes().values())
+        return "".join(f"N{node}={count} " for node, count in sorted(counts.items()))
+
     def nodes(self):
         return self.state.placed.stated
 
     def take(self, nodes):
         """Pages lie as on the kernel from here on."""
         self.state.placed.stated = nodes
+
+
+def is_hole(line, answer):
+    return line.startswith("populate ") and answer == "refused Unmapped ENOMEM"
 
 
 def cause(line, mine, seen, is_full):
@@ -100,12 +127,22 @@ def compare(machine, script, counts):
         if line == "own":
             own = [int(word) for word in seen.split()]
         elif line == "lie":
+            if is_hole(before, mine) and follower.nodes() != pages_of(seen):
+                counts["behind"] += 1
+                follower.write(before, False)
             if tell_lie(f"{name}: behind {before}", follower, mine, pages_of(seen), counts):
                 return
+        elif line == "counts":
+            if follower.counts() != seen:
+                counts["new"] += 1
+                print(f"{name}: behind {before}: numa_maps {seen}, the model {follower.counts()}")
         else:
             counts["lines"] += 1
+            counts["first writes"] += line.startswith("populate ")
             before, mine, own = line, follower.play(line, own), []
-            if mine is None or short_of_move(mine) != seen:
+            if is_hole(line, mine) and seen == "ENOMEM":
+                counts["hole"] += 1
+            elif mine is None or short_of_move(mine) != seen:
                 row = cause(line, mine, seen, bool(follower.state.placed.rooms))
                 counts[row or "new"] += 1
                 if row is None:
@@ -159,7 +196,7 @@ def compare_program(program, known, machine, script, counts):
     program doesn't know: the program beside the model, with the listing behind each line that may
     have moved pages."""
     name, lines = script
-    asked = ["maps 1" if line == "lie" else line for line, _ in lines if line != "own"]
+    asked = ["maps 1" if line == "lie" else line for line, _ in lines if line not in ("own", "counts")]
     asked = [line for line in asked if flags_of(line) <= known]
     lines = ["rules linux", *opening(machine), *asked]
     said, state = iter(run(program, lines)), model.State()
@@ -191,8 +228,9 @@ def main():
             print(f"{counts[row]} {what}")
     if program:
         print(f"{counts['asked']} lines asked of the program")
-    print(f"{scripts} scripts, {counts['lines']} lines, {counts['read-backs']} times all pages read back"
-          f" ({counts['pages']} pages): {counts['new']} differences under no row")
+    print(f"{scripts} scripts, {counts['lines']} lines ({counts['first writes']} populate),"
+          f" {counts['read-backs']} times all pages read back ({counts['pages']} pages):"
+          f" {counts['new']} differences under no row")
     sys.exit(1 if counts["new"] else 0)
 
 

@@ -85,7 +85,10 @@ class Script:
             return self.say("map", hex(LAST_PAGE * PAGE), hex(PAGE), hex(LAST_PAGE))
         if self.random.random() < 0.02:
             start, length = self.above()
-            return self.say("map", hex(int(start, 16) + self.random.choice([0, 8])), length, 0)
+            step = self.random.choice([0, 8])
+            # (what begins inside the last page below 2^64 gets no error's number from a kernel)
+            start = int(start, 16) + (0 if int(start, 16) == 2**64 - PAGE else step)
+            return self.say("map", hex(start), length, 0)
         first, length = self.random.randrange(PAGES), self.random.randint(1, 12)
         if self.random.random() < 0.03:
             length = 0

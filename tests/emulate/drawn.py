@@ -54,12 +54,34 @@ def of_picture(text):
     return int(picture.getAttribute("height")), texts, titles
 
 
+def source_of(path):
+    with open(f"{top}/crates/{path}", encoding="utf-8") as file:
+        return file.read()
+
+
 def same_colours():
-    with open(f"{top}/crates/numa_reports/src/sheet/colours.rt", encoding="utf-8") as file:
-        source = file.read()
-    assert tuple(re.findall(r'"(#[0-9a-f]{6})",', source)) == colours.FILLS
-    dark = re.findall("true|false", re.search(r"IS_DARK.*?= \[(.*?)\];", source, re.DOTALL)[1])
-    assert {place for place, word in enumerate(dark) if word == "true"} == colours.DARK and len(dark) == 16, dark
+    """Those of numaplan's pictures and pages."""
+    path = "numa_sheets/src/colours.rt"
+    fills = re.search(r"FILLS\b.*?= \[(.*?)\];", source_of(path), re.DOTALL)
+    assert tuple(re.findall("#[0-9a-f]{6}", fills[1])) == colours.FILLS, path
+    dark = re.search(r"\bIS_DARK\b.*?= \[(.*?)\];", source_of(path), re.DOTALL)
+    words = re.findall("true|false", dark[1])
+    assert len(words) == 16, path
+    assert {at for at, word in enumerate(words) if word == "true"} == colours.DARK, path
+
+
+def lightness(colour):
+    """Of a colour as it is printed in grey: from 0, black, to 100, white (L* of CIELAB)."""
+    red, green, blue = (int(colour[at:at + 2], 16) / 255 for at in (1, 3, 5))
+    red, green, blue = (((one + 0.055) / 1.055) ** 2.4 for one in (red, green, blue))
+    return 116 * (0.2126 * red + 0.7152 * green + 0.0722 * blue) ** (1 / 3) - 16
+
+
+def told_apart_in_grey():
+    found = [lightness(colour) for colour in colours.FILLS]
+    assert min(abs(one - next_) for one, next_ in zip(found, found[1:])) > 24, found
+    for node, one in enumerate(found):
+        assert one < 50 if node in colours.DARK else one > 50, (node, one)
 
 
 def heights():
@@ -153,5 +175,5 @@ def harmless():
         assert "<script" not in forms[".svg"] + forms[".html"]
 
 
-for test in (same_colours, heights, nothing_hidden, says_what_it_is_of, touchers, numbers, harmless):
+for test in (same_colours, told_apart_in_grey, heights, nothing_hidden, says_what_it_is_of, touchers, numbers, harmless):
     test()

@@ -100,11 +100,27 @@ want([" heap " in f"{line} " for line in read("/proc/self/numa_maps").splitlines
 child = subprocess.Popen(["sleep", "9"])
 want("file=" in read(f"/proc/{child.pid}/numa_maps"), True, "numa_maps of another process")
 child.kill()
+child.wait()
 want([word for word in shown if word.startswith("N")], ["N1=1", "N2=2", "N3=1"], "numa_maps's nodes")
 after = counts_of(2)
 want(after["numa_hit"] >= before["numa_hit"] + 2, True, "two pages more on node 2")
 want(after["interleave_hit"] >= before["interleave_hit"] + 2, True, "interleaved")
 want(after["local_node"] + after["other_node"], after["numa_hit"], "local_node and other_node")
+
+
+def memory_of(node):
+    rows = [line.split()[2:4] for line in read(f"{NODES}/node{node}/meminfo").splitlines()]
+    return {name.rstrip(":"): int(number) for name, number in rows}
+
+
+before = memory_of(2)
+shared = mmap.mmap(-1, 4 * 4096)
+want(bind(ctypes.addressof(ctypes.c_char.from_buffer(shared)), 4, BIND, 0x4), 0, "mbind of shared memory")
+shared[::4096] = b"abcd"
+after = memory_of(2)
+want(after["Shmem"] - before["Shmem"], 16, "kilobytes of shared memory")
+want(before["MemFree"] - after["MemFree"] >= 16, True, "less is free")
+want(after["AnonPages"] + after["Shmem"], after["MemUsed"], "AnonPages and Shmem")
 print("\n".join(wrong), end="")
 sys.stdout.flush()
 os._exit(bool(wrong))

@@ -51,8 +51,8 @@ BY_NUMBER = {0: ValueError, EINVAL: ValueError, EFAULT: LookupError, ENODEV: Loo
              ESRCH: LookupError}
 OTHERS = {
     **dict.fromkeys(["NoMemory", "AnswerLost"], MemoryError),
-    **dict.fromkeys(["BadCpu", "NoRange", "NoSuchNode", "NoSuchWorker", "NotOwned", "Unknown", "Unmapped"],
-                    LookupError),
+    **dict.fromkeys(["BadCpu", "NoRange", "NoSuchCpu", "NoSuchNode", "NoSuchWorker", "NotOwned",
+                     "SpanUnmapped", "Unknown", "Unmapped"], LookupError),
     **dict.fromkeys(["AllTaken", "Busy", "Exhausted", "Idle"], OSError),
     **dict.fromkeys(["OutOfSpace", "NoNodes"], ValueError),  # (of an address, of an empty list)
 }

@@ -5,6 +5,7 @@ The arguments are the program and the folder of the examples. Not proved."""
 import glob
 import json
 import os
+import re
 import subprocess
 import sys
 
@@ -41,6 +42,13 @@ def library(call, *arguments, **named):
         return None
     want((report.messages, report.faulty), ([], False), "messages of a core")
     return report.text
+
+
+def unlined(text):
+    """A picture or page without what it says of added lines, which a core doesn't know; so a picture is lower."""
+    kept = re.sub(r"(<text[^>]*>)?(Added line|Allowed nodes).*\n", "", text or "")
+    drawn, about, rows = kept.partition('<g class="about"')
+    return (re.sub(r' height="\d+" viewBox="[\d ]*"', "", drawn, count=1), re.sub(r' y="\d+"', "", rows)) if about else kept
 
 
 def number(word):
@@ -114,9 +122,9 @@ def texts(path, core, after, rules):
          f"predict with free pages {path}")
     then = [f"--then={line}" for line in THEN]
     for form in ("text", "json", "svg", "html"):
-        want(library(core.diff_text, after, 1, 0, format=form),
-             program("diff", by, "--task=1", "--node=0", f"--format={form}", *then, path),
-             f"diff {path} {form}")
+        mine = library(core.diff_text, after, 1, 0, format=form)
+        theirs = program("diff", by, "--task=1", "--node=0", f"--format={form}", *then, path)
+        want((mine is None, unlined(mine)), (theirs is None, unlined(theirs)), f"diff {path} {form}")
     for trace in TRACES:
         met = {form: program("replay", by, f"--format={form}", f"--trace={trace}", path) or None
                for form in ("text", "json", "html")}
@@ -125,8 +133,10 @@ def texts(path, core, after, rules):
     for page in PAGES:
         mine = library(core.explain_text, page, 1, 0)
         theirs = program("explain", by, "--task=1", "--node=0", "--format=text", hex(page * 4096), path)
-        # (the program goes on where by the other rules the page would go elsewhere)
+        # (the program tells first where a page is that lines have placed, and goes on where by the other
+        # rules the page would go elsewhere)
         lines = (mine or "").splitlines()
+        theirs = theirs and re.sub(r"\Apage 0x[0-9a-f]+ is resident .*\n", "", theirs)
         want((mine is None, lines), (theirs is None, (theirs or "").splitlines()[:len(lines)]),
              f"explain {path} {page}")
 

@@ -23,6 +23,12 @@ def is_refused(cause, call, *arguments):
     return False
 
 
+# without a frame all nodes have memory, as those with frames do, unless it is told
+for frames, memory, wanted in [([0, 0], None, [1, 0]), ([0, 1], None, [1]), ([0, 0], "0", [0])]:
+    with Core(frames, [[10, 20], [20, 10]], memory) as core:
+        core.map(0x10000, 0x1000)
+        with core.compile() as plan:
+            assert plan.choice(1, 16, 1) == wanted, (frames, memory)
 with Core([2, 1], [[10, 20], [20, 10]], workers=2) as core:
     core.map(0x10000, 0x4000)
     core.map(0x20000, 0x2000)

@@ -34,7 +34,7 @@ fn main() -> Result<(), Refused> {
     }
     assert_eq!(copy.maps(1, &[])?.lines().count(), 304);
     core.publish()?;
-    let mut plan = core.published_plan()?;
+    let plan = core.published_plan()?;
     core.mbind(0x20000, 0x1000, "bind:1")?;
     assert_eq!((plan.version(), plan.choice(1, 32, 0)?), (3, vec![0, 1]));
     core.mbind(0x20000, 0x1000, "default")?;

@@ -1,11 +1,12 @@
 #!/usr/bin/env python3
 """Core.from_hardware: machines as numactl and lstopo print them (those of tests/tools, and of kernels that
-tests/beside-kernel recorded). Prints what is wrong; not proved."""
+tests/beside-kernel recorded), scripts, synthetic texts, and this one. Prints what is wrong; not proved."""
 
 import os
+import shutil
 import sys
 
-from numaplan import Core
+from numaplan import Core, Host
 
 SAMPLES = os.path.join(os.path.dirname(os.path.abspath(__file__)), "../tools/samples")
 # node 3 has no CPUs and less memory than the workers take; memory came to it after the boot. The orders
@@ -68,8 +69,24 @@ with Core.from_hardware(ADDED) as core:
     want(orders(core)[:2], [[0, 1, 2, 3], [1, 0, 3, 2]], "by distance")
 with Core.from_hardware(ADDED, kernel_orders=True, memory_added=True) as core:
     want(orders(core)[:2], [[0, 2, 1, 3], [1, 3, 2, 0]], "by a kernel whose memory was added")
-for text, why in (("no machine", "this is neither what `numactl --hardware` nor what `lstopo --of xml` "
-                   "prints"), ("<topology/>", "this XML isn't hwloc 2's: print it with lstopo of version 2 "
+SCRIPT = "rules linux\ncpus 0-1\nmachine 3 0,2 8 kernel:flat\nweight 2 3\nmap 0x10000 0x1000 0\n"
+with Core.from_hardware(SCRIPT) as core:
+    want(orders(core), [[0, 2], [2, 0], [2, 0]], "a script's orders")
+    core.set_task(1, "weighted:0,2")
+    core.map(0x20000, 0x4000, 0)
+    with core.compile() as plan:
+        want([plan.choice(1, 0x20 + at, 0)[0] for at in range(4)], [0, 2, 2, 2], "a script's weights")
+    core.publish()
+    want([core.touch(0, 1, 0x20, 0).node, core.touch(0, 1, 0x21, 0).node], [0, 2], "a script's frames")
+with Core.from_hardware("live") as core:
+    want(orders(core)[0][0], 0, "this machine")
+with Host.from_hardware("machine 2 0-1 0 flat\nweight 1 2") as host:
+    want(host.version, 1, "a host of a script, with a weight")
+if shutil.which("lstopo-no-graphics"):
+    with Core.from_hardware("numa:3 pu:2") as core:
+        want(orders(core)[1], [1, 0, 2], "one of hwloc's synthetic text")
+for text, why in (("no machine", "this is neither a script with a line `machine` nor what `numactl "
+                   "--hardware` or `lstopo --of xml` prints"), ("<topology/>", "this XML isn't hwloc 2's: print it with lstopo of version 2 "
                    "or later")):
     try:
         Core.from_hardware(text)

@@ -36,7 +36,7 @@ fn main() -> Result<(), Refused> {
     assert_eq!(host.task_policy(1, 8)?.map(|it| (it.mode, it.nodes)), Some((2, vec![3])));
     assert_eq!(host.task_policy(1, 9)?, None);
     // a plan goes to another thread, and so does a host
-    let mut plan = host.compile(1)?;
+    let plan = host.compile(1)?;
     let first = std::thread::spawn(move || plan.choice(8, 16, 0)).join().unwrap()?;
     assert_eq!(first, [3]);
     host.unmap(1, 0x10000, 0x1000)?;

@@ -52,6 +52,8 @@ CALLS = [
     (lambda start=0, length=0, node=0: core.set_home(start, length, node),
      {"start": 64, "length": 64, "node": 32}),
     (lambda node=0, weight=1: core.set_weight(node, weight), {"node": 32, "weight": 32}),
+    (lambda start=0, length=0, task=0, cpu=0: pages.populate(start, length, task, cpu),
+     {"start": 64, "length": 64, "task": 32, "cpu": 32}),
     (lambda worker=0, task=0, page=0, cpu=0: core.touch(worker, task, page, cpu),
      {"worker": 32, "task": 32, "page": 64, "cpu": 32}),
     (lambda worker=0, task=0, page=0, cpu=0: core.begin(worker, task, page, cpu),

@@ -46,6 +46,7 @@ static np_core core, taken;
 static np_pages pages, copy;
 static np_moves moves;
 static np_bound bound;
+static np_arrived arrived;
 static np_page_run told[8];
 static size_t count;
 
@@ -111,13 +112,17 @@ static uint32_t call(int which) {
     case 21: return np_pages_runs(&pages, told, 8, &count);
     case 22:
         return np_pages_mbind_moving(&pages, 0x10000, 0x2000, TEXT("bind:0"), true, 7, 0, &bound);
+    case 23: return np_pages_set_room(&pages, 2, 2);
+    case 24: return np_pages_place(&pages, 0x16000, 0x1000, 2);
+    case 25: return np_pages_populate(&pages, 0x20000, 0x2000, 7, 0, &arrived);
+    case 26: return np_pages_unmap(&pages, 0x21000, 0x1000);
     default: return NP_UNKNOWN;
     }
 }
-enum { CALLS = 23 };
+enum { CALLS = 27 };
 
 /* Whether the header says that a call needs no memory. */
-static bool is_free(int which) { return which == 6; }
+static bool is_free(int which) { return which == 6 || which == 23; }
 
 /* Whether two sights are the same. */
 static bool is_same(const struct seen *one, const struct seen *other) {
@@ -136,13 +141,15 @@ static long play(void) {
             see(&copy, &of_copy);
             memset(&moves, 9, sizeof moves);
             memset(&bound, 9, sizeof bound);
+            memset(&arrived, 9, sizeof arrived);
             left = growth;
             code = call(which);
             left = -1;
             see(&pages, &after);
             see(&copy, &then);
             bool same = is_same(&before, &after) && is_same(&of_copy, &then);
-            bool untold = moves.moved == UINT64_C(0x0909090909090909) && bound.moved == moves.moved;
+            bool untold = moves.moved == UINT64_C(0x0909090909090909) &&
+                          bound.moved == moves.moved && arrived.placed == moves.moved;
             bool well = code == NP_NO_MEMORY ? same && untold && !is_free(which) : code == NP_OK;
             if (!well) {
                 printf("call %d, growth %ld: %u, %s\n", which, growth, code,

@@ -1,6 +1,6 @@
 /* Cores with their pages from C: where pages lie, and where they go. The values are those of
- * cpusets(7), migrate_pages(2), move_pages(2) and mbind(2), by hand. Prints what is wrong; not
- * proved. */
+ * cpusets(7), migrate_pages(2), move_pages(2), mbind(2) and madvise(2), by hand. Prints what is
+ * wrong; not proved. */
 #include "numaplan_placed.h"
 
 #include <errno.h>
@@ -210,10 +210,39 @@ static void rooms(void) {
     WANT(np_pages_move(&pages, BASE + 0x3000, 2), NP_OK);
     WANT(nodes_of(&pages), 7322219);
     WANT(room_of(&pages, 2), 0);
-    /* a statement takes no room, and an unmapped page gives none back */
-    WANT(np_pages_place(&pages, BASE + 0x5000, 4096, 2), NP_OK);
+    /* a statement takes room, too, and an unmapped page gives its own back */
+    WANT(np_pages_place(&pages, BASE + 0x5000, 4096, 2), NP_NODE_FULL);
+    WANT(nodes_of(&pages), 7322219);
     WANT(np_pages_unmap(&pages, BASE + 0x1000, 4096), NP_OK);
+    WANT(room_of(&pages, 2), 1);
+    WANT(np_pages_place(&pages, BASE + 0x5000, 4096, 2), NP_OK);
     WANT(room_of(&pages, 2), 0);
+    /* of pages that lie there none takes any; one that is stated elsewhere gives its own back */
+    WANT(np_pages_place(&pages, BASE + 0x2000, 0x2000, 2), NP_OK);
+    WANT(room_of(&pages, 2), 0);
+    WANT(room_of(&pages, 1), 4);
+    WANT(np_pages_place(&pages, BASE + 0x3000, 0x2000, 1), NP_OK);
+    WANT(room_of(&pages, 2), 1);
+    WANT(room_of(&pages, 1), 3);
+    WANT(nodes_of(&pages), 7392112);
+    /* three pages come to node 2, and two lie there: all or none */
+    WANT(np_pages_place(&pages, BASE, 0x6000, 2), NP_NODE_FULL);
+    WANT(np_pages_set_room(&pages, 2, 2), NP_OK);
+    WANT(np_pages_place(&pages, BASE, 0x6000, 2), NP_NODE_FULL);
+    WANT(nodes_of(&pages), 7392112);
+    WANT(room_of(&pages, 2), 2);
+    WANT(np_pages_set_room(&pages, 2, 3), NP_OK);
+    WANT(np_pages_place(&pages, BASE, 0x6000, 2), NP_OK);
+    WANT(nodes_of(&pages), 7292222);
+    WANT(room_of(&pages, 2), 0);
+    WANT(room_of(&pages, 1), 5);
+    /* which comes after the causes of the call itself; a node that never fills takes all */
+    WANT(np_pages_place(&pages, BASE + 1, 4096, 2), NP_UNALIGNED);
+    WANT(np_pages_place(&pages, UINT64_C(1) << 47, 4096, 2), NP_OUT_OF_SPACE);
+    WANT(np_pages_set_room(&pages, 2, NP_ENDLESS), NP_OK);
+    WANT(np_pages_place(&pages, BASE, 0x1000, 1), NP_OK);
+    WANT(np_pages_place(&pages, BASE, 0x1000, 2), NP_OK);
+    WANT(room_of(&pages, 2), NP_ENDLESS);
     WANT(np_pages_set_room(&pages, 4, 1), NP_NO_SUCH_NODE);
     WANT(np_pages_set_room(&pages, 5, 1), NP_NO_SUCH_NODE);
     uint64_t room = 77;
@@ -364,18 +393,155 @@ static void rebound(void) {
     WANT(np_pages_mbind_moving(&pages, BASE, 0, TEXT("bind:0"), true, 0, 0, &bound), NP_CLOSED);
 }
 
-/* Of pages that are unmapped nothing is stated any more. */
+/* madvise(2) with MADV_POPULATE_WRITE: placed, exhausted, and the pages that went to nodes 0 to 3,
+ * in digits. */
+static unsigned populating(np_pages *pages, uint64_t start, uint64_t length, uint32_t task,
+                           uint32_t cpu) {
+    np_arrived told;
+    uint64_t version = version_of(pages), others = 0;
+    memset(&told, 9, sizeof told);
+    WANT(np_pages_populate(pages, start, length, task, cpu, &told), NP_OK);
+    WANT(version_of(pages), version);
+    for (size_t node = 4; node < 256; node++)
+        others += told.nodes[node];
+    WANT(others, 0);
+    return (unsigned)(told.placed * 100000 + told.exhausted * 10000 + told.nodes[0] * 1000 +
+                      told.nodes[1] * 100 + told.nodes[2] * 10 + told.nodes[3]);
+}
+
+/* First touches: where a fault of the task would put each page. */
+static void populated(void) {
+    np_pages pages = {0};
+    open_pages(&pages, 64, 99);
+    WANT(np_pages_set_task(&pages, 1, TEXT("interleave:0-1")), NP_OK);
+    /* one is there: it stays. Of the even pages two find room on node 0, and the third goes to 1 */
+    WANT(np_pages_place(&pages, BASE + 0x1000, 0x1000, 3), NP_OK);
+    WANT(np_pages_set_room(&pages, 0, 2), NP_OK);
+    WANT(populating(&pages, BASE, 0x6000, 1, 0), 502300);
+    WANT(nodes_of(&pages), 7030111);
+    WANT(room_of(&pages, 0), 0);
+    WANT(room_of(&pages, 1), NP_ENDLESS);
+    /* all are there: nothing is to be touched, though there is no room */
+    WANT(populating(&pages, BASE, 0x6000, 1, 0), 0);
+    WANT(nodes_of(&pages), 7030111);
+    /* one that is unmapped gives its room back, lies nowhere, and takes room anew */
+    WANT(np_pages_unmap(&pages, BASE, 0x2000), NP_OK);
+    WANT(room_of(&pages, 0), 1);
+    WANT(np_pages_map(&pages, BASE, 0x2000, 0x10), NP_OK);
+    WANT(nodes_of(&pages), 7990111);
+    WANT(populating(&pages, BASE, 1, 7, 0), 101000); /* (a task without a policy; one page) */
+    WANT(room_of(&pages, 0), 0);
+    WANT(populating(&pages, BASE, 0x2000, 7, 4), 100100); /* (node 4 has a CPU, and no memory) */
+    WANT(nodes_of(&pages), 7010111);
+    /* one that finds no room stays nowhere, and the next go on: node 2 takes one of three */
+    WANT(np_pages_unmap(&pages, BASE, 0x6000), NP_OK);
+    WANT(room_of(&pages, 0), 2);
+    WANT(np_pages_map(&pages, BASE, 0x6000, 0x10), NP_OK);
+    WANT(np_pages_mbind(&pages, BASE, 0x3000, TEXT("bind:2")), NP_OK);
+    WANT(np_pages_set_room(&pages, 2, 1), NP_OK);
+    WANT(populating(&pages, BASE, 0x6000, 7, 3), 420013);
+    WANT(nodes_of(&pages), 7299333);
+    WANT(populating(&pages, BASE, 0x6000, 7, 3), 20000);
+    WANT(room_of(&pages, 2), 0);
+    WANT(np_pages_set_room(&pages, 2, NP_ENDLESS), NP_OK);
+    WANT(populating(&pages, BASE + 0x1000, 0x5000, 7, 3), 200020);
+    WANT(nodes_of(&pages), 7222333);
+    /* they move as all others do, and a later statement counts */
+    WANT(np_pages_move(&pages, BASE, 1), NP_OK);
+    WANT(np_pages_place(&pages, BASE + 0x1000, 0x1000, 0), NP_OK);
+    WANT(nodes_of(&pages), 7102333);
+    WANT(room_of(&pages, 0), 1);
+    np_pages_close(&pages);
+}
+
+/* First touches of 2,000 pages from page 4,096 on, of which one lies on node 3 already. */
+static void populated_far(void) {
+    const uint64_t start = UINT64_C(4096) * 4096, length = UINT64_C(2000) * 4096;
+    static const uint32_t room[4] = {700, 1000, 100, 50};
+    static const np_page_run wanted[6] = {{4096, 600, 0}, {4696, 1, 3},    {4697, 100, 0},
+                                          {4797, 1000, 1}, {5797, 100, 2}, {5897, 50, 3}};
+    np_pages pages = {0};
+    np_page_run runs[6];
+    np_arrived told;
+    size_t count = 99;
+    open_pages(&pages, 64, 99);
+    WANT(np_pages_map(&pages, start, length, 4096), NP_OK);
+    WANT(np_pages_place(&pages, start + 600 * 4096, 4096, 3), NP_OK);
+    for (uint32_t node = 0; node < 4; node++)
+        WANT(np_pages_set_room(&pages, node, room[node]), NP_OK);
+    /* node after node fills, the nearest first, and the last 149 pages find no room */
+    WANT(np_pages_populate(&pages, start, length, 7, 0, &told), NP_OK);
+    WANT(told.placed, 1850);
+    WANT(told.exhausted, 149);
+    WANT(np_pages_runs(&pages, runs, 6, &count), NP_OK);
+    WANT(count, 6);
+    for (size_t k = 0; k < 6; k++) {
+        WANT(runs[k].first, wanted[k].first);
+        WANT(runs[k].pages, wanted[k].pages);
+        WANT(runs[k].node, wanted[k].node);
+    }
+    for (uint32_t node = 0; node < 4; node++) {
+        WANT(told.nodes[node], room[node]);
+        WANT(room_of(&pages, node), 0);
+    }
+    /* all give their room back, and the one that was there before the rooms were said does too */
+    WANT(np_pages_unmap(&pages, start, length), NP_OK);
+    for (uint32_t node = 0; node < 4; node++)
+        WANT(room_of(&pages, node), room[node] + (node == 3));
+    /* page by page to two nodes, of which one fills: the pages of node 1 are then 1,300 */
+    WANT(np_pages_map(&pages, start, length, 4096), NP_OK);
+    WANT(np_pages_set_room(&pages, 1, NP_ENDLESS), NP_OK);
+    WANT(np_pages_set_task(&pages, 1, TEXT("interleave:0-1")), NP_OK);
+    WANT(np_pages_populate(&pages, start, length, 1, 3, &told), NP_OK);
+    WANT(told.nodes[0], 700);
+    WANT(told.nodes[1], 1300);
+    WANT(told.placed * 10 + told.exhausted, 20000);
+    WANT(node_of(&pages, 4096 + 1398), 0);
+    WANT(node_of(&pages, 4096 + 1400), 1);
+    np_pages_close(&pages);
+}
+
+/* Why pages aren't touched, in order; nothing has changed then, and nothing is told. */
+static void unpopulated(void) {
+    const uint64_t top = UINT64_C(1) << 47;
+    np_pages pages = {0};
+    np_arrived told;
+    open_pages(&pages, 64, 99);
+    WANT(np_pages_place(&pages, BASE, 0x1000, 1), NP_OK);
+    memset(&told, 9, sizeof told);
+    WANT(np_pages_populate(&pages, top + 1, 4096, 0, 5, &told), NP_UNALIGNED);
+    WANT(np_pages_populate(&pages, BASE + 1, 4096, 0, 0, &told), NP_UNALIGNED);
+    WANT(np_pages_populate(&pages, top, 4096, 0, 5, &told), NP_OUT_OF_SPACE);
+    WANT(np_pages_populate(&pages, BASE, 0x7000, 0, 5, &told), NP_NO_SUCH_CPU);
+    WANT(np_pages_populate(&pages, BASE, 0, 0, UINT32_MAX, &told), NP_NO_SUCH_CPU);
+    WANT(np_pages_populate(&pages, BASE, 0x6001, 0, 0, &told), NP_SPAN_UNMAPPED);
+    WANT(np_pages_populate(&pages, BASE - 0x1000, 0x2000, 0, 4, &told), NP_SPAN_UNMAPPED);
+    WANT(np_pages_unmap(&pages, BASE + 0x2000, 0x1000), NP_OK);
+    WANT(np_pages_populate(&pages, BASE, 0x6000, 0, 0, &told), NP_SPAN_UNMAPPED);
+    WANT(nodes_of(&pages), 7199999);
+    WANT(told.placed, UINT64_C(0x0909090909090909));
+    WANT(told.nodes[255], UINT64_C(0x0909090909090909));
+    WANT(populating(&pages, 0, 0, 0, 0), 0); /* (a span of no bytes has no page) */
+    np_pages_close(&pages);
+    WANT(np_pages_populate(&pages, BASE + 1, 0x1000, 0, 9, &told), NP_CLOSED);
+    WANT(told.exhausted, UINT64_C(0x0909090909090909));
+}
+
+/* Pages that are unmapped lie nowhere any more. */
 static void unmapped(void) {
     np_pages pages = {0};
     open_pages(&pages, 1, 99);
     place_all(&pages, "222222");
+    WANT(np_pages_set_room(&pages, 2, 0), NP_OK);
     /* refused, since one range would become two: the pages are as they were */
     WANT(np_pages_unmap(&pages, BASE + 0x1000, 0x1000), NP_TOO_MANY_RANGES);
     WANT(np_pages_unmap(&pages, BASE + 1, 0x1000), NP_UNALIGNED);
     WANT(np_pages_unmap(&pages, BASE, UINT64_C(1) << 47), NP_OUT_OF_SPACE);
     WANT(nodes_of(&pages), 7222222);
+    WANT(room_of(&pages, 2), 0);
     WANT(np_pages_unmap(&pages, BASE + 0x4000, 0x9000), NP_OK);
     WANT(nodes_of(&pages), 7222299);
+    WANT(room_of(&pages, 2), 2);
     WANT(np_pages_map(&pages, BASE + 0x4000, 0x2000, 0x14), NP_OK);
     WANT(nodes_of(&pages), 7222299);
     WANT(np_pages_move(&pages, BASE + 0x4000, 2), NP_NOT_PLACED);
@@ -488,6 +654,7 @@ static void causes(void) {
         {NP_TARGET_NOT_ALLOWED, EACCES, "TargetNotAllowed"},
         {NP_PAGE_UNMAPPED, EFAULT, "PageUnmapped"}, {NP_NOT_PLACED, ENOENT, "NotPlaced"},
         {NP_NODE_FULL, ENOMEM, "NodeFull"}, {NP_OCCUPIED, EEXIST, "Occupied"},
+        {NP_NO_SUCH_CPU, EINVAL, "NoSuchCpu"}, {NP_SPAN_UNMAPPED, ENOMEM, "SpanUnmapped"},
     };
     uint32_t number = 99;
     for (size_t k = 0; k < sizeof all / sizeof *all; k++) {
@@ -499,7 +666,7 @@ static void causes(void) {
         WANT(np_answer_errno(all[k].code, &number), NP_OK);
         WANT(number, all[k].number);
     }
-    WANT(np_answer_errno(108, &number), NP_UNKNOWN);
+    WANT(np_answer_errno(110, &number), NP_UNKNOWN);
 }
 
 int main(void) {
@@ -513,6 +680,9 @@ int main(void) {
     strictly_over_a_hole(NP_RULES_DOCUMENT, NP_HOLE);
     strictly_over_a_hole(NP_RULES_LINUX, NP_ASTRAY);
     rebound();
+    populated();
+    populated_far();
+    unpopulated();
     unmapped();
     copies();
     commands();

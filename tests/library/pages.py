@@ -9,7 +9,7 @@ import sys
 from types import SimpleNamespace
 
 import numaplan
-from numaplan import Bound, Core, Moved, PageRun, Pages
+from numaplan import Arrived, Bound, Core, Moved, PageRun, Pages
 
 sys.path.insert(0, os.path.join(os.path.dirname(os.path.abspath(__file__)), "..", "model"))
 
@@ -30,6 +30,15 @@ def opened(rules="document"):
     with Core([0] * NODES, FLAT, memory=MEMORY, max_ranges=LIMITS[0], max_tasks=LIMITS[1],
               max_commands=LIMITS[2], rules=rules) as core:
         return Pages(core)
+
+
+def cause_of(call):
+    """The class of the cause for which a call is refused; None where it isn't."""
+    try:
+        call()
+    except numaplan.Refused as cause:
+        return type(cause)
+    return None
 
 
 def worked():
@@ -74,6 +83,42 @@ def worked():
             assert plan.version == 4
 
 
+def populated():
+    """First touches: rows by hand."""
+    with opened() as pages:
+        pages.map(BASE, 0x6000)
+        pages.set_task(1, "interleave:0-1")
+        pages.place(BASE + 0x1000, 0x1000, 3)
+        # one is there, and of the even pages node 0 takes two
+        pages.set_room(0, 2)
+        assert pages.populate(BASE, 0x6000, 1) == Arrived(5, 0, {0: 2, 1: 3})
+        assert pages.runs() == [PageRun(16, 1, 0), PageRun(17, 1, 3), PageRun(18, 1, 0), PageRun(19, 3, 1)]
+        assert (pages.room(0), pages.room(1), pages.version) == (0, None, 2)
+        assert pages.populate(BASE, 0x6000, 1) == Arrived(0, 0, {})
+        assert cause_of(lambda: pages.place(BASE + 0x1000, 0x1000, 0)) == numaplan.NodeFull
+        # an unmapped page gives its room back; a statement takes it; and task 0 finds it next to its CPU
+        pages.unmap(BASE, 0x1000)
+        assert pages.room(0) == 1
+        pages.place(BASE + 0x1000, 0x1000, 0)
+        assert pages.room(0) == 0
+        pages.map(BASE, 0x1000)
+        assert pages.populate(BASE, 1, cpu=2) == Arrived(1, 0, {2: 1})
+        # one without room stays nowhere, and the next go on
+        pages.unmap(BASE, 0x6000)
+        pages.map(BASE, 0x6000)
+        pages.mbind(BASE, 0x2000, "bind:3")
+        pages.set_room(3, 1)
+        assert pages.populate(BASE, 0x6000) == Arrived(5, 1, {0: 2, 1: 2, 3: 1})
+        before = pages.runs(), pages.room(0), pages.version
+        for call, cause, number in (
+                (lambda: pages.populate(BASE + 1, 0x1000, 0, 9), numaplan.Unaligned, 22),
+                (lambda: pages.populate(2**47, 0x1000, 0, 9), numaplan.OutOfSpace, 12),
+                (lambda: pages.populate(BASE, 0x7000, 0, NODES), numaplan.NoSuchCpu, 22),
+                (lambda: pages.populate(BASE, 0x7000, 0, 4), numaplan.SpanUnmapped, 12)):
+            assert (cause_of(call), cause.errno) == (cause, number)
+        assert (pages.runs(), pages.room(0), pages.version) == before
+
+
 def span(dice):
     """A span, mostly within the pages; seldom one that isn't aligned, or has no byte."""
     first = dice.randrange(PAGES)
@@ -103,7 +148,7 @@ def change(state, follows, name, *arguments):
 def a_call(dice, state):
     """What is asked of the model, and the same of the module."""
     (start, length), node = span(dice), min(dice.randrange(7), dice.randrange(7))
-    some, other, word, kind = some_list(dice), some_list(dice), word_of(dice), dice.randrange(20)
+    some, other, word, kind = some_list(dice), some_list(dice), word_of(dice), dice.randrange(23)
     address, asked, nodes = BASE + dice.randrange(4096 * PAGES), asked_policy(word), frozenset(some)
     if kind < 2:
         return (lambda: change(state, False, "map", start, length, start // 4096),
@@ -131,6 +176,10 @@ def a_call(dice, state):
                 lambda pages: pages.place(start, length, node))
     if kind < 14:
         return lambda: model.move(state, address, node), lambda pages: pages.move(address, node)
+    if kind > 19:
+        task, cpu = dice.randrange(2), dice.randrange(NODES + (dice.random() < 0.1))
+        return (lambda: model.populate(state, start, length, task, cpu),
+                lambda pages: pages.populate(start, length, task, cpu))
     if kind > 15:
         task, cpu, strict = dice.randrange(2), dice.randrange(NODES), dice.random() < 0.7
         word = word if dice.random() < 0.5 else f"bind:{dice.randrange(3)}"
@@ -141,9 +190,10 @@ def a_call(dice, state):
             lambda pages: pages.migrate(some, other))
 
 
-# what the module names otherwise, of what move_pages(2) refuses
+# what the module names otherwise, of what move_pages(2), madvise(2) and statements refuse
 MOVES = {"NoSuchNode": "NoSuchTarget", "NodesNotAllowed": "TargetNotAllowed",
          "Unmapped": "PageUnmapped", "NotPlaced": "NotPlaced", "NoRoom": "NodeFull"}
+TOUCHES = {("BadCpu", "EINVAL"): "NoSuchCpu", ("Unmapped", "ENOMEM"): "SpanUnmapped"}
 ERRNO = {"EINVAL": 22, "ENOMEM": 12, "EEXIST": 17, "EFAULT": 14, "ENOSPC": 28, "EIO": 5,
          "ENODEV": 19, "EACCES": 13, "ENOENT": 2}
 
@@ -153,7 +203,8 @@ def wanted(text):
     words = text.split()
     if words[0] != "refused":
         return None
-    name = MOVES[words[1]] if (words[1], words[2]) in model.MOVE_ERRNO.items() else words[1]
+    cause = words[1], words[2]
+    name = MOVES[words[1]] if cause in model.MOVE_ERRNO.items() else TOUCHES.get(cause, words[1])
     return name, ERRNO[words[2]]
 
 
@@ -166,7 +217,11 @@ def answer(pages, call):
 
 
 def told_by(placed, told, text):
-    """What the model's last move did, as the module tells it."""
+    """What the model's last move or first touches did, as the module tells it."""
+    if isinstance(told, Arrived):
+        _, _, placed, _, exhausted, *nodes = text.split()  # (as "v7: placed 3 exhausted 0 N0=1 N2=2")
+        counts = (word[1:].split("=") for word in nodes)
+        return Arrived(int(placed), int(exhausted), {int(node): int(count) for node, count in counts})
     moved = sum(placed.flows.values())
     if isinstance(told, Bound):
         return Bound(moved, placed.left, 5 if text.endswith(" EIO") else 0)
@@ -183,14 +238,14 @@ def is_same(pages, state):
 
 
 def play(dice, rules):
-    """A round by these rules. How many calls were refused, how many pages moved, and how many
-    policies told that pages stayed."""
+    """A round by these rules. How many calls were refused, how many pages moved, how many policies
+    told that pages stayed, how many pages were placed by first touches, and how many found no room."""
     machine, fault = machine_of(None, NODES, frozenset(MEMORY), [0], ("flat", False))
     assert fault is None
     machine.is_linux = rules == "linux"
     state = SimpleNamespace(space=Space(machine, LIMITS), placed=model.Placed(),
                             crew=SimpleNamespace(kept={}))
-    refused = moved = late = 0
+    refused = moved = late = placed = exhausted = 0
     with opened(rules) as pages:
         change(state, False, "map", BASE, 4096 * PAGES, 16)
         pages.map(BASE, 4096 * PAGES)
@@ -203,13 +258,17 @@ def play(dice, rules):
             if not is_same(pages, state) or pages.version != state.space.version:
                 sys.exit(f"step {step}: after {text} pages lie otherwise: {pages.runs()}")
             refused += cause is not None
-            moved += told.moved if told else 0
             late += isinstance(told, Bound) and told.errno != 0
-    return refused, moved, late
+            if isinstance(told, Arrived):
+                placed, exhausted = placed + told.placed, exhausted + told.exhausted
+            elif told:
+                moved += told.moved
+    return refused, moved, late, placed, exhausted
 
 
 worked()
+populated()
 dice = random.Random(SEED)
 rounds = [play(dice, ("document", "linux")[number % 2]) for number in range(ROUNDS)]
 # (so that the seed asks something)
-assert all(sum(them) > least for them, least in zip(zip(*rounds), (300, 300, 20))), rounds
+assert all(sum(them) > least for them, least in zip(zip(*rounds), (300, 300, 20, 200, 10))), rounds

@@ -1,6 +1,6 @@
-//! Cores with their pages by the Rust wrapper: the rules of cpusets(7), migrate_pages(2), move_pages(2)
-//! and mbind(2), by hand. Not proved.
-use numaplan::{Bound, Core, Flow, Moved, PageRun, Pages, Refused};
+//! Cores with their pages by the Rust wrapper: the rules of cpusets(7), migrate_pages(2), move_pages(2),
+//! mbind(2) and madvise(2), by hand. Not proved.
+use numaplan::{Arrived, Bound, Core, Flow, Moved, PageRun, Pages, Refused};
 
 const FLAT: [u8; 16] = [10, 20, 20, 20, 20, 10, 20, 20, 20, 20, 10, 20, 20, 20, 20, 10];
 const BASE: u64 = 0x10000;
@@ -10,9 +10,40 @@ fn nodes(pages: &mut Pages) -> Result<Vec<Option<u8>>, Refused> {
     (0..6).map(|k| pages.node_of(BASE + k * 4096)).collect()
 }
 
+/// First touches of six pages, of which one is there, where node 0 takes two more.
+fn touch(pages: &mut Pages) -> Result<(), Refused> {
+    let told = |placed, exhausted, counts: [u64; 4]| {
+        let mut nodes = [0; 256];
+        nodes[..4].copy_from_slice(&counts);
+        Arrived { placed, exhausted, nodes }
+    };
+    pages.set_task(1, "interleave:0-1")?;
+    pages.place(BASE + 0x1000, 0x1000, 3)?;
+    pages.set_room(0, Some(2))?;
+    assert_eq!(pages.populate(BASE, 0x6000, 1, 0)?, told(5, 0, [2, 3, 0, 0]));
+    assert_eq!(nodes(pages)?, [0, 3, 0, 1, 1, 1].map(Some));
+    assert_eq!((pages.room(0)?, pages.room(1)?), (Some(0), None));
+    assert_eq!(pages.populate(BASE, 0x6000, 1, 0)?, told(0, 0, [0; 4]));
+    assert_eq!(pages.place(BASE + 0x1000, 0x1000, 0), Err(Refused::NODE_FULL));
+    // an unmapped page gives its room back; a page that finds none stays nowhere
+    pages.unmap(BASE, 0x1000)?;
+    assert_eq!(pages.room(0)?, Some(1));
+    assert_eq!(pages.populate(BASE, 0x6000, 1, 0), Err(Refused::SPAN_UNMAPPED));
+    pages.map(BASE, 0x1000, 0x10)?;
+    pages.mbind(BASE, 0x1000, "bind:2")?;
+    pages.set_room(2, Some(0))?;
+    assert_eq!(pages.populate(BASE, 0x1000, 1, 4), Err(Refused::NO_SUCH_CPU));
+    assert_eq!(pages.populate(BASE, 0x1000, 1, 3)?, told(0, 1, [0; 4]));
+    pages.set_room(2, Some(1))?;
+    assert_eq!(pages.populate(BASE, 0x1000, 1, 3)?, told(1, 0, [0, 0, 1, 0]));
+    assert_eq!(pages.populate(BASE + 1, 0x1000, 1, 0), Err(Refused::UNALIGNED));
+    Ok(())
+}
+
 fn main() -> Result<(), Refused> {
     let mut core = Core::open("0-3", &[0; 4], &FLAT, 1)?;
     core.map(BASE, 0x6000, 0x10)?;
+    touch(&mut Pages::open(&mut core)?)?;
     let mut pages = Pages::open(&mut core)?;
     assert_eq!(pages.runs()?, []);
     pages.set_mems("0-2")?;

@@ -23,7 +23,7 @@ fn orders(distances: &[u8], nodes: u32, orders: Orders<'_>) -> Result<Vec<Vec<u8
     let options = Options { orders, ..Options::default() };
     let mut core = Core::open_by(&format!("0-{}", nodes - 1), &frames, distances, 1, options)?;
     core.map(0x10000, 0x1000, 16)?;
-    let mut plan = core.compile()?;
+    let plan = core.compile()?;
     (0..nodes).map(|node| plan.choice(1, 16, node)).collect()
 }
 

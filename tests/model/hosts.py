@@ -38,8 +38,8 @@ FORMS = {
 # What is no process's: lines that make a machine, and the host's weights.
 NOT_IN = ["limits", "rules", "cpus", "machine", "weight"]
 WORKS = ["publish", "begin", "look", "try", "give", "touch", "release"]
-PLACES = ["at", "room", "memory-migrate", "migrate", "move", "moved", "mbind strict", "mbind move",
-          "mbind strict move"]
+PLACES = ["at", "populate", "room", "room alone", "memory-migrate", "migrate", "move", "moved",
+          "mbind strict", "mbind move", "mbind strict move"]
 
 
 class Host:

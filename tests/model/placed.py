@@ -1,14 +1,14 @@
 """Pages that are there: where they lie, and where they go. One function a rule; each answers the text
 of its line.
 
-What migrate_pages(2), move_pages(2) and mbind(2) say, and where they don't, what do_migrate_pages,
-do_pages_move and do_mbind of a kernel do. A node is asked for its pages one by one, slowly. Not
-proved."""
+What migrate_pages(2), move_pages(2), mbind(2) and madvise(2) say, and where they don't, what
+do_migrate_pages, do_pages_move and do_mbind of a kernel do. A node is asked for its pages one by one,
+slowly. Not proved."""
 
 from collections import Counter
 
 from commands import accept, policy_cause, refused, span_cause, span_of
-from space import has_hole, lacks_nodes, page_of, piece_at, ranges
+from space import ERRNO, has_hole, lacks_nodes, page_of, piece_at, ranges
 from workers import list_of_page, touch as take_frame
 
 MOVE_ERRNO = {
@@ -18,10 +18,12 @@ MOVE_ERRNO = {
     "NotPlaced": "ENOENT",
     "NoRoom": "ENOMEM",
 }
+POPULATE_ERRNO = {"BadCpu": "EINVAL", "Unmapped": "ENOMEM"}  # of `populate`; others have one for all
+ENDLESS = 2**64 - 1  # so many pages never end: a node with this room has no limit
 
 
 class Placed:
-    """The node of each page that is stated to lie on one; how many more pages a node takes, where
+    """The node of each page that lies on one without a frame; how many more pages a node takes, where
     that was said; whether pages follow the allowed nodes; what the last move did."""
 
     def __init__(self):
@@ -54,11 +56,25 @@ def has_room(placed, node):
     return placed.rooms.get(node, 1) > 0
 
 
+def leave(placed, page):
+    """A page lies nowhere any more; the room that it took, if it took any, is given back."""
+    node = placed.stated.pop(page, None)
+    if node in placed.rooms:
+        limit(placed, node, placed.rooms[node] + 1)
+
+
+def limit(placed, node, pages):
+    """So many more pages find room on a node; one that never fills has no limit."""
+    placed.rooms[node] = pages
+    if pages >= ENDLESS:
+        del placed.rooms[node]
+
+
 def send(placed, page, node):
-    """A page goes to a node, and takes room there; what it took where it lay is given back."""
-    for which, by in ((placed.stated[page], 1), (node, -1)):
-        if which in placed.rooms:
-            placed.rooms[which] += by
+    """A page goes to a node, from another or from nowhere, and takes room there."""
+    leave(placed, page)
+    if node in placed.rooms:
+        placed.rooms[node] -= 1
     placed.stated[page] = node
 
 
@@ -66,32 +82,74 @@ def send(placed, page, node):
 
 
 def at(state, start, length, node):
-    """`at`: the mapped pages of a span lie on a node; those that keep a frame stay in it."""
+    """`at`: the mapped pages of a span lie on a node; those that keep a frame stay in it. All find
+    room, but those that lie there already, which need none; else none goes there."""
     cause = span_cause(start, length)
     if not cause and lacks_node(state.space, node):
         cause = "NoSuchNode"
     if cause:
         return refused(cause)
     first, end = span_of(start, length)
-    for piece in state.space.pieces:
-        for page in range(max(first, piece.first), min(end, piece.end)):
-            if page not in state.crew.kept:
-                state.placed.stated[page] = node
+    coming = [page for piece in state.space.pieces
+              for page in range(max(first, piece.first), min(end, piece.end))
+              if page not in state.crew.kept and state.placed.stated.get(page) != node]
+    if len(coming) > state.placed.rooms.get(node, ENDLESS):
+        return "refused NoRoom ENOMEM"
+    for page in coming:
+        send(state.placed, page, node)
     return "at ok"
 
 
 def room(state, node, pages):
-    """`room`: so many more pages find room on a node."""
+    """`room`: so many more pages find room on a node from now on."""
     if lacks_node(state.space, node):
         return refused("NoSuchNode")
-    state.placed.rooms[node] = pages
+    limit(state.placed, node, pages)
     return "room ok"
+
+
+def rooms(state):
+    """`room` alone: how many more pages find room on each node that has a limit."""
+    return "room" + "".join(f" N{node}={pages}" for node, pages in sorted(state.placed.rooms.items()))
 
 
 def memory_migrate(state, follows):
     """`memory-migrate`: whether pages follow the allowed nodes (cpuset.memory_migrate)."""
     state.placed.follows = follows
     return "memory-migrate ok"
+
+
+# ---- first writes
+
+
+def populate_cause(space, start, length, cpu):
+    """What stands against writing to each page of a span: the span, the CPU's node, then a hole."""
+    if span_cause(start, length):
+        return span_cause(start, length)
+    if cpu >= space.machine.nodes:
+        return "BadCpu"
+    return "Unmapped" if has_hole(space, *span_of(start, length)) else None
+
+
+def populate(state, start, length, task, cpu):
+    """`populate`: a task on a CPU writes to each page of a span, the lowest first (MADV_POPULATE_WRITE).
+    One that is nowhere goes to the first node of its list that has room; where none has, the next go
+    on. One that is there already takes none."""
+    cause = populate_cause(state.space, start, length, cpu)
+    if cause:
+        return f"refused {cause} {POPULATE_ERRNO.get(cause) or ERRNO[cause]}"
+    on, exhausted, there = Counter(), 0, nodes_of(state)
+    for page in range(*span_of(start, length)):
+        if page in there:
+            continue
+        found = [node for node in nodes_for(state.space, task, page, cpu) if has_room(state.placed, node)]
+        if not found:
+            exhausted += 1
+            continue
+        send(state.placed, page, found[0])
+        on[found[0]] += 1
+    items = "".join(f" N{node}={count}" for node, count in sorted(on.items()))
+    return f"v{state.space.version}: placed {sum(on.values())} exhausted {exhausted}{items}"
 
 
 # ---- moves of whole sets
@@ -117,11 +175,12 @@ def sources(old, new):
     """In which order nodes are emptied: each time the lowest one whose target is no node that is
     still to be emptied; where each target is one, the highest that has another target than itself."""
     waiting = sorted(old)
+    aims = {node: target(node, old, new) for node in waiting}
     while True:
-        going = [node for node in waiting if target(node, old, new) != node]
+        going = [node for node in waiting if aims[node] != node]
         if not going:
             return
-        free = [node for node in going if target(node, old, new) not in waiting]
+        free = [node for node in going if aims[node] not in waiting]
         node = free[0] if free else going[-1]
         yield node
         waiting.remove(node)
@@ -289,9 +348,9 @@ def command(state, name, arguments):
 
 
 def forget(placed, first, end):
-    """Nothing is stated of pages that were unmapped."""
+    """Pages that were unmapped lie nowhere, and give their room back."""
     for page in [page for page in placed.stated if first <= page < end]:
-        del placed.stated[page]
+        leave(placed, page)
 
 
 def touch(state, worker, task, address, cpu):
@@ -308,6 +367,7 @@ def moved(state):
     return f"v{state.space.version}: {done(state.placed)}{items}"
 
 
-LINES = {"at": at, "room": room, "memory-migrate": memory_migrate, "migrate": migrate, "move": move,
-         "moved": moved, "touch": touch, "mbind strict": bind_strictly, "mbind move": bind_and_move,
+LINES = {"at": at, "populate": populate, "room": room, "room alone": rooms,
+         "memory-migrate": memory_migrate, "migrate": migrate, "move": move, "moved": moved,
+         "touch": touch, "mbind strict": bind_strictly, "mbind move": bind_and_move,
          "mbind strict move": bind_strictly_and_move}

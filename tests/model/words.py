@@ -232,7 +232,9 @@ FORMS = {
     "touch": [small, small, number, small],
     "release": [small, number],
     "at": [number, number, small],
+    "populate": [number, number, small, small],
     "room": [small, number],
+    "room alone": [],
     "memory-migrate": [switch],
     "migrate": [node_list, node_list],
     "move": [number, small],
@@ -252,6 +254,8 @@ def line_of(line):
             if flag in ("strict", "move"):
                 name += " " + flag
         del rest[3 : 3 + name.count(" ")]
+    if name == "room" and not rest:
+        name = "room alone"
     if name not in FORMS or len(rest) != len(FORMS[name]):
         raise BadWords
     return name, [read(word) for read, word in zip(FORMS[name], rest)]

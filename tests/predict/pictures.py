@@ -10,8 +10,8 @@ CELLS = 64
 CELL = 12
 NAMED = 8
 PAGE = re.compile(r"([0-9a-f]{8,}): node (\d+)")
-NODE = re.compile(r"node (\d+): (\d+) pages?, (\d+) bytes")
-LACKING = re.compile(r"no free page: (\d+) pages?")
+NODE = re.compile(r"node (\d+): ([\d,]+) pages? \(.*\)")
+LACKING = re.compile(r"no free page: ([\d,]+) pages? \(.*\)")
 
 
 class Row:
@@ -26,6 +26,26 @@ class Row:
 
 def said(count, what="page"):
     return f"{count} {what}" + ("" if count == 1 else "s")
+
+
+def number_of(text):
+    return int(text.replace(",", ""))
+
+
+def size(pages):
+    """A size as people read it: by decimals, which is another way than the program's."""
+    if pages < 256:
+        return f"{pages * 4} KiB"
+    exact, names = pages / 256, ["MiB", "GiB", "TiB"]
+    while exact >= 1024:
+        exact, names = exact / 1024, names[1:]
+    tenths = int(exact * 10 + 0.5)
+    return (f"{tenths // 10}.{tenths % 10} " if tenths < 100 and tenths % 10
+            else f"{int(exact + 0.5):,} ") + names[0]
+
+
+def amount(pages):
+    return f"{pages:,} page{'' if pages == 1 else 's'} ({size(pages)})"
 
 
 def largest(rows, number):
@@ -74,13 +94,13 @@ def bar_difference(row, parts):
         numbers = [it[3] for it in parts]
         return None if told == want and numbers == [str(it[1]) for it in told] else f"{told}"
     nodes = [NODE.fullmatch(it[0]) for it in parts]
-    told = {int(it[1]): int(it[2]) for it in nodes if it}
-    lacks = [int(it[1]) for it in (LACKING.fullmatch(part[0]) for part in parts) if it]
+    told = {int(it[1]): number_of(it[2]) for it in nodes if it}
+    lacks = [number_of(it[1]) for it in (LACKING.fullmatch(part[0]) for part in parts) if it]
     if told != row.counts or lacks != ([row.lacking] if row.lacking else []):
         return f"{told} and {lacks}, not {row.counts} and {row.lacking}"
     for (_, _, wide, number), it in zip(parts, nodes):
-        if it and (abs(wide - width * int(it[2]) / row.pages) > 1
-                   or it[0] != f"node {it[1]}: {said(int(it[2]))}, {4096 * int(it[2])} bytes"
+        if it and (abs(wide - width * number_of(it[2]) / row.pages) > 1
+                   or it[0] != f"node {it[1]}: {amount(number_of(it[2]))}"
                    or number != (it[1] if wide >= CELL else None)):
             return f"{wide} of {width} pixels for {it[0]}"
     return None
@@ -153,7 +173,7 @@ def moves_difference(picture, page, lines, number):
     for k, group in zip(order, groups):
         parts = [it.find(SVG + "title").text for it in group.findall(SVG + "g")]
         want = re.findall(r" N(\d+)->N(\d+)=(\d+)", lines[k])
-        if any(f"node {a} to node {b}: {said(int(pages))}" not in parts for a, b, pages in want):
+        if any(f"node {a} to node {b}: {amount(int(pages))}" not in parts for a, b, pages in want):
             return f"{parts} of {lines[k]}"
     behind = f", of them {sum(rest)} in {said(len(rest), 'span')} that " if rest else ""
     behind += ("isn't drawn" if len(rest) == 1 else "aren't drawn") if rest else ""
@@ -172,11 +192,11 @@ def total_difference(root, group, rows, nodes, left):
     counts = sum((Counter(row.counts) for row in rows), Counter())
     lacking, anon = sum(row.lacking for row in rows), sum(counts.values())
     lacks = f" exhausted={lacking}" if lacking else ""
-    want = [f"total anon={said(anon)}, {anon * 4096} bytes{lacks}"]
+    want = [f"total anon={amount(anon)}{lacks}"]
     for node in range(nodes):
-        behind = f", {said(left[node])} left" if node in left else ""
+        behind = f", {amount(left[node])} left" if node in left else ""
         pages = counts.get(node, 0)
-        want.append(f"N{node}={said(pages)}, {pages * 4096} bytes{behind}")
+        want.append(f"N{node}={amount(pages)}{behind}")
     told = [it.text for it in group.findall(SVG + "text")]
     if told != want:
         return f"{told}, not {want}"

@@ -256,7 +256,7 @@ for number, what, words in ((signal.SIGINT, "an interrupt", ("interrupted\n", ""
     long.stdout.readline()
     kept = workers_of(long.pid)
     os.killpg(long.pid, number)
-    check(f"{what} ends a sweep, and without a word of its workers", long.communicate(timeout=20), words)
+    check(f"{what} ends a sweep, and without a word of its workers", long.communicate(timeout=120), words)
     check("and leaves no process", (len(kept), left_of(kept)), (2, []))
 
 # ---- progress

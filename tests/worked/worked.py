@@ -34,7 +34,8 @@ def read(path):
 def is_of_pages(path):
     """Whether a script has lines about pages that are there."""
     with open(path, "rb") as file:
-        return b"\nat 0x" in file.read()
+        text = file.read()
+    return b"\nat 0x" in text or b"\npopulate 0x" in text
 
 
 def paths(hosts=False):

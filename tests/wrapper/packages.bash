@@ -144,7 +144,7 @@ try_versions() {
     check 'and the library' \
         grep -q "result ≡ version_number $major $minor $patch }" crates/numaplan_c/src/version.rt
     check 'and the program' \
-        grep -q "^const VERSION: &str = \"$version (" crates/numa_command_line/src/program.rt
+        grep -q "^pub const VERSION: &str = \"$version (" crates/numa_sheets/src/version.rt
     check 'and the Python package' grep -qx "__version__ = \"$version\"" python/numaplan/__init__.py
     check 'and its project' grep -qx "version = \"$version\"" python/pyproject.toml
     check 'and the Rust crate' grep -qx "version = \"$version\"" rust/numaplan/Cargo.toml

@@ -89,6 +89,7 @@ library_in() {
         ln -sf "$name" "$prefix/lib/$stem.so" &&
         install -D -m 644 -t "$prefix/lib/pkgconfig" "$work/${stem#lib}.pc" &&
         install -D -m 644 -t "$prefix/include" "$top/c/"*.h &&
+        install -D -m 644 -t "$prefix/share/numaplan" "$top/c/tsan.supp" &&
         install -D -m 644 -t "$prefix/share/man/man3" "$top/docs/libnumaplan.3" &&
         install -D -m 644 -t "$prefix/share/numaplan/numaplan" "$top/python/numaplan/"*.{py,typed} &&
         install -D -m 755 -t "$prefix/share/numaplan/numaplan" "$top/tools/machine-line" &&

@@ -89,9 +89,10 @@ def is_new_by_writes(space, page, frame):
 
 
 def pages_on(spaces, objects, node):
-    """How many pages are on a node, those that several spaces have counted once."""
+    """How many pages are on a node, those that several spaces have counted once; and how many of them objects have."""
     held = [found for found in objects.values() if found.holders]
-    count, seen = sum(list(found.values()).count(node) for found in held), set()
+    shared, seen = sum(list(found.values()).count(node) for found in held), set()
+    count = shared
     for space in spaces:
         count += list(space.placed.values()).count(node)
         for low, high, _ in space.objects:
@@ -99,4 +100,4 @@ def pages_on(spaces, objects, node):
         for page, frame in space.common.items():
             count -= frame in seen and space.placed.get(page) == node
             seen.add(frame)
-    return count
+    return count, shared

@@ -98,8 +98,9 @@ def sched_getaffinity(all_, task, number, size, start, *_):
     needed = (count + 63) // 64 * 8
     if size % 8 or size * 8 % 2**32 < count:
         fail(errno.EINVAL, f"{size} bytes are no whole words, or no room for {count} CPUs")
-    other = all_.other(task, number)
-    poke(task.number, start, sum(1 << cpu for cpu in other.mask).to_bytes(needed, "little"))
+    is_outside = number > 0 and number not in all_.tasks and os.path.exists(f"/proc/{number}")
+    mask = all_.machine.cpus.node_of if is_outside else all_.other(task, number).mask
+    poke(task.number, start, sum(1 << cpu for cpu in mask).to_bytes(needed, "little"))
     return needed
 
 

@@ -51,6 +51,7 @@ class Task:
         self.number, self.space, self.word, self.at_end = number, space, word, None
         self.number_at = 0  # where its number is cleared as it ends (--exact)
         self.lent_to = None  # the process by vfork(2) that has its memory meanwhile
+        self.marks = set()  # the numbers by which it has the file of marks, beside the usual one
         self.is_still = self.ends = self.is_looked_at = False  # (the last: stands at a call that is answered now)
         space.users += 1
         space.leader = space.leader or number
@@ -67,7 +68,7 @@ class Emulator:
         self.outcome, self.watches = outcome, outcome.is_asked()
         self.may_move_all = os.geteuid() == 0  # (CAP_SYS_NICE)
         self.marks = marks.number_of_file() if outcome.is_asked() else None
-        self.answered, self.followed = self.calls_answered(), self.calls_followed() | {"write": marks.write}
+        self.answered, self.followed = self.calls_answered(), self.calls_followed() | marks.FOLLOWED
         self.early, self.has_begun, self.stops = {}, False, Counter()
         self.told = ""  # what the call that is answered now tells, for the log
         self.unread = []  # (number, status) of tasks that were waited for elsewhere
@@ -97,9 +98,9 @@ class Emulator:
 
     def watched(self):
         """The calls that stop a program, each with the word that makes it matter, or None."""
-        names = [*self.answered, *(self.followed.keys() - {"write"}), *(("open", "openat") if self.fakes else ())]
-        found = {name: ONLY_WITH.get(name) for name in names}
-        return found | {"write": (0, False, self.marks)} if self.marks else found
+        names = [*self.answered, *(self.followed.keys() - marks.FOLLOWED.keys())]
+        found = {name: ONLY_WITH.get(name) for name in names + ["open", "openat"] * self.fakes}
+        return found | dict.fromkeys(marks.FOLLOWED if self.marks else (), (0, False, self.marks))
 
     def tell(self, text):
         """What a call has found out, where there is a log: the text comes from a function."""
@@ -111,6 +112,7 @@ class Emulator:
 
     def add_task(self, number, space, word, parent=None, flags=0):
         task = self.tasks[number] = Task(number, space, word)
+        task.marks = set(parent.marks) if parent else set()
         self.machine.cpus.begin(task, parent, flags)
         return task
 
@@ -210,7 +212,6 @@ class Emulator:
         return restore
 
     def at_call(self, task):
-        """How the task goes on."""
         registers = registers_of(task.number)
         name = NAMES.get(registers.call())
         self.stops[name] += 1
@@ -218,15 +219,22 @@ class Emulator:
             registers.rax = self.answer(task, registers) & 2**64 - 1
             registers.orig_rax = 2**64 - 1
             set_registers(task.number, registers)
-            return CONTINUE
-        if name in ("open", "openat"):
+        elif name in ("open", "openat"):
             task.at_end = self.redirect(task, registers)
         elif name in self.followed:
             try:
                 task.at_end = self.followed[name](self, task, *words_of(name, registers))
             except Failed:
                 pass  # (a text that isn't there: the kernel says so)
-        return TO_CALL_END if task.at_end else CONTINUE
+
+    def at_end(self, task):
+        """After a call that is followed; before and after each one where marks may be made by any."""
+        registers, finish, task.at_end = registers_of(task.number), task.at_end, None
+        if finish:
+            finish(registers)
+        if task.marks:
+            self.stops["any"] += 1
+            task.at_end = marks.at_each_call(self, task, registers)
 
     # ---- events
 
@@ -353,12 +361,19 @@ class Emulator:
         """Each task begins with a stop, and wakes from another one with one (SIGTRAP). By any other signal
         the process is stopped: the task stays as it is until something wakes it."""
         task.is_still = signal_ != signal.SIGTRAP
-        ptrace(LISTEN if task.is_still else CONTINUE, task.number)
+        if task.is_still:
+            ptrace(LISTEN, task.number)
+        else:
+            self.go_on(task)
+
+    def go_on(self, task, signal_=0):
+        """To the next stop: at the end of this call, and of any, where something waits for it."""
+        ptrace(TO_CALL_END if task.at_end or task.marks else CONTINUE, task.number, 0, signal_)
 
     def step(self, number, status):
         """Goes on from a stop."""
         task = self.tasks.get(number)
-        signal_, event, go_on = status >> 8 & 0xFF, status >> 16 & 0xFF, CONTINUE
+        signal_, event = status >> 8 & 0xFF, status >> 16 & 0xFF
         if task is None:
             self.early[number] = signal_  # (its parent's call isn't told yet)
             return
@@ -370,11 +385,11 @@ class Emulator:
         if not event and signal_ == signal.SIGSTOP and self.telling and self.telling.is_stop(task):
             self.stops["faults"] += 1
             task.space.touchers.keep(number, task.space.touchers.rings[number].taken(), self.node_on)
-            ptrace(CONTINUE, number)
+            self.go_on(task)
             return
         if event == SECCOMP:
             task.is_looked_at = True
-            go_on = self.at_call(task)
+            self.at_call(task)
             task.is_looked_at = False
         elif event in (FORK, VFORK, CLONE):
             self.at_child(task)
@@ -382,11 +397,10 @@ class Emulator:
             self.at_exec(number, task)
         elif event == EXIT:
             self.at_exit(task)
-        elif signal_ == signal.SIGTRAP | 0x80 and task.at_end:
-            finish, task.at_end = task.at_end, None
-            finish(registers_of(number))
+        elif signal_ == signal.SIGTRAP | 0x80:
+            self.at_end(task)
         is_ours = bool(event) or signal_ == signal.SIGTRAP | 0x80
-        ptrace(go_on, number, 0, 0 if is_ours else signal_)
+        self.go_on(task, 0 if is_ours else signal_)
 
     def at_mark(self, task, moment):
         """A program says that a moment has come."""

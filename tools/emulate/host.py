@@ -5,12 +5,11 @@ import ctypes
 import os
 import re
 
+from .described import LIVE, lines_of
 from .tracing import CALLS, LIBC, PAGE
 from .words import BY_KERNEL, KERNEL_ORDERS, Unfit
 
 NODES = "/sys/devices/system/node"
-WEIGHTS = "/sys/kernel/mm/mempolicy/weighted_interleave"
-FAR = 255  # from and to the numbers between nodes that are none
 CHUNK = 1 << 16  # pages that are asked for in one call
 
 
@@ -22,18 +21,13 @@ def read(path):
 def host_lines(rules=None):
     """The lines that describe this machine, and which of its nodes are allowed to this process."""
     try:
-        nodes = sorted(int(name[4:]) for name in os.listdir(NODES) if re.fullmatch(r"node\d+", name))
-        rows = {node: dict(zip(nodes, map(int, read(f"{NODES}/node{node}/distance").split()))) for node in nodes}
-        memory, allowed = read(f"{NODES}/has_memory"), re.search(r"Mems_allowed_list:\s*(\S+)", read("/proc/self/status"))
-        numbers = range(max(nodes) + 1)
-        table = ";".join(",".join(str(10 if a == b else rows.get(a, {}).get(b, FAR)) for b in numbers) for a in numbers)
-        orders = KERNEL_ORDERS if rules in (None, BY_KERNEL) else ""
-        lines = [f"machine {len(numbers)} {memory} 0 {orders}{table}"]
-        for node in nodes if os.path.isdir(WEIGHTS) else ():
-            lines.append(f"weight {node} {read(f'{WEIGHTS}/node{node}')}")
+        lines = [line for _, line in lines_of(LIVE, KERNEL_ORDERS if rules in (None, BY_KERNEL) else "")]
+        allowed = re.search(r"Mems_allowed_list:\s*(\S+)", read("/proc/self/status"))
         return list(enumerate(lines + [f"mems {allowed[1]}"], 1))
-    except (OSError, ValueError, TypeError) as fault:
-        raise Unfit(f"{NODES} doesn't describe this machine ({fault}); write a file and name it by --machine") from fault
+    except (OSError, TypeError) as fault:
+        raise Unfit(f"/proc/self/status doesn't tell the allowed nodes: {fault}") from fault
+    except Unfit as fault:
+        raise Unfit(f"this machine isn't described ({fault}); write a file and name it by --machine") from fault
 
 
 def node_told(node):

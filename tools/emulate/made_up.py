@@ -21,6 +21,10 @@ PROCESS = r"/proc/(self|thread-self|\d+)(?:/task/(\d+))?/(status|stat|numa_maps)
 MEMS_SET, CPU_SET = (rf"/sys/fs/cgroup/.*cpuset\.(?:{name}|{name}\.effective|effective_{name})$|/dev/cpuset/.*{name}$"
                      for name in ("mems", "cpus"))
 OF_NODE = re.escape(NODES) + r"/node(\d+)/(meminfo|numastat)$"
+ROWS_OF_MEMORY = """MemTotal MemFree MemUsed SwapCached Active Inactive Active(anon) Inactive(anon) Active(file)
+    Inactive(file) Unevictable Mlocked Dirty Writeback FilePages Mapped AnonPages Shmem KernelStack PageTables
+    NFS_Unstable Bounce WritebackTmp KReclaimable Slab SReclaimable SUnreclaim AnonHugePages ShmemHugePages
+    ShmemPmdMapped FileHugePages FilePmdMapped HugePages_Total HugePages_Free HugePages_Surp""".split()
 HERE = 2**32 - 100  # AT_FDCWD, as an unsigned int: a path is of the folder in which the process is
 turns = count()
 
@@ -51,7 +55,7 @@ def make_node(machine, folder, node):
     write(f"{folder}/cpumap", mask_text(cpus, max(machine.cpus.node_of)))
     write(f"{folder}/cpulist", list_text(cpus))
     write(f"{folder}/distance", " ".join(map(str, machine.distances[node])))
-    write(f"{folder}/meminfo", memory_text(machine, node, 0))
+    write(f"{folder}/meminfo", memory_text(machine, node, 0, 0))
     write(f"{folder}/numastat", hits_text(machine, node))
     for cpu in cpus:
         os.symlink(f"../../cpu/cpu{cpu}", f"{folder}/cpu{cpu}")
@@ -76,15 +80,15 @@ def make_cpus(cpus, folder):
         os.symlink(f"../../node/node{node}", f"{folder}/cpu{cpu}/node{node}")
 
 
-def memory_text(machine, node, used):
-    """meminfo of a node with so many placed pages."""
+def memory_text(machine, node, placed, shared):
+    """meminfo of a node with so many placed pages, of which so many are of objects in memory. Of what isn't emulated
+    there is none."""
     all_ = KILOBYTES if node in machine.memory else 0
-    used = min(used * PAGE // 1024, all_)
-    rows = {"MemTotal": all_, "MemFree": all_ - used, "MemUsed": used, "Active": used, "Inactive": 0,
-            "FilePages": 0, "AnonPages": used, "HugePages_Total": None, "HugePages_Free": None,
-            "HugePages_Surp": None}
-    return "\n".join(f"Node {node} {name + ':':<15}{0:>9}" if kilobytes is None else
-                     f"Node {node} {name + ':':<15}{kilobytes:>9} kB" for name, kilobytes in rows.items())
+    used, shared = (min(pages * PAGE // 1024, all_) for pages in (placed, shared))
+    rows = {"MemTotal": all_, "MemFree": all_ - used, "MemUsed": used, "Active": used, "Active(anon)": used,
+            "FilePages": shared, "AnonPages": used - shared, "Shmem": shared}
+    return "\n".join(f"Node {node} {name + ':':<15}{0:>9}" if name.startswith("HugePages_") else
+                     f"Node {node} {name + ':':<15}{rows.get(name, 0):>9} kB" for name in ROWS_OF_MEMORY)
 
 
 def hits_text(machine, node):
@@ -207,7 +211,7 @@ def text_of(all_, task, path):
         if all_.follows(task):
             all_.sweep(task)
         node = int(found[1])
-        return (memory_text(all_.machine, node, all_.pages_on(node)) if found[2] == "meminfo"
+        return (memory_text(all_.machine, node, *all_.pages_on(node)) if found[2] == "meminfo"
                 else hits_text(all_.machine, node)) + "\n"
     return None
 

@@ -54,11 +54,11 @@ def run_program(room, program, emulator, ready, go):
             cover(room)
             emulator.in_child(room)
             LIBC.prctl(NO_HUGE_PAGES, 1, 0, 0, 0)
-        if emulator.marks:
-            open_file(emulator.room, emulator.marks)
         os.write(ready, b"r")
         if not os.read(go, 1):
             return
+        if emulator.marks:
+            open_file(emulator.room, emulator.marks)
         install_filter(emulator.watched())
         free_signals()
         status = 127

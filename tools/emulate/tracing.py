@@ -19,11 +19,12 @@ FORK, VFORK, CLONE, EXEC, EXIT, SECCOMP, STOP = 1, 2, 3, 4, 6, 7, 128
 OPTIONS = 1 | 1 << FORK | 1 << VFORK | 1 << CLONE | 1 << EXEC | 1 << EXIT | 1 << SECCOMP | 1 << 20
 
 CALLS = {
-    "write": 1, "open": 2, "mmap": 9, "munmap": 11, "brk": 12, "mremap": 25, "madvise": 28, "shmat": 30, "execve": 59,
-    "shmdt": 67,
+    "write": 1, "open": 2, "close": 3, "mmap": 9, "munmap": 11, "brk": 12, "writev": 20, "mremap": 25, "madvise": 28,
+    "shmat": 30, "dup": 32, "dup2": 33, "execve": 59, "shmdt": 67, "fcntl": 72,
     "prctl": 157, "sched_setaffinity": 203, "sched_getaffinity": 204, "set_tid_address": 218, "mbind": 237,
     "set_mempolicy": 238, "get_mempolicy": 239, "migrate_pages": 256, "openat": 257,
-    "move_pages": 279, "getcpu": 309, "execveat": 322, "rseq": 334, "set_mempolicy_home_node": 450,
+    "move_pages": 279, "dup3": 292, "getcpu": 309, "execveat": 322, "rseq": 334, "close_range": 436,
+    "set_mempolicy_home_node": 450,
 }
 NAMES = {number: name for name, number in CALLS.items()}
 X86_64 = 0xC000003E  # AUDIT_ARCH_X86_64

@@ -1,6 +1,6 @@
 //! The answers of scripts, as lines of JSON.
 use numa_lines::{Respond, RunFault, TakeLine, Watched};
-use numa_reports::{Items, Object};
+use numa_sheets::{Items, Object};
 use std::alloc::{AllocError, Global};
 use std::io::Write;
 

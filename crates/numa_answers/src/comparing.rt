@@ -8,7 +8,7 @@ use crate::told_tests::{
 use numa_lines::{
     Counts, HEAD, LineForm, Respond, RunFault, TakeText, Watched, read_form, say_echo,
 };
-use numa_reports::Format;
+use numa_sheets::Format;
 use std::alloc::{AllocError, Global};
 use std::io::Write;
 use std::mem::replace;

@@ -3,13 +3,13 @@ ghost use Rattle.std.specs.Prelude.{◌≢◌, []};
 ghost use Rattle.numa_reports.specs.Lying.{LeavesFree};
 
 use crate::page_head::head;
-use crate::page_script::script;
+use crate::page_script::put_script;
 use crate::stretches::stretches_text;
 use numa_reports::{
-    Account, Format, FreePages, Largest, PredictionRequest, ReportError, Touch, Watch, Written,
-    cycles_text, lying_text, shared_text,
+    Account, Largest, PredictionRequest, ReportError, cycles_text, lying_text, shared_text,
 };
 use numa_rules::ReasonError;
+use numa_sheets::{Format, FreePages, Touch, Watch, Written};
 use numa_space::Space;
 use std::alloc::{AllocError, Global};
 
@@ -157,6 +157,6 @@ pub fn page_of(alloc: Global, kind: &str, data: &[u8]) -> Result<Vec<u8>, AllocE
     text.put(kind.as_bytes());
     text.put(b"\",");
     text.put(data.strip_prefix(b"{").unwrap_or(data));
-    text.put(script().as_bytes());
+    put_script(&mut text);
     text.take()
 }

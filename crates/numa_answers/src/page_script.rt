@@ -1,10 +1,9 @@
 //! The page that shows an answer in a browser: the script behind its data.
 
-/// The part behind the data: the script, which needs no network.
+use numa_sheets::{Written, put_colours};
+
+/// The part behind the data: the script, which needs no network. Before it stand the colours.
 static SCRIPT: &str = "
-</script>
-<script>
-'use strict';
 const data = JSON.parse(document.getElementById('data').textContent);
 const whole = document.getElementById('page');
 // Where parts are put: in a page of several processes the section that is made, whose paragraph
@@ -12,9 +11,6 @@ const whole = document.getElementById('page');
 let page = whole;
 let said = document.getElementById('said');
 let mark = '';
-const FILLS = ['#d4d4ff', '#802a00', '#2a2a80', '#00ff80', '#ff00ff', '#805555', '#8080aa',
-  '#2aaa00', '#aaff00', '#002aff', '#ffd4d4', '#d48080', '#5500aa', '#8055aa', '#ff80ff', '#552a2a'];
-const DARK = [0, 1, 1, 0, 0, 1, 0, 0, 0, 1, 0, 0, 1, 1, 0, 1];
 const CELLS = 64;
 
 function make(name, parent, text, kind) {
@@ -25,8 +21,8 @@ function make(name, parent, text, kind) {
   return made;
 }
 const hex = (number) => '0x' + number.toString(16);
-const fill = (node) => FILLS[node % 16];
-const ink = (node) => (DARK[node % 16] ? '#fff' : '#000');
+const fill = (node) => COLOURS[node % 16][0];
+const ink = (node) => COLOURS[node % 16][1];
 const pagesText = (pages) => pages + (pages === 1 ? ' page' : ' pages');
 const nodesText = (nodes, what) => nodes.map((it) => 'N' + it.node + '=' + it[what]).join(' ');
 
@@ -436,7 +432,10 @@ document.body.dataset.ready = 'yes';
 </html>
 ";
 
-/// The part of the page behind its data.
-pub(crate) fn script() -> &'static str {
-    SCRIPT
+/// Writes the part of the page behind its data.
+pub(crate) fn put_script(text: &mut Written) {
+    text.put(b"\n</script>\n<script>\n'use strict';\nconst COLOURS = ");
+    put_colours(text);
+    text.put(b";");
+    text.put(SCRIPT.as_bytes());
 }

@@ -1,6 +1,7 @@
 //! Why a page goes where it goes, as text or JSON.
-use numa_reports::{Format, Items, Object};
-use numa_rules::{Explanation, TakeField, give_fields, say_explanation};
+use crate::residence::{Residence, put_comings, put_lies, put_residence};
+use numa_rules::{Explanation, TakeField, Text, give_fields, say_explanation};
+use numa_sheets::{Format, Items, Object};
 use numa_space::Space;
 use std::alloc::{AllocError, Global};
 use std::mem::replace;
@@ -44,13 +45,48 @@ pub fn put_fields(alloc: Global, object: &mut Object, said: &Explanation, text: 
     *object = fields.object;
 }
 
-/// The lines of an explanation.
+/// Writes where a page lies, if it is there.
+fn say_lies(text: &mut Vec<u8>, page: u64, residence: Residence<'_>) -> Result<(), AllocError> {
+    let mut written = Text::of(text);
+    put_lies(&mut written, page, residence.place);
+    written.end(text)
+}
+
+/// Writes how a page comes where it lies.
+fn say_comings(text: &mut Vec<u8>, residence: Residence<'_>) -> Result<(), AllocError> {
+    let mut written = Text::of(text);
+    put_comings(&mut written, residence.place.node, residence.comings);
+    written.end(text)
+}
+
+/// Appends the lines of an explanation.
+fn say_all(
+    text: &mut Vec<u8>,
+    space: &Space,
+    said: &Explanation,
+    residence: Option<Residence<'_>>,
+) -> Result<(), AllocError> {
+    let Some(residence) = residence else {
+        return say_explanation(text, space.machine(), said);
+    };
+    say_lies(text, said.page, residence)?;
+    say_explanation(text, space.machine(), said)?;
+    say_comings(text, residence)
+}
+
+/// The lines of an explanation: of a page that is there the first says where it lies, and the last
+/// how it comes to that node.
 ///
 /// # Errors
 /// `AllocError`: out of memory.
-pub fn text_of(alloc: Global, space: &Space, said: &Explanation) -> Result<Vec<u8>, AllocError> {
+pub fn text_of(
+    alloc: Global,
+    space: &Space,
+    said: &Explanation,
+    residence: Option<Residence<'_>>,
+) -> Result<Vec<u8>, AllocError> {
     let mut text = Vec::new(alloc);
-    match say_explanation(&mut text, space.machine(), said) {
+    match say_all(&mut text, space, said, residence) {
         Ok(()) => Ok(text),
         Err(fault) => {
             drop(text);
@@ -66,6 +102,7 @@ pub fn text_of(alloc: Global, space: &Space, said: &Explanation) -> Result<Vec<u
 pub fn shown(
     alloc: Global,
     said: &Explanation,
+    residence: Option<Residence<'_>>,
     text: Vec<u8>,
     format: Format,
 ) -> Result<Vec<u8>, AllocError> {
@@ -75,6 +112,9 @@ pub fn shown(
     let mut object = Object::new(alloc);
     object.put_text("kind", "explanation");
     put_fields(alloc, &mut object, said, text.as_slice());
+    if let Some(residence) = residence {
+        put_residence(alloc, &mut object, residence);
+    }
     let mut line = text;
     line.clear();
     match object.say_line(&mut line) {

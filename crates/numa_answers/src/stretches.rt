@@ -1,9 +1,10 @@
 //! By which rules the pages of a span go, stretch by stretch.
 use crate::reasons::put_fields;
 use numa_machine::PlaceRefusal;
-use numa_reports::{Format, Items, Largest, Object, Touch};
+use numa_reports::Largest;
 use numa_requests::PAGE_BYTES;
 use numa_rules::{Explanation, ReasonError, explain, say_stretch, say_unmapped};
+use numa_sheets::{Format, Items, Object, Touch};
 use numa_space::Space;
 use std::alloc::{AllocError, Global};
 

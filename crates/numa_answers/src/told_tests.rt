@@ -2,7 +2,7 @@
 //! their files.
 use crate::compared::{Worked, behind_line, line_count, line_end};
 use numa_lines::{Counts, Watched};
-use numa_reports::{Format, Items, Object};
+use numa_sheets::{Format, Items, Object};
 use std::alloc::{AllocError, Global};
 use std::io::Write;
 

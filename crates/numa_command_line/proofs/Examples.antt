@@ -5,7 +5,7 @@ use Rattle.clap.specs.declared.error.kind.ErrorKind.TheVariants as kind
 use Rattle.clap.proofs.OnLiterals.{clap_on_literals}
 use Rattle.numa_machine.specs.declared.rules.Rules.TheVariants.{Document}
 use Rattle.numa_command_line.specs.Asked.{doings_asked}
-use Rattle.numa_reports.specs.declared.sheet.Format.TheVariants as format
+use Rattle.numa_sheets.specs.declared.format.Format.TheVariants as format
 use Rattle.numa_script.specs.Numbers.{in_64_bits, number_of, numeral_of}
 use Rattle.numa_command_line.specs.Grammar.{AreChoices, Choices, diff_formats, plain_formats}
 use Rattle.numa_command_line.specs.Grammar.{moves_formats, predict_formats, program, replay_formats}
@@ -13,7 +13,7 @@ use Rattle.numa_command_line.specs.Grammar.{rules_names, test_formats}
 use Rattle.numa_command_line.specs.Jobs.{ask, check, explain, run, scripts, storm}
 use Rattle.numa_command_line.specs.Usage.{Names}
 use Rattle.numa_command_line.specs.Values.{address_of}
-use Rattle.numa_reports.specs.declared.asked.CpuAsked.TheVariants.{Each}
+use Rattle.numa_sheets.specs.declared.asked.CpuAsked.TheVariants.{Each}
 
 -- names that lie nowhere
 abbrev names_of : List Text → Names

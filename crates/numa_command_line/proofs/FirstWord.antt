@@ -6,9 +6,9 @@ use Rattle.std.specs.Prelude.{IfOk, option_and_then}
 use Rattle.std.specs.Str.{bytes_eq}
 use Rattle.std.proofs.lemmas.Slice.Eq.{bytes_eq-Decides}
 use Rattle.clap.specs.Words.{Row, subcommand_of}
-use Rattle.numa_reports.specs.declared.filling.FreePages.{FreePages}
-use Rattle.numa_reports.specs.declared.asked.TouchAsked.{TouchAsked}
-use Rattle.numa_reports.specs.declared.sheet.Format.{Format}
+use Rattle.numa_sheets.specs.declared.asked.FreePages.{FreePages}
+use Rattle.numa_sheets.specs.declared.asked.TouchAsked.{TouchAsked}
+use Rattle.numa_sheets.specs.declared.format.Format.{Format}
 use Rattle.numa_command_line.specs.Asked.{Answers, ask_by, asking_name, can_ask, doing_name}
 use Rattle.numa_command_line.specs.Asked.{predict_by}
 use Rattle.numa_command_line.specs.Asked.{job_named, name_of, rows_behind, scripts_asked}

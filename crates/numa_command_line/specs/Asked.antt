@@ -8,13 +8,13 @@ use Rattle.clap.specs.Words.{App, IsAmong, Row, fault_of, kind_of, subcommand_of
 use Rattle.clap.specs.declared.error.Error.{Error}
 use Rattle.clap.specs.declared.error.kind.ErrorKind.{ErrorKind}
 use Rattle.clap.specs.declared.error.kind.ErrorKind.TheVariants as kind
-use Rattle.numa_reports.specs.declared.filling.FreePages.{FreePages}
-use Rattle.numa_reports.specs.declared.sheet.Format.{Format}
-use Rattle.numa_reports.specs.declared.sheet.Format.TheVariants.{Svg, Html}
-use Rattle.numa_reports.specs.declared.sheet.Format.TheVariants as format
-use Rattle.numa_reports.specs.declared.asked.CpuAsked.{CpuAsked}
-use Rattle.numa_reports.specs.declared.asked.CpuAsked.TheVariants.{Node, Each}
-use Rattle.numa_reports.specs.declared.asked.TouchAsked.{TouchAsked}
+use Rattle.numa_sheets.specs.declared.asked.FreePages.{FreePages}
+use Rattle.numa_sheets.specs.declared.format.Format.{Format}
+use Rattle.numa_sheets.specs.declared.format.Format.TheVariants.{Svg, Html}
+use Rattle.numa_sheets.specs.declared.format.Format.TheVariants as format
+use Rattle.numa_sheets.specs.declared.asked.CpuAsked.{CpuAsked}
+use Rattle.numa_sheets.specs.declared.asked.CpuAsked.TheVariants.{Node, Each}
+use Rattle.numa_sheets.specs.declared.asked.TouchAsked.{TouchAsked}
 use Rattle.numa_command_line.specs.Grammar.{IsProgram}
 use Rattle.numa_command_line.specs.Jobs.{Asking, Doing, Doings, Text, ask, check, diff, doings_of}
 use Rattle.numa_command_line.specs.Jobs.{expect, explain, moves, predict, replay, run, scripts}

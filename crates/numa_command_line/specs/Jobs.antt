@@ -3,10 +3,10 @@ use Rattle.std.specs.Prelude.{⊤, ◌<◌, ◌≤◌, ◌≡◌, ℕ, List, Boo
 use Rattle.std.specs.Prelude.{Ok, Err}
 use Rattle.std.specs.String.{string_bytes}
 use Rattle.numa_machine.specs.declared.rules.Rules.{Rules}
-use Rattle.numa_reports.specs.declared.filling.FreePages.{FreePages}
-use Rattle.numa_reports.specs.declared.sheet.Format.{Format}
-use Rattle.numa_reports.specs.declared.asked.AddressAsked.{AddressAsked}
-use Rattle.numa_reports.specs.declared.asked.TouchAsked.{TouchAsked}
+use Rattle.numa_sheets.specs.declared.asked.FreePages.{FreePages}
+use Rattle.numa_sheets.specs.declared.format.Format.{Format}
+use Rattle.numa_sheets.specs.declared.asked.AddressAsked.{AddressAsked}
+use Rattle.numa_sheets.specs.declared.asked.TouchAsked.{TouchAsked}
 use Rattle.numa_command_line.specs.declared.jobs.Job.{Job}
 use Rattle.numa_command_line.specs.declared.jobs.Job.TheVariants.{Scripts, Storm}
 use Rattle.numa_command_line.specs.declared.jobs.JobFault.{JobFault}

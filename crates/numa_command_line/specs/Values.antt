@@ -14,13 +14,13 @@ use Rattle.numa_lines.specs.Worked.{begins_with}
 use Rattle.numa_machine.specs.declared.rules.Rules.{Rules}
 use Rattle.numa_machine.specs.declared.rules.Rules.TheVariants.{Document, Linux}
 use Rattle.numa_mask.specs.Parts.{parts_of}
-use Rattle.numa_reports.specs.declared.filling.FreePages.{FreePages}
-use Rattle.numa_reports.specs.declared.sheet.Format.{Format}
-use Rattle.numa_reports.specs.declared.sheet.Format.TheVariants as format
-use Rattle.numa_reports.specs.declared.asked.AddressAsked.{AddressAsked}
-use Rattle.numa_reports.specs.declared.asked.CpuAsked.{CpuAsked}
-use Rattle.numa_reports.specs.declared.asked.CpuAsked.TheVariants.{Node, Each}
-use Rattle.numa_reports.specs.declared.asked.TouchAsked.{TouchAsked}
+use Rattle.numa_sheets.specs.declared.asked.FreePages.{FreePages}
+use Rattle.numa_sheets.specs.declared.format.Format.{Format}
+use Rattle.numa_sheets.specs.declared.format.Format.TheVariants as format
+use Rattle.numa_sheets.specs.declared.asked.AddressAsked.{AddressAsked}
+use Rattle.numa_sheets.specs.declared.asked.CpuAsked.{CpuAsked}
+use Rattle.numa_sheets.specs.declared.asked.CpuAsked.TheVariants.{Node, Each}
+use Rattle.numa_sheets.specs.declared.asked.TouchAsked.{TouchAsked}
 use Rattle.numa_script.specs.Numbers.{node_of, number_of, small_of}
 use Rattle.numa_command_line.specs.Jobs.{Text}
 

@@ -2,7 +2,7 @@
 ghost use Rattle.numa_command_line.specs.Jobs.{IsRefusal};
 
 use numa_machine::Rules;
-use numa_reports::{AddressAsked, Format, FreePages, TouchAsked};
+use numa_sheets::{AddressAsked, Format, FreePages, TouchAsked};
 use std::alloc::{AllocError, Global};
 
 /// A question about pages that a task would touch.

@@ -9,11 +9,8 @@ use crate::words::{
     check, diff, expect, explain, moves, predict, replay, rules, run, shell, storm,
 };
 use clap::Command;
+use numa_sheets::VERSION;
 use std::alloc::{AllocError, Global};
-
-/// The version, as in the file VERSION, and the identity of the logic with which it is proved: kits
-/// of one logic prove the same.
-const VERSION: &str = "0.10.0 (proved with logic dac8208d650f15bf)";
 
 /// The help of the program.
 const PROGRAM: &str =

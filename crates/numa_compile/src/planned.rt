@@ -27,11 +27,23 @@ use std::mem;
 /// was no memory, and a change of the allowed nodes, which changes every list. After such a change
 /// the first questions about single pages cost less if the space answers them
 /// ([`PlannedSpace::answers_without_plan`]).
-#[derive(Drop)]
 pub struct PlannedSpace {
     space: Space,
     plan: Option<Plan>,
     asked: usize,
+}
+
+// (By hand, so that it is proved here alone: a derived one is proved in each crate that drops.)
+impl Drop for PlannedSpace {
+    fn drop(self) {
+        let PlannedSpace {
+            space,
+            plan,
+            asked: _,
+        } = self;
+        drop(space);
+        drop(plan);
+    }
 }
 
 impl Model for PlannedSpace {

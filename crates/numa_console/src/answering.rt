@@ -8,12 +8,23 @@ use std::io::Write;
 use std::mem;
 
 /// A script being answered.
-#[derive(Drop)]
 pub struct Answering {
     alloc: Global,
     // The rules that apply unless a line says otherwise.
     rules: Rules,
     script: HostScript,
+}
+
+// (By hand, so that it is proved here alone: a derived one is proved in each crate that drops.)
+impl Drop for Answering {
+    fn drop(self) {
+        let Answering {
+            alloc: _,
+            rules: _,
+            script,
+        } = self;
+        drop(script);
+    }
 }
 
 impl Answering {
@@ -39,7 +50,7 @@ fn serve<W: Write>(
 }
 
 impl Respond for Answering {
-    ghost use Rattle.numa_play.specs.Faults.{tells_fault as says_fault};
+    ghost use Rattle.numa_subjects.specs.Faults.{tells_fault as says_fault};
 
     ghost is_fault = { says_fault };
 
@@ -59,6 +70,6 @@ impl Respond for Answering {
     }
 
     fn tells_fault(&self, answer: &[u8]) -> bool {
-        numa_play::tells_fault(answer)
+        numa_subjects::tells_fault(answer)
     }
 }

@@ -1,7 +1,7 @@
 //! What is asked after scripts.
 use numa_command_line::PageQuestion;
-use numa_play::Twin;
-use numa_reports::{AddressAsked, CpuAsked, Format, FreePages, TouchAsked};
+use numa_sheets::{AddressAsked, CpuAsked, Format, FreePages, TouchAsked};
+use numa_subjects::Twin;
 
 /// A question about pages.
 #[derive(Clone, Copy)]

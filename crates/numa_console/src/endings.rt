@@ -2,8 +2,8 @@
 use crate::asking::{Asking, Question};
 use numa_command_line::{JobFault, Outlet};
 use numa_lines::RunFault;
-use numa_play::{Ended, Halt};
-use numa_reports::AddressAsked;
+use numa_sheets::AddressAsked;
+use numa_subjects::{Ended, Halt};
 use std::io;
 use std::io::{ErrorKind, Write};
 use std::process::ExitCode;

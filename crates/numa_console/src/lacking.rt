@@ -44,7 +44,7 @@ pub struct Noting<'a> {
 }
 
 impl Respond for Noting<'_> {
-    ghost use Rattle.numa_play.specs.Faults.{tells_fault as says_fault};
+    ghost use Rattle.numa_subjects.specs.Faults.{tells_fault as says_fault};
 
     ghost is_fault = { says_fault };
 

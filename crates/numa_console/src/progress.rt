@@ -1,5 +1,5 @@
 //! How far reading and counting are, on standard error.
-use numa_reports::Watch;
+use numa_sheets::Watch;
 use std::alloc::AllocError;
 use std::io::Read;
 use std::rt::{Clock, Files};

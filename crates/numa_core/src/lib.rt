@@ -36,9 +36,16 @@ use std::marker::Model;
 
 /// Commands, published versions, and workers that look for frames. Nothing runs by itself: each
 /// event is one call of `step`.
-#[derive(Drop)]
 pub struct Core {
     pub(crate) state: State,
+}
+
+// (By hand, so that it is proved here alone: a derived one is proved in each crate that drops.)
+impl Drop for Core {
+    fn drop(self) {
+        let Core { state } = self;
+        drop(state);
+    }
 }
 
 impl Model for Core {

@@ -1,14 +1,9 @@
--- What a kernel does otherwise with a line, and a line as the twin of a script has it, which goes
--- by the other rules.
-use Rattle.std.specs.Prelude.{Option, None, Some, Ok}
-use Rattle.numa_machine.specs.declared.rules.Rules.{Rules}
+-- What a kernel does otherwise with a line.
+use Rattle.std.specs.Prelude.{Option, None, Ok}
 use Rattle.numa_rules.specs.Otherwise.{otherwise_of, otherwise_of_empty_bind}
-use Rattle.numa_rules.specs.Others.{other_rules}
 use Rattle.numa_rules.specs.declared.otherwise.Otherwise.{Otherwise}
-use Rattle.numa_script.specs.Lines.{alone}
 use Rattle.numa_script.specs.declared.line.Line.{Line}
 use Rattle.numa_script.specs.declared.line.Line.TheVariants as line
-use Rattle.numa_script.specs.declared.line.ScriptLine.{ScriptLine}
 use Rattle.numa_space.specs.Standing.{SpaceState}
 
 -- something only where the line says a command, or is one by the kernel's rules
@@ -16,16 +11,3 @@ abbrev pub hint_for : SpaceState → Line → Option Otherwise
 hint_for space (line.Command (Ok command)) = otherwise_of space command
 hint_for space (line.EmptyBind start fault) = otherwise_of_empty_bind space start
 hint_for space _ = None
-
--- the rules that a line chooses instead, if it chooses any
-abbrev pub rules_instead : Line → Option Rules
-rules_instead (line.Rules rules) = Some (other_rules rules)
-rules_instead said = None
-
--- a line that chooses rules chooses the other ones
-abbrev pub turned_by : Option Rules → ScriptLine → ScriptLine
-turned_by (Some rules) said = alone (line.Rules rules)
-turned_by None said = said
-
-abbrev pub turned : ScriptLine → ScriptLine
-turned said = turned_by (rules_instead said.line) said

@@ -6,7 +6,6 @@ use numa_machine::Machine;
 use numa_mask::ListFault;
 use numa_mask::parts::first_place;
 use numa_requests::{Command, CoreRefusal, Event, MoveRefusal, PlacedRefusal, Refusal};
-use numa_run::Script;
 use numa_script::parts::{items, words};
 use numa_script::{Line, PageLine, Question, Reply, ScriptLine, WordError, Work};
 use numa_space::Space;
@@ -200,9 +199,9 @@ pub(crate) fn all_nodes(nodes: u32) -> Detail {
 }
 
 /// All nodes of the machine that is ready, or that the line describes.
-fn all_detail(script: &Script, said: &Line<'_>) -> Detail {
-    if let Some(core) = script.core() {
-        return all_nodes(core.space().machine().nodes());
+fn all_detail(space: Option<&Space>, said: &Line<'_>) -> Detail {
+    if let Some(space) = space {
+        return all_nodes(space.machine().nodes());
     }
     match said {
         Line::Machine(machine) => all_nodes(machine.nodes),
@@ -229,8 +228,18 @@ fn first_page(said: &Line<'_>) -> Detail {
     match said {
         Line::Pages(Ok(PageLine::At { start, .. })) => Detail::Page(*start / PAGE),
         Line::Pages(Ok(PageLine::Move { address, .. })) => Detail::Page(*address / PAGE),
+        Line::Pages(Ok(PageLine::Populate { start, .. })) => Detail::Page(*start / PAGE),
         _ => Detail::None,
     }
+}
+
+/// The first page of a line's span that isn't mapped.
+fn hole_detail(space: &Space, said: &Line<'_>) -> Detail {
+    let Line::Pages(Ok(PageLine::Populate { start, length, .. })) = said else {
+        return Detail::None;
+    };
+    let pages = pages_from(*start, page_count(*length));
+    page_detail(first_unmapped(space, pages.first, pages.end))
 }
 
 /// The details of the refusal of a line about pages that are there.
@@ -238,7 +247,8 @@ fn placed_detail(space: &Space, line: &[u8], said: &Line<'_>, refusal: PlacedRef
     match refusal {
         PlacedRefusal::Unaligned if is_decimal_start(line) => Detail::DecimalStart,
         PlacedRefusal::Unaligned => first_page(said),
-        PlacedRefusal::NoSuchNode => last_node(space),
+        PlacedRefusal::NoSuchNode | PlacedRefusal::BadCpu => last_node(space),
+        PlacedRefusal::Unmapped => hole_detail(space, said),
         _ => Detail::None,
     }
 }
@@ -274,9 +284,10 @@ fn state_detail(is_ready: bool, said: &Line<'_>) -> Detail {
     }
 }
 
-/// The details of a line's error or refusal, by the script of one process after it.
+/// The details of a line's error or refusal, by the space of one process after it, if a machine is
+/// ready.
 pub(crate) fn detail_of(
-    script: &Script,
+    space: Option<&Space>,
     line: &[u8],
     said: &ScriptLine<'_>,
     fault: Reply,
@@ -284,10 +295,10 @@ pub(crate) fn detail_of(
     let said = &said.line;
     match fault {
         Reply::BadWords => plain_words(line),
-        Reply::BadState => state_detail(script.core().is_some(), said),
-        Reply::BadWord(fault) => list_detail(line, all_detail(script, said), fault),
-        fault => match script.core() {
-            Some(core) => refused_detail(core.space(), line, said, fault),
+        Reply::BadState => state_detail(space.is_some(), said),
+        Reply::BadWord(fault) => list_detail(line, all_detail(space, said), fault),
+        fault => match space {
+            Some(space) => refused_detail(space, line, said, fault),
             None => Detail::None,
         },
     }

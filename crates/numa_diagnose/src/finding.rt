@@ -1,12 +1,11 @@
 //! Findings: what is wrong with a line.
 ghost use Rattle.std.specs.Prelude.{◌≡◌};
-ghost use Rattle.numa_diagnose.specs.Checks.{Checks};
 
 use crate::details::detail_of;
 use crate::host_details::host_detail;
-use numa_host_script::HostScript;
+use numa_host::Host;
 use numa_script::{Malformed, Reply, ScriptLine};
-use std::alloc::Global;
+use numa_space::Space;
 
 /// A detail of an error or a refusal, beyond its name.
 #[derive(Clone, Copy)]
@@ -78,41 +77,30 @@ impl Detail {
     }
 }
 
-/// What is wrong with a line that this fault or refusal answers, by the script after it.
-fn finding_of(script: &HostScript, line: &[u8], said: &ScriptLine<'_>, fault: Reply) -> Finding
+/// What is wrong with a line that this fault or refusal answers, by the space of one process after
+/// it, if a machine is ready.
+pub fn finding_in(
+    space: Option<&Space>,
+    line: &[u8],
+    said: &ScriptLine<'_>,
+    fault: Reply,
+) -> Finding
     ensures { result.fault ≡ fault }
 {
-    if let Some(host) = script.host() {
-        return Finding {
-            fault,
-            detail: host_detail(host, line, said, fault),
-            process: said.process,
-        };
-    }
-    let detail = match script.script() {
-        Some(script) => detail_of(script, line, said, fault),
-        None => Detail::None,
-    };
     Finding {
         fault,
-        detail,
+        detail: detail_of(space, line, said, fault),
         process: None,
     }
 }
 
-/// Carries out a line, which is `said` in bytes without a line feed, and returns what is wrong with
-/// it: `Some` exactly if its answer is an error or a refusal, and then that one. A question is
-/// judged and not answered.
-pub fn judge(
-    alloc: Global,
-    script: &mut HostScript,
-    line: &[u8],
-    said: &ScriptLine<'_>,
-) -> Option<Finding>
-    ensures { Checks script.old said.now result script.new }
+/// What is wrong with a line of a host that this fault or refusal answers, by the host after it.
+pub fn finding_in_host(host: &Host, line: &[u8], said: &ScriptLine<'_>, fault: Reply) -> Finding
+    ensures { result.fault ≡ fault }
 {
-    match script.judge(alloc, said) {
-        None => None,
-        Some(fault) => Some(finding_of(script, line, said, fault)),
+    Finding {
+        fault,
+        detail: host_detail(host, line, said, fault),
+        process: said.process,
     }
 }

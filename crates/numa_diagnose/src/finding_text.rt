@@ -55,8 +55,10 @@ fn put_usage(text: &mut Text, keyword: Keyword) {
         text.put(" ");
         text.put(parameter.name());
     }
-    if keyword == Keyword::GroupMems {
-        text.put(", or - for no list");
+    match keyword {
+        Keyword::GroupMems => text.put(", or - for no list"),
+        Keyword::Room => text.put(", or stands alone"),
+        _ => {}
     }
 }
 

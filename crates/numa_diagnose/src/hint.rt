@@ -1,18 +1,13 @@
-//! What a running kernel would do differently with a line, and playing a script by the other rules.
-ghost use Rattle.std.specs.Prelude.{◌≡◌, Option};
-ghost use Rattle.numa_script.specs.Lines.{alone};
-ghost use Rattle.numa_script.specs.declared.line.Line.TheVariants as line;
-ghost use Rattle.numa_diagnose.specs.Checks.{Judged};
-ghost use Rattle.numa_diagnose.specs.Hints.{hint_for, rules_instead, turned};
+//! What a running kernel would do differently with a line.
+ghost use Rattle.std.specs.Prelude.{◌≡◌};
+ghost use Rattle.numa_diagnose.specs.Hints.{hint_for};
 
 use numa_host::{Host, Process};
-use numa_host_script::HostScript;
-use numa_machine::{NoMemory, Rules};
+use numa_machine::NoMemory;
 use numa_requests::{Command, HostCommand};
-use numa_rules::{Otherwise, other_rules, otherwise_of, otherwise_of_empty_bind};
-use numa_script::{Line, Reply, ScriptLine};
+use numa_rules::{Otherwise, otherwise_of, otherwise_of_empty_bind};
+use numa_script::{Line, ScriptLine};
 use numa_space::Space;
-use std::alloc::Global;
 
 /// What a running kernel would do differently with a line of a process: one of a host's, or that of
 /// the script.
@@ -135,41 +130,5 @@ pub fn hint_in(host: &Host, said: &ScriptLine<'_>) -> Result<Option<HostHint>, N
         }
         Line::HostCommand(Ok(command)) => hint_of_command(host, command),
         _ => Ok(None),
-    }
-}
-
-/// The rules that a line chooses instead where it chooses the others.
-fn rules_instead(said: &Line<'_>) -> Option<Rules>
-    ensures { result ≡ rules_instead said.now }
-{
-    match said {
-        Line::Rules(rules) => Some(other_rules(*rules)),
-        _ => None,
-    }
-}
-
-/// The line that chooses these rules.
-fn rules_line<'a>(rules: Rules) -> ScriptLine<'a>
-    ensures { result ≡ alone (line.Rules rules) }
-{
-    ScriptLine {
-        process: None,
-        line: Line::Rules(rules),
-    }
-}
-
-/// Carries out a line, but takes a line `rules` for one with the other rules, and returns what is
-/// wrong with it. So of two scripts that begin with different rules and are given the same lines,
-/// one by `judge` and one by this, each follows its own set of rules.
-pub fn judge_by_other(
-    alloc: Global,
-    script: &mut HostScript,
-    said: &ScriptLine<'_>,
-) -> Option<Reply>
-    ensures { Judged script.old (turned said.now) result script.new }
-{
-    match rules_instead(&said.line) {
-        Some(rules) => script.judge(alloc, &rules_line(rules)),
-        None => script.judge(alloc, said),
     }
 }

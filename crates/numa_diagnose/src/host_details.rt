@@ -3,6 +3,7 @@ use crate::bad_words::host_words;
 use crate::details::{all_nodes, is_decimal_start, last_of, list_detail, refusal_detail};
 use crate::finding::Detail;
 use numa_host::Host;
+use numa_mask::parts::first_place;
 use numa_requests::{CoreRefusal, HostCommand, HostRefusal, Refusal};
 use numa_script::{Line, Reply, ScriptLine, WordError};
 
@@ -22,18 +23,16 @@ fn state_detail(said: &ScriptLine<'_>) -> Detail {
     }
 }
 
-/// The words behind `in P`.
+/// The words behind `in P`, with the space before them.
 fn inner_of(line: &[u8]) -> &[u8] {
-    let mut spaces = 0u32;
-    for place in 0..line.len() {
-        if line[place] == b' ' {
-            spaces = spaces.saturating_add(1);
-            if spaces == 2 {
-                return &line[place..];
-            }
-        }
+    let Some(first) = first_place(line, b' ') else {
+        return &[];
+    };
+    let rest = &line[first + 1..];
+    match first_place(rest, b' ') {
+        Some(second) => &rest[second..],
+        None => &[],
     }
-    &[]
 }
 
 /// The details of a question's or a command's refusal by the space of a process.

@@ -1,13 +1,11 @@
 //! Diagnosis: what is wrong with a line.
 //!
-//! [`judge`] passes a line to a running script and returns what is wrong with it, if its answer is
-//! an error or a refusal. [`say_finding`] says that in a few words, with what to do, and
-//! [`say_line`] in a line with its position.
+//! [`finding_in`] and [`finding_in_host`] return what is wrong with a line whose answer is an error
+//! or a refusal (`judge` of numa_play finds such lines). [`say_finding`] says that in a few words,
+//! with what to do, and [`say_line`] in a line with its position.
 //!
 //! By the documents' rules, [`hint_of`] returns what a running kernel would do differently with a
-//! line, [`hint_in`] with one of a host, and [`say_hint_line`] writes it. A second script that is
-//! given the same lines by [`judge_by_other`] follows the other rules;
-//! [`numa_rules::by_other_rules`] returns where it leads for a page.
+//! line, [`hint_in`] with one of a host, and [`say_hint_line`] writes it.
 #![tactic(auto)]
 
 mod bad_words;
@@ -21,8 +19,8 @@ mod page_text;
 mod pages;
 mod words;
 
-pub use finding::{Detail, Finding, judge};
+pub use finding::{Detail, Finding, finding_in, finding_in_host};
 pub use finding_text::{
     BINARY, LineAt, say_binary, say_finding, say_hint_line, say_line, say_unjudged,
 };
-pub use hint::{HostHint, hint_in, hint_of, judge_by_other};
+pub use hint::{HostHint, hint_in, hint_of};

@@ -23,6 +23,11 @@ fn placed_words(refusal: PlacedRefusal) -> &'static str {
             "a page of the span lies on a node that POLICY doesn't name; name it, or write \
 move TASK CPU after POLICY"
         }
+        PlacedRefusal::BadCpu => "the machine lacks the node of CPU",
+        PlacedRefusal::Unmapped => "a page of the span isn't mapped; map it, or shorten the span",
+        PlacedRefusal::NoRoom => {
+            "more pages come to the node than find room; raise room, or state fewer pages"
+        }
         PlacedRefusal::TooManyRuns => {
             "there would be more than 1048576 runs of pages that lie alike; state longer spans"
         }
@@ -38,7 +43,9 @@ fn move_words(refusal: MoveRefusal) -> &'static str {
             "the node isn't allowed; name an allowed one, or allow it first by mems"
         }
         MoveRefusal::Unmapped => "the page isn't mapped; map it, or look at the address",
-        MoveRefusal::NotPlaced => "the page lies nowhere yet; say where it lies by at",
+        MoveRefusal::NotPlaced => {
+            "the page lies nowhere yet; say where it lies by at, or touch it by populate"
+        }
         MoveRefusal::NoRoom => {
             "the node takes no more pages, or the page is in a worker's frame; raise room, or \
 release the page"
@@ -71,11 +78,14 @@ fn put_of_page(text: &mut Text, name: &[u8], cause: CoreRefusal, detail: Detail)
 /// Appends the refusal of a line about pages: its name and its cause.
 pub(crate) fn put_placed_refused(text: &mut Text, refusal: PlacedRefusal, detail: Detail) {
     let name = placed_cause(refusal);
-    match refusal {
-        PlacedRefusal::Unaligned => {
+    match (refusal, detail) {
+        (PlacedRefusal::Unaligned, detail) => {
             put_of_page(text, name, CoreRefusal::Command(Refusal::Unaligned), detail);
         }
-        refusal => put_named(text, name, placed_words(refusal), detail),
+        (PlacedRefusal::Unmapped, Detail::Page(page)) => {
+            put_of_page(text, name, CoreRefusal::Unmapped(page), detail);
+        }
+        (refusal, detail) => put_named(text, name, placed_words(refusal), detail),
     }
 }
 

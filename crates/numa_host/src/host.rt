@@ -24,7 +24,6 @@ use std::marker::Model;
 mod changes;
 
 /// Processes in a tree of control groups, on one machine.
-#[derive(Drop)]
 pub struct Host {
     alloc: Global,
     blank: Space,
@@ -32,6 +31,23 @@ pub struct Host {
     version: u64,
     groups: Vec<ControlGroup>,
     processes: Vec<Process>,
+}
+
+// (By hand, so that it is proved here alone: a derived one is proved in each crate that drops.)
+impl Drop for Host {
+    fn drop(self) {
+        let Host {
+            alloc: _,
+            blank,
+            limits: _,
+            version: _,
+            groups,
+            processes,
+        } = self;
+        drop(blank);
+        drop(groups);
+        drop(processes);
+    }
 }
 
 impl Model for Host {

@@ -25,13 +25,13 @@ use Rattle.numa_host_script.specs.Judged.{session_fault}
 use Rattle.numa_host_script.specs.Sessions.{Hosted, Session, Single}
 use Rattle.numa_host_script.specs.Sessions.{session_after}
 use Rattle.numa_host_script.specs.Standing.{StandsIn, told}
-use Rattle.numa_host_script.specs.Taking.{IsLeft, Left, Open, Told, fault_left}
+use Rattle.numa_host_script.specs.Taking.{IsLeft, Left, Open, Told, Touched, fault_left}
 use Rattle.numa_host_script.specs.Taking.{left_in, misplaced_reply}
 use Rattle.numa_host_script.specs.declared.taking.HostTaken.{HostTaken}
 use Rattle.numa_host_script.specs.declared.taking.HostTaken.TheVariants as taken
 use Rattle.numa_host_script.proofs.Left.{asked-fault_where, foreign-asked, foreign-listed}
 use Rattle.numa_host_script.proofs.Left.{IsSpaceOf, listed-fault_where, misplaced-fault, own-fault}
-use Rattle.numa_host_script.proofs.Left.{stays, Stays, told-fault}
+use Rattle.numa_host_script.proofs.Left.{stays, Stays, told-fault, touched-fault}
 
 -- what was left in a session was judged
 abbrev pub TellsAt : Left → Option Reply → Script → Bounds → Option HostState → Session → Type 0
@@ -151,6 +151,9 @@ module _ (mid : Script) (mid_limits : Bounds) (mid_host : Option HostState)
   judged-left said (Told answer) fault session same t tells =
       let w = tells (session_after t.0 session said) t.1 in
       (t.0, w.1, w.2 ∙ told-fault t.0 session said answer t.2)
+  judged-left said Touched fault session same t tells =
+      let w = tells (session_after t.0 session said) t.1 in
+      (t.0, w.1, w.2 ∙ touched-fault t.0 w.0 session said t.2)
   judged-left said (Open shown) fault session same t tells =
       let still = ap (session_after t.0 session) t.2 ∙ same t.0 in
       let w = tells session (subst (StandsIn mid mid_limits mid_host) still t.1) in

@@ -2,14 +2,17 @@
 use Rattle.std.proofs.Common.{◌≡◌, ℕ, Bool, true, false, Option, Some, None, List, refl}
 use Rattle.std.proofs.Common.{sym, ap, subst, ◌∙◌}
 use Rattle.std.specs.Prelude.{IsSomeAnd}
+use Rattle.numa_space.specs.Limited.{Bounds}
 use Rattle.numa_space.specs.Standing.{SpaceState, StandsFor}
 use Rattle.numa_host.specs.Processes.{commands_of, is_there, members_of}
 use Rattle.numa_host.specs.Standing.{HostState, HostStandsFor}
 use Rattle.numa_requests.specs.declared.host_command.HostCommand.{HostCommand}
+use Rattle.numa_script.specs.Lines.{alone}
 use Rattle.numa_script.specs.Replies.{LacksMemory, fault_in}
 use Rattle.numa_script.specs.declared.line.Line.TheVariants as line
 use Rattle.numa_script.specs.declared.line.Question.{Question}
 use Rattle.numa_script.specs.declared.line.ScriptLine.{ScriptLine}
+use Rattle.numa_script.specs.declared.page_line.PageLine.TheVariants as page
 use Rattle.numa_script.specs.declared.reply.Reply.{Reply}
 use Rattle.numa_script.specs.declared.reply.Reply.TheVariants as reply
 use Rattle.numa_run.specs.Answers.{State, after}
@@ -17,16 +20,18 @@ use Rattle.numa_run.specs.Judged.{fault_or}
 use Rattle.numa_run.specs.Replies.{Answer, Replied, Shown, Served as Played, reply_in}
 use Rattle.numa_run.specs.Scripts.{answer_left as own_answer_left, fault_left as own_fault_left}
 use Rattle.numa_run.specs.declared.running.Taken.{Taken}
+use Rattle.numa_run.specs.declared.script.Script.{Script}
 use Rattle.numa_run.specs.declared.running.Taken.TheVariants as own
-use Rattle.numa_run.proofs.Taking.{malformed-is, maps-same, moved-same, question-same}
+use Rattle.numa_run.proofs.JudgeLemmas.{last_text, moved-text, rooms-text, rooms_left}
+use Rattle.numa_run.proofs.Taking.{malformed-is, maps-same, question-same, text-same}
 use Rattle.numa_host_script.specs.Judged.{Starves, refused_where, session_fault}
 use Rattle.numa_host_script.specs.Judged.{session_refused}
 use Rattle.numa_host_script.specs.Sessions.{Hosted, Hosting, Session, Single}
 use Rattle.numa_host_script.specs.Sessions.{asked_where, listed_where, session_after}
 use Rattle.numa_host_script.specs.Sessions.{session_served}
-use Rattle.numa_host_script.specs.Standing.{told}
-use Rattle.numa_host_script.specs.Taking.{Left, Open, Told, answer_left, fault_left}
-use Rattle.numa_host_script.specs.Taking.{left_in, misplaced_reply}
+use Rattle.numa_host_script.specs.Standing.{StandsIn, told}
+use Rattle.numa_host_script.specs.Taking.{IsLeft, Left, Open, Told, Touched, answer_left}
+use Rattle.numa_host_script.specs.Taking.{fault_left, left_in, misplaced_reply}
 use Rattle.numa_host_script.specs.declared.taking.HostTaken.{HostTaken}
 use Rattle.numa_host_script.specs.declared.taking.HostTaken.TheVariants as taken
 use Rattle.numa_host_script.proofs.Taken.{asked-still, listed-still}
@@ -47,6 +52,13 @@ pub told-fault : (refused : Bool) (session : Session) (said : ScriptLine) (answe
     → fault_in answer ≡ session_fault refused session said
 told-fault refused session said answer is =
     ap (λ (o : Option Reply). fault_or o (session_refused refused session said)) is
+
+-- what was touched tells the line's fault
+pub touched-fault : (refused told : Bool) (session : Session) (said : ScriptLine)
+    → IsLeft refused session said Touched
+    → fault_left told (session_after refused session said) Touched
+    ≡ session_fault refused session said
+touched-fault refused told session said left = λ i. fault_or (reply_in (left.0 i)) (left.1 i)
 
 -- a reply that is written as bad words, where there is no host
 malformed-here : (state : State) (said : ScriptLine) (process : ℕ) → said.process ≡ Some process
@@ -74,6 +86,8 @@ own-answer refused state (own.Reply answer) = refl
 own-answer refused state (own.Question asked) = refl
 own-answer refused state (own.Maps task) = refl
 own-answer refused state own.Moved = refl
+own-answer refused state own.Rooms = refl
+own-answer refused state own.Arrived = refl
 
 pub own-fault : (refused : Bool) (state : State) (found : Taken)
     → own_fault_left refused state found
@@ -83,6 +97,8 @@ own-fault refused state (own.Reply answer) = refl
 own-fault refused state (own.Question asked) = refl
 own-fault refused state (own.Maps task) = refl
 own-fault refused state own.Moved = refl
+own-fault refused state own.Rooms = refl
+own-fault refused state own.Arrived = refl
 
 -- and as a host does
 pub misplaced-answer : (refused : Bool) (at : Hosting) (found : Taken)
@@ -93,6 +109,8 @@ misplaced-answer refused at (own.Reply answer) = refl
 misplaced-answer refused at (own.Question asked) = refl
 misplaced-answer refused at (own.Maps task) = refl
 misplaced-answer refused at own.Moved = refl
+misplaced-answer refused at own.Rooms = refl
+misplaced-answer refused at own.Arrived = refl
 
 pub misplaced-fault : (refused : Bool) (at : Hosting) (found : Taken)
     → fault_in (misplaced_reply found)
@@ -102,6 +120,8 @@ misplaced-fault refused at (own.Reply answer) = refl
 misplaced-fault refused at (own.Question asked) = refl
 misplaced-fault refused at (own.Maps task) = refl
 misplaced-fault refused at own.Moved = refl
+misplaced-fault refused at own.Rooms = refl
+misplaced-fault refused at own.Arrived = refl
 
 -- a question of a process, where it is there or not
 asked-answer : (refused : Bool) (at : Hosting) (process : ℕ) (asked : Question)
@@ -155,6 +175,7 @@ listed-fault_where there refused at process task is =
 abbrev pub Stays : Bool → Session → Left → Type 0
 Stays refused session (Told answer) = Unit {0}
 Stays refused session (Open said) = session_after refused session said ≡ session
+Stays refused session Touched = Unit {0}
 
 abbrev with-history : Hosting → List HostCommand → Session
 with-history at history =
@@ -172,7 +193,11 @@ stays refused (Single state) (taken.Own (own.Question asked)) =
     ap Single (question-same refused state asked)
 stays refused (Single state) (taken.Own (own.Maps task)) =
     ap Single (maps-same refused state task)
-stays refused (Single state) (taken.Own own.Moved) = ap Single (moved-same refused state)
+stays refused session (taken.Own own.Arrived) = tt
+stays refused (Single state) (taken.Own own.Moved) =
+    ap Single (text-same page.Moved last_text moved-text refused state)
+stays refused (Single state) (taken.Own own.Rooms) =
+    ap Single (text-same page.Rooms rooms_left rooms-text refused state)
 stays refused (Single state) (taken.Asked process asked) =
     ap Single (malformed-same refused state)
 stays refused (Single state) (taken.Listed process task) =
@@ -180,10 +205,22 @@ stays refused (Single state) (taken.Listed process task) =
 stays refused (Hosted at) (taken.Own (own.Question asked)) = refl
 stays refused (Hosted at) (taken.Own (own.Maps task)) = refl
 stays refused (Hosted at) (taken.Own own.Moved) = refl
+stays refused (Hosted at) (taken.Own own.Rooms) = refl
 stays refused (Hosted at) (taken.Asked process asked) = ap (with-history at)
     (asked-still (is_there (members_of at.history) process) refused at process asked)
 stays refused (Hosted at) (taken.Listed process task) = ap (with-history at)
     (listed-still (is_there (members_of at.history) process) at process task)
+
+-- a question of a line that names no process is left as it is
+pub asked-left : (script : Script) (limits : Bounds) (host : Option HostState) (session : Session)
+    (said : ScriptLine) (asked : Question) → said ≡ alone (line.Question asked)
+    → StandsIn script limits host session → (refused : Bool)
+    × StandsIn script limits host (session_after refused session said)
+    × IsLeft refused session said (left_in (taken.Own (own.Question asked)))
+asked-left script limits host session said asked is stands =
+    let same : session_after false session said ≡ session =
+    ap (session_after false session) is ∙ stays false session (taken.Own (own.Question asked)) in
+    (false, subst (StandsIn script limits host) (sym same) stands, is)
 
 -- a listing wants no memory
 pub listed-unstarved : (session : Session) (process task : ℕ)

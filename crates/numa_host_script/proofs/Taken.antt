@@ -31,7 +31,7 @@ use Rattle.numa_host_script.specs.Sessions.{is_fresh, listed_where, own_outcome,
 use Rattle.numa_host_script.specs.Sessions.{session_after, session_served}
 use Rattle.numa_host_script.specs.Standing.{Replies, RunsAs, StandsIn, Takes, hosting_with, told}
 use Rattle.numa_host_script.specs.Standing.{IsTakenIn}
-use Rattle.numa_host_script.specs.Taking.{IsLeft, left_in}
+use Rattle.numa_host_script.specs.Taking.{IsLeft, left_in, touched_answer}
 use Rattle.numa_host_script.specs.declared.taking.HostTaken.{HostTaken}
 use Rattle.numa_host_script.specs.declared.taking.HostTaken.TheVariants as taken
 use Rattle.numa_run.proofs.Taking.{malformed-is}
@@ -229,6 +229,10 @@ module _ (script : Script) (limits : Bounds) where
       says-alone said.process said.line (line.Maps task) (λ e. cc) left.1
   left-alone refused state said own.Moved same left =
       says-alone said.process said.line (line.Pages (Ok page.Moved)) (λ e. cc) left.1
+  left-alone refused state said own.Rooms same left =
+      says-alone said.process said.line (line.Pages (Ok page.Rooms)) (λ e. cc) left.1
+  left-alone refused state said own.Arrived same left =
+      (subst (λ (s : Served). touched_answer s.session ≡ s.answer) (sym same) left.1, left.2)
 
   -- a line that is told to a process has no place
   pub taken-foreign : (said : ScriptLine) (process : ℕ) (session : Session)

@@ -33,15 +33,15 @@ use Rattle.numa_host_script.specs.Sessions.{Hosted, Session, Single}
 use Rattle.numa_host_script.specs.Sessions.{session_after}
 use Rattle.numa_host_script.specs.Sessions.{session_answer}
 use Rattle.numa_host_script.specs.Standing.{StandsIn, told}
-use Rattle.numa_host_script.specs.Taking.{IsLeft, Left, Open, Told, answer_left, fault_left}
-use Rattle.numa_host_script.specs.Taking.{left_in, misplaced_reply}
+use Rattle.numa_host_script.specs.Taking.{IsLeft, Left, Open, Told, Touched, answer_left}
+use Rattle.numa_host_script.specs.Taking.{fault_left, left_in, misplaced_reply}
 use Rattle.numa_host_script.specs.declared.taking.HostTaken.{HostTaken}
 use Rattle.numa_host_script.specs.declared.taking.HostTaken.TheVariants as taken
 use Rattle.numa_host_script.proofs.Left.{asked-answer_where, asked-fault_where, foreign-asked}
 use Rattle.numa_host_script.proofs.Left.{foreign-listed, IsSpaceOf, listed-answer_where}
 use Rattle.numa_host_script.proofs.Left.{listed-unstarved, misplaced-answer, misplaced-fault}
 use Rattle.numa_host_script.proofs.Left.{own-answer, own-fault, stays, Stays, told-answer}
-use Rattle.numa_host_script.proofs.Left.{told-fault}
+use Rattle.numa_host_script.proofs.Left.{told-fault, touched-fault}
 
 module _ {W : Type 0} (contents : W → Option (List ℕ)) (output output_then : Watched W) where
   -- what was left in a session was written
@@ -237,6 +237,14 @@ module _ {W : Type 0} (contents : W → Option (List ℕ)) (output output_then :
               (ap bytes_of (told-answer t.0 session said answer t.2)) w.2,
           subst (λ (o : Option Reply). IsTrue lacks ↔ IsSomeAnd o LacksMemory)
               (told-fault t.0 session said answer t.2) w.3,
+        )
+    served-left said Touched lacks session same t writes =
+        let w = writes (session_after t.0 session said) t.1 in (
+          t.0,
+          w.1,
+          said_same contents output output_then _ _ (ap bytes_of t.2.0) w.2,
+          subst (λ (o : Option Reply). IsTrue lacks ↔ IsSomeAnd o LacksMemory)
+              (touched-fault t.0 w.0 session said t.2) w.3,
         )
     served-left said (Open shown) lacks session same t writes =
         let still = ap (session_after t.0 session) t.2 ∙ same t.0 in

@@ -1,5 +1,5 @@
 -- A line that is taken, and then answered or judged.
-use Rattle.std.specs.Prelude.{◌≡◌, ◌↔◌, ℕ, Bool, List, Option, Some, Ok, IsSomeAnd, IsTrue}
+use Rattle.std.specs.Prelude.{◌≡◌, ◌↔◌, ℕ, Bool, List, Option, Some, None, Ok, IsSomeAnd, IsTrue}
 use Rattle.numa_lines.specs.Written.{Said}
 use Rattle.numa_lines.specs.declared.watched.Watched.{Watched}
 use Rattle.numa_script.specs.Lines.{alone}
@@ -9,45 +9,63 @@ use Rattle.numa_script.specs.declared.line.ScriptLine.{ScriptLine}
 use Rattle.numa_script.specs.declared.page_line.PageLine.TheVariants as page
 use Rattle.numa_script.specs.declared.reply.Reply.{Reply}
 use Rattle.numa_script.specs.declared.reply.Reply.TheVariants as reply
+use Rattle.numa_run.specs.Judged.{fault_or}
 use Rattle.numa_run.specs.Replies.{Answer, Replied, bytes_of, reply_in}
+use Rattle.numa_run.specs.Scripts.{arrived_answer}
 use Rattle.numa_run.specs.declared.running.Taken.{Taken}
 use Rattle.numa_run.specs.declared.running.Taken.TheVariants as own
-use Rattle.numa_host_script.specs.Judged.{Starves, session_fault}
-use Rattle.numa_host_script.specs.Sessions.{Session, session_after, session_answer, session_served}
+use Rattle.numa_host_script.specs.Judged.{Starves, session_fault, session_refused}
+use Rattle.numa_host_script.specs.Sessions.{Hosted, Session, Single, session_after, session_answer}
+use Rattle.numa_host_script.specs.Sessions.{session_served}
 use Rattle.numa_host_script.specs.Standing.{StandsIn, told}
 use Rattle.numa_host_script.specs.declared.script.HostScript.{HostScript}
 use Rattle.numa_host_script.specs.declared.taking.HostTaken.{HostTaken}
 use Rattle.numa_host_script.specs.declared.taking.HostTaken.TheVariants as taken
 
--- what is left of a line that was taken: its reply, or the line, which has changed nothing and
--- whose answer is a text of what there is
+-- what is left of a line that was taken: its reply; or the line, which has changed nothing and
+-- whose answer is a text of what there is; or what pages that it touched did, which the session after
+-- it tells
 pub data Left : Type 0 where
   Told : Reply → Left
   Open : ScriptLine → Left
+  Touched : Left
 
 abbrev pub left_in : HostTaken → Left
 left_in (taken.Own (own.Reply answer)) = Told answer
 left_in (taken.Own (own.Question asked)) = Open (alone (line.Question asked))
 left_in (taken.Own (own.Maps task)) = Open (alone (line.Maps task))
 left_in (taken.Own own.Moved) = Open (alone (line.Pages (Ok page.Moved)))
+left_in (taken.Own own.Rooms) = Open (alone (line.Pages (Ok page.Rooms)))
+left_in (taken.Own own.Arrived) = Touched
 left_in (taken.Reply answer) = Told answer
 left_in (taken.Asked process asked) = Open (told process (line.Question asked))
 left_in (taken.Listed process task) = Open (told process (line.Maps task))
+
+-- what pages that were touched did; a host has none
+abbrev pub touched_answer : Session → Answer
+touched_answer (Single state) = arrived_answer state
+touched_answer (Hosted at) = Replied reply.BadState
 
 -- the reply is the one that the definition says, or the line is left as it is
 abbrev pub IsLeft : Bool → Session → ScriptLine → Left → Type 0
 IsLeft refused session said (Told answer) =
     Some answer ≡ reply_in (session_served refused session said).answer
 IsLeft refused session said (Open same) = said ≡ same
+IsLeft refused session said Touched =
+    (touched_answer (session_after refused session said)
+    ≡ (session_served refused session said).answer)
+    × (None ≡ session_refused refused session said)
 
 -- the answer of what is left, and its fault or refusal
 abbrev pub answer_left : Bool → Session → Left → Answer
 answer_left refused session (Told answer) = Replied answer
 answer_left refused session (Open said) = (session_served refused session said).answer
+answer_left refused session Touched = touched_answer session
 
 abbrev pub fault_left : Bool → Session → Left → Option Reply
 fault_left refused session (Told answer) = fault_in answer
 fault_left refused session (Open said) = session_fault refused session said
+fault_left refused session Touched = fault_or (reply_in (touched_answer session)) None
 
 -- where there is a host, a line that names no process and shows what is has no place
 abbrev pub misplaced_reply : Taken → Reply
@@ -55,6 +73,8 @@ misplaced_reply (own.Reply answer) = answer
 misplaced_reply (own.Question asked) = reply.BadState
 misplaced_reply (own.Maps task) = reply.BadState
 misplaced_reply own.Moved = reply.BadState
+misplaced_reply own.Rooms = reply.BadState
+misplaced_reply own.Arrived = reply.BadState
 
 -- ---- what a script does with a line
 

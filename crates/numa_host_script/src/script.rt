@@ -1,5 +1,6 @@
 //! Running scripts that may become a host's.
-ghost use Rattle.std.specs.Prelude.{◌≡◌, ◌↔◌, ℕ, Bool, true, false, IsTrue, MatchOption, Some};
+ghost use Rattle.std.specs.Prelude.{◌≡◌, ◌↔◌, ℕ, Bool, true, false, IfSome, IsTrue};
+ghost use Rattle.std.specs.Prelude.{MatchOption, None, Some};
 ghost use Rattle.numa_lines.specs.Written.{Said};
 ghost use Rattle.numa_host_script.specs.Sessions.{Session, begun, bounds_after, is_begin, is_fresh};
 ghost use Rattle.numa_host_script.specs.Sessions.{session_answer, session_by};
@@ -11,6 +12,7 @@ ghost use Rattle.numa_host_script.specs.Taking.{misplaced_reply};
 ghost use Rattle.numa_run.specs.Answers.{State};
 ghost use Rattle.numa_run.specs.Replies.{reply_in};
 ghost use Rattle.numa_run.specs.Scripts.{ScriptStandsFor};
+ghost use Rattle.numa_script.specs.Lines.{alone};
 
 use crate::asking::{ask, list, question_cause};
 use crate::taking::{HostTaken, take};
@@ -19,19 +21,31 @@ use numa_lines::{Serve, Watched};
 use numa_machine::{Machine, Rules};
 use numa_requests::{HostRefusal, Limits};
 use numa_run::{Script, Taken};
-use numa_script::line::parse;
+use numa_script::line::{malformed, parse_over};
 use numa_script::tell::say_reply;
 use numa_script::{Line, Question, Reply, ScriptLine};
 use std::alloc::Global;
 use std::io::Write;
 
 /// A running script: of one process, or of a host once a line `host` is accepted.
-#[derive(Drop)]
 pub struct HostScript {
     script: Script,
     // The limits of the script's machine, or of the one to come.
     limits: Limits,
     host: Option<Host>,
+}
+
+// (By hand, so that it is proved here alone: what is derived is proved in each crate that drops.)
+impl Drop for HostScript {
+    fn drop(self) {
+        let HostScript {
+            script,
+            limits: _,
+            host,
+        } = self;
+        drop(script);
+        drop(host);
+    }
 }
 
 /// Whether a line is `host`.
@@ -45,6 +59,20 @@ fn is_begin(said: &ScriptLine<'_>) -> bool
     match &said.line {
         Line::Host => true,
         _ => false,
+    }
+}
+
+/// The question of a line that names no process.
+#[inline(always)]
+fn plain_question(said: &ScriptLine<'_>) -> Option<Question>
+    ensures { IfSome result (λ asked. said.now ≡ alone (Line.Question asked)) }
+{
+    if let Some(_) = said.process {
+        return None;
+    }
+    match &said.line {
+        Line::Question(question) => Some(*question),
+        _ => None,
     }
 }
 
@@ -93,6 +121,8 @@ fn misplaced(taken: Taken) -> Reply
         Taken::Question(_) => Reply::BadState,
         Taken::Maps(_) => Reply::BadState,
         Taken::Moved => Reply::BadState,
+        Taken::Rooms => Reply::BadState,
+        Taken::Arrived => Reply::BadState,
     }
 }
 
@@ -145,8 +175,38 @@ impl HostScript {
         if let Some(_) = said.process {
             return HostTaken::Reply(Reply::BadWords);
         }
+        HostTaken::Own(self.take_own(alloc, said))
+    }
+
+    /// Carries out a line of one process.
+    #[inline(always)]
+    fn take_own(&mut self, alloc: Global, said: &ScriptLine<'_>) -> Taken
+        requires begin { is_begin said.now ≡ false }
+        requires unnamed { said.now.process ≡ None }
+        requires unhosted { self.old.host ≡ None }
+        ensures { SessionTakes self.old said.now (HostTaken.Own result) self.new }
+    {
         self.limits = limits_after(&self.script, self.limits, &said.line);
-        HostTaken::Own(self.script.take(alloc, &said.line))
+        self.script.take(alloc, &said.line)
+    }
+
+    /// Whether a line may be another than one of one process: it is `host` or names a process, or
+    /// there is a host.
+    #[inline(always)]
+    fn is_wider(&self, said: &ScriptLine<'_>) -> bool
+        ensures { result ≡ false → (is_begin said.now ≡ false) × (said.now.process ≡ None)
+            × (self.now.host ≡ None) }
+    {
+        if is_begin(said) {
+            return true;
+        }
+        if let Some(_) = said.process {
+            return true;
+        }
+        if let Some(_) = &self.host {
+            return true;
+        }
+        false
     }
 
     /// Writes the answer of a line that was taken. Returns whether memory ran out; then the answer
@@ -288,8 +348,30 @@ impl HostScript {
     }
 
     /// Carries out a line, and writes its answer. Returns whether memory ran out; then the answer
-    /// says so.
+    /// says so. A question changes nothing, and is answered at once.
+    #[inline(always)]
     pub fn serve_line<W: Write>(
+        &mut self,
+        alloc: Global,
+        said: &ScriptLine<'_>,
+        output: &mut Watched<W>,
+    ) -> bool
+        ensures { SessionServes W.contents self.old output.old said.now result self.new
+            output.new }
+    {
+        if let Some(question) = plain_question(said) {
+            return self.write_own(alloc, Taken::Question(question), output);
+        }
+        if self.is_wider(said) {
+            return self.serve_wider(alloc, said, output);
+        }
+        let taken = self.take_own(alloc, said);
+        self.write_own(alloc, taken, output)
+    }
+
+    /// Carries out a line that may be a host's, and writes its answer, as `serve_line` does.
+    #[inline(never)]
+    fn serve_wider<W: Write>(
         &mut self,
         alloc: Global,
         said: &ScriptLine<'_>,
@@ -346,7 +428,8 @@ impl Serve for HostScript {
     ghost after = { session_after_bytes };
 
     fn serve<W: Write>(&mut self, alloc: Global, line: &[u8], output: &mut Watched<W>) {
-        let taken = self.take(alloc, &parse(line));
-        let _ = self.write(alloc, taken, output);
+        let mut said = malformed();
+        parse_over(line, &mut said);
+        let _ = self.serve_line(alloc, &said, output);
     }
 }

@@ -1,6 +1,7 @@
 //! The placed pages.
 ghost use Rattle.std.specs.Prelude.{◌≡◌, ◌≢◌, ◌<◌, ◌≤◌, ◌^◌, ℕ, [], length, None, Some, IfSome};
-ghost use Rattle.std.specs.Prelude.{IfErr, OnOk, OnErr, MatchOption, slice_index};
+ghost use Rattle.std.specs.Prelude.{IfErr, OnOk, OnErr, MatchOption, slice_get, slice_index};
+ghost use Rattle.std.specs.Option.{option_map};
 ghost use Rattle.numa_maps.specs.Listing.{pages_on, placed_in};
 ghost use Rattle.numa_ranges.specs.Runs.{end_of};
 ghost use Rattle.numa_maps.specs.Residents.{placed_at, with_placement, without_page, IsRefusal};
@@ -143,6 +144,18 @@ impl Resident {
         ensures few { result < 2 ^ 63 }
     {
         self.placed_in(range).count()
+    }
+
+    /// The lowest placed page of a range, if one is placed.
+    pub fn first_in(&self, range: &Run<RangeRecord>) -> Option<u64>
+        requires { end_of range.now ≤ 2 ^ 35 }
+        ensures { result ≡ option_map (λ at. at.0) (slice_get (placed_in self.now range.now) 0) }
+    {
+        let mut placed = self.placed_in(range);
+        match placed.next() {
+            Some((page, _)) => Some(*page),
+            None => None,
+        }
     }
 
     /// The number of placed pages of a range on each node.

@@ -1,5 +1,5 @@
 //! Where the pages of processes lie, and what becomes of them.
-ghost use Rattle.std.specs.Prelude.{◌≡◌, ◌<◌, ◌^◌, ℕ, IfOk, OnOk};
+ghost use Rattle.std.specs.Prelude.{◌≡◌, ◌<◌, ◌^◌, ℕ, IfOk};
 ghost use Rattle.numa_placed.specs.Shifts.{AreRooms};
 ghost use Rattle.numa_moves.specs.Moving.{moves_of, shares_behind};
 ghost use Rattle.numa_moves.specs.Shares.{pages_on};
@@ -12,7 +12,8 @@ use crate::stating::{Member, RefusedAt, Scene, note_lacking, placed_of};
 use numa_compile::compile;
 use numa_mask::NodeMask;
 use numa_placed::Rooms;
-use numa_reports::{FreePages, ReportError, Touch};
+use numa_reports::ReportError;
+use numa_sheets::{FreePages, Touch};
 use numa_space::Space;
 use std::alloc::{AllocError, Global};
 use std::mem::replace;

@@ -14,7 +14,8 @@ use crate::share::{Share, push_within};
 use numa_placed::Placed;
 use numa_plan::Plan;
 use numa_ranges::Run;
-use numa_reports::{PageSpan, ReportError, Touch, predict_range};
+use numa_reports::{PageSpan, ReportError, predict_range};
+use numa_sheets::Touch;
 use numa_space::{RangeRecord, Space};
 use std::alloc::{AllocError, Global};
 

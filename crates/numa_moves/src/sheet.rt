@@ -2,14 +2,18 @@
 
 mod bars;
 mod drawing;
+mod ends;
+mod flow;
 mod lines;
 mod objects;
+mod table;
 
 use crate::holding::{HoldingMoves, Step};
 use crate::moving::ShareMove;
 use crate::sums::{AllMoves, MoveSum};
 use drawing::Drawing;
-use numa_reports::{Format, FreePages, PageSpan, Written};
+use numa_reports::PageSpan;
+use numa_sheets::{Format, FreePages, Written};
 use std::alloc::{AllocError, Global};
 
 /// How an answer is written.
@@ -90,7 +94,8 @@ impl Sheet {
         self.spans = 0;
         self.total.clear(self.nodes);
         if let Format::Svg(number) = self.format {
-            self.drawing.begin(&mut self.text, moves, number);
+            self.drawing
+                .begin(&mut self.text, moves, number, self.nodes);
         }
         for moved in moves {
             self.take(moved);
@@ -99,7 +104,7 @@ impl Sheet {
         let text = &mut self.text;
         match self.format {
             Format::Json => objects::put_sum(text, &self.total, self.nodes, is_last),
-            Format::Svg(_) => self.drawing.put_sum(text, &self.total),
+            Format::Svg(_) => self.drawing.put_sum(text, self.nodes),
             _ => lines::put_sum(text, &self.total, self.nodes),
         }
     }
@@ -145,7 +150,10 @@ impl Sheet {
         };
         match self.format {
             Format::Json => objects::begin_step(&mut self.text, line, asked.is_each, place == 0),
-            Format::Svg(_) => self.drawing.begin_step(&mut self.text, place as u64),
+            Format::Svg(_) => {
+                let text = &mut self.text;
+                self.drawing.begin_step(text, line, asked.free, &step.rooms);
+            }
             _ if asked.lines.len() > 1 => lines::begin_step(&mut self.text, line),
             _ => (),
         }

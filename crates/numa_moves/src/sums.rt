@@ -24,7 +24,7 @@ pub(crate) struct MoveSum {
 }
 
 /// Adds pages to those of a node.
-fn add(counts: &mut [u64; 256], node: u8, pages: u64) {
+pub(crate) fn add(counts: &mut [u64; 256], node: u8, pages: u64) {
     let place = node as usize;
     counts[place] = counts[place].saturating_add(pages);
 }
@@ -50,6 +50,44 @@ impl MoveSum {
             self.gone[node as usize] = 0;
             self.stays[node as usize] = 0;
             self.lacking[node as usize] = 0;
+        }
+    }
+
+    /// The number of a node's pages that stay on it: as they need not go, or find no room.
+    pub(crate) fn stayed(&self, node: u8) -> u64 {
+        let place = node as usize;
+        self.stays[place].saturating_add(self.lacking[place])
+    }
+
+    /// The number of pages that lie on a node before, and on another, or the same, after.
+    pub(crate) fn between(&self, from: u8, to: u8) -> u64 {
+        if from == to {
+            return self.stayed(from);
+        }
+        if self.to[from as usize] == to {
+            self.gone[from as usize]
+        } else {
+            0
+        }
+    }
+
+    /// Adds a node's pages of another sum.
+    fn add_node(&mut self, other: &MoveSum, node: u8) {
+        let place = node as usize;
+        if other.gone[place] > 0 {
+            self.to[place] = other.to[place];
+        }
+        add(&mut self.gone, node, other.gone[place]);
+        add(&mut self.stays, node, other.stays[place]);
+        add(&mut self.lacking, node, other.lacking[place]);
+    }
+
+    /// Adds the pages of another sum of the same process, on a machine with so many nodes.
+    pub(crate) fn merge(&mut self, other: &MoveSum, nodes: u32) {
+        self.placed = self.placed.saturating_add(other.placed);
+        self.moved = self.moved.saturating_add(other.moved);
+        for node in 0..nodes.min(256) {
+            self.add_node(other, node as u8);
         }
     }
 

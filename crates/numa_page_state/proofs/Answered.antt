@@ -43,6 +43,9 @@ module _ {A : Type 0} (old new : PageState) where
   lacks-so cause.Occupied same = never-lacks old new _ _
   lacks-so cause.NodesNotAllowed same = never-lacks old new _ _
   lacks-so cause.Astray same = never-lacks old new _ _
+  lacks-so cause.BadCpu same = never-lacks old new _ _
+  lacks-so cause.Unmapped same = never-lacks old new _ _
+  lacks-so cause.NoRoom same = never-lacks old new _ _
   lacks-so cause.TooManyRuns same = never-lacks old new _ _
 
   pub denied : (refusal : PlacedRefusal) (lying : Lying)

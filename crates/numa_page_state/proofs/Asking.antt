@@ -21,6 +21,7 @@ use Rattle.numa_requests.specs.declared.refusal.Refusal.{Refusal}
 use Rattle.numa_requests.specs.declared.refusal.Refusal.TheVariants as refusal
 use Rattle.numa_space.proofs.Lists.{list-same, mapped-same}
 use Rattle.numa_maps.specs.Residents.{Kept}
+use Rattle.numa_placed.specs.Astray.{is_astray}
 use Rattle.numa_placed.specs.Binds.{Asked, IsBound, asked_of as asked_by, bound_spots}
 use Rattle.numa_placed.specs.Binds.{goals as goals_by, list_unless}
 use Rattle.numa_placed.specs.Binds.{is_kept, nodes_in, room_before, span_below, strays}
@@ -124,7 +125,7 @@ nodes-where false space history toucher page stands is =
       | inr e ↦ rw e refl
     ]
 
-nodes-same : (space : SpaceState) (history : List Command) (toucher : Toucher) (page : ℕ)
+pub nodes-same : (space : SpaceState) (history : List Command) (toucher : Toucher) (page : ℕ)
     → StandsFor space history → nodes_in space toucher.task toucher.cpu page
     ≡ nodes_of space.machine history toucher page
 nodes-same space history toucher page stands =
@@ -150,7 +151,7 @@ asked-same space history kept said toucher after has =
     λ i. record {
       first = page_of (below_end said).start;
       pages = page_count (below_end said).length;
-      list = said.spec.mask;
+      wants = λ page. is_astray said.spec.mask;
       nodes = λ page. nodes page i;
     }
 
@@ -309,6 +310,7 @@ pub settles : (state : PageState) (done : Sending) (new : PageState) (lying : Ly
         before = state.placed;
         after = done.copy;
       });
+      arrived = state.arrived;
     } → LiesAs state lying → HasSent done kept asked lying
     → LiesAs new (with_sent kept asked lying)
 settles state done new lying kept asked is lies has =
@@ -324,6 +326,7 @@ settles state done new lying kept asked is lies has =
         left = has.left;
         flow = λ from to i. flow_between (old i) (later i) from to;
       };
+      arrived = lies.arrived;
     })
 
 pub settled-some : (before : Option PageState) (state : PageState) (done : Sending)
@@ -338,6 +341,7 @@ pub settled-some : (before : Option PageState) (state : PageState) (done : Sendi
         before = state.placed;
         after = done.copy;
       });
+      arrived = state.arrived;
     } → Lies before lying → HasSent done kept asked lying
     → LiesAs new (with_sent kept asked lying)
 settled-some before state done new lying kept asked is settled lies has =

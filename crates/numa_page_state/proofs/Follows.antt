@@ -11,7 +11,9 @@ use Rattle.numa_page_state.specs.Lying.{Lying, OfNodes, motion, still, with_held
 use Rattle.numa_maps.specs.Residents.{Kept}
 use Rattle.numa_page_state.specs.Outcomes.{follow_unless, followed, followed_where, is_no_memory}
 use Rattle.numa_page_state.specs.Outcomes.{lack_in}
-use Rattle.numa_page_state.specs.Standing.{HaveRoom, LastAs, LiesAs, Moves, TellsOf}
+use Rattle.numa_page_state.specs.Standing.{ArrivedAs, HaveRoom, LastAs, LiesAs, Moves}
+use Rattle.numa_page_state.specs.Standing.{TellsOf}
+use Rattle.numa_page_state.specs.declared.arrived.Arrived.{Arrived}
 use Rattle.numa_page_state.specs.declared.state.PageState.{PageState}
 use Rattle.numa_page_state.specs.declared.last.Last.{Last}
 use Rattle.numa_page_state.specs.declared.last.Last.TheVariants as went
@@ -22,14 +24,19 @@ module _ (old new : PageState) (lying : Lying) (lies : LiesAs old lying) (from t
   abbrev pub Follows : Type 0
   Follows = (refused : Bool) × LiesAs new (followed refused from to kept lying)
 
+  arrived-so : new.arrived ≡ old.arrived → ArrivedAs new.arrived lying.arrived
+  arrived-so same =
+      subst (λ (a : Arrived). ArrivedAs a lying.arrived) (sym same) lies.arrived
+
   still-so : (moved : Moved) → new.placed ≡ old.placed → new.rooms ≡ old.rooms
-      → new.follows ≡ old.follows → TellsOf moved still → new.last ≡ went.Nodes moved
-      → LiesAs new (record lying { last = OfNodes still })
-  still-so moved placed rooms follows tells last = record {
+      → new.follows ≡ old.follows → new.arrived ≡ old.arrived → TellsOf moved still
+      → new.last ≡ went.Nodes moved → LiesAs new (record lying { last = OfNodes still })
+  still-so moved placed rooms follows arrived tells last = record {
     spots = λ page. ap (λ (runs : List (Run Spot)). spot_at runs page) placed ∙ lies.spots page;
     room = subst (λ (r : Option Rooms). HaveRoom r lying.room) (sym rooms) lies.room;
     follows = follows ∙ lies.follows;
     last = subst (λ (m : Last). LastAs m (OfNodes still)) (sym last) tells;
+    arrived = arrived-so arrived;
   }
 
   follows-on : (b refused : Bool) → b ≡ true → followed_where b refused from to kept lying
@@ -43,8 +50,9 @@ module _ (old new : PageState) (lying : Lying) (lies : LiesAs old lying) (from t
         → lack_in lying.room false (motion lying.room lying.spots from to).spots ≡ None
         → Moves new.placed new.rooms before (motion lying.room lying.spots from to)
         → TellsOf moved (with_held kept (motion lying.room lying.spots from to).told)
-        → new.follows ≡ old.follows → new.last ≡ went.Nodes moved → Follows
-    follow-done before moved none moves tells follows last =
+        → new.follows ≡ old.follows → new.arrived ≡ old.arrived → new.last ≡ went.Nodes moved
+        → Follows
+    follow-done before moved none moves tells follows arrived last =
         let here = motion lying.room lying.spots from to in
         let is : followed false from to kept lying ≡ with_motion kept lying here =
         follows-on lying.follows false (sym lies.follows ∙ on)
@@ -56,6 +64,7 @@ module _ (old new : PageState) (lying : Lying) (lies : LiesAs old lying) (from t
             follows = follows ∙ lies.follows;
             last = subst (λ (m : Last). LastAs m (OfNodes (with_held kept here.told))) (sym last)
                 tells;
+            arrived = arrived-so arrived;
           }),
         )
 
@@ -63,13 +72,13 @@ module _ (old new : PageState) (lying : Lying) (lies : LiesAs old lying) (from t
         → lack_in lying.room (is_no_memory refusal)
         (motion lying.room lying.spots from to).spots ≡ Some refusal
         → new.placed ≡ old.placed → new.rooms ≡ old.rooms → new.follows ≡ old.follows
-        → TellsOf moved still → new.last ≡ went.Nodes moved → Follows
-    follow-lacks refusal moved lack placed rooms follows tells last =
+        → new.arrived ≡ old.arrived → TellsOf moved still → new.last ≡ went.Nodes moved → Follows
+    follow-lacks refusal moved lack placed rooms follows arrived tells last =
         let here = motion lying.room lying.spots from to in
         let is : followed (is_no_memory refusal) from to kept lying
         ≡ record lying { last = OfNodes still } =
         follows-on lying.follows (is_no_memory refusal) (sym lies.follows ∙ on)
         ∙ ap (λ (c : Option PlacedRefusal). follow_unless c kept here lying) lack in (
           is_no_memory refusal,
-          subst (LiesAs new) (sym is) (still-so moved placed rooms follows tells last),
+          subst (LiesAs new) (sym is) (still-so moved placed rooms follows arrived tells last),
         )

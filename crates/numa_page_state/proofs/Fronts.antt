@@ -7,7 +7,6 @@ use Rattle.numa_ranges.specs.declared.run.Run.{Run}
 use Rattle.numa_ranges.proofs.Apart.{in_pages-true, in_pages-below, in_pages-above}
 use Rattle.numa_space.specs.History.{page_of, page_count}
 use Rattle.numa_space.specs.Standing.{SpaceState}
-use Rattle.numa_placed.specs.Astray.{is_astray}
 use Rattle.numa_placed.specs.Binds.{Asked, asked_in, asked_of as asked_by, first_with_room, goal_at}
 use Rattle.numa_placed.specs.Binds.{room_before, room_sent, strays}
 use Rattle.numa_placed.specs.Shifts.{AreRooms}
@@ -43,7 +42,7 @@ module _ (asked : Asked) (spots : ℕ → Spot) (room : ℕ → ℕ) where
   pub before-first : room_before asked spots room asked.first ≡ room
   before-first =
       before-still 0 asked.first (omega arith) (λ page low high.
-      ap (λ (b : Bool). b && is_astray asked.list (spots page))
+      ap (λ (b : Bool). b && asked.wants page (spots page))
       (in_pages-below asked.first asked.pages page high))
       ∙ before-none asked spots room
 
@@ -51,7 +50,7 @@ module _ (asked : Asked) (spots : ℕ → Spot) (room : ℕ → ℕ) where
       ≡ room_before asked spots room (asked.first + asked.pages)
   before-end to le =
       before-still (asked.first + asked.pages) to le (λ page low high.
-      ap (λ (b : Bool). b && is_astray asked.list (spots page))
+      ap (λ (b : Bool). b && asked.wants page (spots page))
       (in_pages-above asked.first asked.pages page low))
 
 module _ (asked : Asked) (spots : ℕ → Spot) (room : ℕ → ℕ) (from to : ℕ)
@@ -62,7 +61,7 @@ module _ (asked : Asked) (spots : ℕ → Spot) (room : ℕ → ℕ) (from to : 
   part = record {
     first = from;
     pages = to - from;
-    list = asked.list;
+    wants = asked.wants;
     nodes = asked.nodes;
   }
 
@@ -72,7 +71,7 @@ module _ (asked : Asked) (spots : ℕ → Spot) (room : ℕ → ℕ) (from to : 
   strays-alike : (page : ℕ) → from ≤ page → page < to
       → strays part page (spots page) ≡ strays asked page (spots page)
   strays-alike page l h =
-      ap (λ (b : Bool). b && is_astray asked.list (spots page))
+      ap (λ (b : Bool). b && asked.wants page (spots page))
       (in_pages-true from (to - from) page l (omega arith)
       ∙ sym (in_pages-true asked.first asked.pages page (omega arith) (omega arith)))
 

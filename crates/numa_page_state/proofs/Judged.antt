@@ -24,6 +24,9 @@ lack-told after cause.NoSuchNode lack = absurd lack
 lack-told after cause.Occupied lack = absurd lack
 lack-told after cause.NodesNotAllowed lack = absurd lack
 lack-told after cause.Astray lack = absurd lack
+lack-told after cause.BadCpu lack = absurd lack
+lack-told after cause.Unmapped lack = absurd lack
+lack-told after cause.NoRoom lack = absurd lack
 lack-told after cause.TooManyRuns lack = rw lack refl
 lack-told after cause.NoMemory lack = refl
 

@@ -7,10 +7,13 @@ pub mod HeldPages
 pub mod Judged
 pub mod Judging
 pub mod Keeping
+pub mod Mapped
 pub mod Migrating
 pub mod Moving
+pub mod Populating
 mod Rows
 pub mod RunFlows
 pub mod Served
 pub mod Singles
+pub mod Stating
 pub mod Unmapping

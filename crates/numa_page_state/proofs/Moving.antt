@@ -39,14 +39,14 @@ first-free : (one other : Option MoveRefusal) → first_of one other ≡ None �
 first-free None other is = refl
 first-free (Some cause) other is = is
 
-room-none : (room : Option (ℕ → ℕ)) → HaveRoom None room → room ≡ None
+pub room-none : (room : Option (ℕ → ℕ)) → HaveRoom None room → room ≡ None
 room-none None have = refl
 room-none (Some room) have = absurd have
 
-abbrev HasThat : Rooms → Option (ℕ → ℕ) → Type 0
+abbrev pub HasThat : Rooms → Option (ℕ → ℕ) → Type 0
 HasThat rooms room = (it : ℕ → ℕ) × (room ≡ Some it) × AreRooms rooms it
 
-room-some : (rooms : Rooms) (room : Option (ℕ → ℕ)) → HaveRoom (Some rooms) room
+pub room-some : (rooms : Rooms) (room : Option (ℕ → ℕ)) → HaveRoom (Some rooms) room
     → HasThat rooms room
 room-some rooms None have = absurd have
 room-some rooms (Some room) have = (room, refl, have)

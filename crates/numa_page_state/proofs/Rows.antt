@@ -5,6 +5,8 @@ use Rattle.numa_mode.specs.declared.modes.Mode.TheVariants as mode
 use Rattle.numa_mode.specs.declared.modes.NodeFlag.TheVariants as flag
 use Rattle.numa_requests.specs.declared.placement.Placement.{Placement}
 use Rattle.numa_requests.specs.declared.page_refusal.MoveRefusal.TheVariants as move
+use Rattle.numa_placed.specs.Astray.{is_astray}
+use Rattle.numa_placed.specs.Binds.{Asked}
 use Rattle.numa_placed.specs.declared.spot.Spot.TheVariants.{Stated}
 use Rattle.numa_page_state.specs.Lying.{held_left, nothing, still}
 use Rattle.numa_page_state.specs.Outcomes.{held_move_unless, told_of}
@@ -38,14 +40,20 @@ no-room-row = refl
 
 -- ---- mbind .. move
 
+strays-of : ℕ → Asked
+strays-of list =
+    record { first = 16; pages = 1; wants = λ page. is_astray list; nodes = λ page. [] }
+
 -- a page in a frame of node 2, which is astray of nodes 0 and 1: it has to go to node 0, and stays;
 -- to its own node it doesn't have to go
-to-go-row : had_to_go (record { first = 16; pages = 1; list = 3; nodes = λ page. [] })
+to-go-row : had_to_go (strays-of 3)
     (λ page. Some 0) 16 2 ≡ true
+unfolding strays-of
 to-go-row = refl
 
-own-node-row : had_to_go (record { first = 16; pages = 1; list = 3; nodes = λ page. [] })
+own-node-row : had_to_go (strays-of 3)
     (λ page. Some 2) 16 2 ≡ false
+unfolding strays-of
 own-node-row = refl
 
 -- `default` drops `strict`

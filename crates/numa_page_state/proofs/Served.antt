@@ -1,10 +1,10 @@
 -- What each change of pages comes to.
 use Rattle.std.proofs.Common.{◌≡◌, ℕ, true, false, Option, Some, None, List, refl, sym}
 use Rattle.std.proofs.Common.{ap, subst, ◌∙◌}
-use Rattle.std.specs.Prelude.{if◌then◌else◌, ◌==◌, Result, Ok, Err, IfErr, OnErr, OnOk}
-use Rattle.numa_placed.specs.Refusals.{IsRefusal, first_of, lacks_node, state_cause}
+use Rattle.std.specs.Prelude.{if◌then◌else◌, ◌==◌, Result, Ok, Err, OnErr}
+use Rattle.numa_placed.specs.Refusals.{first_of, lacks_node}
 use Rattle.numa_placed.specs.Shifts.{AreRooms}
-use Rattle.numa_placed.specs.Spots.{spot_at, too_many}
+use Rattle.numa_placed.specs.Spots.{spot_at}
 use Rattle.numa_ranges.specs.declared.run.Run.{Run}
 use Rattle.numa_placed.specs.declared.moved.Moved.{Moved}
 use Rattle.numa_requests.specs.declared.page_refusal.MoveRefusal.{MoveRefusal}
@@ -16,19 +16,24 @@ use Rattle.numa_placed.specs.declared.spot.Spot.{Spot}
 use Rattle.numa_machine.specs.Machine.{Hardware}
 use Rattle.numa_maps.specs.Residents.{Kept}
 use Rattle.numa_page_state.specs.Lying.{Ground, Lying, Motion, OfNodes, still, with_held}
-use Rattle.numa_page_state.specs.Lying.{with_motion}
-use Rattle.numa_page_state.specs.Outcomes.{Done, at_outcome, at_spots, done_with, is_lack}
+use Rattle.numa_page_state.specs.Lying.{with_motion, with_spots}
+use Rattle.numa_page_state.specs.Outcomes.{Done, at_cause, at_outcome, at_spots, done_with}
+use Rattle.numa_page_state.specs.Outcomes.{is_lack}
 use Rattle.numa_page_state.specs.Outcomes.{held_move_unless, is_no_memory, lack_in}
 use Rattle.numa_page_state.specs.Outcomes.{move_cause_by, move_spots, move_unless, moved_outcome}
 use Rattle.numa_page_state.specs.Outcomes.{room_moved_in, room_outcome, rooms_of, shift_of}
 use Rattle.numa_page_state.specs.Outcomes.{told_of, unless_refused}
-use Rattle.numa_page_state.specs.Standing.{HaveRoom, LastAs, LiesAs, Moves, TellsOf}
+use Rattle.numa_page_state.specs.Standing.{ArrivedAs, HaveRoom, LastAs, LiesAs, Moves}
+use Rattle.numa_page_state.specs.Standing.{States, TellsOf}
+use Rattle.numa_page_state.specs.Touching.{populate_outcome, touch_cause, touched_by}
+use Rattle.numa_page_state.specs.Touching.{with_touched}
+use Rattle.numa_page_state.specs.declared.arrived.Arrived.{Arrived}
 use Rattle.numa_page_state.specs.declared.shift.Shift.{Shift}
 use Rattle.numa_page_state.specs.declared.state.PageState.{PageState}
 use Rattle.numa_page_state.specs.declared.last.Last.{Last}
 use Rattle.numa_page_state.specs.declared.last.Last.TheVariants as went
 use Rattle.numa_page_state.proofs.Answered.{Answers, denied, done, move-denied}
-use Rattle.numa_page_state.proofs.Judged.{cause-none, cause-told}
+use Rattle.numa_page_state.proofs.Stating.{states-still}
 
 pub spots-alike : (beside : PageState) (lying : Lying) → LiesAs beside lying
     → spot_at beside.placed ≡ lying.spots
@@ -46,50 +51,76 @@ abbrev pub so_done : {Cause : Type 0} → Result (Unit {0}) Cause
 so_done = Ok tt
 
 module _ (old new : PageState) (lying : Lying) (lies : LiesAs old lying) where
+  -- the last first touches did the same
+  arrived-so : new.arrived ≡ old.arrived → ArrivedAs new.arrived lying.arrived
+  arrived-so same =
+      subst (λ (a : Arrived). ArrivedAs a lying.arrived) (sym same) lies.arrived
+
   -- ---- at
 
   module _ (basis : Ground) (start bytes node : ℕ) where
-    abbrev at_so : Done (Unit {0}) PlacedRefusal
-    at_so = done_with
-        (record lying { spots = at_spots basis start bytes node lying.spots })
+    abbrev at_so : Lying
+    at_so = with_spots (at_spots basis start bytes node lying.spots) lying
 
-    at-done : state_cause basis.machine start bytes node ≡ None
-        → ((page : ℕ) → spot_at new.placed page
-        ≡ at_spots basis start bytes node (spot_at old.placed) page)
-        → too_many (spot_at new.placed) ≡ false → new.rooms ≡ old.rooms
-        → new.follows ≡ old.follows → new.last ≡ old.last
-        → Answers old new so_done placed_lack
+    at-done : at_cause false basis start bytes node lying ≡ None
+        → ((page : ℕ) → spot_at new.placed page ≡ at_so.spots page)
+        → HaveRoom new.rooms at_so.room → new.follows ≡ old.follows → new.last ≡ old.last
+        → new.arrived ≡ old.arrived → Answers old new so_done placed_lack
         (λ refused. at_outcome refused basis start bytes node lying)
-    at-done free spots few rooms follows last =
-        let alike = spots-alike old lying lies in
-        let after : spot_at new.placed ≡ at_spots basis start bytes node lying.spots = λ i page.
-        (spots page ∙ ap (λ (s : ℕ → Spot). at_spots basis start bytes node s page) alike) i in
-        let none = cause-none (state_cause basis.machine start bytes node)
-        (at_spots basis start bytes node lying.spots) free (sym (ap too_many after) ∙ few) in
+    at-done free spots room follows last arrived =
         done old new so_done placed_lack
-        (λ refused. at_outcome refused basis start bytes node lying)
-        (record lying { spots = at_spots basis start bytes node lying.spots })
-        (ap (λ (c : Option PlacedRefusal). unless_refused c lying at_so) none)
+        (λ refused. at_outcome refused basis start bytes node lying) at_so
+        (ap (λ (c : Option PlacedRefusal). unless_refused c lying (done_with at_so)) free)
         (record {
-          spots = λ page. ap (λ (s : ℕ → Spot). s page) after;
-          room = subst (λ (r : Option Rooms). HaveRoom r lying.room) (sym rooms) lies.room;
+          spots = spots;
+          room = room;
           follows = follows ∙ lies.follows;
           last = subst (λ (m : Last). LastAs m lying.last) (sym last) lies.last;
+          arrived = arrived-so arrived;
         })
 
     at-denied : (refusal : PlacedRefusal)
-        → IsRefusal (state_cause basis.machine start bytes node)
-        (at_spots basis start bytes node (spot_at old.placed)) refusal → new ≡ old
+        → at_cause (is_no_memory refusal) basis start bytes node lying ≡ Some refusal → new ≡ old
         → Answers old new (Err refusal) placed_lack
         (λ refused. at_outcome refused basis start bytes node lying)
-    at-denied refusal is same =
-        let after = at_spots basis start bytes node lying.spots in
-        let cause = cause-told (state_cause basis.machine start bytes node) after refusal
-        (subst (λ (s : ℕ → Spot). IsRefusal (state_cause basis.machine start bytes node)
-        (at_spots basis start bytes node s) refusal) (spots-alike old lying lies) is) in
+    at-denied refusal cause same =
         denied old new refusal lying
         (λ refused. at_outcome refused basis start bytes node lying)
-        (ap (λ (c : Option PlacedRefusal). unless_refused c lying at_so) cause) lies same
+        (ap (λ (c : Option PlacedRefusal). unless_refused c lying (done_with at_so)) cause) lies
+        same
+
+  -- ---- populate
+
+  module _ (basis : Ground) (start bytes task cpu : ℕ) where
+    abbrev touched_so : Lying
+    touched_so = with_touched (touched_by basis start bytes task cpu) lying
+
+    pub touch-done : touch_cause false basis start bytes task cpu lying ≡ None
+        → ((page : ℕ) → spot_at new.placed page ≡ touched_so.spots page)
+        → HaveRoom new.rooms touched_so.room → ArrivedAs new.arrived touched_so.arrived
+        → new.follows ≡ old.follows → new.last ≡ old.last → Answers old new so_done placed_lack
+        (λ refused. populate_outcome refused basis start bytes task cpu lying)
+    touch-done free spots room arrived follows last =
+        done old new so_done placed_lack
+        (λ refused. populate_outcome refused basis start bytes task cpu lying) touched_so
+        (ap (λ (c : Option PlacedRefusal). unless_refused c lying (done_with touched_so)) free)
+        (record {
+          spots = spots;
+          room = room;
+          follows = follows ∙ lies.follows;
+          last = subst (λ (m : Last). LastAs m lying.last) (sym last) lies.last;
+          arrived = arrived;
+        })
+
+    pub touch-denied : (refusal : PlacedRefusal)
+        → touch_cause (is_no_memory refusal) basis start bytes task cpu lying ≡ Some refusal
+        → new ≡ old → Answers old new (Err refusal) placed_lack
+        (λ refused. populate_outcome refused basis start bytes task cpu lying)
+    touch-denied refusal cause same =
+        denied old new refusal lying
+        (λ refused. populate_outcome refused basis start bytes task cpu lying)
+        (ap (λ (c : Option PlacedRefusal). unless_refused c lying (done_with touched_so)) cause)
+        lies same
 
   -- ---- migrate
 
@@ -107,10 +138,10 @@ module _ (old new : PageState) (lying : Lying) (lies : LiesAs old lying) where
         → first_of first (lack_in lying.room false motion_here.spots) ≡ None
         → Moves new.placed new.rooms before motion_here
         → TellsOf moved (with_held kept motion_here.told) → new.follows ≡ old.follows
-        → new.last ≡ went.Nodes moved
+        → new.arrived ≡ old.arrived → new.last ≡ went.Nodes moved
         → Answers old new (Ok (shift_in moved)) placed_lack
         (λ refused. moved_outcome refused kept motion_here first lying)
-    moved-done before moved none moves tells follows last =
+    moved-done before moved none moves tells follows arrived last =
         done old new (Ok (shift_in moved)) placed_lack
         (λ refused. moved_outcome refused kept motion_here first lying)
         (with_motion kept lying motion_here)
@@ -125,6 +156,7 @@ module _ (old new : PageState) (lying : Lying) (lies : LiesAs old lying) where
           follows = follows ∙ lies.follows;
           last = subst (λ (m : Last). LastAs m (OfNodes (with_held kept motion_here.told)))
               (sym last) tells;
+          arrived = arrived-so arrived;
         })
 
     pub moved-denied : (refusal : PlacedRefusal)
@@ -144,10 +176,10 @@ module _ (old new : PageState) (lying : Lying) (lies : LiesAs old lying) where
         → ((room : Option (ℕ → ℕ)) → HaveRoom old.rooms room
         → AreRooms rooms (λ other. if other == node then pages else rooms_of room other))
         → new.placed ≡ old.placed → new.rooms ≡ Some rooms → new.follows ≡ old.follows
-        → new.last ≡ old.last
+        → new.last ≡ old.last → new.arrived ≡ old.arrived
         → Answers old new so_done placed_lack
         (λ refused. room_outcome machine node pages lying)
-    room-done rooms there limited placed is follows last =
+    room-done rooms there limited placed is follows last arrived =
         done old new so_done placed_lack (λ refused. room_outcome machine node pages lying)
         (record lying {
           room = Some (λ other. if other == node then pages else rooms_of lying.room other);
@@ -161,6 +193,7 @@ module _ (old new : PageState) (lying : Lying) (lies : LiesAs old lying) where
               (limited lying.room lies.room);
           follows = follows ∙ lies.follows;
           last = subst (λ (m : Last). LastAs m lying.last) (sym last) lies.last;
+          arrived = arrived-so arrived;
         })
 
     pub room-denied : lacks_node machine node ≡ true → new ≡ old
@@ -178,10 +211,10 @@ module _ (old new : PageState) (lying : Lying) (lies : LiesAs old lying) where
         → ((other : ℕ) → spot_at new.placed other ≡ move_spots page node lying.spots other)
         → HaveRoom new.rooms (room_moved_in lying.room node (lying.spots page))
         → spot ≡ spot_at old.placed page → TellsOf moved (told_of node spot)
-        → new.follows ≡ old.follows → new.last ≡ went.Nodes moved
+        → new.follows ≡ old.follows → new.arrived ≡ old.arrived → new.last ≡ went.Nodes moved
         → Answers old new so_done move_lack
         (λ refused. move_unless (move_cause_by refused basis page node lying) page node lying)
-    move-done spot moved none spots room here told follows last =
+    move-done spot moved none spots room here told follows arrived last =
         let there : spot ≡ lying.spots page = here ∙ lies.spots page in
         let tells : TellsOf moved (told_of node (lying.spots page)) =
         subst (λ (s : Spot). TellsOf moved (told_of node s)) there told in
@@ -195,6 +228,7 @@ module _ (old new : PageState) (lying : Lying) (lies : LiesAs old lying) where
           follows = follows ∙ lies.follows;
           last = subst (λ (m : Last). LastAs m (OfNodes (told_of node (lying.spots page))))
               (sym last) tells;
+          arrived = arrived-so arrived;
         })
 
     pub move-refused : (refusal : MoveRefusal)
@@ -210,10 +244,10 @@ module _ (old new : PageState) (lying : Lying) (lies : LiesAs old lying) where
 
   pub stays-there : (first : Option MoveRefusal) (moved : Moved) → first ≡ None
       → new.placed ≡ old.placed → new.rooms ≡ old.rooms → new.follows ≡ old.follows
-      → TellsOf moved still → new.last ≡ went.Nodes moved
+      → new.arrived ≡ old.arrived → TellsOf moved still → new.last ≡ went.Nodes moved
       → Answers old new so_done move_lack
       (λ refused. held_move_unless first lying)
-  stays-there first moved none placed rooms follows tells last =
+  stays-there first moved none placed rooms follows arrived tells last =
       done old new so_done move_lack (λ refused. held_move_unless first lying)
       (record lying { last = OfNodes still })
       (ap (λ (c : Option MoveRefusal). held_move_unless c lying) none)
@@ -223,6 +257,7 @@ module _ (old new : PageState) (lying : Lying) (lies : LiesAs old lying) where
         room = subst (λ (r : Option Rooms). HaveRoom r lying.room) (sym rooms) lies.room;
         follows = follows ∙ lies.follows;
         last = subst (λ (m : Last). LastAs m (OfNodes still)) (sym last) tells;
+        arrived = arrived-so arrived;
       })
 
   pub stays-denied : (first : Option MoveRefusal) (refusal : MoveRefusal)
@@ -236,20 +271,26 @@ module _ (old new : PageState) (lying : Lying) (lies : LiesAs old lying) where
       (subst (λ (b : PageState). LiesAs b lying) (sym same) lies)
 
 -- a span is stated to lie on a node, or isn't
-pub at-told : (old : PageState) (after : List (Run Spot)) (lying : Lying) → LiesAs old lying
-    → (basis : Ground) (start bytes node : ℕ) (came : Result (Unit {0}) PlacedRefusal)
-    → OnOk came (state_cause basis.machine start bytes node ≡ None)
-    → OnOk came ((page : ℕ) → spot_at after page
-    ≡ at_spots basis start bytes node (spot_at old.placed) page)
-    → OnOk came (too_many (spot_at after) ≡ false)
-    → IfErr came (IsRefusal (state_cause basis.machine start bytes node)
-    (at_spots basis start bytes node (spot_at old.placed)))
-    → OnErr came (after ≡ old.placed)
-    → Answers old (record old { placed = after }) came placed_lack
+pub at-told : (old : PageState) (after : List (Run Spot)) (rooms : Option Rooms) (basis : Ground)
+    (start bytes node : ℕ) (came : Result (Unit {0}) PlacedRefusal)
+    → States old.placed old.rooms basis start bytes node came after rooms
+    → (lying : Lying) → LiesAs old lying
+    → Answers old (record old { placed = after; rooms = rooms }) came placed_lack
     (λ refused. at_outcome refused basis start bytes node lying)
-at-told old after lying lies basis start bytes node (Ok so) accepted ok few err same =
-    at-done old (record old { placed = after }) lying lies basis start bytes node accepted ok few
-    refl refl refl
-at-told old after lying lies basis start bytes node (Err refusal) accepted ok few err same =
-    at-denied old (record old { placed = after }) lying lies basis start bytes node refusal err
-    (ap (λ (runs : List (Run Spot)). record old { placed = runs }) same)
+at-told old after rooms basis start bytes node (Ok so) is lying lies =
+    let it = is lying lies.spots lies.room in
+    at-done old (record old { placed = after; rooms = rooms }) lying lies basis start bytes node
+    it.0 it.1 it.2 refl refl refl
+at-told old after rooms basis start bytes node (Err refusal) is lying lies =
+    let it = is lying lies.spots lies.room in
+    at-denied old (record old { placed = after; rooms = rooms }) lying lies basis start bytes node
+    refusal it.0 (λ i. record old { placed = it.1 i; rooms = it.2 i })
+
+pub at-still : (old : PageState) (after : List (Run Spot)) (rooms : Option Rooms) (basis : Ground)
+    (start bytes node : ℕ) (came : Result (Unit {0}) PlacedRefusal)
+    → States old.placed old.rooms basis start bytes node came after rooms
+    → OnErr came (record old { placed = after; rooms = rooms } ≡ old)
+at-still old after rooms basis start bytes node (Ok so) is = tt
+at-still old after rooms basis start bytes node (Err refusal) is =
+    let same = states-still old.placed after old.rooms rooms basis start bytes node refusal is in
+    λ i. record old { placed = same.0 i; rooms = same.1 i }

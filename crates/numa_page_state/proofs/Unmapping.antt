@@ -7,17 +7,20 @@ use Rattle.numa_ranges.proofs.Pages.{any_page-false}
 use Rattle.numa_ranges.specs.declared.run.Run.{Run}
 use Rattle.numa_space.specs.History.{page_of, page_count}
 use Rattle.numa_placed.specs.Refusals.{IsRefusal, first_of, span_cause}
+use Rattle.numa_placed.specs.Shifts.{ArePages, AreRooms, rooms_between, stated_on}
 use Rattle.numa_placed.specs.Spots.{spot_at, too_many}
+use Rattle.numa_placed.specs.declared.rooms.Rooms.{Rooms}
 use Rattle.numa_requests.specs.declared.page_refusal.PlacedRefusal.{PlacedRefusal}
 use Rattle.numa_requests.specs.declared.page_refusal.PlacedRefusal.TheVariants as cause
 use Rattle.numa_placed.specs.declared.spot.Spot.{Spot}
 use Rattle.numa_placed.specs.declared.spot.Spot.TheVariants.{Nowhere}
-use Rattle.numa_page_state.specs.Lying.{Lying}
+use Rattle.numa_page_state.specs.Lying.{Lying, with_spots}
 use Rattle.numa_page_state.specs.Outcomes.{forgotten, has_stated, is_astray_cause, is_no_memory}
 use Rattle.numa_page_state.specs.Outcomes.{lack_of}
-use Rattle.numa_page_state.specs.Standing.{Forgets, LiesAs}
+use Rattle.numa_page_state.specs.Standing.{Forgets, HaveRoom, LiesAs}
 use Rattle.numa_page_state.specs.declared.state.PageState.{PageState}
 use Rattle.numa_page_state.proofs.Judged.{lack-told}
+use Rattle.numa_page_state.proofs.Moving.{room-none, room-some}
 
 astray-first : (first : Option PlacedRefusal) (found : Bool) → is_astray_cause first ≡ false
     → is_astray_cause (first_of first (if found then Some cause.Astray else None)) ≡ true
@@ -118,3 +121,29 @@ forgets-refused old copy why start bytes same stated is =
     (stated-span (spot_at old) start bytes stated)
     (subst (λ (runs : List (Run Spot)). IsRefusal (span_cause start bytes)
     (forgotten start bytes (spot_at runs)) why) same is)
+
+-- ---- the rooms keep pace
+
+pub paced-none : (lying : Lying) (spots : ℕ → Spot) → HaveRoom None lying.room
+    → HaveRoom None (with_spots spots lying).room
+paced-none lying spots have =
+    subst (λ (r : Option (ℕ → ℕ)). HaveRoom None
+    (with_spots spots (record lying { room = r })).room) (sym (room-none lying.room have)) tt
+
+pub paced-some : (before after : List (Run Spot)) (rooms left : Rooms) (lay lie : List ℕ)
+    (lying : Lying) (spots : ℕ → Spot) → ArePages lay (stated_on (spot_at before))
+    → ArePages lie (stated_on (spot_at after))
+    → ((room : ℕ → ℕ) (old new : ℕ → Spot) → AreRooms rooms room → ArePages lay (stated_on old)
+    → ArePages lie (stated_on new) → AreRooms left (rooms_between room old new))
+    → HaveRoom (Some rooms) lying.room → ((page : ℕ) → spot_at before page ≡ lying.spots page)
+    → ((page : ℕ) → spot_at after page ≡ spots page)
+    → HaveRoom (Some left) (with_spots spots lying).room
+paced-some before after rooms left lay lie lying spots was now_lie between have old new =
+    let has = room-some rooms lying.room have in
+    let first : spot_at before ≡ lying.spots = λ i page. old page i in
+    let last : spot_at after ≡ spots = λ i page. new page i in
+    subst (λ (r : Option (ℕ → ℕ)). HaveRoom (Some left)
+    (with_spots spots (record lying { room = r })).room) (sym has.1)
+    (between has.0 lying.spots spots has.2
+    (subst (λ (s : ℕ → Spot). ArePages lay (stated_on s)) first was)
+    (subst (λ (s : ℕ → Spot). ArePages lie (stated_on s)) last now_lie))

@@ -3,3 +3,4 @@ pub mod Outcomes
 pub mod Sending
 pub mod Standing
 pub mod Strict
+pub mod Touching

@@ -1,19 +1,23 @@
 -- Where pages lie that are there, beside a script of one process, and what the last move told.
-use Rattle.std.specs.Prelude.{ℕ, ◌+◌, ◌==◌, Bool, false, List, Option, Some, None, is_some}
-use Rattle.std.specs.Prelude.{count_by, not}
+use Rattle.std.specs.Prelude.{◌≡◌, ℕ, ◌+◌, ◌==◌, Bool, false, true, List, Option, Some, None}
+use Rattle.std.specs.Prelude.{count_by, is_some, not}
+use Rattle.std.specs.Option.{option_map}
 use Rattle.numa_machine.specs.Machine.{Hardware}
 use Rattle.numa_maps.specs.Residents.{Kept}
 use Rattle.numa_ranges.specs.Runs.{page_at}
 use Rattle.numa_space.specs.Limited.{Bounds}
 use Rattle.numa_space.specs.Pages.{page_in}
 use Rattle.numa_space.specs.Policies.{allowed_nodes}
-use Rattle.numa_space.specs.Standing.{SpaceState}
+use Rattle.numa_space.specs.Lists.{node_list}
+use Rattle.numa_space.specs.Standing.{SpaceState, place_refusal_of}
 use Rattle.numa_requests.specs.declared.command.Command.{Command}
 use Rattle.numa_placed.specs.Moves.{goes, goes_from, is_left, moved_node, moved_spot}
-use Rattle.numa_placed.specs.Shifts.{shift_of, shifted, stated_on, stay_on, sum_below}
+use Rattle.numa_placed.specs.Binds.{list_unless, nodes_in}
+use Rattle.numa_placed.specs.Shifts.{rooms_between, shift_of, shifted, stated_on, stay_on}
+use Rattle.numa_placed.specs.Shifts.{sum_below}
 use Rattle.numa_placed.specs.Spots.{pages_where}
 use Rattle.numa_placed.specs.declared.spot.Spot.{Spot}
-use Rattle.numa_placed.specs.declared.spot.Spot.TheVariants.{Nowhere}
+use Rattle.numa_placed.specs.declared.spot.Spot.TheVariants.{Nowhere, Stated, Held}
 
 -- ---- the process
 
@@ -34,13 +38,21 @@ process_in space history kept = record {
   kept = kept;
 }
 
--- what pages that are there depend on: the machine, the allowed nodes, which pages are mapped, and
--- which keep a frame
+-- what pages that are there depend on: the machine, the allowed nodes, which pages are mapped,
+-- which keep a frame, and the nodes where a fault of a task on a node looks for memory
 pub record Ground : Type 0 where
   pub machine : Hardware
   pub allowed : ℕ
   pub mapped : ℕ → Bool
   pub kept : Kept
+  pub lists : ℕ → ℕ → ℕ → List ℕ
+
+-- the nodes where a fault of a task on the node `cpu` looks for memory; none where the page isn't
+-- mapped, or the machine has no such node
+abbrev pub lists_of : Hardware → List Command → ℕ → ℕ → ℕ → List ℕ
+lists_of machine history task cpu page =
+    list_unless (place_refusal_of machine history page cpu)
+    (node_list machine history task page cpu)
 
 -- by the accepted commands
 abbrev pub ground_of : Process → Ground
@@ -49,6 +61,7 @@ ground_of process = record {
   allowed = allowed_nodes process.machine process.history;
   mapped = λ page. is_some (page_in process.machine process.history page);
   kept = process.kept;
+  lists = lists_of process.machine process.history;
 }
 
 -- by a space
@@ -58,6 +71,7 @@ ground_in space kept = record {
   allowed = space.allowed;
   mapped = λ page. is_some (page_at space.ranges page);
   kept = kept;
+  lists = nodes_in space;
 }
 
 -- ---- the pages
@@ -86,15 +100,28 @@ pub data LastMove : Type 0 where
 abbrev pub still : Told
 still = record { moved = 0; left = 0; from = λ node. 0; to = λ node. 0 }
 
+-- what the last first touches of a span did: how many pages went to a node, how many found no room,
+-- and how many went to each node
+pub record Arrival : Type 0 where
+  pub placed : ℕ
+  pub exhausted : ℕ
+  pub on : ℕ → ℕ
+
+-- nothing was touched
+abbrev pub untouched : Arrival
+untouched = record { placed = 0; exhausted = 0; on = λ node. 0 }
+
 -- whether a line about pages was accepted; where each page was stated to lie, or went since; how
 -- many more pages each node takes, once a line said so of one; whether pages follow the allowed
--- nodes; and what the last move did. Pages that keep a frame aren't among these spots
+-- nodes; and what the last move and the last first touches did. Pages that keep a frame aren't
+-- among these spots
 pub record Lying : Type 0 where
   pub begun : Bool
   pub spots : ℕ → Spot
   pub room : Option (ℕ → ℕ)
   pub follows : Bool
   pub last : LastMove
+  pub arrived : Arrival
 
 -- before the first line about pages
 abbrev pub nothing : Lying
@@ -104,7 +131,24 @@ nothing = record {
   room = None;
   follows = false;
   last = OfNodes still;
+  arrived = untouched;
 }
+
+-- pages lie so now: one that came to a node took one of its room, and one that left gave it back
+abbrev pub with_spots : (ℕ → Spot) → Lying → Lying
+with_spots spots at = record at {
+  spots = spots;
+  room = option_map (λ room. rooms_between room at.spots spots) at.room;
+}
+
+-- a page that lies somewhere without a frame is mapped, and none of these spots is in a frame
+abbrev pub IsMapped : Bool → Spot → Type 0
+IsMapped mapped Nowhere = Unit {0}
+IsMapped mapped (Stated node) = mapped ≡ true
+IsMapped mapped (Held node) = ⊥
+
+abbrev pub AreMapped : (ℕ → Bool) → (ℕ → Spot) → Type 0
+AreMapped mapped spots = (page : ℕ) → IsMapped (mapped page) (spots page)
 
 -- ---- moves
 

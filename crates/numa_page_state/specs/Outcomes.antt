@@ -6,7 +6,8 @@ use Rattle.std.specs.Prelude.{if◌then◌else◌}
 use Rattle.numa_mask.specs.NodeSet.{both}
 use Rattle.numa_space.specs.History.{page_of, page_count}
 use Rattle.numa_placed.specs.Refusals.{first_of, lacks_node, migrate_cause, move_cause, state_cause}
-use Rattle.numa_placed.specs.Shifts.{endless, first_of as first_move, room_cause, room_moved}
+use Rattle.numa_placed.specs.Shifts.{endless, first_of as first_move, is_short, room_cause}
+use Rattle.numa_placed.specs.Shifts.{room_moved}
 use Rattle.numa_machine.specs.Machine.{Hardware}
 use Rattle.numa_maps.specs.Residents.{Kept, placed_at}
 use Rattle.numa_requests.specs.declared.placement.Placement.{Placement}
@@ -21,7 +22,7 @@ use Rattle.numa_placed.specs.declared.spot.Spot.{Spot}
 use Rattle.numa_placed.specs.declared.spot.Spot.TheVariants.{Nowhere, Stated, Held}
 use Rattle.numa_page_state.specs.declared.shift.Shift.{Shift}
 use Rattle.numa_page_state.specs.Lying.{Ground, Lying, Motion, OfNodes, Told, motion, still}
-use Rattle.numa_page_state.specs.Lying.{with_held, with_motion}
+use Rattle.numa_page_state.specs.Lying.{with_held, with_motion, with_spots}
 
 -- what was done, or why it was refused, and the pages after it
 abbrev pub Done : Type 0 → Type 0 → Type 0
@@ -59,11 +60,27 @@ abbrev pub at_spots : Ground → ℕ → ℕ → ℕ → (ℕ → Spot) → ℕ 
 at_spots basis start bytes node spots =
     stated_beside basis.mapped basis.kept (page_of start) (page_count bytes) node spots
 
+-- more pages would come to the node than have room there, once a line says a room
+abbrev pub is_short_in : Option (ℕ → ℕ) → (ℕ → Spot) → (ℕ → Spot) → ℕ → Bool
+is_short_in None before after node = false
+is_short_in (Some room) before after node = is_short room before after node
+
+-- lack of room, runs or memory, where nothing else stands against it
+abbrev pub short_or_lack : Bool → Bool → (ℕ → Spot) → Option PlacedRefusal
+short_or_lack true short after = Some cause.NoMemory
+short_or_lack false true after = Some cause.NoRoom
+short_or_lack false false after = lack_of false after
+
+abbrev pub at_cause : Bool → Ground → ℕ → ℕ → ℕ → Lying → Option PlacedRefusal
+at_cause refused basis start bytes node at = first_of
+    (state_cause basis.machine start bytes node) (short_or_lack refused
+    (is_short_in at.room at.spots (at_spots basis start bytes node at.spots) node)
+    (at_spots basis start bytes node at.spots))
+
 abbrev pub at_outcome : Bool → Ground → ℕ → ℕ → ℕ → Lying → Done (Unit {0}) PlacedRefusal
 at_outcome refused basis start bytes node at = unless_refused
-    (cause_by refused (state_cause basis.machine start bytes node)
-    (at_spots basis start bytes node at.spots)) at
-    (done_with (record at { spots = at_spots basis start bytes node at.spots }))
+    (at_cause refused basis start bytes node at) at
+    (done_with (with_spots (at_spots basis start bytes node at.spots) at))
 
 -- ---- room NODE PAGES
 

@@ -6,19 +6,18 @@ use Rattle.numa_machine.specs.Machine.{Hardware}
 use Rattle.numa_mode.specs.Policy.{Specification, is_default}
 use Rattle.numa_ranges.specs.Counts.{count_pages}
 use Rattle.numa_space.specs.History.{page_of, page_count}
-use Rattle.numa_space.specs.Lists.{node_list}
-use Rattle.numa_space.specs.Standing.{place_refusal_of}
 use Rattle.numa_requests.specs.declared.command.Command.{Command}
 use Rattle.numa_requests.specs.declared.command.Command.TheVariants.{Mbind}
 use Rattle.numa_requests.specs.declared.refusal.Refusal.{Refusal}
 use Rattle.numa_requests.specs.declared.refusal.Refusal.TheVariants.{NoMemory}
 use Rattle.numa_maps.specs.Residents.{Kept}
 use Rattle.numa_placed.specs.Binds.{Asked, astray_pages, bound_spots, goals, is_kept, is_sent}
-use Rattle.numa_placed.specs.Binds.{list_unless, room_before, span_below, strays}
+use Rattle.numa_placed.specs.Astray.{is_astray}
+use Rattle.numa_placed.specs.Binds.{room_before, span_below, strays}
 use Rattle.numa_placed.specs.Spots.{is_on}
 use Rattle.numa_placed.specs.declared.spot.Spot.{Spot}
 use Rattle.numa_placed.specs.declared.spot.Spot.TheVariants.{Held}
-use Rattle.numa_page_state.specs.Lying.{Lying, OfPages, Process, Sent}
+use Rattle.numa_page_state.specs.Lying.{Lying, OfPages, Process, Sent, lists_of}
 use Rattle.numa_page_state.specs.Outcomes.{rooms_of}
 use Rattle.numa_page_state.specs.declared.sending.Rebinding.{Rebinding}
 use Rattle.numa_page_state.specs.declared.sending.Toucher.{Toucher}
@@ -51,16 +50,15 @@ lacks_room _ = false
 
 -- the nodes where a fault of the task on the node `cpu` looks for memory
 abbrev pub nodes_of : Hardware → List Command → Toucher → ℕ → List ℕ
-nodes_of machine history toucher page =
-    list_unless (place_refusal_of machine history page toucher.cpu)
-    (node_list machine history toucher.task page toucher.cpu)
+nodes_of machine history toucher = lists_of machine history toucher.task toucher.cpu
 
--- the pages of the span, the list as it is written, and the nodes of each page with the policy
+-- the pages of the span that lie astray of the list as it is written, and the nodes of each page with
+-- the policy
 abbrev pub asked_of : Process → Rebinding → Toucher → Asked
 asked_of process said toucher = record {
   first = page_of (below_end said).start;
   pages = page_count (below_end said).length;
-  list = said.spec.mask;
+  wants = λ page. is_astray said.spec.mask;
   nodes = nodes_of process.machine (command_of said ∷ process.history) toucher;
 }
 
@@ -112,4 +110,5 @@ with_sent kept asked at = record {
   room = rooms_sent asked at.spots at.room;
   follows = at.follows;
   last = OfPages (sent_in kept asked at);
+  arrived = at.arrived;
 }

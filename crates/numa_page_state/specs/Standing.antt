@@ -6,7 +6,7 @@ use Rattle.std.specs.Prelude.{IsSome, MatchResult, Result, Ok, Err, is_some}
 use Rattle.numa_maps.specs.Residents.{Kept}
 use Rattle.numa_placed.specs.Binds.{Asked, asked_of as asked_by, room_before}
 use Rattle.numa_placed.specs.Refusals.{first_of}
-use Rattle.numa_placed.specs.Shifts.{AreRooms}
+use Rattle.numa_placed.specs.Shifts.{ArePages, AreRooms}
 use Rattle.numa_placed.specs.Spots.{spot_at, too_many}
 use Rattle.numa_placed.specs.declared.moved.Moved.{Moved}
 use Rattle.numa_placed.specs.declared.rooms.Rooms.{Rooms}
@@ -17,16 +17,18 @@ use Rattle.numa_ranges.specs.declared.run.Run.{Run}
 use Rattle.numa_space.specs.Refusals.{refusal_of}
 use Rattle.numa_space.specs.Standing.{SpaceState, StandsFor}
 use Rattle.numa_requests.specs.declared.command.Command.{Command}
-use Rattle.numa_page_state.specs.Lying.{Ground, LastMove, Lying, Motion, OfNodes, OfPages}
-use Rattle.numa_page_state.specs.Lying.{Process, Sent}
-use Rattle.numa_page_state.specs.Lying.{Told, motion, nothing}
-use Rattle.numa_page_state.specs.Outcomes.{forgotten, has_stated, is_lack}
+use Rattle.numa_page_state.specs.Lying.{Arrival, Ground, LastMove, Lying, Motion, OfNodes}
+use Rattle.numa_page_state.specs.Lying.{OfPages, Process, Sent}
+use Rattle.numa_page_state.specs.Lying.{Told, motion, nothing, with_spots}
+use Rattle.numa_page_state.specs.Outcomes.{at_cause, at_spots, forgotten, has_stated, is_lack}
 use Rattle.numa_page_state.specs.Outcomes.{is_no_memory, lack_in, lack_of}
 use Rattle.numa_page_state.specs.Outcomes.{move_cause_by, move_spots, room_moved_in}
 use Rattle.numa_page_state.specs.Sending.{asked_of, command_of, flow_between, rooms_sent}
 use Rattle.numa_page_state.specs.Sending.{sent_in}
 use Rattle.numa_page_state.specs.Sending.{sent_spots}
+use Rattle.numa_page_state.specs.Touching.{arrival_of, touch_cause, touched_by}
 use Rattle.numa_page_state.specs.declared.state.PageState.{PageState}
+use Rattle.numa_page_state.specs.declared.arrived.Arrived.{Arrived}
 use Rattle.numa_page_state.specs.declared.last.Departures.{Departures}
 use Rattle.numa_page_state.specs.declared.last.Last.{Last}
 use Rattle.numa_page_state.specs.declared.last.Last.TheVariants as went
@@ -87,11 +89,26 @@ abbrev pub IsLastShift : Last → Shift → Type 0
 IsLastShift (went.Nodes moved) shift = (moved.moved ≡ shift.moved) × (moved.left ≡ shift.left)
 IsLastShift (went.Pages done) shift = ⊥
 
+-- what the last first touches did
+pub record ArrivedAs (done : Arrived) (arrival : Arrival) : Type 0 where
+  pub placed : done.placed ≡ arrival.placed
+  pub exhausted : done.exhausted ≡ arrival.exhausted
+  pub on : ArePages done.on arrival.on
+
+-- as it is told
+abbrev pub arrived_in : Arrived → Arrival
+arrived_in done = record {
+  placed = done.placed;
+  exhausted = done.exhausted;
+  on = slice_index done.on;
+}
+
 pub record LiesAs (beside : PageState) (lying : Lying) : Type 0 where
   pub spots : (page : ℕ) → spot_at beside.placed page ≡ lying.spots page
   pub room : HaveRoom beside.rooms lying.room
   pub follows : beside.follows ≡ lying.follows
   pub last : LastAs beside.last lying.last
+  pub arrived : ArrivedAs beside.arrived lying.arrived
 
 -- ---- moves
 
@@ -113,6 +130,32 @@ Migrates old rooms from to first result new rooms_then = (spots : ℕ → Spot)
     × Moves new rooms_then moved (motion room spots from to))
     (λ refusal. (first_of first (lack_in room (is_no_memory refusal)
     (motion room spots from to).spots) ≡ Some refusal) × (new ≡ old) × (rooms_then ≡ rooms))
+
+-- a span was stated to lie on a node, unless something stands against it or memory lacks
+abbrev pub States : List (Run Spot) → Option Rooms → Ground → ℕ → ℕ → ℕ
+    → Result (Unit {0}) PlacedRefusal → List (Run Spot) → Option Rooms → Type 0
+States old rooms basis start bytes node result new rooms_then = (at : Lying)
+    → ((page : ℕ) → spot_at old page ≡ at.spots page) → HaveRoom rooms at.room
+    → MatchResult result
+    (λ done. (at_cause false basis start bytes node at ≡ None)
+    × ((page : ℕ) → spot_at new page ≡ at_spots basis start bytes node at.spots page)
+    × HaveRoom rooms_then (with_spots (at_spots basis start bytes node at.spots) at).room)
+    (λ refusal. (at_cause (is_no_memory refusal) basis start bytes node at ≡ Some refusal)
+    × (new ≡ old) × (rooms_then ≡ rooms))
+
+-- pages of a span were touched first, unless something stands against it or memory lacks
+abbrev pub Touches : List (Run Spot) → Option Rooms → Ground → ℕ → ℕ → ℕ → ℕ
+    → Result Arrived PlacedRefusal → List (Run Spot) → Option Rooms → Type 0
+Touches old rooms basis start bytes task cpu result new rooms_then = (at : Lying)
+    → ((page : ℕ) → spot_at old page ≡ at.spots page) → HaveRoom rooms at.room
+    → MatchResult result
+    (λ arrived. (touch_cause false basis start bytes task cpu at ≡ None)
+    × ((page : ℕ) → spot_at new page
+    ≡ sent_spots (touched_by basis start bytes task cpu) at page)
+    × HaveRoom rooms_then (rooms_sent (touched_by basis start bytes task cpu) at.spots at.room)
+    × ArrivedAs arrived (arrival_of (touched_by basis start bytes task cpu) at))
+    (λ refusal. (touch_cause (is_no_memory refusal) basis start bytes task cpu at ≡ Some refusal)
+    × (new ≡ old) × (rooms_then ≡ rooms))
 
 -- a page moved to a node, unless something stands against it or memory lacks
 abbrev pub MovesPage : List (Run Spot) → Option Rooms → Ground → ℕ → ℕ
@@ -186,11 +229,10 @@ Forgets beside start bytes (Err why) = (lying : Lying) → Lies beside lying
     → (has_stated lying.spots start bytes ≡ true)
     × (lack_of (is_no_memory why) (forgotten start bytes lying.spots) ≡ Some why)
 
--- the pages lie so now, and all else is as it was
+-- the pages lie so now, the rooms kept pace, and all else is as it was
 abbrev pub Replaces : Option PageState → List (Run Spot) → Option PageState → Type 0
 Replaces old after new = (lying : Lying) (spots : ℕ → Spot) → Lies old lying → IsSome old
-    → ((page : ℕ) → spot_at after page ≡ spots page)
-    → Lies new (record lying { spots = spots })
+    → ((page : ℕ) → spot_at after page ≡ spots page) → Lies new (with_spots spots lying)
 
 -- a change comes to what is done, or to why it is refused, as the outcome says, and the pages lie
 -- as it says; where memory lacked, this came of it, and nothing has changed

@@ -2,12 +2,14 @@
 ghost use Rattle.std.specs.Prelude.{◌≡◌, ℕ, IfErr, IfOk, None, Some, false, true};
 ghost use Rattle.numa_placed.specs.Spots.{spot_at};
 ghost use Rattle.numa_page_state.specs.Outcomes.{forgotten, has_stated, is_no_memory, lack_of};
-ghost use Rattle.numa_page_state.specs.Standing.{Forgets, Replaces};
+ghost use Rattle.numa_placed.specs.declared.spot.Spot.{Spot};
+ghost use Rattle.numa_page_state.specs.Lying.{Lying, with_spots};
+ghost use Rattle.numa_page_state.specs.Standing.{Forgets, HaveRoom, Replaces};
 
 use crate::binding::stated_astray;
 use crate::state::PageState;
 use numa_mask::NodeMask;
-use numa_placed::Placed;
+use numa_placed::{Placed, Rooms};
 use numa_requests::PlacedRefusal;
 use std::mem;
 
@@ -39,6 +41,23 @@ fn forgotten(placed: &Placed, start: u64, length: u64) -> Result<Placed, PlacedR
     }
 }
 
+/// The rooms once pages lie otherwise, where a line said one.
+fn rooms_between(rooms: &Option<Rooms>, before: &Placed, after: &Placed) -> Option<Rooms>
+    ensures { (lying : Lying) (spots : ℕ → Spot) → HaveRoom rooms.now lying.room
+        → ((page : ℕ) → spot_at before.now page ≡ lying.spots page)
+        → ((page : ℕ) → spot_at after.now page ≡ spots page)
+        → HaveRoom result (with_spots spots lying).room }
+{
+    match rooms {
+        Some(have) => {
+            let lay = before.stated_counts();
+            let lie = after.stated_counts();
+            Some(have.between(&lay, &lie))
+        }
+        None => None,
+    }
+}
+
 impl PageState {
     /// The pages without those of a span, if some of the span were stated to lie somewhere.
     ///
@@ -56,11 +75,14 @@ impl PageState {
         }
     }
 
-    /// Pages lie so from now on.
+    /// Pages lie so from now on; one that left a node gave its room back, and one that came took
+    /// some.
     pub fn replace(&mut self, after: Placed)
         ensures { Replaces (Some self.old) after (Some self.new) }
     {
+        let rooms = rooms_between(&self.rooms, &self.placed, &after);
         drop(mem::replace(&mut self.placed, after));
+        self.rooms = rooms;
     }
 }
 
@@ -81,7 +103,7 @@ pub fn without_span(
     }
 }
 
-/// Pages lie so from now on, where any are kept.
+/// Pages lie so from now on, where any are kept; one that left a node gave its room back.
 pub fn replace(state: &mut Option<PageState>, after: Placed)
     ensures { Replaces state.old after state.new }
 {

@@ -124,7 +124,7 @@ pub struct Sending {
 }
 
 /// The rooms, where a line said one.
-fn rooms_if(rooms: &Option<Rooms>, after: Rooms) -> Option<Rooms>
+pub(crate) fn rooms_if(rooms: &Option<Rooms>, after: Rooms) -> Option<Rooms>
     ensures { result ≡ (if is_some rooms.now then Some after else None) }
 {
     match rooms {
@@ -245,6 +245,7 @@ pub fn settle(state: &mut PageState, sent: Sending)
         before = state.old.placed;
         after = sent.copy;
       });
+      arrived = state.old.arrived;
     }) }
 {
     let Sending {

@@ -15,8 +15,9 @@ ghost use Rattle.numa_page_state.specs.Outcomes.{migrate_outcome, move_cause_by,
 ghost use Rattle.numa_page_state.specs.Outcomes.{move_unless, room_outcome, rooms_of, told_of};
 ghost use Rattle.numa_page_state.specs.Standing.{DoesAs, HaveRoom, IsLastShift, LastAs};
 ghost use Rattle.numa_page_state.specs.Standing.{Lies, LiesAs};
-ghost use Rattle.numa_page_state.specs.Standing.{Migrates, MovesPage, TellsOf};
+ghost use Rattle.numa_page_state.specs.Standing.{Migrates, MovesPage, States, TellsOf};
 
+use crate::arrived::{Arrived, untouched};
 use crate::frames::with_held;
 use crate::last::{Last, keep};
 use crate::shift::Shift;
@@ -29,13 +30,14 @@ use numa_space::Space;
 use std::alloc::Global;
 
 /// Where pages lie, how many more each node takes, whether pages follow the allowed nodes, and what
-/// the last move did.
+/// the last move and the last first touches did.
 #[derive(Drop)]
 pub struct PageState {
     pub(crate) placed: Placed,
     pub(crate) rooms: Option<Rooms>,
     pub(crate) follows: bool,
     pub(crate) last: Last,
+    pub(crate) arrived: Arrived,
 }
 
 /// A move of nothing.
@@ -108,6 +110,25 @@ fn limited(rooms: &Option<Rooms>, node: u8, pages: u64) -> Rooms
     limited
 }
 
+/// The mapped pages of a span lie on a node, as far as there is room.
+fn state(
+    placed: &mut Placed,
+    rooms: &mut Option<Rooms>,
+    space: &Space,
+    resident: &Resident,
+    start: u64,
+    length: u64,
+    node: u32,
+) -> Result<(), PlacedRefusal>
+    ensures { States placed.old rooms.old (ground_in space.now resident.now) start length node
+        result placed.new rooms.new }
+{
+    match rooms {
+        None => placed.state_beside(space, start, length, node, resident),
+        Some(have) => placed.state_within(space, start, length, node, resident, have),
+    }
+}
+
 /// Pages leave a set of nodes for the allowed nodes of another, as far as there is room.
 fn migrate(
     placed: &mut Placed,
@@ -176,6 +197,7 @@ impl PageState {
             rooms: None,
             follows: false,
             last,
+            arrived: untouched(),
         })
     }
 
@@ -193,12 +215,17 @@ impl PageState {
                 rooms: self.rooms,
                 follows: self.follows,
                 last,
+                arrived: self.arrived,
             }),
             Err(lack) => Err(lack),
         }
     }
 
-    /// The mapped pages of a span lie on a node.
+    /// The mapped pages of a span lie on a node, but those that keep a frame. Those that come to it
+    /// take its room, once a line says one, and give back that of the nodes which they leave.
+    ///
+    /// # Errors
+    /// As [`Placed::state_within`].
     pub fn at(
         &mut self,
         space: &Space,
@@ -211,12 +238,18 @@ impl PageState {
             at_outcome refused (ground_in space.now resident.now) start length node at) }
         ensures unchanged { OnErr result (self.new ≡ self.old) }
     {
-        self.placed
-            .state_beside(space, start, length, node, resident)
+        state(
+            &mut self.placed,
+            &mut self.rooms,
+            space,
+            resident,
+            start,
+            length,
+            node,
+        )
     }
 
-    /// Says how many more pages a node takes; 2^64 - 1 if it never fills. Stating that pages lie on
-    /// a node takes none of its room.
+    /// Says how many more pages a node takes from now on; 2^64 - 1 if it never fills.
     ///
     /// # Errors
     /// `NoSuchNode`: the machine lacks the node, or it has no memory.

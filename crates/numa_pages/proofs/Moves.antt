@@ -60,6 +60,7 @@ module _ (moving : Moving) (strict : Bool) (before after : PagesState) where
           before = before.state.placed;
           after = done.copy;
         });
+        arrived = before.state.arrived;
       } → told.bound.moved ≡ done.moved → told.bound.left ≡ done.left
       → told.errno ≡ late_errno strict moving.said.spec told.bound.left
       → BindsBy moving strict before (Ok told) after
@@ -115,6 +116,12 @@ module _ (moving : Moving) (strict : Bool) (before : PagesState) where
       refuses cause.NodesNotAllowed (λ history lying of lies. found history lying of lies refl)
   lacks cause.Astray found =
       refuses cause.Astray (λ history lying of lies. found history lying of lies refl)
+  lacks cause.BadCpu found =
+      refuses cause.BadCpu (λ history lying of lies. found history lying of lies refl)
+  lacks cause.Unmapped found =
+      refuses cause.Unmapped (λ history lying of lies. found history lying of lies refl)
+  lacks cause.NoRoom found =
+      refuses cause.NoRoom (λ history lying of lies. found history lying of lies refl)
   lacks cause.TooManyRuns found =
       refuses cause.TooManyRuns (λ history lying of lies. found history lying of lies refl)
 

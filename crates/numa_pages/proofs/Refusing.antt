@@ -19,7 +19,8 @@ use Rattle.numa_requests.specs.declared.refusal.Refusal.{Refusal}
 use Rattle.numa_space.specs.Refusals.{refusal_of}
 use Rattle.numa_space.specs.Standing.{StandsFor}
 use Rattle.numa_page_state.specs.Lying.{LastMove, Lying, OfNodes, OfPages}
-use Rattle.numa_page_state.specs.Standing.{HaveRoom, LastAs, LiesAs, sent_by, told_in}
+use Rattle.numa_page_state.specs.Standing.{HaveRoom, LastAs, LiesAs, arrived_in, sent_by}
+use Rattle.numa_page_state.specs.Standing.{told_in}
 use Rattle.numa_page_state.specs.declared.last.Last.{Last}
 use Rattle.numa_page_state.specs.declared.last.Last.TheVariants as went
 use Rattle.numa_page_state.specs.declared.state.PageState.{PageState}
@@ -55,6 +56,7 @@ lying_in state = record {
   room = room_in state.rooms;
   follows = state.follows;
   last = last_in state.last;
+  arrived = arrived_in state.arrived;
 }
 
 pub lies-so : (state : PageState) → LiesAs state (lying_in state)
@@ -63,6 +65,7 @@ lies-so state = record {
   room = have-room state.rooms;
   follows = refl;
   last = last-as state.last;
+  arrived = record { placed = refl; exhausted = refl; on = λ node small. refl };
 }
 
 -- ---- no command is accepted that something stands against

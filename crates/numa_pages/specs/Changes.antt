@@ -20,12 +20,13 @@ use Rattle.numa_requests.specs.declared.page_refusal.PlacedRefusal.TheVariants a
 use Rattle.numa_requests.specs.declared.refusal.Refusal.{Refusal}
 use Rattle.numa_space.specs.Refusals.{refusal_of}
 use Rattle.numa_space.specs.Standing.{StandsFor}
-use Rattle.numa_page_state.specs.Lying.{Ground, Lying, Process, ground_in, process_in}
+use Rattle.numa_page_state.specs.Lying.{Ground, Lying, Process, ground_in, process_in, with_spots}
 use Rattle.numa_page_state.specs.Outcomes.{Done, along_outcome, at_outcome, forgotten}
 use Rattle.numa_page_state.specs.Outcomes.{has_stated, is_no_memory, lack_of, migrate_outcome}
 use Rattle.numa_page_state.specs.Outcomes.{move_outcome, room_outcome}
 use Rattle.numa_page_state.specs.Sending.{asked_of, command_of, sent_in, sent_spots, tells_left}
 use Rattle.numa_page_state.specs.Sending.{with_sent}
+use Rattle.numa_page_state.specs.Touching.{populate_outcome}
 use Rattle.numa_page_state.specs.Standing.{DoesAs, LiesAs}
 use Rattle.numa_page_state.specs.Strict.{has_astray, is_late, strict_binding}
 use Rattle.numa_page_state.specs.declared.binding.Binding.{Binding}
@@ -63,10 +64,11 @@ Accepted before command after = (version : ℕ) × Answers before command (Ok ve
 
 -- ---- commands
 
--- where pages lie once a command is accepted: of those that are unmapped nothing is stated any more
+-- where pages lie once a command is accepted: of those that are unmapped nothing is stated any more,
+-- and their room is given back
 abbrev pub lying_after : Command → Lying → Lying
 lying_after (Unmap start bytes) at = if has_stated at.spots start bytes
-    then record at { spots = forgotten start bytes at.spots } else at
+    then with_spots (forgotten start bytes at.spots) at else at
 lying_after (Map start bytes offset) at = at
 lying_after (Mbind start bytes spec) at = at
 lying_after (SetTask task spec) at = at
@@ -290,6 +292,12 @@ pub record Changes {A Cause : Type 0} (lack : Result A Cause)
 abbrev pub Places : ℕ → ℕ → ℕ → PagesState → Result (Unit {0}) PlacedRefusal → PagesState → Type 0
 Places start bytes node before = Changes lacking
     (λ refused at. at_outcome refused (ground_of before) start bytes node at) before
+
+-- a task touched the pages of a span first, or it is told why not
+abbrev pub Populates : ℕ → ℕ → ℕ → ℕ → PagesState → Result (Unit {0}) PlacedRefusal → PagesState
+    → Type 0
+Populates start bytes task cpu before = Changes lacking (λ refused at.
+    populate_outcome refused (ground_of before) start bytes task cpu at) before
 
 -- a node was given room, or it has no memory
 abbrev pub Limits : ℕ → ℕ → PagesState → Result (Unit {0}) PlacedRefusal → PagesState → Type 0

@@ -1,11 +1,11 @@
 //! A core whose pages are there: a core, where its pages lie, and how many more pages each node
 //! takes, kept together.
 //!
-//! Pages are stated to lie on nodes, and go where Linux moves them: when the allowed nodes change
-//! (cpusets(7)), by migrate_pages(2), by move_pages(2) and by mbind(2). Each change of the core
-//! goes through [`Pages`], so that what is told of the pages is always of the core as it is: of a
-//! page that was unmapped nothing is stated any more, and a move asks the allowed nodes of all
-//! accepted commands.
+//! Pages are stated to lie on nodes, or put there by a task's first touches (madvise(2),
+//! MADV_POPULATE_WRITE), and go where Linux moves them: when the allowed nodes change (cpusets(7)),
+//! by migrate_pages(2), by move_pages(2) and by mbind(2). Each change of the core goes through
+//! [`Pages`], so that what is told of the pages is always of the core as it is: of a page that was
+//! unmapped nothing is stated any more, and a move asks the allowed nodes of all accepted commands.
 //!
 //! A change of both happens in both or in neither. Frames that workers of the core take are apart:
 //! no page lies in one here.

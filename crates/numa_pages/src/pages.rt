@@ -10,10 +10,11 @@ ghost use Rattle.numa_space.specs.Standing.{StandsFor};
 ghost use Rattle.numa_page_state.specs.Lying.{Lying, nothing};
 ghost use Rattle.numa_page_state.specs.Outcomes.{rooms_of};
 ghost use Rattle.numa_page_state.specs.Sending.{command_of};
-ghost use Rattle.numa_page_state.specs.Standing.{Forgets, LiesAs, Sends};
+ghost use Rattle.numa_page_state.specs.Standing.{ArrivedAs, Forgets, LiesAs, Sends};
 ghost use Rattle.numa_page_state.specs.Strict.{strict_binding_in};
 ghost use Rattle.numa_pages.specs.Changes.{Accepted, Accepts, BindsBy, BindsMoving, BindsStrictly};
 ghost use Rattle.numa_pages.specs.Changes.{Limits, Migrates, MovesMems, MovesPage, Places};
+ghost use Rattle.numa_pages.specs.Changes.{Populates};
 ghost use Rattle.numa_pages.specs.Changes.{cause_of_pages, lies_astray, lying_after, process_of};
 ghost use Rattle.numa_pages.specs.Changes.{stands_astray, unmaps};
 
@@ -27,7 +28,7 @@ use numa_maps::Resident;
 use numa_mask::NodeMask;
 use numa_mode::PolicySpec;
 use numa_page_state::{
-    PageState, Rebinding, Sending, Toucher, is_late_in, sent, settle, strict_binding_in,
+    Arrived, PageState, Rebinding, Sending, Toucher, is_late_in, sent, settle, strict_binding_in,
 };
 use numa_placed::{Bound, Moved, Placed, lacks_node};
 use numa_requests::{Command, MoveRefusal, PlacedRefusal};
@@ -125,8 +126,8 @@ impl Pages {
         Ok(room_at(self.state.rooms(), node as u8))
     }
 
-    /// Says how many more pages a node takes; 2^64 - 1 if it never fills. Stating that pages lie on
-    /// a node takes none of its room.
+    /// Says how many more pages find room on a node from now on; 2^64 - 1 if it never fills. A page
+    /// that comes to it takes one, whoever brings it there, and one that leaves gives it back.
     ///
     /// # Errors
     /// `NoSuchNode`: the machine lacks the node, or it has no memory.
@@ -137,7 +138,8 @@ impl Pages {
     }
 
     /// Carries out a command, and returns the number of accepted ones. Of pages that are unmapped
-    /// nothing is stated any more; all others lie where they lay.
+    /// nothing is stated any more, and they give back the room that they took; all others lie where
+    /// they lay.
     ///
     /// # Errors
     /// Nothing has changed. `OfPages`: what is stated of the unmapped pages can't be taken away, as
@@ -397,15 +399,47 @@ impl Pages {
         }
     }
 
-    /// States that the mapped pages of a span lie on a node. Start and length are in bytes.
+    /// States that the mapped pages of a span lie on a node, as far as it has room for those that
+    /// come to it: they take its room, and give back that of the nodes which they leave. Start and
+    /// length are in bytes.
     ///
     /// # Errors
-    /// As [`Placed::state_beside`].
+    /// As [`Placed::state_within`]: `NoRoom`, more pages would come to the node than find room.
     pub fn place(&mut self, start: u64, length: u64, node: u32) -> Result<(), PlacedRefusal>
         ensures { Places start length node self.old result self.new }
     {
         let none = Resident::new(self.alloc);
         self.state.at(self.core.space(), &none, start, length, node)
+    }
+
+    /// Touches each page of a span for the first time, as a task on a CPU of node `cpu` does that
+    /// writes to it (madvise(2), MADV_POPULATE_WRITE): the lowest page first, each that is nowhere
+    /// goes to the first node of its fallback list that has room by then, and takes one. Pages that
+    /// are there already are passed over; a page that finds no room stays nowhere, and the next go
+    /// on. Start and length are in bytes. [`Pages::arrived`] tells what it did.
+    ///
+    /// # Errors
+    /// As [`Placed::populate`].
+    pub fn populate(
+        &mut self,
+        start: u64,
+        length: u64,
+        task: u32,
+        cpu: u32,
+    ) -> Result<(), PlacedRefusal>
+        ensures { Populates start length task cpu self.old result self.new }
+    {
+        let none = Resident::new(self.alloc);
+        self.state
+            .populate(self.core.space(), &none, start, length, task, cpu)
+    }
+
+    /// What the last first touches of a span did.
+    pub fn arrived(&self) -> &Arrived
+        ensures { (lying : Lying) → LiesAs self.now.state lying
+            → ArrivedAs result.now lying.arrived }
+    {
+        self.state.arrived()
     }
 
     /// Moves pages from one set of nodes to the allowed nodes of another, as far as there is room:

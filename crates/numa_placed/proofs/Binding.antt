@@ -1,9 +1,9 @@
--- Sending the pages of a span that lie astray, run by run.
+-- Sending the pages of a span that are to go, run by run.
 use Rattle.std.proofs.Common.{◌≡◌, ℕ, zero, suc, ◌+◌, ◌-◌, ◌<◌, ◌≤◌, ◌^◌, ◌&&◌, Bool, false}
 use Rattle.std.proofs.Common.{Option, Some, None, List, [], ◌∷◌, refl, sym, ap, ◌∙◌, subst, arith}
 use Rattle.std.proofs.Common.{inl, inr, add-one}
 use Rattle.std.specs.Prelude.{if◌then◌else◌}
-use Rattle.std.proofs.lemmas.Bool.{cases_Bool, cases_lt, and_right}
+use Rattle.std.proofs.lemmas.Bool.{cases_Bool, cases_lt, and_left}
 use Rattle.numa_ranges.specs.Counts.{count_pages}
 use Rattle.numa_ranges.specs.Runs.{page_at, in_pages, end_of, AreApart}
 use Rattle.numa_ranges.specs.declared.run.Run.{Run}
@@ -16,10 +16,10 @@ use Rattle.numa_placed.specs.Binds.{strays}
 use Rattle.numa_placed.specs.Shifts.{AreRooms}
 use Rattle.numa_placed.specs.Spots.{spot_at, spot_in}
 use Rattle.numa_placed.specs.Standing.{AreFound, AreSent, Sends}
+use Rattle.numa_placed.specs.Wholes.{AreWhole}
 use Rattle.numa_placed.specs.declared.bind.Walk.{Walk}
 use Rattle.numa_placed.specs.declared.bound.Bound.{Bound}
 use Rattle.numa_placed.specs.declared.spot.Spot.{Spot}
-use Rattle.numa_placed.specs.declared.spot.Spot.TheVariants.{Nowhere}
 use Rattle.numa_placed.proofs.Shared.{count-same}
 
 -- ---- rooms
@@ -67,9 +67,15 @@ module _ (asked : Asked) (spots : ℕ → Spot) (room : ℕ → ℕ) where
   unfolding room_before
   before-none = refl
 
--- a page that lies nowhere isn't astray
-pub strays-nowhere : (asked : Asked) (page : ℕ) → strays asked page Nowhere ≡ false
-strays-nowhere asked page = and_right (in_pages asked.first asked.pages page) false refl
+-- a page of which a whole map says nothing isn't of the span
+pub strays-unsaid : (asked : Asked) (runs : List (Run Spot)) → AreWhole runs
+    → asked.first + asked.pages ≤ 2 ^ 35 → (page : ℕ) → page_at runs page ≡ None → (spot : Spot)
+    → strays asked page spot ≡ false
+strays-unsaid asked runs whole ends page none spot = elim (cases_lt page (2 ^ 35)) [
+  | inl near ↦ let some = whole page near in absurd (cc)
+  | inr far ↦ and_left (in_pages asked.first asked.pages page) (asked.wants page spot)
+      (in_pages-above asked.first asked.pages page (omega arith))
+]
 
 -- ---- run by run
 
@@ -94,7 +100,8 @@ pub record IsBoundTo (asked : Asked) (goal : ℕ → Option ℕ) (whole rest : L
 abbrev pub CountsTo : (ℕ → Bool) → ℕ → ℕ → Type 0
 CountsTo test low count = count + count_pages test low (2 ^ 35 - low) ≡ count_pages test 0 (2 ^ 35)
 
-module _ (asked : Asked) (goal : ℕ → Option ℕ) (whole : List (Run Spot)) where
+module _ (asked : Asked) (goal : ℕ → Option ℕ) (whole : List (Run Spot)) (all : AreWhole whole)
+    (ends : asked.first + asked.pages ≤ 2 ^ 35) where
   pub bound-begins : AreApart 0 whole → IsBoundTo asked goal whole whole (spot_at whole)
   bound-begins apart = record {
     low = 0;
@@ -104,9 +111,12 @@ module _ (asked : Asked) (goal : ℕ → Option ℕ) (whole : List (Run Spot)) w
     ahead = λ page le. refl;
   }
 
-  bound-nowhere : (page : ℕ) → spot_at whole page ≡ Nowhere
-      → bound_by asked goal (spot_at whole) page ≡ Nowhere
-  bound-nowhere page none = rw (none, strays-nowhere asked page) refl
+  unsaid : (page : ℕ) → page_at whole page ≡ None → strays asked page (spot_at whole page) ≡ false
+  unsaid page none = strays-unsaid asked whole all ends page none (spot_at whole page)
+
+  bound-unsaid : (page : ℕ) → page_at whole page ≡ None
+      → bound_by asked goal (spot_at whole) page ≡ spot_at whole page
+  bound-unsaid page none = rw (unsaid page none) refl
 
   module _ (before rest : List (Run Spot)) (run : Run Spot) (next : ℕ → Spot)
       (steps : before ≡ run ∷ rest) (bound : IsBoundTo asked goal whole before next) where
@@ -127,13 +137,13 @@ module _ (asked : Asked) (goal : ℕ → Option ℕ) (whole : List (Run Spot)) w
         rw (in_pages-true run.first run.pages page low high) refl in
         ap spot_in (at-here page (omega (arith, apart-here.0)) ∙ at)
 
-    pub nowhere-here : (page : ℕ) → bound.low ≤ page → page < run.first
-        → spot_at whole page ≡ Nowhere
-    nowhere-here page low high =
+    pub unsaid-here : (page : ℕ) → bound.low ≤ page → page < run.first
+        → page_at whole page ≡ None
+    unsaid-here page low high =
         let at : page_at (run ∷ rest) page ≡ None =
         rw (in_pages-below run.first run.pages page high)
         (page_at-before (end_of run) rest page apart-here.3 (omega arith)) in
-        ap spot_in (at-here page low ∙ at)
+        at-here page low ∙ at
 
     behind-here : (page : ℕ) → end_of run ≤ page → page_at whole page ≡ page_at rest page
     behind-here page le =
@@ -162,9 +172,7 @@ module _ (asked : Asked) (goal : ℕ → Option ℕ) (whole : List (Run Spot)) w
       done-next page lt = elim (cases_lt page run.first) [
         | inl l ↦ sent.below page l ∙ elim (cases_lt page bound.low) [
           | inl m ↦ bound.done page m
-          | inr m ↦
-              let none = nowhere-here page m l in
-              bound.ahead page m ∙ none ∙ sym (bound-nowhere page none)
+          | inr m ↦ bound.ahead page m ∙ sym (bound-unsaid page (unsaid-here page m l))
         ]
         | inr l ↦ bound-here page l lt
       ]
@@ -208,7 +216,8 @@ module _ (asked : Asked) (goal : ℕ → Option ℕ) (whole : List (Run Spot)) w
         ap (λ p. count_pages here p tail) seam2 in
         let part1 : count_pages here low hole ≡ 0 =
         count-none here low hole (λ page from to.
-        rw (nowhere-here page from (omega (arith, start)), strays-nowhere asked page) refl) in
+        and_left (strays asked page (spot_at whole page)) (test (goal page) (spot_at whole page))
+        (unsaid page (unsaid-here page from (omega (arith, start))))) in
         let part2 : count_pages here run.first size ≡ count_pages (λ page.
         strays asked page run.value && test (goal page) run.value) run.first size =
         count-same here (λ page. strays asked page run.value
@@ -223,16 +232,14 @@ module _ (asked : Asked) (goal : ℕ → Option ℕ) (whole : List (Run Spot)) w
     pub low-ends : bound.low ≤ 2 ^ 35
     low-ends = apart-top bound.low rest bound.apart
 
-    pub nowhere-left : (page : ℕ) → bound.low ≤ page → spot_at whole page ≡ Nowhere
-    nowhere-left page le = ap spot_in (bound.same page le
-        ∙ ap (λ (runs : List (Run Spot)). page_at runs page) over)
+    pub unsaid-left : (page : ℕ) → bound.low ≤ page → page_at whole page ≡ None
+    unsaid-left page le = bound.same page le
+        ∙ ap (λ (runs : List (Run Spot)). page_at runs page) over
 
     pub bound-ends : (page : ℕ) → next page ≡ bound_by asked goal (spot_at whole) page
     bound-ends page = elim (cases_lt page bound.low) [
       | inl l ↦ bound.done page l
-      | inr l ↦
-          let none = nowhere-left page l in
-          bound.ahead page l ∙ none ∙ sym (bound-nowhere page none)
+      | inr l ↦ bound.ahead page l ∙ sym (bound-unsaid page (unsaid-left page l))
     ]
 
     pub counts-end : (test : Test) (count : ℕ)
@@ -242,7 +249,8 @@ module _ (asked : Asked) (goal : ℕ → Option ℕ) (whole : List (Run Spot)) w
         let here : ℕ → Bool = passes test asked goal (spot_at whole) in
         let none : count_pages here bound.low (2 ^ 35 - bound.low) ≡ 0 =
         count-none here bound.low (2 ^ 35 - bound.low) (λ page from to.
-        rw (nowhere-left page from, strays-nowhere asked page) refl) in
+        and_left (strays asked page (spot_at whole page)) (test (goal page) (spot_at whole page))
+        (unsaid page (unsaid-left page from))) in
         omega (arith, so_far, none)
 
 -- ---- the loop over the runs
@@ -257,7 +265,8 @@ pub record IsBinding (asked : Asked) (room : ℕ → ℕ) (whole rest : List (Ru
       bound.low walk.told.left
   pub rooms : AreRooms walk.rooms (room_before asked (spot_at whole) room bound.low)
 
-module _ (asked : Asked) (room : ℕ → ℕ) (whole : List (Run Spot)) where
+module _ (asked : Asked) (room : ℕ → ℕ) (whole : List (Run Spot)) (all : AreWhole whole)
+    (ends : asked.first + asked.pages ≤ 2 ^ 35) where
   rooms_at : ℕ → ℕ → ℕ
   rooms_at = room_before asked (spot_at whole) room
 
@@ -266,7 +275,7 @@ module _ (asked : Asked) (room : ℕ → ℕ) (whole : List (Run Spot)) where
       → IsBinding asked room whole whole (spot_at whole) walk
   unfolding bound-begins
   binding-begins walk none none' are apart = record {
-    bound = bound-begins asked (goals asked (spot_at whole) room) whole apart;
+    bound = bound-begins asked (goals asked (spot_at whole) room) whole all ends apart;
     sent = omega arith;
     kept = omega arith;
     rooms = subst (AreRooms walk.rooms) (sym (before-none asked (spot_at whole) room)) are;
@@ -279,20 +288,19 @@ module _ (asked : Asked) (room : ℕ → ℕ) (whole : List (Run Spot)) where
         ≡ room_before asked (spot_at whole) room binding.bound.low
     gap =
         let goal = goals asked (spot_at whole) room in
-        let start = (apart-here asked goal whole before rest run next steps binding.bound).0 in
+        let apart = apart-here asked goal whole all ends before rest run next steps binding.bound in
+        let start = apart.0 in
         rooms-same (room_before asked (spot_at whole) room) binding.bound.low run.first start
         (λ page low high. before-next asked (spot_at whole) room page
-        ∙ rw (
-          nowhere-here asked goal whole before rest run next steps binding.bound page low high,
-          strays-nowhere asked page,
-        ) refl)
+        ∙ rw (unsaid asked goal whole all ends page (unsaid-here asked goal whole all ends before
+        rest run next steps binding.bound page low high)) refl)
 
     found : AreFound (λ page. strays asked page run.value) asked.nodes run.value run.first
         (end_of run) (room_before asked (spot_at whole) room)
     found page low high =
         let goal = goals asked (spot_at whole) room in
-        let now = value-here asked goal whole before rest run next steps binding.bound page low
-        high in
+        let now = value-here asked goal whole all ends before rest run next steps binding.bound
+        page low high in
         before-next asked (spot_at whole) room page
         ∙ ap (λ (spot : Spot). if strays asked page spot
         then room_sent (room_before asked (spot_at whole) room page)
@@ -309,11 +317,11 @@ module _ (asked : Asked) (room : ℕ → ℕ) (whole : List (Run Spot)) where
         let did = sends (room_before asked (spot_at whole) room)
         (subst (AreRooms walk.rooms) (sym gap) binding.rooms) found in
         record {
-          bound = bound-next asked goal whole before rest run next steps binding.bound later
-              walk.told walk'.told did.0;
-          sent = counts-next asked goal whole before rest run next steps binding.bound
+          bound = bound-next asked goal whole all ends before rest run next steps binding.bound
+              later walk.told walk'.told did.0;
+          sent = counts-next asked goal whole all ends before rest run next steps binding.bound
               is_sent walk.told.moved walk'.told.moved binding.sent did.0.moved;
-          kept = counts-next asked goal whole before rest run next steps binding.bound
+          kept = counts-next asked goal whole all ends before rest run next steps binding.bound
               is_kept walk.told.left walk'.told.left binding.kept did.0.left;
           rooms = did.1;
         }
@@ -326,17 +334,15 @@ module _ (asked : Asked) (room : ℕ → ℕ) (whole : List (Run Spot)) where
       let still : room_before asked (spot_at whole) room (2 ^ 35)
       ≡ room_before asked (spot_at whole) room binding.bound.low =
       rooms-same (room_before asked (spot_at whole) room) binding.bound.low (2 ^ 35)
-      (low-ends asked goal whole rest next over binding.bound) (λ page low high.
+      (low-ends asked goal whole all ends rest next over binding.bound) (λ page low high.
       before-next asked (spot_at whole) room page
-      ∙ rw (
-        nowhere-left asked goal whole rest next over binding.bound page low,
-        strays-nowhere asked page,
-      ) refl) in
+      ∙ rw (unsaid asked goal whole all ends page (unsaid-left asked goal whole all ends rest next
+      over binding.bound page low)) refl) in
       record {
-        pages = bound-ends asked goal whole rest next over binding.bound;
+        pages = bound-ends asked goal whole all ends rest next over binding.bound;
         room = subst (AreRooms walk.rooms) (sym still) binding.rooms;
-        moved = counts-end asked goal whole rest next over binding.bound is_sent walk.told.moved
-            binding.sent;
-        left = counts-end asked goal whole rest next over binding.bound is_kept walk.told.left
-            binding.kept;
+        moved = counts-end asked goal whole all ends rest next over binding.bound is_sent
+            walk.told.moved binding.sent;
+        left = counts-end asked goal whole all ends rest next over binding.bound is_kept
+            walk.told.left binding.kept;
       }

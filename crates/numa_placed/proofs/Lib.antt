@@ -1,13 +1,16 @@
+pub mod Alike
 pub mod Binding
 pub mod Counting
 pub mod Edits
 pub mod Filtered
+pub mod Fits
 pub mod Going
 pub mod HoleRows
 pub mod Judged
 pub mod Lowest
 pub mod MoveRows
 pub mod MovedNodes
+pub mod Paced
 pub mod Parts
 pub mod Reaching
 pub mod Sending
@@ -17,4 +20,5 @@ pub mod Sources
 pub mod Stating
 pub mod Summed
 pub mod Tests
+pub mod TouchRows
 pub mod Walking

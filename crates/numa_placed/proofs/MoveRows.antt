@@ -15,7 +15,6 @@ use Rattle.numa_placed.specs.declared.spot.Spot.TheVariants.{Nowhere, Stated, He
 use Rattle.numa_requests.specs.declared.page_refusal.PlacedRefusal.TheVariants.{Unaligned}
 use Rattle.numa_requests.specs.declared.page_refusal.PlacedRefusal.TheVariants.{OutOfSpace}
 use Rattle.numa_requests.specs.declared.page_refusal.PlacedRefusal.TheVariants.{NoSuchNode}
-use Rattle.numa_requests.specs.declared.page_refusal.PlacedRefusal.TheVariants.{Occupied}
 use Rattle.numa_requests.specs.declared.page_refusal.PlacedRefusal.TheVariants.{NodesNotAllowed}
 
 -- where the pages of some nodes go

@@ -157,7 +157,7 @@ forgotten-twice (Held node) = refl
 at-itself : (page : ℕ) → is_at (nat_cmp page) page ≡ true
 at-itself page = grind (arith, common_steps)
 
-at-other : (page other : ℕ) → page ≢ other → is_at (nat_cmp page) other ≡ false
+pub at-other : (page other : ℕ) → page ≢ other → is_at (nat_cmp page) other ≡ false
 at-other page other ne = grind (arith, common_steps)
 
 one-here : (page : ℕ) → in_pages page 1 page ≡ true

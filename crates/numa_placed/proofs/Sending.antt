@@ -1,13 +1,13 @@
 -- Sending pages that lie alike, page by page, and those of a run that a span has.
 use Rattle.std.proofs.Common.{◌≡◌, ℕ, ◌+◌, ◌-◌, ◌<◌, ◌≤◌, ◌&&◌, Bool, true, false}
 use Rattle.std.proofs.Common.{Option, List, refl, sym, ap, ◌∙◌, subst, arith, inl, inr}
-use Rattle.std.proofs.lemmas.Bool.{cases_Bool, cases_lt, and_left, and_right}
+use Rattle.std.specs.Prelude.{if◌then◌else◌}
+use Rattle.std.proofs.lemmas.Bool.{cases_lt, and_left, and_right}
 use Rattle.numa_ranges.specs.Counts.{count_pages}
 use Rattle.numa_ranges.specs.Runs.{in_pages, end_of}
 use Rattle.numa_ranges.specs.declared.run.Run.{Run}
 use Rattle.numa_ranges.proofs.Apart.{in_pages-true, in_pages-below, in_pages-above}
-use Rattle.numa_ranges.proofs.Counted.{count-none}
-use Rattle.numa_placed.specs.Astray.{is_astray}
+use Rattle.numa_ranges.proofs.Counted.{count-none, count-split}
 use Rattle.numa_placed.specs.Binds.{Asked, first_with_room, goal_at, is_kept, is_sent, room_sent}
 use Rattle.numa_placed.specs.Binds.{sent_spot, strays}
 use Rattle.numa_placed.specs.Shifts.{AreRooms}
@@ -16,122 +16,34 @@ use Rattle.numa_placed.specs.Standing.{AreFound, AreSent, Sends}
 use Rattle.numa_placed.specs.declared.bind.Walk.{Walk}
 use Rattle.numa_placed.specs.declared.spot.Spot.{Spot}
 use Rattle.numa_placed.proofs.Binding.{found-still}
-use Rattle.numa_placed.proofs.Shared.{IsShared, counts-none, count-shared, count-same, out-above}
-use Rattle.numa_placed.proofs.Shared.{out-below, sent-counted, in-span}
+use Rattle.numa_placed.proofs.Shared.{IsShared, count-same, in-span, one-page, out-above}
+use Rattle.numa_placed.proofs.Shared.{out-below}
 
 -- ---- page by page
 
 abbrev pub all : ℕ → Bool
 all page = true
 
-module _ (nodes : ℕ → List ℕ) (spot : Spot) (from : ℕ) (old : ℕ → Spot) (begun : Walk) where
-  pub sends-begin : Sends all nodes spot from from old old begun begun
-  sends-begin rooms are found = (
-    record {
-      below = λ page lt. refl;
-      sent = λ page low high t. absurd (omega arith);
-      kept = λ page low high t. absurd (omega arith);
-      above = λ page le. refl;
-      moved = counts-none (λ page. all page && is_sent (goal_at nodes rooms page) spot) from
-          (from - from) begun.told.moved (omega arith);
-      left = counts-none (λ page. all page && is_kept (goal_at nodes rooms page) spot) from
-          (from - from) begun.told.left (omega arith);
-    },
-    are,
-  )
+-- as many of the pages before one pass as of all, but for those from it on
+count-joined : (test : ℕ → Bool) (from mid to : ℕ) → from ≤ mid → mid ≤ to
+    → count_pages test from (to - from)
+    ≡ count_pages test from (mid - from) + count_pages test mid (to - mid)
+count-joined test from mid to low high =
+    let seam : from + (mid - from) ≡ mid = omega arith in
+    count-split test from (mid - from) (to - mid) (to - from) (omega arith)
+    ∙ ap (λ (p : ℕ). count_pages test from (mid - from) + count_pages test p (to - mid)) seam
 
-  module _ (page : ℕ) (now later : ℕ → Spot) (walk walk' : Walk) (le : from ≤ page)
-      (sends : Sends all nodes spot from page old now begun walk)
-      (told : (room : ℕ → ℕ) → AreRooms walk.rooms room → (p : ℕ)
-      → later p ≡ changed_spots page 1 (sent_spot (first_with_room room (nodes page))) now p)
-      (moved : (room : ℕ → ℕ) → AreRooms walk.rooms room → walk'.told.moved
-      ≡ walk.told.moved + pages_if (is_sent (first_with_room room (nodes page)) spot) 1)
-      (left : (room : ℕ → ℕ) → AreRooms walk.rooms room → walk'.told.left
-      ≡ walk.told.left + pages_if (is_kept (first_with_room room (nodes page)) spot) 1)
-      (taken : (room : ℕ → ℕ) → AreRooms walk.rooms room → AreRooms walk'.rooms
-      (room_sent room (first_with_room room (nodes page)) spot)) where
-    module _ (rooms : ℕ → ℕ → ℕ) (are : AreRooms begun.rooms (rooms from))
-        (found : AreFound all nodes spot from (page + 1) rooms) where
-      so-far : AreSent all (goal_at nodes rooms) spot from page old now begun.told walk.told
-          × AreRooms walk.rooms (rooms page)
-      so-far = sends rooms are (λ p low high. found p low (omega arith))
-
-      other-low : (p : ℕ) → p < page → later p ≡ now p
-      other-low p lt = told (rooms page) so-far.1 p ∙ rw (in_pages-below page 1 p lt) refl
-
-      other-high : (p : ℕ) → page + 1 ≤ p → later p ≡ now p
-      other-high p high = told (rooms page) so-far.1 p ∙ rw (in_pages-above page 1 p high) refl
-
-      itself : later page ≡ sent_spot (goal_at nodes rooms page) (old page)
-      itself =
-          let here : later page ≡ sent_spot (goal_at nodes rooms page) (now page) =
-          told (rooms page) so-far.1 page
-          ∙ rw (in_pages-true page 1 page (omega arith) (omega arith)) refl in
-          here ∙ ap (sent_spot (goal_at nodes rooms page)) (so-far.0.above page (omega arith))
-
-      sent-here : (p : ℕ) → from ≤ p → p < page + 1 → all p ≡ true
-          → later p ≡ sent_spot (goal_at nodes rooms p) (old p)
-      sent-here p low high t = elim (cases_lt p page) [
-        | inl l ↦ other-low p l ∙ so-far.0.sent p low l t
-        | inr l ↦
-            let same : page ≡ p = omega arith in
-            subst (λ (q : ℕ). later q ≡ sent_spot (goal_at nodes rooms q) (old q)) same itself
-      ]
-
-      kept-here : (p : ℕ) → from ≤ p → p < page + 1 → all p ≡ false → later p ≡ old p
-      kept-here p low high e = elim (cases_lt p page) [
-        | inl l ↦ other-low p l ∙ so-far.0.kept p low l e
-        | inr l ↦ cc
-      ]
-
-      after-here : AreSent all (goal_at nodes rooms) spot from (page + 1) old later begun.told
-          walk'.told × AreRooms walk'.rooms (rooms (page + 1))
-      after-here = (
-        record {
-          below = λ p lt. other-low p (omega arith) ∙ so-far.0.below p lt;
-          sent = sent-here;
-          kept = kept-here;
-          above = λ p high. other-high p high ∙ so-far.0.above p (omega arith);
-          moved = sent-counted (λ p. all p && is_sent (goal_at nodes rooms p) spot) from page
-              begun.told.moved walk.told.moved walk'.told.moved le so-far.0.moved
-              (moved (rooms page) so-far.1);
-          left = sent-counted (λ p. all p && is_kept (goal_at nodes rooms p) spot) from page
-              begun.told.left walk.told.left walk'.told.left le so-far.0.left
-              (left (rooms page) so-far.1);
-        },
-        subst (AreRooms walk'.rooms) (sym (found page le (omega arith)))
-            (taken (rooms page) so-far.1),
-      )
-
-    pub sends-next : Sends all nodes spot from (page + 1) old later begun walk'
-    sends-next rooms are found = after-here rooms are found
-
--- ---- a run
-
-pub not_astray : (asked : Asked) (page : ℕ) (spot : Spot) → is_astray asked.list spot ≡ false
-    → strays asked page spot ≡ false
-not_astray asked page spot none =
-    and_right (in_pages asked.first asked.pages page) (is_astray asked.list spot) none
-
-module _ (asked : Asked) (run : Run Spot) where
-  strays-out : (page : ℕ) → in_pages asked.first asked.pages page ≡ false
-      → strays asked page run.value ≡ false
-  strays-out page out =
-      and_left (in_pages asked.first asked.pages page) (is_astray asked.list run.value) out
-
-  -- where none of a run's pages is of the span, or they don't lie astray, all stay
-  pub sends-none : (old : ℕ → Spot) (walk : Walk)
-      → ((page : ℕ) → run.first ≤ page → page < end_of run → strays asked page run.value ≡ false)
-      → Sends (λ page. strays asked page run.value) asked.nodes run.value run.first (end_of run)
-      old old walk walk
-  sends-none old walk none rooms are found =
-      let size = end_of run - run.first in
-      let nobody : (test : Option ℕ → Spot → Bool) → count_pages (λ page.
-      strays asked page run.value && test (goal_at asked.nodes rooms page) run.value) run.first
-      size ≡ 0 = λ test. count-none (λ page.
-      strays asked page run.value && test (goal_at asked.nodes rooms page) run.value) run.first
-      size (λ page low high. and_left (strays asked page run.value)
-      (test (goal_at asked.nodes rooms page) run.value) (none page low (omega arith))) in (
+module _ (test : ℕ → Bool) (nodes : ℕ → List ℕ) (spot : Spot) where
+  -- where none passes, all stay
+  pub sends-none : (from to : ℕ) (old : ℕ → Spot) (walk : Walk) → from ≤ to
+      → ((page : ℕ) → from ≤ page → page < to → test page ≡ false)
+      → Sends test nodes spot from to old old walk walk
+  sends-none from to old walk le none rooms are found =
+      let nobody : (more : Option ℕ → Spot → Bool) → count_pages (λ page.
+      test page && more (goal_at nodes rooms page) spot) from (to - from) ≡ 0 =
+      λ more. count-none (λ page. test page && more (goal_at nodes rooms page) spot) from
+      (to - from) (λ page low high. and_left (test page) (more (goal_at nodes rooms page) spot)
+      (none page low (omega arith))) in (
         record {
           below = λ page lt. refl;
           sent = λ page low high t. let f = none page low high in cc;
@@ -140,10 +52,141 @@ module _ (asked : Asked) (run : Run Spot) where
           moved = omega (arith, nobody is_sent);
           left = omega (arith, nobody is_kept);
         },
-        subst (AreRooms walk.rooms) (sym (found-still (λ page. strays asked page run.value)
-            asked.nodes run.value run.first (end_of run) run.first (end_of run) rooms found
-            (omega arith) (omega arith) (omega arith) none)) are,
+        subst (AreRooms walk.rooms) (sym (found-still test nodes spot from to from to rooms found
+            (omega arith) le (omega arith) none)) are,
       )
+
+  -- one page after others
+  pub sends-append : (from mid to : ℕ) (old now later : ℕ → Spot) (begun walk walk' : Walk)
+      → from ≤ mid → mid ≤ to → Sends test nodes spot from mid old now begun walk
+      → Sends test nodes spot mid to now later walk walk'
+      → Sends test nodes spot from to old later begun walk'
+  sends-append from mid to old now later begun walk walk' low high one other rooms are found =
+      let first = one rooms are (λ p l h. found p l (omega arith)) in
+      let second = other rooms first.1 (λ p l h. found p (omega arith) h) in (
+        record {
+          below = λ p lt. second.0.below p (omega arith) ∙ first.0.below p lt;
+          sent = λ p l h t. elim (cases_lt p mid) [
+            | inl m ↦ second.0.below p m ∙ first.0.sent p l m t
+            | inr m ↦ second.0.sent p m h t
+                ∙ ap (sent_spot (goal_at nodes rooms p)) (first.0.above p m)
+          ];
+          kept = λ p l h e. elim (cases_lt p mid) [
+            | inl m ↦ second.0.below p m ∙ first.0.kept p l m e
+            | inr m ↦ second.0.kept p m h e ∙ first.0.above p m
+          ];
+          above = λ p le. second.0.above p le ∙ first.0.above p (omega arith);
+          moved = omega (
+            arith,
+            first.0.moved,
+            second.0.moved,
+            count-joined (λ page.
+                test page && is_sent (goal_at nodes rooms page) spot) from mid to low high,
+          );
+          left = omega (
+            arith,
+            first.0.left,
+            second.0.left,
+            count-joined (λ page.
+                test page && is_kept (goal_at nodes rooms page) spot) from mid to low high,
+          );
+        },
+        second.1,
+      )
+
+  module _ (page : ℕ) (now later : ℕ → Spot) (walk walk' : Walk) (passes : test page ≡ true)
+      (told : (room : ℕ → ℕ) → AreRooms walk.rooms room → (p : ℕ)
+      → later p ≡ changed_spots page 1 (sent_spot (first_with_room room (nodes page))) now p)
+      (moved : (room : ℕ → ℕ) → AreRooms walk.rooms room → walk'.told.moved
+      ≡ walk.told.moved + pages_if (is_sent (first_with_room room (nodes page)) spot) 1)
+      (left : (room : ℕ → ℕ) → AreRooms walk.rooms room → walk'.told.left
+      ≡ walk.told.left + pages_if (is_kept (first_with_room room (nodes page)) spot) 1)
+      (taken : (room : ℕ → ℕ) → AreRooms walk.rooms room → AreRooms walk'.rooms
+      (room_sent room (first_with_room room (nodes page)) spot)) where
+    module _ (rooms : ℕ → ℕ → ℕ) (are : AreRooms walk.rooms (rooms page))
+        (found : AreFound test nodes spot page (page + 1) rooms) where
+      other-low : (p : ℕ) → p < page → later p ≡ now p
+      other-low p lt = told (rooms page) are p ∙ rw (in_pages-below page 1 p lt) refl
+
+      other-high : (p : ℕ) → page + 1 ≤ p → later p ≡ now p
+      other-high p high = told (rooms page) are p ∙ rw (in_pages-above page 1 p high) refl
+
+      itself : later page ≡ sent_spot (goal_at nodes rooms page) (now page)
+      itself = told (rooms page) are page
+          ∙ rw (in_pages-true page 1 page (omega arith) (omega arith)) refl
+
+      counted : (more : Option ℕ → Spot → Bool) → count_pages (λ p.
+          test p && more (goal_at nodes rooms p) spot) page (page + 1 - page)
+          ≡ pages_if (more (goal_at nodes rooms page) spot) 1
+      counted more =
+          let size : page + 1 - page ≡ 1 = omega arith in
+          rw size (one-page (λ p. test p && more (goal_at nodes rooms p) spot) page
+          ∙ rw passes refl)
+
+      sent-one : AreSent test (goal_at nodes rooms) spot page (page + 1) now later walk.told
+          walk'.told × AreRooms walk'.rooms (rooms (page + 1))
+      sent-one = (
+        record {
+          below = other-low;
+          sent = λ p low high t.
+              let same : page ≡ p = omega arith in
+              subst (λ (q : ℕ). later q ≡ sent_spot (goal_at nodes rooms q) (now q)) same itself;
+          kept = λ p low high e.
+              let same : page ≡ p = omega arith in
+              let f : test p ≡ true = subst (λ (q : ℕ). test q ≡ true) same passes in cc;
+          above = other-high;
+          moved = moved (rooms page) are ∙ ap (λ (k : ℕ). walk.told.moved + k)
+              (sym (counted is_sent));
+          left = left (rooms page) are ∙ ap (λ (k : ℕ). walk.told.left + k)
+              (sym (counted is_kept));
+        },
+        subst (AreRooms walk'.rooms) (sym (found page (omega arith) (omega arith)
+            ∙ rw passes refl)) (taken (rooms page) are),
+      )
+
+    -- one page
+    pub sends-one : Sends test nodes spot page (page + 1) now later walk walk'
+    sends-one rooms are found = sent-one rooms are found
+
+  -- where another test passes the same pages
+  pub sends-same : (other : ℕ → Bool) (from to : ℕ) (old new : ℕ → Spot) (walk walk' : Walk)
+      → ((page : ℕ) → from ≤ page → page < to → test page ≡ other page)
+      → Sends other nodes spot from to old new walk walk'
+      → Sends test nodes spot from to old new walk walk'
+  sends-same other from to old new walk walk' same sends rooms are found =
+      let did = sends rooms are (λ p low high. found p low high
+      ∙ ap (λ (t : Bool). if t then room_sent (rooms p) (goal_at nodes rooms p) spot
+      else rooms p) (same p low high)) in
+      let counted : (more : Option ℕ → Spot → Bool) → count_pages (λ page.
+      test page && more (goal_at nodes rooms page) spot) from (to - from) ≡ count_pages (λ page.
+      other page && more (goal_at nodes rooms page) spot) from (to - from) =
+      λ more. count-same (λ page. test page && more (goal_at nodes rooms page) spot)
+      (λ page. other page && more (goal_at nodes rooms page) spot) from (to - from)
+      (λ page low high. ap (λ (t : Bool). t && more (goal_at nodes rooms page) spot)
+      (same page low (omega arith))) in (
+        record {
+          below = did.0.below;
+          sent = λ p low high t. did.0.sent p low high (sym (same p low high) ∙ t);
+          kept = λ p low high e. did.0.kept p low high (sym (same p low high) ∙ e);
+          above = did.0.above;
+          moved = omega (arith, did.0.moved, counted is_sent);
+          left = omega (arith, did.0.left, counted is_kept);
+        },
+        did.1,
+      )
+
+-- ---- a run
+
+pub not_wanted : (asked : Asked) (page : ℕ) (spot : Spot) → asked.wants page spot ≡ false
+    → strays asked page spot ≡ false
+not_wanted asked page spot none =
+    and_right (in_pages asked.first asked.pages page) (asked.wants page spot) none
+
+module _ (asked : Asked) (run : Run Spot) where
+  strays-out : (page : ℕ) → in_pages asked.first asked.pages page ≡ false
+      → strays asked page run.value ≡ false
+  strays-out page out =
+      and_left (in_pages asked.first asked.pages page) (asked.wants page run.value) out
 
   pub stay-unshared : (from to : ℕ)
       → IsShared asked.first asked.pages run.first run.pages from to → to ≤ from
@@ -155,104 +198,26 @@ module _ (asked : Asked) (run : Run Spot) where
             (omega arith) high
       ])
 
-  module _ (from to : ℕ) (shared : IsShared asked.first asked.pages run.first run.pages from to)
-      (astray : is_astray asked.list run.value ≡ true) (rises : from < to) where
-    strays-below : (page : ℕ) → run.first ≤ page → page < from
-        → strays asked page run.value ≡ false
-    strays-below page low lt =
-        strays-out page (out-below asked.first asked.pages run.first run.pages from to shared page
-        lt low)
-
-    strays-above : (page : ℕ) → to ≤ page → page < end_of run
-        → strays asked page run.value ≡ false
-    strays-above page le high =
-        strays-out page (out-above asked.first asked.pages run.first run.pages from to shared page
-        le high)
-
-    strays-here : (page : ℕ) → from ≤ page → page < to → strays asked page run.value ≡ true
-    strays-here page low high =
-        rw (
-          in-span asked.first asked.pages run.first run.pages from to shared page low high,
-          astray,
-        ) refl
-
-    module _ (old new : ℕ → Spot) (walk walk' : Walk)
-        (sends : Sends all asked.nodes run.value from to old new walk walk') (rooms : ℕ → ℕ → ℕ)
-        (are : AreRooms walk.rooms (rooms run.first))
-        (found : AreFound (λ page. strays asked page run.value) asked.nodes run.value run.first
-        (end_of run) rooms) where
-      before-here : rooms from ≡ rooms run.first
-      before-here = found-still (λ page. strays asked page run.value) asked.nodes run.value
-          run.first (end_of run) run.first from rooms found (omega arith) shared.low_run
-          (omega (arith, shared.high_run)) strays-below
-
-      behind-here : rooms (end_of run) ≡ rooms to
-      behind-here = found-still (λ page. strays asked page run.value) asked.nodes run.value
-          run.first (end_of run) to (end_of run) rooms found (omega (arith, shared.low_run))
-          shared.high_run (omega arith) strays-above
-
-      found-here : AreFound all asked.nodes run.value from to rooms
-      found-here page low high =
-          let t = strays-here page low high in
-          found page (omega (arith, shared.low_run)) (omega (arith, shared.high_run)) ∙ rw t refl
-
-      did : AreSent all (goal_at asked.nodes rooms) run.value from to old new walk.told walk'.told
-          × AreRooms walk'.rooms (rooms to)
-      did = sends rooms (subst (AreRooms walk.rooms) (sym before-here) are) found-here
-
-      sent-run : (page : ℕ) → run.first ≤ page → page < end_of run
-          → strays asked page run.value ≡ true
-          → new page ≡ sent_spot (goal_at asked.nodes rooms page) (old page)
-      sent-run page low high t = elim (cases_lt page from) [
-        | inl l ↦ let f = strays-below page low l in cc
-        | inr l ↦ elim (cases_lt page to) [
-          | inl m ↦ did.0.sent page l m refl
-          | inr m ↦ let f = strays-above page m high in cc
-        ]
-      ]
-
-      kept-run : (page : ℕ) → run.first ≤ page → page < end_of run
-          → strays asked page run.value ≡ false → new page ≡ old page
-      kept-run page low high e = elim (cases_lt page from) [
-        | inl l ↦ did.0.below page l
-        | inr l ↦ elim (cases_lt page to) [
-          | inl m ↦ let t = strays-here page l m in cc
-          | inr m ↦ did.0.above page m
-        ]
-      ]
-
-      counted : (test : Option ℕ → Spot → Bool) → count_pages (λ page.
-          strays asked page run.value && test (goal_at asked.nodes rooms page) run.value)
-          run.first (end_of run - run.first) ≡ count_pages (λ page. all page
-          && test (goal_at asked.nodes rooms page) run.value) from (to - from)
-      counted test =
-          let size : end_of run - run.first ≡ run.pages = omega arith in
-          let goal = goal_at asked.nodes rooms in
-          rw size (count-same (λ page. strays asked page run.value && test (goal page) run.value)
-          (λ page. in_pages asked.first asked.pages page && test (goal page) run.value)
-          run.first run.pages (λ page low high. rw astray (elim (cases_Bool
-          (in_pages asked.first asked.pages page)) [ inl t ↦ rw t refl | inr e ↦ rw e refl ]))
-          ∙ count-shared asked.first asked.pages run.first run.pages from to shared
-          (λ page. test (goal page) run.value) rises)
-
-      run-sent : AreSent (λ page. strays asked page run.value) (goal_at asked.nodes rooms)
-          run.value run.first (end_of run) old new walk.told walk'.told
-          × AreRooms walk'.rooms (rooms (end_of run))
-      run-sent = (
-        record {
-          below = λ page lt. did.0.below page (omega (arith, shared.low_run));
-          sent = sent-run;
-          kept = kept-run;
-          above = λ page le. did.0.above page (omega (arith, shared.high_run));
-          moved = omega (arith, did.0.moved, counted is_sent);
-          left = omega (arith, did.0.left, counted is_kept);
-        },
-        subst (AreRooms walk'.rooms) (sym behind-here) did.1,
-      )
-
-    pub sends-run : (old new : ℕ → Spot) (walk walk' : Walk)
-        → Sends all asked.nodes run.value from to old new walk walk'
-        → Sends (λ page. strays asked page run.value) asked.nodes run.value run.first
-        (end_of run) old new walk walk'
-    sends-run old new walk walk' sends rooms are found =
-        run-sent old new walk walk' sends rooms are found
+  -- the pages that a run shares with the span were sent: so were those of the run
+  pub sends-run : (from to : ℕ) (old new : ℕ → Spot) (walk walk' : Walk)
+      → IsShared asked.first asked.pages run.first run.pages from to → from < to
+      → Sends (λ page. asked.wants page run.value) asked.nodes run.value from to old new walk walk'
+      → Sends (λ page. strays asked page run.value) asked.nodes run.value run.first
+      (end_of run) old new walk walk'
+  sends-run from to old new walk walk' shared rises sends =
+      let test : ℕ → Bool = λ page. strays asked page run.value in
+      let a = run.first in let n = run.pages in
+      let below = sends-none test asked.nodes run.value run.first from old walk shared.low_run
+      (λ page low high. strays-out page (out-below asked.first asked.pages a n from to shared page
+      high low)) in
+      let here = sends-same test asked.nodes run.value (λ page. asked.wants page run.value) from to
+      old new walk walk' (λ page low high.
+      rw (in-span asked.first asked.pages a n from to shared page low high) refl) sends in
+      let behind = sends-none test asked.nodes run.value to (end_of run) new walk' shared.high_run
+      (λ page low high. strays-out page (out-above asked.first asked.pages a n from to shared page
+      low high)) in
+      let le : from ≤ to = omega arith in
+      sends-append test asked.nodes run.value run.first to (end_of run) old new new walk walk' walk'
+      (omega (arith, shared.low_run)) shared.high_run
+      (sends-append test asked.nodes run.value run.first from to old old new walk walk walk'
+      shared.low_run le below here) behind

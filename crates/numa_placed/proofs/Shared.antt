@@ -1,13 +1,12 @@
 -- Pages of two spans, and how many of them pass a test.
 use Rattle.std.proofs.Common.{◌≡◌, ℕ, zero, suc, ◌+◌, ◌-◌, ◌<◌, ◌≤◌, ◌&&◌, Bool, true, false}
-use Rattle.std.proofs.Common.{refl, sym, ap, ◌∙◌, arith, inl, inr}
+use Rattle.std.proofs.Common.{refl, ap, ◌∙◌, arith, inl, inr}
 use Rattle.std.specs.Prelude.{if◌then◌else◌}
-use Rattle.std.proofs.lemmas.Bool.{cases_Bool, cases_lt, and_left, and_right}
+use Rattle.std.proofs.lemmas.Bool.{cases_Bool, cases_lt, and_left}
 use Rattle.numa_ranges.specs.Counts.{count_pages}
 use Rattle.numa_ranges.specs.Runs.{in_pages}
 use Rattle.numa_ranges.proofs.Apart.{in_pages-true, in_pages-below, in_pages-above}
 use Rattle.numa_ranges.proofs.Counted.{count-none, count-split}
-use Rattle.numa_ranges.proofs.Laws.{inside}
 use Rattle.numa_placed.specs.Spots.{pages_if}
 
 -- ---- counts
@@ -32,7 +31,7 @@ count-le test a (suc n) =
       | inr e ↦ rw e (omega (arith, rest))
     ]
 
-one-page : (test : ℕ → Bool) (a : ℕ) → count_pages test a 1 ≡ pages_if (test a) 1
+pub one-page : (test : ℕ → Bool) (a : ℕ) → count_pages test a 1 ≡ pages_if (test a) 1
 unfolding count_pages
 one-page test a = elim (cases_Bool (test a)) [ inl t ↦ rw t refl | inr e ↦ rw e refl ]
 
@@ -54,15 +53,6 @@ pub record IsShared (first pages a n from to : ℕ) : Type 0 where
   pub most : (page : ℕ) → page < first + pages → page < a + n → page < to
 
 module _ (first pages a n from to : ℕ) (shared : IsShared first pages a n from to) where
-  both-true : (page : ℕ) → from ≤ page → page < to
-      → (in_pages first pages page && in_pages a n page) ≡ true
-  both-true page low high =
-      let l = shared.low in let lr = shared.low_run in
-      let h = shared.high in let hr = shared.high_run in
-      let one = in_pages-true first pages page (omega arith) (omega arith) in
-      let other = in_pages-true a n page (omega arith) (omega arith) in
-      rw (one, other) refl
-
   pub in-span : (page : ℕ) → from ≤ page → page < to → in_pages first pages page ≡ true
   in-span page low high =
       let l = shared.low in let h = shared.high in
@@ -82,44 +72,7 @@ module _ (first pages a n from to : ℕ) (shared : IsShared first pages a n from
         | inr l ↦ in_pages-above first pages page l
       ]
 
-  -- a page is of both where it is of the pages that they share
-  pub in-both : from < to → (page : ℕ) → in_pages from (to - from) page
-      ≡ (in_pages first pages page && in_pages a n page)
-  in-both rises page =
-      elim (cases_lt page from) [
-        | inl l ↦ in_pages-below from (to - from) page l ∙ sym (elim (cases_lt page a) [
-          | inl m ↦ and_right (in_pages first pages page) (in_pages a n page)
-              (in_pages-below a n page m)
-          | inr m ↦ and_left (in_pages first pages page) (in_pages a n page) (out-below page l m)
-        ])
-        | inr l ↦ elim (cases_lt page to) [
-          | inl m ↦ in_pages-true from (to - from) page l (omega arith)
-              ∙ sym (both-true page l m)
-          | inr m ↦ in_pages-above from (to - from) page (omega arith)
-              ∙ sym (elim (cases_lt page (a + n)) [
-                | inl k ↦ and_left (in_pages first pages page) (in_pages a n page)
-                    (out-above page m k)
-                | inr k ↦ and_right (in_pages first pages page) (in_pages a n page)
-                    (in_pages-above a n page k)
-              ])
-        ]
-      ]
-
-  pub in-neither : to ≤ from → (page : ℕ)
-      → (in_pages first pages page && in_pages a n page) ≡ false
-  in-neither falls page =
-      elim (cases_Bool (in_pages a n page)) [
-        | inr e ↦ and_right (in_pages first pages page) (in_pages a n page) e
-        | inl t ↦
-            let ends = inside a n page t in
-            and_left (in_pages first pages page) (in_pages a n page)
-            (elim (cases_lt page from) [
-              | inl l ↦ out-below page l ends.0
-              | inr l ↦ out-above page (omega arith) ends.1
-            ])
-      ]
-
-  -- and the pages that pass are counted among these
+  -- pages of one that pass are counted among those that both have
   pub count-shared : (test : ℕ → Bool) → from < to
       → count_pages (λ p. in_pages first pages p && test p) a n ≡ count_pages test from (to - from)
   count-shared test rises =
@@ -157,18 +110,3 @@ module _ (first pages a n from to : ℕ) (shared : IsShared first pages a n from
         | inl l ↦ out-below page l low
         | inr l ↦ out-above page (omega arith) high
       ]))
-
--- ---- counts of a loop over pages
-
-pub counts-none : (test : ℕ → Bool) (a n count : ℕ) → n ≡ 0
-    → count ≡ count + count_pages test a n
-counts-none test a n count none = omega (arith, count-le test a n)
-
-pub sent-counted : (test : ℕ → Bool) (from page old count more : ℕ) → from ≤ page
-    → count ≡ old + count_pages test from (page - from)
-    → more ≡ count + pages_if (test page) 1
-    → more ≡ old + count_pages test from (page + 1 - from)
-sent-counted test from page old count more le is next =
-    let size : page + 1 - from ≡ page - from + 1 = omega arith in
-    let one = count-more test from (page - from) page (omega arith) in
-    rw size (omega (arith, one))

@@ -32,7 +32,7 @@ run_pages-le test from (run ∷ runs) apart =
       apart.0,
     )
 
-count-all : (test : ℕ → Bool) (a n : ℕ) → ((p : ℕ) → a ≤ p → p < a + n → test p ≡ true)
+pub count-all : (test : ℕ → Bool) (a n : ℕ) → ((p : ℕ) → a ≤ p → p < a + n → test p ≡ true)
     → count_pages test a n ≡ n
 unfolding count_pages
 count-all test a zero h = refl

@@ -1,10 +1,11 @@
 -- Why a call is refused.
-use Rattle.std.specs.Prelude.{◌≡◌, ℕ, ◌+◌, ◌*◌, ◌%◌, ◌^◌, ◌==◌, ◌||◌, Bool, true, not, nat_lt}
-use Rattle.std.specs.Prelude.{nat_le}
+use Rattle.std.specs.Prelude.{◌≡◌, ℕ, ◌+◌, ◌*◌, ◌%◌, ◌^◌, ◌==◌, ◌||◌, Bool, true, false, not}
+use Rattle.std.specs.Prelude.{nat_le, nat_lt}
 use Rattle.std.specs.Prelude.{Option, Some, None, if◌then◌else◌}
 use Rattle.numa_mask.specs.NodeSet.{has, both}
 use Rattle.numa_machine.specs.Machine.{Hardware}
-use Rattle.numa_space.specs.History.{page_count}
+use Rattle.numa_ranges.specs.Maps.{any_page}
+use Rattle.numa_space.specs.History.{page_of, page_count}
 use Rattle.numa_placed.specs.Spots.{too_many}
 use Rattle.numa_placed.specs.declared.spot.Spot.{Spot}
 use Rattle.numa_placed.specs.declared.spot.Spot.TheVariants.{Nowhere, Stated, Held}
@@ -15,6 +16,8 @@ use Rattle.numa_requests.specs.declared.page_refusal.PlacedRefusal.TheVariants.{
 use Rattle.numa_requests.specs.declared.page_refusal.PlacedRefusal.TheVariants.{Occupied}
 use Rattle.numa_requests.specs.declared.page_refusal.PlacedRefusal.TheVariants.{NodesNotAllowed}
 use Rattle.numa_requests.specs.declared.page_refusal.PlacedRefusal.TheVariants.{Astray}
+use Rattle.numa_requests.specs.declared.page_refusal.PlacedRefusal.TheVariants.{BadCpu, Unmapped}
+use Rattle.numa_requests.specs.declared.page_refusal.PlacedRefusal.TheVariants.{NoRoom}
 use Rattle.numa_requests.specs.declared.page_refusal.PlacedRefusal.TheVariants.{TooManyRuns}
 use Rattle.numa_requests.specs.declared.page_refusal.PlacedRefusal.TheVariants.{NoMemory}
 use Rattle.numa_requests.specs.declared.page_refusal.MoveRefusal.{MoveRefusal}
@@ -42,6 +45,16 @@ span_cause start bytes =
 abbrev pub state_cause : Hardware → ℕ → ℕ → ℕ → Option PlacedRefusal
 state_cause machine start bytes node = first_of (span_cause start bytes)
     (if lacks_node machine node then Some NoSuchNode else None)
+
+-- why a task on a CPU of node `cpu` may not touch so many pages, where these are mapped
+abbrev pub touch_cause : Hardware → (ℕ → Bool) → ℕ → ℕ → ℕ → Option PlacedRefusal
+touch_cause machine mapped first pages cpu = if nat_le machine.nodes cpu then Some BadCpu
+    else if any_page (λ page. not (mapped page)) first pages then Some Unmapped else None
+
+-- why it may not touch the pages of a span
+abbrev pub populate_cause : Hardware → (ℕ → Bool) → ℕ → ℕ → ℕ → Option PlacedRefusal
+populate_cause machine mapped start bytes cpu = first_of (span_cause start bytes)
+    (touch_cause machine mapped (page_of start) (page_count bytes) cpu)
 
 -- why pages may not migrate: none of the nodes is allowed
 abbrev pub migrate_cause : ℕ → ℕ → Option PlacedRefusal
@@ -71,8 +84,35 @@ IsLack after NoSuchNode = ⊥
 IsLack after Occupied = ⊥
 IsLack after NodesNotAllowed = ⊥
 IsLack after Astray = ⊥
+IsLack after BadCpu = ⊥
+IsLack after Unmapped = ⊥
+IsLack after NoRoom = ⊥
 IsLack after TooManyRuns = too_many after ≡ true
 IsLack after NoMemory = Unit {0}
+
+-- a node lacks room for pages that would come to it; or memory lacks
+abbrev pub IsFull : PlacedRefusal → Type 0
+IsFull Unaligned = ⊥
+IsFull OutOfSpace = ⊥
+IsFull NoSuchNode = ⊥
+IsFull Occupied = ⊥
+IsFull NodesNotAllowed = ⊥
+IsFull Astray = ⊥
+IsFull BadCpu = ⊥
+IsFull Unmapped = ⊥
+IsFull NoRoom = Unit {0}
+IsFull TooManyRuns = ⊥
+IsFull NoMemory = Unit {0}
+
+-- room lacks, where it does, or else runs or memory
+abbrev pub IsShort : Bool → (ℕ → Spot) → PlacedRefusal → Type 0
+IsShort true after refusal = IsFull refusal
+IsShort false after refusal = IsLack after refusal
+
+-- the first cause, where there is one, or else lack of room, runs or memory
+abbrev pub IsRefusalWithin : Option PlacedRefusal → Bool → (ℕ → Spot) → PlacedRefusal → Type 0
+IsRefusalWithin (Some cause) short after refusal = refusal ≡ cause
+IsRefusalWithin None short after refusal = IsShort short after refusal
 
 -- the first cause, where there is one, or else a lack
 abbrev pub IsRefusal : Option PlacedRefusal → (ℕ → Spot) → PlacedRefusal → Type 0

@@ -170,18 +170,36 @@ pub record IsShift (spots : ℕ → Spot) (old new : ℕ) (given : ℕ → ℕ) 
   pub room : AreRooms rooms (shift_of spots old new given).room
   pub tally : IsShiftTally spots old new (shift_of spots old new given).gone told
 
+-- ---- between two moments
+
+-- a room once another number of pages without a frame lies there than before
+abbrev pub room_between : ℕ → ℕ → ℕ → ℕ
+room_between room before after =
+    if room == endless then endless else min (room + before - after) endless
+
+-- the rooms once pages without a frame lie otherwise: one that came to a node took one, and one
+-- that left it gave it back
+abbrev pub rooms_between : (ℕ → ℕ) → (ℕ → Spot) → (ℕ → Spot) → ℕ → ℕ
+rooms_between room before after node =
+    room_between (room node) (stated_on before node) (stated_on after node)
+
+-- more pages would come to a node than find room
+abbrev pub is_short : (ℕ → ℕ) → (ℕ → Spot) → (ℕ → Spot) → ℕ → Bool
+is_short room before after node =
+    nat_lt (room node + stated_on before node) (stated_on after node)
+
 -- ---- one page
 
--- why a page that lies here may not move to a node, once nothing else stands against it
+-- why a page that lies here may not go to a node, once nothing else stands against it
 abbrev pub room_cause : (ℕ → ℕ) → ℕ → Spot → Option MoveRefusal
-room_cause room node Nowhere = None
+room_cause room node Nowhere = if room node == 0 then Some NoRoom else None
 room_cause room node (Stated from) =
     if not (from == node) && room node == 0 then Some NoRoom else None
 room_cause room node (Held from) = None
 
 -- a page that goes there finds room
 abbrev pub HasRoom : (ℕ → ℕ) → ℕ → Spot → Type 0
-HasRoom room node Nowhere = Unit {0}
+HasRoom room node Nowhere = 0 < room node
 HasRoom room node (Stated from) = (from == node) ≡ false → 0 < room node
 HasRoom room node (Held from) = Unit {0}
 
@@ -189,9 +207,10 @@ abbrev pub first_of : Option MoveRefusal → Option MoveRefusal → Option MoveR
 first_of None other = other
 first_of (Some cause) other = Some cause
 
--- the rooms once it moved there
+-- the rooms once it went there
 abbrev pub room_moved : (ℕ → ℕ) → ℕ → Spot → ℕ → ℕ
-room_moved room node Nowhere other = room other
+room_moved room node Nowhere other =
+    if other == node then less_room (room other) 1 else room other
 room_moved room node (Stated from) other =
     if from == node then room other else room_after room from node 1 other
 room_moved room node (Held from) other = room other

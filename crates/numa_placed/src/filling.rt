@@ -25,7 +25,7 @@ use numa_ranges::{RangeMap, Run};
 use numa_requests::PlacedRefusal;
 
 /// The number of pages that are stated to lie on each node.
-fn stated_counts(map: &RangeMap<Spot>) -> [u64; 256]
+pub(crate) fn stated_counts(map: &RangeMap<Spot>) -> [u64; 256]
     ensures pages { ArePages result (stated_on (spot_at map.now.runs)) }
     ensures few { (node : ℕ) → node < 256 → slice_index result node ≤ 2 ^ 35 }
 {

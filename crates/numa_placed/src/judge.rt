@@ -1,10 +1,10 @@
 //! Why a call is refused, judged.
-ghost use Rattle.std.specs.Prelude.{◌≡◌, ◌<◌, ◌^◌, ℕ, true, false, is_some, Some, None, OnOk};
-ghost use Rattle.std.specs.Prelude.{MatchResult, IsErrAnd, Ok};
+ghost use Rattle.std.specs.Prelude.{◌≡◌, ◌+◌, ◌<◌, ◌≤◌, ◌^◌, ℕ, true, false, is_some, Some, None};
+ghost use Rattle.std.specs.Prelude.{MatchResult, IsErrAnd, Ok, OnOk};
 ghost use Rattle.numa_ranges.specs.Maps.{IsSpan};
 ghost use Rattle.numa_ranges.specs.Runs.{page_at};
 ghost use Rattle.numa_placed.specs.Refusals.{IsLack, IsMoveLack, lacks_node};
-ghost use Rattle.numa_placed.specs.Refusals.{move_cause, spot_cause};
+ghost use Rattle.numa_placed.specs.Refusals.{move_cause, spot_cause, touch_cause};
 ghost use Rattle.numa_placed.specs.Shifts.{AreRooms, HasRoom, room_cause, room_of};
 ghost use Rattle.numa_placed.specs.declared.spot.Spot.{Spot};
 
@@ -39,6 +39,29 @@ fn is_mapped(space: &Space, page: u64) -> bool
     // Tells the proof that all mapped pages are below 2^35.
     let _ = space.range_iter();
     has_list(space, page)
+}
+
+/// Refuses to touch pages, unless the machine has the node of the task's CPU and all are mapped.
+pub(crate) fn judge_touch(
+    space: &Space,
+    first: u64,
+    pages: u64,
+    cpu: u32,
+) -> Result<(), PlacedRefusal>
+    requires { first + pages ≤ 2 ^ 35 }
+    ensures { MatchResult result
+        (λ done. touch_cause space.now.machine (λ p. is_some (page_at space.now.ranges p)) first
+        pages cpu ≡ None)
+        (λ refusal. touch_cause space.now.machine (λ p. is_some (page_at space.now.ranges p)) first
+        pages cpu ≡ Some refusal) }
+{
+    if cpu >= space.machine().nodes() {
+        return Err(PlacedRefusal::BadCpu);
+    }
+    if space.has_hole(first, pages) {
+        return Err(PlacedRefusal::Unmapped);
+    }
+    Ok(())
 }
 
 /// Refuses to move a page that lies here to a node, unless it may go there.
@@ -92,13 +115,21 @@ pub(crate) fn judge_room(rooms: &Rooms, node: u8, spot: Spot) -> Result<(), Move
         (λ refusal. room_cause room node spot ≡ Some refusal) }
     ensures room { OnOk result (HasRoom (room_of rooms.now) node spot) }
 {
-    let Spot::Stated(from) = spot else {
-        return Ok(());
-    };
-    if from == node || rooms.pages[node as usize] > 0 {
-        return Ok(());
+    match spot {
+        Spot::Nowhere => {
+            if rooms.pages[node as usize] > 0 {
+                return Ok(());
+            }
+            Err(MoveRefusal::NoRoom)
+        }
+        Spot::Stated(from) => {
+            if from == node || rooms.pages[node as usize] > 0 {
+                return Ok(());
+            }
+            Err(MoveRefusal::NoRoom)
+        }
+        Spot::Held(_) => Ok(()),
     }
-    Err(MoveRefusal::NoRoom)
 }
 
 /// What a move answers after an edit.

@@ -15,6 +15,9 @@
 //! refuses a policy for a range with such pages, or moves each to the first node of its node list,
 //! if it is asked to. (`judge_strict_by`, `bind_astray`)
 //!
+//! **First touches.** A task that touches the pages of a span puts each that is nowhere on the first
+//! node of its node list that has room, the lowest page first. (`populate`)
+//!
 //! **Frames.** A page in a frame stays there in every move, and is counted as left; stating or
 //! forgetting the pages of a span skips it.
 //!
@@ -25,7 +28,9 @@
 //! (`follow_within`, `migrate_within`, `move_page_within`) go node by node, as Linux does: each
 //! time the lowest node whose target isn't still to go, else the highest. Within a node the lowest
 //! pages go first, and a page that leaves gives its room back. A node that fills ends the move: the
-//! pages that found no room stay, and so do those of all nodes that were still to go.
+//! pages that found no room stay, and so do those of all nodes that were still to go. A page that is
+//! stated or touched takes a room too, and one of which nothing is stated any more gives it back
+//! (`state_within`, `populate`, [`Rooms::between`]).
 #![tactic(auto)]
 
 pub mod areas;
@@ -36,6 +41,7 @@ mod change;
 mod course;
 mod edit;
 mod filling;
+mod fitting;
 pub mod judge;
 pub mod laws;
 pub mod leaving;
@@ -45,8 +51,10 @@ pub mod rooms;
 mod shift;
 mod spans;
 pub mod spot;
+mod stretch;
 mod tally;
 mod targets;
+mod wants;
 
 pub use areas::judged_pages;
 pub use bind::node_with_room;

@@ -29,6 +29,7 @@ use crate::shift::shift;
 use crate::spans::{span_of, state_others, state_span, stated_span};
 use crate::spot::Spot;
 use crate::tally::counts_within;
+use crate::wants::Wants;
 use numa_machine::NoMemory;
 use numa_maps::Resident;
 use numa_mask::NodeMask;
@@ -39,6 +40,7 @@ use std::alloc::Global;
 use std::marker::Model;
 
 mod strict;
+mod within;
 
 /// Where each page lies.
 #[derive(Drop)]
@@ -275,7 +277,15 @@ impl Placed {
     {
         let (first, pages) = span_of(start, length)?;
         let touch = FaultingTask { task, cpu };
-        bind_span(&mut self.map, space, first, pages, list, touch, rooms)
+        bind_span(
+            &mut self.map,
+            space,
+            first,
+            pages,
+            &Wants::Astray(list),
+            touch,
+            rooms,
+        )
     }
 
     /// Moves a page to a node, as move_pages(2) does. A page that lies there stays.

@@ -1,6 +1,6 @@
 //! Stating where the mapped pages of a span lie.
 ghost use Rattle.std.specs.Prelude.{◌≡◌, ◌+◌, ◌<◌, ◌≤◌, ◌^◌, ◌&&◌, ℕ, true, is_some, None, Some};
-ghost use Rattle.std.specs.Prelude.{IfOk, OnOk, MatchResult, if◌then◌else◌};
+ghost use Rattle.std.specs.Prelude.{IfOk, OnErr, OnOk, MatchResult, if◌then◌else◌};
 ghost use Rattle.numa_ranges.specs.Maps.{IsSpan};
 ghost use Rattle.numa_ranges.specs.Runs.{end_of, in_pages, page_at};
 ghost use Rattle.numa_space.specs.History.{page_of, page_count};
@@ -9,11 +9,15 @@ ghost use Rattle.numa_placed.specs.Binds.{span_below};
 ghost use Rattle.numa_placed.specs.Refusals.{span_cause, state_cause};
 ghost use Rattle.numa_placed.specs.Spots.{changed_spots, forgotten_spot, passed_over, spot_at};
 ghost use Rattle.numa_placed.specs.Spots.{stated_beside, stated_spot, stated_spots};
+ghost use Rattle.numa_placed.specs.Shifts.{AreRooms};
+ghost use Rattle.numa_placed.specs.Standing.{IsEditWithin};
 ghost use Rattle.numa_placed.specs.Wholes.{AreWhole, IsEdit, IsKept};
 
 use crate::change::{Change, SpanChange};
 use crate::edit::{change_span, edit, let_go, put};
+use crate::fitting::put_within;
 use crate::judge::lacks_node;
+use crate::rooms::Rooms;
 use crate::spot::Spot;
 use numa_machine::{NoMemory, Rules};
 use numa_maps::Resident;
@@ -115,7 +119,7 @@ pub(crate) fn stated_span(
 
 /// The number of ranges that begin at a page or before it, by a binary search over the 65,536 that
 /// there can be. Only speed depends on it.
-fn ranges_up_to(space: &Space, first: u64) -> usize {
+pub(crate) fn ranges_up_to(space: &Space, first: u64) -> usize {
     let mut low = 0usize;
     let mut high = space.ranges();
     for _ in 0..17 {
@@ -263,6 +267,32 @@ fn pass_over(
     Ok(())
 }
 
+/// A copy in which it is stated where the mapped pages of a span lie, but of those that keep a
+/// frame.
+fn others_copy(
+    map: &RangeMap<Spot>,
+    space: &Space,
+    said: StatedSpan,
+    resident: &Resident,
+) -> Result<RangeMap<Spot>, NoMemory>
+    requires span { IsSpan said.first said.pages }
+    requires whole { AreWhole map.now.runs }
+    ensures whole { IfOk result (λ next. AreWhole next.runs) }
+    ensures spots { IfOk result (λ next. (page : ℕ) → spot_at next.runs page
+        ≡ stated_beside (λ p. is_some (page_at space.now.ranges p)) resident.now said.first
+        said.pages said.node (spot_at map.now.runs) page) }
+    ensures limit { IfOk result (λ next. next.max_ranges ≡ map.now.max_ranges) }
+{
+    let Ok(mut next) = stated_copy(map, space, said) else {
+        return Err(NoMemory);
+    };
+    let Ok(()) = pass_over(&mut next, said.first, said.pages, resident) else {
+        let_go(next);
+        return Err(NoMemory);
+    };
+    Ok(next)
+}
+
 /// States where the mapped pages of a span lie, but of those that keep a frame, on a copy.
 pub(crate) fn state_others(
     map: &mut RangeMap<Spot>,
@@ -276,14 +306,34 @@ pub(crate) fn state_others(
     ensures edit { IsEdit (stated_beside (λ p. is_some (page_at space.now.ranges p)) resident.now
         said.first said.pages said.node (spot_at map.old.runs)) map.old result map.new }
 {
-    let Ok(mut next) = stated_copy(map, space, said) else {
-        return Err(PlacedRefusal::NoMemory);
-    };
-    let Ok(()) = pass_over(&mut next, said.first, said.pages, resident) else {
-        let_go(next);
+    let Ok(next) = others_copy(map, space, said, resident) else {
         return Err(PlacedRefusal::NoMemory);
     };
     put(map, next)
+}
+
+/// States it, as far as the node has room for the pages that come to it.
+pub(crate) fn state_others_within(
+    map: &mut RangeMap<Spot>,
+    space: &Space,
+    said: StatedSpan,
+    resident: &Resident,
+    rooms: &mut Rooms,
+) -> Result<(), PlacedRefusal>
+    requires span { IsSpan said.first said.pages }
+    requires kept { IsKept map.old }
+    ensures kept { IsKept map.new }
+    ensures edit { (room : ℕ → ℕ) → AreRooms rooms.old room → IsEditWithin (spot_at map.old.runs)
+        (stated_beside (λ p. is_some (page_at space.now.ranges p)) resident.now said.first
+        said.pages said.node (spot_at map.old.runs)) said.node room result (spot_at map.new.runs)
+        rooms.new }
+    ensures unchanged { OnErr result (map.new ≡ map.old) }
+    ensures kept_rooms { OnErr result (rooms.new ≡ rooms.old) }
+{
+    let Ok(next) = others_copy(map, space, said, resident) else {
+        return Err(PlacedRefusal::NoMemory);
+    };
+    put_within(map, next, said.node, rooms)
 }
 
 /// States where the mapped pages of a span lie. If one range has them all, that is one edit; else

@@ -36,7 +36,6 @@ pub type ListAnswer<'a> = Result<&'a [u8], PlaceRefusal>;
 /// The list of a page, for a task and a faulting node, is the row that the key of a rule picks by
 /// the node and the page's index. The rule is that of the run that has the page, or else the
 /// task's, or else the local one. A page without a run has no list.
-#[derive(Drop)]
 pub struct Plan {
     alloc: Global,
     version: u64,
@@ -47,6 +46,28 @@ pub struct Plan {
     tasks: TaskNumbers,
     local: Rule,
     numbers: Numbers,
+}
+
+// (By hand, so that it is proved here alone: a derived one is proved in each crate that drops.)
+impl Drop for Plan {
+    fn drop(self) {
+        let Plan {
+            alloc: _,
+            version: _,
+            nodes: _,
+            runs,
+            slots,
+            lowest_free: _,
+            tasks,
+            local,
+            numbers,
+        } = self;
+        drop(runs);
+        drop(slots);
+        drop(tasks);
+        drop(local);
+        drop(numbers);
+    }
 }
 
 impl Model for Plan {

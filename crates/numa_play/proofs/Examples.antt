@@ -2,7 +2,7 @@
 use Rattle.std.proofs.Common.{◌≡◌, refl, true, false, Some, None, Ok, Err}
 use Rattle.numa_machine.specs.declared.fallback.Fallback.TheVariants.{Nearest, Kernel}
 use Rattle.numa_play.specs.Named.{address_meant, and_task, has_cpus_by, is_unnamed, task_asked}
-use Rattle.numa_play.specs.declared.named.TasksNamed.TheVariants.{Nobody, One, Several}
+use Rattle.numa_play.specs.declared.named.TasksNamed.TheVariants.{Nobody, One}
 
 -- two lines name task 5, and a third one task 6
 one_task : task_asked None (and_task (and_task Nobody 5) 5) ≡ Ok 5

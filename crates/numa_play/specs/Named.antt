@@ -1,11 +1,11 @@
 -- What lines name, what of it is asked for, and which address is meant.
-use Rattle.std.specs.Prelude.{ℕ, ◌==◌, ◌/◌, ◌&&◌, ◌||◌, Bool, true, false, not, List, [], ◌∷◌}
+use Rattle.std.specs.Prelude.{ℕ, ◌==◌, ◌/◌, Bool, true, false, not}
 use Rattle.std.specs.Prelude.{Option, Some, None, Result, Ok, Err, if◌then◌else◌}
 use Rattle.numa_machine.specs.Machine.{Hardware}
 use Rattle.numa_machine.specs.declared.fallback.Fallback.{Fallback}
 use Rattle.numa_machine.specs.declared.fallback.Fallback.TheVariants.{Nearest, Kernel}
 use Rattle.numa_mask.specs.NodeSet.{has}
-use Rattle.numa_reports.specs.declared.asked.AddressAsked.{AddressAsked}
+use Rattle.numa_sheets.specs.declared.asked.AddressAsked.{AddressAsked}
 use Rattle.numa_script.specs.declared.line.Line.{Line}
 use Rattle.numa_script.specs.declared.line.Line.TheVariants as line
 use Rattle.numa_requests.specs.declared.command.Command.TheVariants.{SetTask, Inherit}

@@ -1,47 +1,27 @@
 //! Reporting what is wrong with the lines of scripts as they are played.
 ghost use Rattle.std.specs.Prelude.{◌≡◌};
-ghost use Rattle.numa_play.specs.Faults.{ended_by, has_faults};
+ghost use Rattle.numa_subjects.specs.Faults.{ended_by, has_faults};
 
 use crate::found_objects::{Message, Said, put_message, put_unjudged, say_message};
+use crate::judging::{judge, judge_by_other};
 use crate::named::{Named, TasksNamed};
-use numa_diagnose::{
-    Detail, Finding, HostHint, LineAt, hint_in, hint_of, judge, judge_by_other, say_unjudged,
-};
+use numa_diagnose::{Detail, Finding, HostHint, LineAt, hint_in, hint_of, say_unjudged};
 use numa_host_script::HostScript;
 use numa_lines::{RunFault, TakeLine, Watched};
 use numa_machine::Rules;
 use numa_mask::parts::first_place;
-use numa_reports::Format;
 use numa_requests::{CoreRefusal, HostRefusal, Refusal};
 use numa_rules::{Text, other_rules};
 use numa_run::Script;
 use numa_script::line::parse;
 use numa_script::{Line, PageLine, Reply, ScriptLine};
+use numa_sheets::Format;
+use numa_subjects::{Ended, Twin};
 use std::alloc::{AllocError, Global};
 use std::io::Write;
 
 /// The remark that by the other rules an answer would be another.
 const BY_OTHER: &str = "rules: those of the documents; by rules linux the answer is another\n";
-
-/// The lines of the scripts on which an answer is based.
-#[derive(Clone, Copy, Debug, PartialEq, Eq)]
-pub enum Ended {
-    /// All of them.
-    Clean,
-    /// The accepted ones: others were malformed, refused, or not judged.
-    Faulty,
-}
-
-/// Whether lines are also played by the rules other than those that apply.
-#[derive(Clone, Copy, PartialEq, Eq)]
-pub enum Twin {
-    /// They aren't.
-    None,
-    /// They are.
-    Always,
-    /// They are if the documents' rules apply only since no line chooses any.
-    UnlessChosen,
-}
 
 /// What is looked for in lines, beside errors and refusals, and how messages are written.
 #[derive(Clone, Copy)]
@@ -52,7 +32,10 @@ pub struct Look {
     pub other: Twin,
     /// The process of a host, if messages are wanted of its lines alone.
     pub process: Option<u32>,
-    /// Whether it is told why a line `at` is refused; else others tell it, or it doesn't matter.
+    /// Whether it is told why a line `at` of a script of one process is refused; else it doesn't
+    /// matter.
+    pub tells_own_at: bool,
+    /// The same of any other line `at`; else others tell it, or it doesn't matter.
     pub tells_at: bool,
     /// Text or JSON.
     pub format: Format,
@@ -63,13 +46,13 @@ pub const PLAIN: Look = Look {
     hints: false,
     other: Twin::None,
     process: None,
+    tells_own_at: true,
     tells_at: true,
     format: Format::Text,
 };
 
 /// A script that is played, and the messages about its lines: one for each line with an error or a
 /// refusal and, with hints, one for each line that a running kernel would treat differently.
-#[derive(Drop)]
 pub struct Findings<W> {
     pub(crate) alloc: Global,
     script: HostScript,
@@ -88,6 +71,29 @@ pub struct Findings<W> {
     // ready.
     told: u64,
     unjudged: u64,
+}
+
+// (By hand, so that it is proved here alone: a derived one is proved in each crate that drops.)
+impl<W: Drop> Drop for Findings<W> {
+    fn drop(self) {
+        let Findings {
+            alloc: _,
+            script,
+            other,
+            look: _,
+            named: _,
+            is_binary: _,
+            has_fine: _,
+            output,
+            text,
+            told: _,
+            unjudged: _,
+        } = self;
+        drop(script);
+        drop(other);
+        drop(output);
+        drop(text);
+    }
 }
 
 /// A script by the rules other than these, if requested.
@@ -395,7 +401,13 @@ fn hint_of_next(script: &HostScript, said: &ScriptLine<'_>) -> Result<Option<Hos
 impl<W: Write> Findings<W> {
     /// Whether what was found in a line is for others to tell: not that it comes too early.
     fn is_told_elsewhere(&self, said: &ScriptLine<'_>, finding: &Finding) -> bool {
-        !self.look.tells_at && is_at(said) && !matches!(finding.detail, Detail::NoMachine)
+        let is_own = self.script().host().is_none() && said.process.is_none();
+        let tells = if is_own {
+            self.look.tells_own_at
+        } else {
+            self.look.tells_at
+        };
+        !tells && is_at(said) && !matches!(finding.detail, Detail::NoMachine)
     }
 
     /// Writes what was found in a line that doesn't lack memory, and what a kernel would do

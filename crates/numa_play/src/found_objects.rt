@@ -4,8 +4,8 @@ ghost use Rattle.std.specs.Prelude.{◌≤◌, length};
 use numa_diagnose::{
     BINARY, Finding, HostHint, LineAt, say_binary, say_finding, say_hint_line, say_line,
 };
-use numa_reports::Object;
 use numa_rules::say_otherwise;
+use numa_sheets::Object;
 use std::alloc::{AllocError, Global};
 
 /// What a message says of a line, or of the text that begins with it.

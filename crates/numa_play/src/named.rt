@@ -1,5 +1,5 @@
 //! What lines name: tasks, by giving them a policy, and nodes with CPUs.
-ghost use Rattle.std.specs.Prelude.{◌≡◌, MatchResult, None, Some};
+ghost use Rattle.std.specs.Prelude.{◌≡◌, None, Some};
 ghost use Rattle.numa_play.specs.Named.{and_task, is_unnamed, task_asked, task_in};
 
 use numa_mask::NodeMask;

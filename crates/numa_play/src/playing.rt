@@ -1,8 +1,8 @@
 //! Playing scripts to their end.
-use crate::findings::{Ended, Findings, Look, PLAIN, Twin};
-use crate::halt::Halt;
+use crate::findings::{Findings, Look, PLAIN};
 use numa_machine::Rules;
-use numa_reports::Format;
+use numa_sheets::Format;
+use numa_subjects::{Ended, Halt, Twin};
 use numa_traces::read_by;
 use std::alloc::Global;
 use std::io::{Read, Write};
@@ -68,6 +68,7 @@ pub fn check<R: Read + Drop, W: Write + Drop>(
         hints: true,
         other: Twin::None,
         process,
+        tells_own_at: true,
         tells_at: true,
         format,
     };

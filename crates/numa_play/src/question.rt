@@ -1,26 +1,12 @@
 //! The state that scripts lead to, and answers about it.
-ghost use Rattle.std.specs.Prelude.{◌≡◌, IfOk, IsOk, OnOk};
-ghost use Rattle.numa_play.specs.Faults.{ended_by, has_faults};
+ghost use Rattle.std.specs.Prelude.{◌≡◌, IfOk};
+ghost use Rattle.numa_subjects.specs.Faults.{ended_by, has_faults};
 
-use crate::findings::{Ended, Findings};
-use crate::halt::Halt;
-use numa_answers::page_of;
-use numa_host::{Host, Process};
+use crate::findings::Findings;
 use numa_host_script::HostScript;
 use numa_lines::RunFault;
-use numa_reports::{ByProcess, Format};
-use numa_space::Space;
-use std::alloc::Global;
+use numa_subjects::{Ended, Halt, Subject};
 use std::io::Write;
-
-/// What an answer is about.
-#[derive(Clone, Copy)]
-pub enum Subject<'a> {
-    /// The space of the script, or of the chosen process of a host.
-    One(&'a Space),
-    /// All processes of a host.
-    Each(&'a Host),
-}
 
 /// What an answer is about after a script, if this process is asked for.
 pub fn subject_of(script: &HostScript, process: Option<u32>) -> Result<Subject<'_>, Halt> {
@@ -41,11 +27,6 @@ pub fn subject_of(script: &HostScript, process: Option<u32>) -> Result<Subject<'
         Some(_) if process.is_some() => Err(Halt::NoHost),
         Some(core) => Ok(Subject::One(core.space())),
     }
-}
-
-/// The process of this number, with its group.
-pub fn member(host: &Host, process: u32) -> Option<&Process> {
-    host.processes().iter().find(|one| one.id == process)
 }
 
 /// Finishes the messages, and returns what an answer is about.
@@ -90,50 +71,7 @@ pub fn answer<T: Write + Drop, W: Write>(
     write(text, ended, output)
 }
 
-/// Whether an answer by the other rules is another one; no, if memory lacked for it.
-pub fn differ(own: Result<Vec<u8>, Halt>, other: Result<Vec<u8>, Halt>) -> bool {
-    let differ = match (&own, &other) {
-        (Ok(own), Ok(other)) => own.as_slice() != other.as_slice(),
-        (Ok(_), Err(Halt::Stopped(_))) => false,
-        (Ok(_), Err(_)) => true,
-        (Err(_), _) => false,
-    };
-    drop(own);
-    drop(other);
-    differ
-}
-
-/// The one space of the other script, if there is one.
-pub fn other_space(other: Option<&HostScript>, process: Option<u32>) -> Option<&Space> {
-    match subject_of(other?, process) {
-        Ok(Subject::One(space)) => Some(space),
-        _ => None,
-    }
-}
-
-/// Adds the answer about a process, if there is one.
-pub fn add_answer(
-    answers: &mut ByProcess,
-    process: &Process,
-    text: Result<Vec<u8>, Halt>,
-) -> Result<(), Halt>
-    ensures { OnOk result (IsOk text) }
-{
-    let text = match text {
-        Ok(text) => text,
-        Err(halt) => return Err(halt),
-    };
-    answers.add(process.id, process.group, text.as_slice());
-    drop(text);
-    Ok(())
-}
-
-/// An answer about all processes, which a page has as its data.
-pub fn shown_as(alloc: Global, format: Format, kind: &str, text: Vec<u8>) -> Result<Vec<u8>, Halt> {
-    let Format::Html(_) = format else {
-        return Ok(text);
-    };
-    let page = page_of(alloc, kind, text.as_slice());
-    drop(text);
-    Ok(page?)
+/// The same after the other script, if there is one and there is something.
+pub fn other_subject(other: Option<&HostScript>, process: Option<u32>) -> Option<Subject<'_>> {
+    subject_of(other?, process).ok()
 }

@@ -4,17 +4,17 @@ ghost use Rattle.numa_rules.specs.Reasons.{run_with};
 ghost use Rattle.numa_play.specs.Named.{address_meant, has_cpus};
 
 use crate::findings::Findings;
-use crate::halt::Halt;
-use crate::question::{Subject, subject_of};
+use crate::question::subject_of;
 use numa_host::Process;
 use numa_host_script::HostScript;
 use numa_lines::RunFault;
 use numa_machine::{Fallback, Machine};
 use numa_mask::NodeMask;
-use numa_reports::{AddressAsked, CpuAsked, Touch, TouchAsked};
 use numa_requests::PAGE_BYTES;
 use numa_rules::range_of;
+use numa_sheets::{AddressAsked, CpuAsked, Touch, TouchAsked};
 use numa_space::Space;
+use numa_subjects::{Halt, Subject};
 use std::alloc::{AllocError, Global};
 use std::io::Write;
 

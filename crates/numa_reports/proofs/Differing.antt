@@ -1,16 +1,13 @@
 -- The moves of spans, node by node and span by span.
 use Rattle.std.proofs.Common.{◌≡◌, ℕ, zero, suc, ◌+◌, ◌<◌, ◌≤◌, ◌++◌, ◌∙◌, ◌⊎◌, List, [], ◌∷◌, length}
-use Rattle.std.proofs.Common.{get_or, refl, sym, ap, arith, inl, inr, append_assoc, map, is_some}
+use Rattle.std.proofs.Common.{get_or, refl, sym, ap, arith, inl, inr, append_assoc, map}
 use Rattle.std.proofs.Common.{◌&&◌, true, subst}
-use Rattle.std.specs.Prelude.{slice_index_or}
 use Rattle.numa_machine.specs.Machine.{Hardware}
 use Rattle.numa_plan.specs.Meaning.{PlanData, RefusesSpan, is_number, planned_first}
 use Rattle.numa_plan.proofs.CountLemmas.{shift}
-use Rattle.numa_ranges.specs.Runs.{page_at}
 use Rattle.numa_space.specs.Pages.{is_mapped}
 use Rattle.numa_space.specs.Standing.{SpaceState, StandsFor}
 use Rattle.numa_requests.specs.declared.command.Command.{Command}
-use Rattle.numa_machine.specs.declared.refusal.PlaceRefusal.{PlaceRefusal}
 use Rattle.numa_compile.specs.Standing.{PlanStandsFor}
 use Rattle.numa_reports.specs.Common.{AreCommon, AreRising, has_page, span_end}
 use Rattle.numa_reports.specs.Differences.{EitherLacks, RefusesSome, move_by, moved_between}

@@ -4,6 +4,7 @@ pub mod Meeting
 pub mod Moving
 pub mod Periods
 pub mod Placed
+pub mod Reaching
 pub mod Refusing
 pub mod Repeating
 pub mod Taking

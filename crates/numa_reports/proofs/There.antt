@@ -1,11 +1,10 @@
 -- Pages that are there, and pages that a touch puts somewhere, counted by node.
-use Rattle.std.proofs.Common.{◌≡◌, ℕ, zero, suc, ◌+◌, ◌-◌, ◌<◌, ◌≤◌, ◌^◌, ◌&&◌, eqb, Bool, true, false}
+use Rattle.std.proofs.Common.{◌≡◌, ℕ, ◌+◌, ◌-◌, ◌<◌, ◌≤◌, ◌^◌, ◌&&◌, eqb, Bool, true, false}
 use Rattle.std.proofs.Common.{Option, Some, None, is_some, List, [], ◌∷◌, get_or, length, refl, sym, ap}
-use Rattle.std.proofs.Common.{subst, ◌∙◌, arith}
-use Rattle.std.specs.Prelude.{sum, sum_by, unwrap_or, if◌then◌else◌}
+use Rattle.std.proofs.Common.{◌∙◌, arith}
+use Rattle.std.specs.Prelude.{sum, unwrap_or, if◌then◌else◌}
 use Rattle.std.specs.Option.{option_map, option_or}
 use Rattle.std.proofs.lemmas.List.Sums.{sum_by-cons}
-use Rattle.numa_machine.specs.Machine.{Hardware}
 use Rattle.numa_mode.specs.Policy.{PolicyRecord}
 use Rattle.numa_ranges.specs.Counts.{count_pages}
 use Rattle.numa_ranges.specs.Runs.{AreApart, end_of, in_pages, page_at}
@@ -18,7 +17,7 @@ use Rattle.numa_requests.specs.declared.command.Command.{Command}
 use Rattle.numa_plan.specs.Meaning.{PlanData, is_number, planned_first}
 use Rattle.numa_compile.specs.Spans.{first_node}
 use Rattle.numa_compile.specs.Standing.{PlanStandsFor}
-use Rattle.numa_placed.specs.Spots.{node_of, spot_at}
+use Rattle.numa_placed.specs.Spots.{node_of}
 use Rattle.numa_placed.specs.declared.spot.Spot.{Spot}
 use Rattle.numa_placed.proofs.Shared.{count-same}
 use Rattle.numa_placed.proofs.Summed.{count-run}

@@ -6,7 +6,7 @@ use Rattle.numa_plan.specs.Meaning.{PlanData, planned_list}
 use Rattle.numa_space.specs.Lists.{node_list}
 use Rattle.numa_space.specs.Pages.{is_mapped}
 use Rattle.numa_requests.specs.declared.command.Command.{Command}
-use Rattle.numa_reports.specs.declared.filling.FreePages.{FreePages}
+use Rattle.numa_sheets.specs.declared.asked.FreePages.{FreePages}
 
 -- the first node of a list that has a free page
 abbrev pub first_free : List ℕ → List ℕ → Option ℕ

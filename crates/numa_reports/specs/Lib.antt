@@ -1,3 +1,4 @@
+pub mod Comings
 pub mod Common
 pub mod Differences
 pub mod Failing

@@ -13,6 +13,7 @@ use Rattle.numa_requests.specs.declared.command.Command.{Command}
 use Rattle.numa_plan.specs.Meaning.{PlanData, is_number, planned_count, planned_first}
 use Rattle.numa_compile.specs.Spans.{first_node}
 use Rattle.numa_compile.specs.Standing.{PlanStandsFor}
+use Rattle.numa_placed.specs.Binds.{Asked, is_absent}
 use Rattle.numa_placed.specs.Spots.{is_on, node_of, pages_if, pages_within, spot_at}
 use Rattle.numa_placed.specs.declared.spot.Spot.{Spot}
 use Rattle.numa_placed.specs.declared.spot.Spot.TheVariants.{Nowhere}
@@ -44,6 +45,10 @@ AreLying machine history spots task first pages cpu counts = (node : ℕ) → no
 -- the fallback list of a page that isn't there yet; one that is there takes no free page
 abbrev pub absent_nodes : (ℕ → Spot) → (ℕ → List ℕ) → ℕ → List ℕ
 absent_nodes spots nodes page = if is_some (node_of (spots page)) then [] else nodes page
+
+-- the pages that aren't there yet, touched for the first time with these fallback lists
+abbrev pub touched : (ℕ → List ℕ) → Asked
+touched nodes = record { first = 0; pages = 2 ^ 35; wants = is_absent []; nodes = nodes }
 
 -- how many pages of a span are there on a node
 abbrev pub there_on : Option (Bor (List (Run Spot))) → ℕ → ℕ → ℕ → ℕ

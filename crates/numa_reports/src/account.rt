@@ -3,7 +3,8 @@ ghost use Rattle.std.specs.Prelude.{◌≡◌, ◌^◌, replicate};
 ghost use Rattle.numa_reports.specs.Filled.{with_named};
 
 use crate::absent::both_of;
-use crate::filling::{FreePages, free_from};
+use crate::filling::free_from;
+use numa_sheets::FreePages;
 
 /// The most pages that the spaces of a host can map together.
 const ALL_PAGES: u64 = 1 << 47;

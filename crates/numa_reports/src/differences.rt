@@ -14,9 +14,10 @@ ghost use Rattle.numa_reports.specs.Moved.{moves_in, planned_moves};
 use crate::fault::ReportError;
 use crate::moves::{self, Change, ENTRIES, add_moves, empty_table};
 use crate::outlook::{PageSpan, common_spans, spans_of};
-use crate::touch::{Touch, has_node};
+use crate::touch::has_node;
 use numa_machine::PlaceRefusal;
 use numa_plan::Plan;
+use numa_sheets::Touch;
 use numa_space::Space;
 use std::alloc::{AllocError, Global};
 

@@ -24,20 +24,14 @@ use crate::outlook::PageSpan;
 use crate::period::period_in;
 use crate::prediction::{RangePrediction, TakeRange, policy_of};
 use crate::request::PredictionRequest;
-use crate::touch::{Touch, has_node};
+use crate::touch::has_node;
 use crate::turns::{all_left_behind, all_times_left};
 use numa_machine::PlaceRefusal;
 use numa_placed::Placed;
 use numa_plan::Plan;
 use numa_ranges::Run;
+use numa_sheets::{FreePages, Touch};
 use numa_space::{RangeRecord, Space};
-
-/// A number of free pages of a node.
-#[derive(Clone, Copy)]
-pub struct FreePages {
-    pub node: u8,
-    pub pages: u64,
-}
 
 /// The number of free pages of each node: for named nodes the given one (the last counts), for
 /// others `others`.

@@ -7,10 +7,11 @@
 
 mod absent;
 mod account;
-mod asked;
+mod coming;
 mod differences;
 mod fault;
 mod filling;
+pub mod laws;
 mod lying;
 mod moves;
 mod outlook;
@@ -21,19 +22,16 @@ pub mod sheet;
 mod tally;
 mod touch;
 mod turns;
-mod watch;
 
 pub use account::Account;
-pub use asked::{AddressAsked, CpuAsked, TouchAsked};
+pub use coming::{Coming, comings};
 pub use differences::{SpanMove, all_moves};
 pub use fault::ReportError;
-pub use filling::{FreePages, fill_all};
+pub use filling::fill_all;
 pub use outlook::{Outlook, PageSpan, common_spans, outlook_of};
 pub use prediction::{RangePrediction, TakeRange, predict_all, predict_range};
 pub use request::{DifferenceRequest, PredictionRequest};
 pub use sheet::{
-    ByProcess, DRAWN, Format, Items, LISTED, Largest, MoveSum, Object, Written, cycles_text,
-    difference_more, difference_text, lying_text, prediction_text, shared_text,
+    ByProcess, Largest, MoveSum, cycles_text, difference_more, difference_text, lying_text,
+    prediction_text, scale_of, shared_text,
 };
-pub use touch::Touch;
-pub use watch::Watch;

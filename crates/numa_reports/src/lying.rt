@@ -2,17 +2,17 @@
 //! first of their list.
 ghost use Rattle.std.specs.Prelude.{◌≡◌, ◌+◌, ◌<◌, ◌≤◌, ◌^◌, ℕ, IfErr, IfOk, OnOk, slice_index};
 ghost use Rattle.numa_plan.specs.Meaning.{RefusesSpan};
-ghost use Rattle.numa_plan.specs.Tally.{Adds, HasRoom};
+ghost use Rattle.numa_plan.specs.Tally.{Adds};
 ghost use Rattle.numa_placed.specs.Spots.{node_of};
 ghost use Rattle.numa_reports.specs.Lying.{alike_pages, planned_pages, spots_in};
 ghost use Rattle.numa_reports.specs.Predicted.{AreNone};
 
 use crate::request::PredictionRequest;
 use crate::tally::{count_range, move_counts};
-use crate::touch::Touch;
 use numa_machine::PlaceRefusal;
 use numa_placed::Placed;
 use numa_ranges::Run;
+use numa_sheets::Touch;
 use numa_space::RangeRecord;
 
 /// A number of pages in a row that lie on one node, or of which none is there yet.

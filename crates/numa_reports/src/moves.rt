@@ -9,10 +9,9 @@ ghost use Rattle.numa_reports.specs.Moved.{AddsMoves, HasRoomFor};
 ghost use Rattle.numa_reports.specs.Moved.{meant_moves, pairs, planned_moves};
 
 use crate::outlook::PageSpan;
-use crate::touch::Touch;
-use crate::watch::Watch;
 use numa_machine::PlaceRefusal;
 use numa_plan::Plan;
+use numa_sheets::{Touch, Watch};
 use std::alloc::{AllocError, Global};
 
 /// The number of pages that are looked at together.

@@ -22,10 +22,18 @@ pub struct PageSpan {
 
 /// The state at one time: the plan of the commands so far, and the pages of each range, in
 /// ascending order.
-#[derive(Drop)]
 pub struct Outlook {
     pub plan: Plan,
     pub spans: Vec<PageSpan>,
+}
+
+// (By hand, so that it is proved here alone: a derived one is proved in each crate that drops.)
+impl Drop for Outlook {
+    fn drop(self) {
+        let Outlook { plan, spans } = self;
+        drop(plan);
+        drop(spans);
+    }
 }
 
 /// The pages of each range of a space, in ascending order.

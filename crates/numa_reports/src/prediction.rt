@@ -3,7 +3,6 @@ ghost use Rattle.std.specs.Prelude.{◌≡◌, ◌+◌, ◌≤◌, ◌<◌, ◌^
 ghost use Rattle.std.specs.Prelude.{IfOk, IfErr, OnOk, OnErr, option_and_then};
 ghost use Rattle.numa_compile.specs.Spans.{SpanIsRefused};
 ghost use Rattle.numa_compile.specs.Standing.{PlanStandsFor};
-ghost use Rattle.numa_mode.specs.Policy.{PolicyRecord};
 ghost use Rattle.numa_plan.specs.Meaning.{RefusesSpan};
 ghost use Rattle.numa_plan.specs.Tally.{Adds, HasRoom};
 ghost use Rattle.numa_ranges.specs.Runs.{page_at};
@@ -23,11 +22,12 @@ use crate::fault::ReportError;
 use crate::lying::count_there;
 use crate::request::PredictionRequest;
 use crate::tally::move_counts;
-use crate::touch::{Touch, has_node};
+use crate::touch::has_node;
 use numa_machine::PlaceRefusal;
 use numa_mode::Record;
 use numa_plan::Plan;
 use numa_ranges::Run;
+use numa_sheets::Touch;
 use numa_space::{RangeRecord, Space};
 use std::alloc::AllocError;
 

@@ -1,12 +1,10 @@
 //! Requests for predictions, and for differences.
 ghost use Rattle.std.specs.Prelude.{◌≡◌};
 
-use crate::filling::FreePages;
 use crate::outlook::Outlook;
-use crate::sheet::Format;
-use crate::touch::Touch;
 use numa_placed::Placed;
 use numa_plan::Plan;
+use numa_sheets::{Format, FreePages, Touch};
 use numa_space::Space;
 
 /// A request: where the pages of a space go by a plan of it, if they are touched so and named nodes

@@ -4,11 +4,11 @@ ghost use Rattle.numa_plan.specs.Meaning.{CountsFirsts, RefusesSpan};
 ghost use Rattle.numa_plan.specs.Tally.{Adds, HasRoom};
 ghost use Rattle.numa_reports.specs.Predicted.{AreNone};
 
-use crate::touch::Touch;
 use numa_lanes::tally;
 use numa_machine::PlaceRefusal;
 use numa_plan::Plan;
 use numa_ranges::Run;
+use numa_sheets::Touch;
 use numa_space::RangeRecord;
 
 /// The most pages that are looked at one by one; more are counted together.

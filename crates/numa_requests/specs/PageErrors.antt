@@ -12,6 +12,9 @@ page_errno_of cause.NoSuchNode = 22
 page_errno_of cause.Occupied = 17
 page_errno_of cause.NodesNotAllowed = 22
 page_errno_of cause.Astray = 5
+page_errno_of cause.BadCpu = 22
+page_errno_of cause.Unmapped = 12
+page_errno_of cause.NoRoom = 12
 page_errno_of cause.TooManyRuns = 12
 page_errno_of cause.NoMemory = 12
 

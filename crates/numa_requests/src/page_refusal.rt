@@ -17,6 +17,12 @@ pub enum PlacedRefusal {
     NodesNotAllowed,
     /// A page lies on a node that isn't in the list.
     Astray,
+    /// The machine has no node by this number, on a CPU of which the task should run.
+    BadCpu,
+    /// A page of the span isn't mapped.
+    Unmapped,
+    /// The node has no room for the pages that would come to it.
+    NoRoom,
     /// There would be more than 1,048,576 runs of placed pages.
     TooManyRuns,
     /// Out of memory for the runs that the call makes.
@@ -35,6 +41,9 @@ impl PlacedRefusal {
             PlacedRefusal::Occupied => 17,
             PlacedRefusal::NodesNotAllowed => 22,
             PlacedRefusal::Astray => 5,
+            PlacedRefusal::BadCpu => 22,
+            PlacedRefusal::Unmapped => 12,
+            PlacedRefusal::NoRoom => 12,
             PlacedRefusal::TooManyRuns => 12,
             PlacedRefusal::NoMemory => 12,
         }

@@ -1,6 +1,6 @@
 -- Where nothing is told, both rules answer a command alike. For each command what is told and both
 -- chains of causes are the same tests, so that each case of them decides it.
-use Rattle.std.proofs.Common.{◌≡◌, ℕ, ◌+◌, ◌-◌, ◌*◌, ◌/◌, ◌%◌, ◌<◌, ◌≤◌, ◌^◌, Bool, true, false}
+use Rattle.std.proofs.Common.{◌≡◌, ℕ, ◌+◌, ◌-◌, ◌*◌, ◌%◌, ◌<◌, ◌≤◌, ◌^◌, Bool, true, false}
 use Rattle.std.proofs.Common.{◌&&◌}
 use Rattle.std.proofs.Common.{◌||◌, not}
 use Rattle.std.proofs.Common.{Option, Some, None, is_some, refl, sym, ap, ◌∙◌, arith, inl, inr}
@@ -11,14 +11,14 @@ use Rattle.std.proofs.lemmas.Bool.{cases_Bool, eq-eqb, lt-ltb, ltb-true}
 use Rattle.numa_mask.specs.NodeSet.{both, members}
 use Rattle.numa_machine.specs.Rules.{is_linux}
 use Rattle.numa_machine.specs.declared.rules.Rules.TheVariants.{Document, Linux}
-use Rattle.numa_mode.specs.Policy.{Specification, is_default, is_local, effect_when_set}
+use Rattle.numa_mode.specs.Policy.{is_default, is_local, effect_when_set}
 use Rattle.numa_ranges.specs.Maps.{any_page}
 use Rattle.numa_ranges.specs.Runs.{page_at}
-use Rattle.numa_ranges.proofs.Pages.{any_page-true, any_page-false}
+use Rattle.numa_ranges.proofs.Pages.{any_page-true}
 use Rattle.numa_space.specs.History.{page_count, page_of}
-use Rattle.numa_space.specs.Refusals.{PageMap, Scene, cause_in, first_of, when, bad_span}
+use Rattle.numa_space.specs.Refusals.{PageMap, cause_in, first_of, when}
 use Rattle.numa_space.specs.Refusals.{bad_map_span, bad_policy_span, bad_unmap_span, ends_above}
-use Rattle.numa_space.specs.Refusals.{lacks_policy, lacks_mems, has_no_node, has_policy}
+use Rattle.numa_space.specs.Refusals.{lacks_policy, lacks_mems, has_policy}
 use Rattle.numa_space.specs.Standing.{SpaceState}
 use Rattle.numa_requests.specs.declared.command.Command.{Command}
 use Rattle.numa_requests.specs.declared.command.Command.TheVariants as command

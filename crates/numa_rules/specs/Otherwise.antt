@@ -2,7 +2,7 @@
 -- by the documents (docs/KERNEL.md, "Where kernels answer otherwise"). Where it does nothing
 -- otherwise, both refuse the command for one cause or accept it, and leave every policy with the
 -- same nodes.
-use Rattle.std.specs.Prelude.{ℕ, ◌+◌, ◌-◌, ◌^◌, ◌==◌, ◌&&◌, ◌||◌, not, nat_lt, nat_le, Bool, Option}
+use Rattle.std.specs.Prelude.{ℕ, ◌-◌, ◌^◌, ◌==◌, ◌&&◌, ◌||◌, not, nat_le, Bool, Option}
 use Rattle.std.specs.Prelude.{Some, None, is_some, List, [], ◌∷◌, if◌then◌else◌}
 use Rattle.std.specs.List.{list_any}
 use Rattle.std.specs.Option.{option_map}

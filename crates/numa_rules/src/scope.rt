@@ -1,7 +1,6 @@
 //! The scope whose policy applies.
 ghost use Rattle.std.specs.Prelude.{◌≡◌};
 ghost use Rattle.numa_mode.specs.Policy.{is_live};
-ghost use Rattle.numa_space.specs.Policies.{where_live};
 ghost use Rattle.numa_rules.specs.Reasons.{has_live, scope_of};
 
 use numa_mode::Record;

@@ -199,6 +199,9 @@ starved-why cause.NoSuchNode is = cc
 starved-why cause.Occupied is = cc
 starved-why cause.NodesNotAllowed is = cc
 starved-why cause.Astray is = cc
+starved-why cause.BadCpu is = cc
+starved-why cause.Unmapped is = cc
+starved-why cause.NoRoom is = cc
 starved-why cause.TooManyRuns is = cc
 
 enough : (spots : ℕ → Spot) → too_many spots ≡ false → lack_of false spots ≡ None

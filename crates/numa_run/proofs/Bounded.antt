@@ -14,7 +14,7 @@ use Rattle.numa_requests.specs.declared.command.Command.TheVariants.{SetMems}
 use Rattle.numa_requests.specs.declared.page_refusal.PlacedRefusal.{PlacedRefusal}
 use Rattle.numa_requests.specs.declared.page_refusal.PlacedRefusal.TheVariants as cause
 use Rattle.numa_requests.specs.declared.refusal.Refusal.{Refusal}
-use Rattle.numa_page_state.specs.Lying.{Lying, ground_of}
+use Rattle.numa_page_state.specs.Lying.{Lying, ground_of, with_spots}
 use Rattle.numa_page_state.specs.Outcomes.{followed, forgotten, has_stated, lack_of}
 use Rattle.numa_page_state.specs.Sending.{asked_of, command_of, rebinding_in, sent_spots}
 use Rattle.numa_page_state.specs.Strict.{has_astray, is_late, strict_binding_in}
@@ -26,6 +26,7 @@ use Rattle.numa_script.specs.declared.page_line.MoveWords.{MoveWords}
 use Rattle.numa_script.specs.declared.page_line.PageLine.{PageLine}
 use Rattle.numa_script.specs.declared.page_line.PageLine.TheVariants as page
 use Rattle.numa_script.specs.declared.policy.WordError.{WordError}
+use Rattle.numa_script.specs.declared.reply.Reply.{Reply}
 use Rattle.numa_script.specs.declared.reply.Reply.TheVariants as reply
 use Rattle.numa_script.specs.declared.work.Work.{Work}
 use Rattle.numa_script.specs.declared.work.Work.TheVariants as work
@@ -34,8 +35,8 @@ use Rattle.numa_run.specs.Obeying.{accepted_outcome, astray_outcome, bound_outco
 use Rattle.numa_run.specs.Obeying.{command_outcome, command_reply, is_accepted, judged_by, lying_so}
 use Rattle.numa_run.specs.Obeying.{moved_by, obeyed, sent_outcome, sent_unless, toucher_of}
 use Rattle.numa_run.specs.Obeying.{unless_pages, unmap_outcome, with_lying}
-use Rattle.numa_run.specs.PageLines.{change_of, changed, lack_reply, page_outcome, pages_outcome}
-use Rattle.numa_run.specs.PageLines.{with_change, work_served, worked}
+use Rattle.numa_run.specs.PageLines.{answered_by, change_of, changed, lack_reply, page_outcome}
+use Rattle.numa_run.specs.PageLines.{pages_outcome, with_change, work_served, worked}
 use Rattle.numa_run.specs.Replies.{Served}
 use Rattle.numa_run.specs.Replies.{with_reply}
 use Rattle.numa_run.specs.States.{process_on}
@@ -64,12 +65,12 @@ module _ (refused : Bool) (machine : Hardware) (state : State) where
   unmap-keeps start bytes =
       let spots = forgotten start bytes state.lying.spots in
       let done = lying_so refused machine state (Unmap start bytes)
-      (record state.lying { spots = spots }) in
+      (with_spots spots state.lying) in
       either-keeps (has_stated state.lying.spots start bytes) state
       (unless_pages (lack_of refused spots) state done)
       (accepted_outcome refused machine state (Unmap start bytes))
       (unless-keeps (lack_of refused spots) state done
-      (lying-keeps (Unmap start bytes) (record state.lying { spots = spots }))) refl
+      (lying-keeps (Unmap start bytes) (with_spots spots state.lying))) refl
 
   obeyed-keeps : (said : Command) → Keeps state (obeyed refused machine state said)
   obeyed-keeps (SetMems mask) = lying-keeps (SetMems mask) (followed refused
@@ -96,14 +97,23 @@ module _ (refused : Bool) (machine : Hardware) (state : State) where
       (with_reply reply.Placed state) (worked refused machine state (work.Touch w request)) refl
       refl
 
+  answered-keeps : (told : Option Reply) (lying : Lying)
+      → Keeps state (answered_by told (record state { lying = lying }))
+  answered-keeps (Some answer) lying = refl
+  answered-keeps None lying = refl
+
   changed-keeps : (said : PageLine) → Keeps state (changed refused machine state said)
-  changed-keeps said = either-keeps (not state.lying.begun && refused) state
-      (with_reply (lack_reply said) state)
-      (with_change state (change_of refused (ground_of (process_on machine state)) said
-      (record state.lying { begun = true }))) refl refl
+  changed-keeps said =
+      let done = change_of refused (ground_of (process_on machine state)) said
+      (record state.lying { begun = true }) in
+      either-keeps (not state.lying.begun && refused) state (with_reply (lack_reply said) state)
+      (with_change state done) refl (answered-keeps done.0 done.1)
 
   page-keeps : (said : PageLine) → Keeps state (page_outcome refused machine state said)
   page-keeps page.Moved = refl
+  page-keeps page.Rooms = refl
+  page-keeps (page.Populate start bytes task cpu) =
+      changed-keeps (page.Populate start bytes task cpu)
   page-keeps (page.At start bytes node) = changed-keeps (page.At start bytes node)
   page-keeps (page.Room node pages) = changed-keeps (page.Room node pages)
   page-keeps (page.MemoryMigrate follows) = changed-keeps (page.MemoryMigrate follows)

@@ -155,7 +155,7 @@ two_nodes = record {
 }
 
 -- the commands so far, none of them published
-world : World
+unfoldable pub world : World
 world = record {
   history = Mbind 0x10000 0x1000 (record { mode = Bind; flag = Plain; mask = 2 })
       ∷ Map 0x10000 0x2000 0 ∷ [];
@@ -165,7 +165,7 @@ world = record {
       opening.owner;
 }
 
-bound : State
+unfoldable pub bound : State
 bound = record {
   bounds = usual_bounds;
   rules = Document;

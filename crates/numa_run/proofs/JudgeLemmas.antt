@@ -10,6 +10,7 @@ use Rattle.numa_machine.specs.declared.refusal.PlaceRefusal.TheVariants as place
 use Rattle.numa_core.specs.Standing.{setup_of}
 use Rattle.numa_script.specs.declared.line.Line.{Line}
 use Rattle.numa_script.specs.declared.line.Line.TheVariants as line
+use Rattle.numa_script.specs.declared.page_line.PageLine.{PageLine}
 use Rattle.numa_script.specs.declared.page_line.PageLine.TheVariants as page
 use Rattle.numa_script.specs.declared.line.Question.{Question}
 use Rattle.numa_script.specs.declared.line.Question.TheVariants as question
@@ -19,7 +20,10 @@ use Rattle.numa_run.specs.Judged.{fault_or, fault_of, asked_by, asked_fault, cau
 use Rattle.numa_run.specs.Judged.{question_cause, question_refusal, IsStarved}
 use Rattle.numa_run.specs.Questions.{question_text}
 use Rattle.numa_run.specs.Listings.{there_listing}
+use Rattle.numa_page_state.specs.Outcomes.{rooms_of}
+use Rattle.numa_run.specs.ArrivedTexts.{rooms_line}
 use Rattle.numa_run.specs.MovedTexts.{last_line}
+use Rattle.numa_run.specs.PageLines.{page_outcome}
 use Rattle.numa_run.specs.Replies.{Served, reply_in, with_text, outcome_of, served_by, served_later}
 use Rattle.numa_run.specs.Standing.{RunsAs}
 use Rattle.numa_run.specs.States.{process_on}
@@ -73,13 +77,35 @@ listed-fault running task state stands =
     (there_listing (process_on (setup_of running.core).machine state) state.lying.spots task) state
     (served-is running (line.Maps task) false state stands) refl
 
--- moved
-pub last-fault : (running : Running) (state : State) → RunsAs running state
-    → None ≡ fault_of false state (line.Pages (Ok page.Moved))
-last-fault running state stands =
-    shown-fault (line.Pages (Ok page.Moved))
-    (last_line (length state.world.history) state.lying.last) state
-    (served-is running (line.Pages (Ok page.Moved)) false state stands) refl
+-- a line about pages that is answered a text and changes nothing
+abbrev pub IsText : PageLine → (State → List ℕ) → Type 0
+IsText said text = (refused : Bool) (machine : Hardware) (state : State)
+    → page_outcome refused machine state said ≡ with_text (text state) state
+
+-- moved, and room alone
+abbrev pub last_text : State → List ℕ
+last_text state = last_line (length state.world.history) state.lying.last
+
+abbrev pub rooms_left : State → List ℕ
+rooms_left state = rooms_line (rooms_of state.lying.room)
+
+pub moved-text : IsText page.Moved last_text
+moved-text refused machine state = refl
+
+pub rooms-text : IsText page.Rooms rooms_left
+rooms-text refused machine state = refl
+
+module _ (said : PageLine) (text : State → List ℕ) (is : IsText said text) where
+  pub text-served : (running : Running) (state : State) → RunsAs running state
+      → outcome_of false state (line.Pages (Ok said)) ≡ with_text (text state) state
+  text-served running state stands =
+      served-is running (line.Pages (Ok said)) false state stands
+      ∙ is false (setup_of running.core).machine state
+
+  pub text-fault : (running : Running) (state : State) → RunsAs running state
+      → None ≡ fault_of false state (line.Pages (Ok said))
+  text-fault running state stands =
+      shown-fault (line.Pages (Ok said)) (text state) state (text-served running state stands) refl
 
 -- with memory, a question is refused by what refuses it
 pub plain-cause : (machine : Hardware) (history : List Command) (asked : Question) →

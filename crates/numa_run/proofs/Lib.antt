@@ -1,5 +1,6 @@
 mod Examples
 mod PageRows
+mod TouchRows
 pub mod Accepting
 pub mod Binds
 pub mod Bounded

@@ -1,6 +1,6 @@
 -- What serving a line of each kind comes to.
 use Rattle.std.specs.Prelude.{◌≡◌, ℕ, Bool, true, false, Option, Some}
-use Rattle.std.specs.Prelude.{None, List, [], refl, Result, Ok, Err, length, if◌then◌else◌}
+use Rattle.std.specs.Prelude.{None, List, [], refl, Result, Ok, Err, if◌then◌else◌}
 use Rattle.std.proofs.Common.{sym, ◌∙◌, ap, subst}
 use Rattle.numa_mask.specs.declared.list.ListFault.{ListFault}
 use Rattle.numa_machine.specs.Machine.{Hardware}
@@ -18,12 +18,11 @@ use Rattle.numa_script.specs.declared.line.MachineLine.{MachineLine}
 use Rattle.numa_script.specs.declared.line.Question.{Question}
 use Rattle.numa_script.specs.declared.line.Line.{Line}
 use Rattle.numa_script.specs.declared.line.Line.TheVariants as line
-use Rattle.numa_script.specs.declared.page_line.PageLine.TheVariants as page
+use Rattle.numa_script.specs.declared.page_line.PageLine.{PageLine}
 use Rattle.numa_run.specs.Answers.{State, reply_of, after}
 use Rattle.numa_run.specs.Listings.{there_listing}
 use Rattle.numa_run.specs.Machines.{limits_fit, nodes_with_cpus, hardware_of, has_bad_nodes}
 use Rattle.numa_run.specs.Machines.{first_fault}
-use Rattle.numa_run.specs.MovedTexts.{last_line}
 use Rattle.numa_run.specs.Questions.{question_text}
 use Rattle.numa_run.specs.Replies.{Replied, Served, reply_in, with_text}
 use Rattle.numa_run.specs.Replies.{with_reply, cpus_outcome, machine_unless, machine_outcome}
@@ -38,7 +37,7 @@ use Rattle.numa_run.specs.declared.running.Taken.TheVariants as taken
 use Rattle.numa_script.specs.declared.reply.Reply.{Reply}
 use Rattle.numa_script.specs.declared.reply.Reply.TheVariants as reply
 use Rattle.numa_run.proofs.Accepting.{setup-is}
-use Rattle.numa_run.proofs.JudgeLemmas.{served-is}
+use Rattle.numa_run.proofs.JudgeLemmas.{IsText, served-is, text-served}
 
 -- ---- before a machine is ready
 
@@ -323,7 +322,7 @@ serves_same running answer serve right =
       subst (λ (r : Served). RunsAs running r.state) (sym is) stands,
     )
 
--- ---- a question, `maps` and `moved` have no reply
+-- ---- a question, `maps`, `moved` and `room` alone have no reply
 
 abbrev pub HasNone : Running → Running → Line → Type 0
 HasNone old new said = (state : State) → RunsAs old state → (refused : Bool)
@@ -364,10 +363,9 @@ maps_have_none old new said task is same =
     (λ state. there_listing (process_on (setup_of new.core).machine state) state.lying.spots task)
     (served-is new (line.Maps task) false))
 
-pub moved_has_none : (old new : Running) (said : Line) → said ≡ line.Pages (Ok page.Moved)
-    → new ≡ old → HasNone old new said
-moved_has_none old new said is same =
-    has_none old new said (line.Pages (Ok page.Moved)) is same
-    (shown_has_none new (line.Pages (Ok page.Moved))
-    (λ state. last_line (length state.world.history) state.lying.last)
-    (served-is new (line.Pages (Ok page.Moved)) false))
+pub text_has_none : (asked : PageLine) (text : State → List ℕ) → IsText asked text
+    → (old new : Running) (said : Line) → said ≡ line.Pages (Ok asked) → new ≡ old
+    → HasNone old new said
+text_has_none asked text shows old new said is same =
+    has_none old new said (line.Pages (Ok asked)) is same
+    (shown_has_none new (line.Pages (Ok asked)) text (text-served asked text shows new))

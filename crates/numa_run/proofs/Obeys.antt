@@ -21,7 +21,7 @@ use Rattle.numa_core.specs.Steps.{IsAnswer, accept_answer, version_of}
 use Rattle.numa_core.specs.declared.acceptance.Acceptance.{Acceptance}
 use Rattle.numa_core.specs.Standing.{CoreState, setup_of}
 use Rattle.numa_space.specs.Policies.{allowed_nodes}
-use Rattle.numa_page_state.specs.Lying.{Lying}
+use Rattle.numa_page_state.specs.Lying.{Lying, with_spots}
 use Rattle.numa_page_state.specs.Outcomes.{followed, forgotten, is_no_memory}
 use Rattle.numa_page_state.specs.Standing.{Forgets, Lies, Replaces}
 use Rattle.numa_page_state.specs.declared.state.PageState.{PageState}
@@ -150,7 +150,7 @@ module _ (old : Running) (start bytes : ℕ) where
         (record { core = core; resident = old.resident; pages = pages }) unmaps
 
     abbrev lying_then : State → Lying
-    lying_then state = record state.lying { spots = forgotten start bytes state.lying.spots }
+    lying_then state = with_spots (forgotten start bytes state.lying.spots) state.lying
 
     -- what it comes to, with memory or without
     enough : (state : State) → RunsAs old state

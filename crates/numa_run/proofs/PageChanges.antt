@@ -14,21 +14,25 @@ use Rattle.numa_script.specs.declared.page_line.PageLine.TheVariants as page
 use Rattle.numa_script.specs.declared.policy.WordError.TheVariants as word_fault
 use Rattle.numa_script.specs.declared.reply.Reply.{Reply}
 use Rattle.numa_script.specs.declared.reply.Reply.TheVariants as reply
-use Rattle.numa_run.specs.Answering.{Served, with_reply}
-use Rattle.numa_run.specs.PageLines.{change_of, changed, lack_reply, pages_outcome, with_change}
-use Rattle.numa_run.specs.Standing.{RunsAs, Serves, Takes}
+use Rattle.numa_run.specs.Answering.{Served, Shown, reply_in, with_reply}
+use Rattle.numa_run.specs.PageLines.{answered_by, arrived_text, change_of, changed, lack_reply}
+use Rattle.numa_run.specs.PageLines.{pages_outcome, with_change}
+use Rattle.numa_run.specs.Replies.{outcome_of}
+use Rattle.numa_run.specs.Standing.{Changes, RunsAs, Takes, taken_by}
 use Rattle.numa_run.specs.States.{State}
 use Rattle.numa_run.specs.declared.running.Running.{Running}
 use Rattle.numa_run.specs.declared.running.Taken.TheVariants as taken
-use Rattle.numa_run.proofs.Accepting.{kept-pages, served}
+use Rattle.numa_run.proofs.Accepting.{kept-pages}
 use Rattle.numa_run.proofs.Processes.{ground-same}
-use Rattle.numa_run.proofs.LineLemmas.{later_same, served_here}
+use Rattle.numa_run.proofs.JudgeLemmas.{served-is}
+use Rattle.numa_run.proofs.LineLemmas.{later_same}
 
 -- ---- the pages
 
--- what is done is told by a reply
+-- what is done is told by a reply, or by none
 pub replied : {A : Type 0} (old new : PageState) (done lack : A)
-    (outcome : Bool → Lying → A × Lying) (told : A → Reply) → DoesAs old done new lack outcome
+    (outcome : Bool → Lying → A × Lying) (told : A → Option Reply)
+    → DoesAs old done new lack outcome
     → DoesAs old (told done) new (told lack)
     (λ refused at. (told (outcome refused at).0, (outcome refused at).1))
 replied old new done lack outcome told does = λ lying lies.
@@ -40,7 +44,7 @@ replied old new done lack outcome told does = λ lying lies.
     )
 
 -- what always succeeds
-pub succeeds : (old new : PageState) (told lack : Reply) (outcome : Lying → Lying)
+pub succeeds : (old new : PageState) (told lack : Option Reply) (outcome : Lying → Lying)
     → ((lying : Lying) → LiesAs old lying → LiesAs new (outcome lying))
     → DoesAs old told new lack (λ refused at. (told, outcome at))
 succeeds old new told lack outcome lies = λ lying before. (
@@ -65,20 +69,22 @@ module _ (old : Running) (said : PageLine) where
 
   -- there is no memory to begin
   pub change-starved : (pages : Option PageState) → (pages ≡ old.pages) × (old.pages ≡ None)
-      → Serves old (lack_reply said)
+      → Changes old (Some (lack_reply said))
       (record { core = old.core; resident = old.resident; pages = pages }) changes
   change-starved pages same = λ state stands.
       let early = nothing-begun old.pages state.lying same.1 stands.lies in
       let is : changes true old.core.space.machine state ≡ with_reply (lack_reply said) state =
-      rw early refl in
-      served old (record { core = old.core; resident = old.resident; pages = pages })
-      (lack_reply said) changes state state true is
-      (kept-pages old state pages stands
-      (subst (λ (p : Option PageState). Lies p state.lying) (sym same.0) stands.lies))
+      rw early refl in (
+        true,
+        state,
+        is,
+        kept-pages old state pages stands
+            (subst (λ (p : Option PageState). Lies p state.lying) (sym same.0) stands.lies),
+      )
 
-  module _ (kept new : PageState) (told : Reply)
+  module _ (kept new : PageState) (told : Option Reply)
       (begins : (lying : Lying) → Lies old.pages lying → LiesAs kept lying)
-      (does : DoesAs kept told new (lack_reply said) (λ refused at. change_of refused
+      (does : DoesAs kept told new (Some (lack_reply said)) (λ refused at. change_of refused
       (ground_in old.core.space old.resident) said at)) where
     abbrev here : Running
     here = record { core = old.core; resident = old.resident; pages = Some new }
@@ -94,7 +100,7 @@ module _ (old : Running) (said : PageLine) where
         ≡ by_ground state refused (ground_in old.core.space old.resident)
     is-by refused state stands = ap (by_ground state refused) (ground-same old state stands)
 
-    pub change-done : Serves old told here changes
+    pub change-done : Changes old told here changes
     change-done = λ state stands.
         let before = begins state.lying stands.lies in
         let begun : LiesAs kept (record state.lying { begun = true }) = record {
@@ -102,36 +108,42 @@ module _ (old : Running) (said : PageLine) where
           room = before.room;
           follows = before.follows;
           last = before.last;
+          arrived = before.arrived;
         } in
         let d = does (record state.lying { begun = true }) begun in
         let basis = ground_in old.core.space old.resident in
         let done = change_of d.0 basis said (record state.lying { begun = true }) in
         elim (cases_Bool (not state.lying.begun && d.0)) [
           | inl t ↦
-              let lack = d.3 (and_parts (not state.lying.begun) d.0 t).1 in
-              served old here told changes state state d.0
-              (is-by d.0 state stands
-              ∙ ap (λ (b : Bool). if b then with_reply (lack_reply said) state
-              else with_change state done) t
-              ∙ ap (λ (r : Reply). with_reply r state) (sym lack.1))
-              (kept-pages old state (Some new) stands
-              (subst (λ (p : PageState). LiesAs p state.lying) (sym lack.0) before))
-          | inr e ↦
-              served old here told changes state (record state { lying = done.1 }) d.0
-              (is-by d.0 state stands
-              ∙ ap (λ (b : Bool). if b then with_reply (lack_reply said) state
-              else with_change state done) e
-              ∙ ap (λ (r : Reply). with_reply r (record state { lying = done.1 })) d.2)
-              (record {
-                core = record {
-                  bounds = stands.core.bounds;
-                  machine = stands.core.machine;
-                  workers = stands.core.workers;
-                  world = stands.core.world;
-                };
-                resident = stands.resident;
-                lies = d.1;
-              })
+              let lack = d.3 (and_parts (not state.lying.begun) d.0 t).1 in (
+                d.0,
+                state,
+                is-by d.0 state stands
+                    ∙ ap (λ (b : Bool). if b then with_reply (lack_reply said) state
+                    else with_change state done) t
+                    ∙ ap (λ (r : Option Reply). answered_by r state) (sym lack.1),
+                kept-pages old state (Some new) stands
+                    (subst (λ (p : PageState). LiesAs p state.lying) (sym lack.0) before),
+              )
+          | inr e ↦ (
+            d.0,
+            record state { lying = done.1 },
+            is-by d.0 state stands
+                ∙ ap (λ (b : Bool). if b then with_reply (lack_reply said) state
+                else with_change state done) e
+                ∙ ap (λ (r : Option Reply). answered_by r (record state { lying = done.1 }))
+                d.2,
+            record {
+              core = record {
+                bounds = stands.core.bounds;
+                machine = stands.core.machine;
+                workers = stands.core.workers;
+                world = stands.core.world;
+              };
+              resident = stands.resident;
+              lies = d.1;
+            },
+          )
         ]
 
 -- ---- the line
@@ -145,23 +157,46 @@ begun-pages pages then_pages kept is all lying lies =
     subst (λ (p : Option PageState). IsSomeAnd p (λ k. (l : Lying) → Lies pages l → LiesAs k l)) is
     all lying lies
 
-changes-pages : (said : PageLine) → said ≢ page.Moved → (refused : Bool) (machine : Hardware)
-    (state : State)
+changes-pages : (said : PageLine) → said ≢ page.Moved → said ≢ page.Rooms → (refused : Bool)
+    (machine : Hardware) (state : State)
     → pages_outcome refused machine state (Ok said) ≡ changed refused machine state said
-changes-pages (page.At start bytes node) other refused machine state = refl
-changes-pages (page.Room node pages) other refused machine state = refl
-changes-pages (page.MemoryMigrate follows) other refused machine state = refl
-changes-pages (page.Migrate from to) other refused machine state = refl
-changes-pages (page.Move address node) other refused machine state = refl
-changes-pages page.Moved other refused machine state = absurd (other refl)
+changes-pages (page.At start bytes node) moved rooms refused machine state = refl
+changes-pages (page.Room node pages) moved rooms refused machine state = refl
+changes-pages (page.MemoryMigrate follows) moved rooms refused machine state = refl
+changes-pages (page.Migrate from to) moved rooms refused machine state = refl
+changes-pages (page.Move address node) moved rooms refused machine state = refl
+changes-pages (page.Populate start bytes task cpu) moved rooms refused machine state = refl
+changes-pages page.Moved moved rooms refused machine state = absurd (moved refl)
+changes-pages page.Rooms moved rooms refused machine state = absurd (rooms refl)
 
-pub page-changed : (old new : Running) (said : PageLine) (answer : Reply) → said ≢ page.Moved
-    → Serves old answer new (λ refused machine state. changed refused machine state said)
-    → Takes old (line.Pages (Ok said)) (taken.Reply answer) new
-page-changed old new said answer other serves =
-    served_here old new (line.Pages (Ok said)) answer
-    (λ refused machine state. changed refused machine state said) serves
-    (λ refused state. changes-pages said other refused old.core.space.machine state)
+module _ (old new : Running) (said : PageLine) (moved : said ≢ page.Moved)
+    (rooms : said ≢ page.Rooms) where
+  change-is : (told : Option Reply) (refused : Bool) (state reached : State) → RunsAs old state
+      → changed refused old.core.space.machine state said ≡ answered_by told reached
+      → outcome_of refused state (line.Pages (Ok said)) ≡ answered_by told reached
+  change-is told refused state reached stands is =
+      served-is old (line.Pages (Ok said)) refused state stands
+      ∙ changes-pages said moved rooms refused old.core.space.machine state ∙ is
+
+  -- its reply, or what was touched, is told of the state that it reaches
+  pub page-changed : (told : Option Reply)
+      → Changes old told new (λ refused machine state. changed refused machine state said)
+      → Takes old (line.Pages (Ok said)) (taken_by told) new
+  page-changed (Some answer) changes = λ state stands.
+      let c = changes state stands in
+      let is = change-is (Some answer) c.0 state c.1 stands c.2 in (
+        c.0,
+        sym (ap (λ (r : Served). reply_in r.answer) is),
+        subst (λ (r : Served). RunsAs new r.state) (sym is) c.3,
+      )
+  page-changed None changes = λ state stands.
+      let c = changes state stands in
+      let is = change-is None c.0 state c.1 stands c.2 in (
+        c.0,
+        subst (λ (r : Served). Shown (arrived_text r.state) ≡ r.answer) (sym is) refl,
+        refl,
+        subst (λ (r : Served). RunsAs new r.state) (sym is) c.3,
+      )
 
 -- a fault of its list
 pub page-fault : (old : Running) (fault : ListFault)

@@ -4,6 +4,7 @@ use Rattle.numa_maps.specs.Residents.{Kept}
 use Rattle.numa_requests.specs.declared.command.Command.{Command}
 use Rattle.numa_space.specs.Standing.{SpaceState}
 use Rattle.numa_page_state.specs.Lying.{Process, ground_in, ground_of}
+use Rattle.numa_page_state.proofs.Asking.{nodes-same}
 use Rattle.numa_run.specs.Standing.{RunsAs}
 use Rattle.numa_run.specs.States.{State, process_on}
 use Rattle.numa_run.specs.declared.running.Running.{Running}
@@ -35,4 +36,6 @@ ground-same running state stands = λ i. record {
   allowed = sym stands.core.world.space.allowed i;
   mapped = λ page. is_some (sym (stands.core.world.space.pages page) i);
   kept = sym stands.resident i;
+  lists = λ task cpu page. sym (nodes-same running.core.space state.world.history
+      (record { task = task; cpu = cpu }) page stands.core.world.space) i;
 }

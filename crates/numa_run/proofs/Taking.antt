@@ -1,7 +1,7 @@
 -- A line that is taken, and then answered or judged.
 use Rattle.std.proofs.Common.{◌≡◌, ℕ, Bool, false, Option, Some, None, List, refl}
 use Rattle.std.proofs.Common.{sym, ap, subst, ◌∙◌}
-use Rattle.std.specs.Prelude.{◌↔◌, IsSomeAnd, IsTrue, Ok, length}
+use Rattle.std.specs.Prelude.{◌↔◌, IsSomeAnd, IsTrue, Ok}
 use Rattle.std.specs.Option.{option_map}
 use Rattle.numa_core.specs.Standing.{setup_of}
 use Rattle.numa_lines.proofs.Adding.{said_same}
@@ -15,17 +15,19 @@ use Rattle.numa_script.specs.declared.line.Line.{Line}
 use Rattle.numa_script.specs.declared.line.Line.TheVariants as line
 use Rattle.numa_script.specs.declared.line.Question.{Question}
 use Rattle.numa_script.specs.declared.line.Question.TheVariants as question
+use Rattle.numa_script.specs.declared.page_line.PageLine.{PageLine}
 use Rattle.numa_script.specs.declared.page_line.PageLine.TheVariants as page
 use Rattle.numa_script.specs.declared.reply.Reply.{Reply}
 use Rattle.numa_script.specs.declared.reply.Reply.TheVariants as reply
 use Rattle.numa_run.specs.Answers.{State, after, answer_of, reply_of}
-use Rattle.numa_run.specs.Judged.{IsStarved, fault_of, question_cause}
+use Rattle.numa_run.specs.Judged.{IsStarved, asked_fault, fault_of, fault_or, question_cause}
 use Rattle.numa_run.specs.Questions.{question_text}
 use Rattle.numa_run.specs.Listings.{there_listing}
-use Rattle.numa_run.specs.MovedTexts.{last_line}
+use Rattle.numa_run.specs.PageLines.{arrived_text}
 use Rattle.numa_run.specs.Replies.{Answer, Replied, Shown, Served, bytes_of, outcome_of, reply_in}
 use Rattle.numa_run.specs.Replies.{served_by, served_first, with_reply}
 use Rattle.numa_run.specs.Scripts.{IsTaken, ScriptStandsFor, ScriptTakes, ScriptTells, ScriptWrites}
+use Rattle.numa_run.specs.Scripts.{arrived_answer, arrived_on}
 use Rattle.numa_run.specs.Standing.{RunsAs, Stands, Takes}
 use Rattle.numa_run.specs.States.{process_on}
 use Rattle.numa_run.specs.declared.running.Running.{Running}
@@ -33,12 +35,19 @@ use Rattle.numa_run.specs.declared.running.Taken.{Taken}
 use Rattle.numa_run.specs.declared.running.Taken.TheVariants as taken
 use Rattle.numa_run.specs.declared.script.Script.{Script}
 use Rattle.numa_run.specs.declared.settings.Settings.{Settings}
-use Rattle.numa_run.proofs.JudgeLemmas.{asked-fault, asked-starved, faultless-starved}
-use Rattle.numa_run.proofs.JudgeLemmas.{last-fault, listed-fault, reply-starved, served-is}
-use Rattle.numa_run.proofs.JudgeLemmas.{told-judged}
-use Rattle.numa_run.proofs.LineLemmas.{first_is, maps_have_none, moved_has_none, question_has_none}
+use Rattle.numa_run.proofs.JudgeLemmas.{IsText, asked-fault, asked-starved, faultless-starved}
+use Rattle.numa_run.proofs.JudgeLemmas.{last_text, listed-fault, moved-text, reply-starved}
+use Rattle.numa_run.proofs.JudgeLemmas.{rooms-text, rooms_left, served-is, text-fault}
+use Rattle.numa_run.proofs.JudgeLemmas.{text-served, told-judged}
+use Rattle.numa_run.proofs.LineLemmas.{first_is, maps_have_none, question_has_none, text_has_none}
 
 -- ---- taking
+
+-- what was touched is told, once a machine is ready
+arrived-is : (running : Running) (state : State) → RunsAs running state
+    → arrived_answer state ≡ Shown (arrived_text state)
+arrived-is running state stands =
+    ap (λ (machine : Option Hardware). arrived_on machine state) stands.core.machine
 
 -- a line that a running machine takes
 pub taken-later : (old new : Running) (said : Line) (found : Taken) → Takes old said found new
@@ -52,8 +61,24 @@ taken-later old new said (taken.Maps task) takes = λ state stands.
     let none = maps_have_none old new said task takes.0 takes.1 state stands in
     (none.0, (none.1, takes.0), none.2)
 taken-later old new said taken.Moved takes = λ state stands.
-    let none = moved_has_none old new said takes.0 takes.1 state stands in
+    let none = text_has_none page.Moved last_text moved-text old new said takes.0 takes.1 state
+    stands in
     (none.0, (none.1, takes.0), none.2)
+taken-later old new said taken.Rooms takes = λ state stands.
+    let none = text_has_none page.Rooms rooms_left rooms-text old new said takes.0 takes.1 state
+    stands in
+    (none.0, (none.1, takes.0), none.2)
+taken-later old new said taken.Arrived takes = λ state stands.
+    let t = takes state stands in
+    let reached = after t.0 state said in (
+      t.0,
+      (
+        ap reply_in t.1,
+        arrived-is new reached t.3 ∙ t.1,
+        t.2,
+      ),
+      t.3,
+    )
 
 -- a malformed line changes nothing, whether a machine is ready or not
 pub malformed-is : (refused : Bool) (state : State) → outcome_of refused state line.Malformed
@@ -97,15 +122,15 @@ maps-same refused state task = by_machine state.machine
     by_machine None = refl
     by_machine (Some machine) = refl
 
-pub moved-same : (refused : Bool) (state : State)
-    → after refused state (line.Pages (Ok page.Moved)) ≡ state
+pub text-same : (asked : PageLine) (text : State → List ℕ) → IsText asked text → (refused : Bool)
+    (state : State) → after refused state (line.Pages (Ok asked)) ≡ state
 unfolding outcome_of
-moved-same refused state = by_machine state.machine
+text-same asked text shows refused state = by_machine state.machine
   where
     by_machine : (machine : Option Hardware)
-        → (served_by machine refused state (line.Pages (Ok page.Moved))).state ≡ state
+        → (served_by machine refused state (line.Pages (Ok asked))).state ≡ state
     by_machine None = refl
-    by_machine (Some machine) = refl
+    by_machine (Some machine) = ap (λ (r : Served). r.state) (shows refused machine state)
 
 -- before a machine is ready they are refused
 abbrev IsUnready : Line → Type 0
@@ -127,6 +152,15 @@ starved-unready said state is =
     subst (λ (o : Option Reply). IsTrue false ↔ IsSomeAnd o LacksMemory)
     (told-judged reply.BadState false state said (told-unready said state is))
     (λ e. cc, λ s. absurd s)
+
+-- what was touched is told of the state after: the line's fault is that
+arrived-fault : (refused : Bool) (state : State) (said : Line)
+    → arrived_answer (after refused state said) ≡ (outcome_of refused state said).answer
+    → None ≡ asked_fault refused state said
+    → fault_or (reply_in (arrived_answer (after refused state said))) None
+    ≡ fault_of refused state said
+arrived-fault refused state said is none =
+    λ i. fault_or (reply_in (is i)) (none i)
 
 -- ---- writing
 
@@ -196,11 +230,11 @@ module _ {W : Type 0} (contents : W → Option (List ℕ)) (output output_then :
       → IsAnswered (Stands settings None) (line.Maps task) state
   maps-unready settings task = unready-written settings (line.Maps task) (λ state. refl)
 
-  pub moved-unready : (settings : Settings)
+  pub text-unready : (settings : Settings) (asked : PageLine)
       → Said contents output output_then (text_of reply.BadState)
       → (state : State) → Stands settings None state
-      → IsAnswered (Stands settings None) (line.Pages (Ok page.Moved)) state
-  moved-unready settings = unready-written settings (line.Pages (Ok page.Moved)) (λ state. refl)
+      → IsAnswered (Stands settings None) (line.Pages (Ok asked)) state
+  text-unready settings asked = unready-written settings (line.Pages (Ok asked)) (λ state. refl)
 
   -- the ranges were listed
   pub maps-written : (running : Running) (task : ℕ)
@@ -217,20 +251,58 @@ module _ {W : Type 0} (contents : W → Option (List ℕ)) (output output_then :
         faultless-starved (line.Maps task) state (listed-fault running task state stands),
       )
 
-  -- what the last move did was told
-  pub moved-written : (running : Running)
-      → ((state : State) → RunsAs running state → Said contents output output_then
-      (last_line (length state.world.history) state.lying.last))
+  -- the text of a line about pages was told
+  pub text-written : (asked : PageLine) (text : State → List ℕ) → IsText asked text
+      → (running : Running)
+      → ((state : State) → RunsAs running state → Said contents output output_then (text state))
       → (state : State) → RunsAs running state
-      → IsAnswered (RunsAs running) (line.Pages (Ok page.Moved)) state
-  moved-written running tells = λ state stands.
-      let is = served-is running (line.Pages (Ok page.Moved)) false state stands in (
+      → IsAnswered (RunsAs running) (line.Pages (Ok asked)) state
+  text-written asked text shows running tells = λ state stands.
+      let is = text-served asked text shows running state stands in (
         false,
         stands,
         said_same contents output output_then _ _
             (ap (λ (r : Served). bytes_of r.answer) (sym is)) (tells state stands),
-        faultless-starved (line.Pages (Ok page.Moved)) state (last-fault running state stands),
+        faultless-starved (line.Pages (Ok asked)) state
+            (text-fault asked text shows running state stands),
       )
+
+  -- what was touched was told, and nothing changed
+  abbrev pub IsArrivalTold : (State → Type 0) → State → Type 0
+  IsArrivalTold reached state = (refused : Bool) × reached state
+      × Said contents output output_then (bytes_of (arrived_answer state))
+      × (IsTrue false
+      ↔ IsSomeAnd (fault_or (reply_in (arrived_answer state)) None) LacksMemory)
+
+  arrival-told : (answer : Answer) (reached : Type 0) (state : State)
+      → arrived_answer state ≡ answer → reached → Said contents output output_then (bytes_of answer)
+      → (IsTrue false ↔ IsSomeAnd (fault_or (reply_in answer) None) LacksMemory)
+      → (refused : Bool) × reached × Said contents output output_then (bytes_of (arrived_answer state))
+      × (IsTrue false ↔ IsSomeAnd (fault_or (reply_in (arrived_answer state)) None) LacksMemory)
+  arrival-told answer reached state is stands told starved = (
+    false,
+    stands,
+    said_same contents output output_then _ _ (ap bytes_of (sym is)) told,
+    subst (λ (a : Answer). IsTrue false ↔ IsSomeAnd (fault_or (reply_in a) None) LacksMemory)
+        (sym is) starved,
+  )
+
+  pub arrived-written : (running : Running)
+      → ((state : State) → RunsAs running state
+      → Said contents output output_then (arrived_text state))
+      → (state : State) → RunsAs running state → IsArrivalTold (RunsAs running) state
+  arrived-written running tells = λ state stands.
+      arrival-told (Shown (arrived_text state)) (RunsAs running state) state
+      (arrived-is running state stands) stands (tells state stands) (λ e. cc, λ s. absurd s)
+
+  pub arrived-unready : (settings : Settings)
+      → Said contents output output_then (text_of reply.BadState)
+      → (state : State) → Stands settings None state
+      → IsArrivalTold (Stands settings None) state
+  arrived-unready settings told = λ state stands.
+      arrival-told (Replied reply.BadState) (Stands settings None state) state
+      (ap (λ (machine : Option Hardware). arrived_on machine state) stands.3) stands told
+      (λ e. cc, λ s. absurd s)
 
   -- a line was taken, and then its answer was written
   abbrev pub IsServed : Script → Script → Line → Bool → State → Type 0
@@ -275,13 +347,26 @@ module _ {W : Type 0} (contents : W → Option (List ℕ)) (output output_then :
       )
   served old mid new said taken.Moved lacks takes writes = λ state stands.
       let t = takes state stands in
-      let same = ap (after t.0 state) t.1.1 ∙ moved-same t.0 state in
-      let w = writes state (subst (ScriptStandsFor mid) same t.2) in
-      subst (λ (l : Line). IsServed old new l lacks state) (sym t.1.1) (
-        w.0,
-        subst (ScriptStandsFor new) (sym (moved-same w.0 state)) w.1,
-        w.2,
-        w.3,
+      let same = text-same page.Moved last_text moved-text in
+      let w = writes state (subst (ScriptStandsFor mid) (ap (after t.0 state) t.1.1
+      ∙ same t.0 state) t.2) in
+      subst (λ (l : Line). IsServed old new l lacks state) (sym t.1.1)
+      (w.0, subst (ScriptStandsFor new) (sym (same w.0 state)) w.1, w.2, w.3)
+  served old mid new said taken.Rooms lacks takes writes = λ state stands.
+      let t = takes state stands in
+      let same = text-same page.Rooms rooms_left rooms-text in
+      let w = writes state (subst (ScriptStandsFor mid) (ap (after t.0 state) t.1.1
+      ∙ same t.0 state) t.2) in
+      subst (λ (l : Line). IsServed old new l lacks state) (sym t.1.1)
+      (w.0, subst (ScriptStandsFor new) (sym (same w.0 state)) w.1, w.2, w.3)
+  served old mid new said taken.Arrived lacks takes writes = λ state stands.
+      let t = takes state stands in
+      let w = writes (after t.0 state said) t.2 in (
+        t.0,
+        w.1,
+        said_same contents output output_then _ _ (ap bytes_of t.1.1) w.2,
+        subst (λ (o : Option Reply). IsTrue lacks ↔ IsSomeAnd o LacksMemory)
+            (arrived-fault t.0 state said t.1.1 t.1.2) w.3,
       )
 
 -- ---- judging
@@ -325,13 +410,38 @@ pub maps-bad : (settings : Settings) (task : ℕ) (state : State) → Stands set
     → IsTold (Stands settings None) (line.Maps task) (Some reply.BadState) state
 maps-bad settings task = unready-told settings (line.Maps task) (λ state. refl)
 
-pub moved-told : (running : Running) (state : State) → RunsAs running state
-    → IsTold (RunsAs running) (line.Pages (Ok page.Moved)) None state
-moved-told running state stands = (false, last-fault running state stands, stands)
+pub text-told : (asked : PageLine) (text : State → List ℕ) → IsText asked text
+    → (running : Running) (state : State) → RunsAs running state
+    → IsTold (RunsAs running) (line.Pages (Ok asked)) None state
+text-told asked text shows running state stands =
+    (false, text-fault asked text shows running state stands, stands)
 
-pub moved-bad : (settings : Settings) (state : State) → Stands settings None state
-    → IsTold (Stands settings None) (line.Pages (Ok page.Moved)) (Some reply.BadState) state
-moved-bad settings = unready-told settings (line.Pages (Ok page.Moved)) (λ state. refl)
+pub text-bad : (settings : Settings) (asked : PageLine) (state : State)
+    → Stands settings None state
+    → IsTold (Stands settings None) (line.Pages (Ok asked)) (Some reply.BadState) state
+text-bad settings asked = unready-told settings (line.Pages (Ok asked)) (λ state. refl)
+
+-- what was touched has no fault, once a machine is ready
+abbrev pub IsArrivalJudged : (State → Type 0) → Option Reply → State → Type 0
+IsArrivalJudged reached fault state = (refused : Bool)
+    × (fault ≡ fault_or (reply_in (arrived_answer state)) None) × reached state
+
+pub arrived-told : (running : Running) (state : State) → RunsAs running state
+    → IsArrivalJudged (RunsAs running) None state
+arrived-told running state stands = (
+  false,
+  ap (λ (a : Answer). fault_or (reply_in a) None) (sym (arrived-is running state stands)),
+  stands,
+)
+
+pub arrived-bad : (settings : Settings) (state : State) → Stands settings None state
+    → IsArrivalJudged (Stands settings None) (Some reply.BadState) state
+arrived-bad settings state stands = (
+  false,
+  ap (λ (machine : Option Hardware). fault_or (reply_in (arrived_on machine state)) None)
+      (sym stands.3),
+  stands,
+)
 
 -- a line was taken, and then its fault or refusal was told
 abbrev IsJudged : Script → Line → Option Reply → State → Type 0
@@ -359,7 +469,19 @@ judged old mid new said (taken.Maps task) fault takes tells = λ state stands.
     (w.0, w.1, subst (ScriptStandsFor new) (sym (maps-same w.0 state task)) w.2)
 judged old mid new said taken.Moved fault takes tells = λ state stands.
     let t = takes state stands in
-    let same = ap (after t.0 state) t.1.1 ∙ moved-same t.0 state in
-    let w = tells state (subst (ScriptStandsFor mid) same t.2) in
+    let same = text-same page.Moved last_text moved-text in
+    let w = tells state (subst (ScriptStandsFor mid) (ap (after t.0 state) t.1.1
+    ∙ same t.0 state) t.2) in
     subst (λ (l : Line). IsJudged new l fault state) (sym t.1.1)
-    (w.0, w.1, subst (ScriptStandsFor new) (sym (moved-same w.0 state)) w.2)
+    (w.0, w.1, subst (ScriptStandsFor new) (sym (same w.0 state)) w.2)
+judged old mid new said taken.Rooms fault takes tells = λ state stands.
+    let t = takes state stands in
+    let same = text-same page.Rooms rooms_left rooms-text in
+    let w = tells state (subst (ScriptStandsFor mid) (ap (after t.0 state) t.1.1
+    ∙ same t.0 state) t.2) in
+    subst (λ (l : Line). IsJudged new l fault state) (sym t.1.1)
+    (w.0, w.1, subst (ScriptStandsFor new) (sym (same w.0 state)) w.2)
+judged old mid new said taken.Arrived fault takes tells = λ state stands.
+    let t = takes state stands in
+    let w = tells (after t.0 state said) t.2 in
+    (t.0, w.1 ∙ arrived-fault t.0 state said t.1.1 t.1.2, w.2)

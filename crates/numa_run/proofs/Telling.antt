@@ -1,8 +1,15 @@
 -- Texts said one node after the other.
 use Rattle.std.proofs.Common.{◌≡◌, ℕ, zero, suc, ◌+◌, ◌<◌, List, [], ◌++◌, refl, ap, sym, ◌∙◌}
 use Rattle.std.proofs.Common.{arith}
+use Rattle.std.specs.Prelude.{codes, decimal, slice_index}
 use Rattle.std.specs.List.{flat_map, range_with_len}
 use Rattle.numa_machine.proofs.Nodes.{flat_map-range_more}
+use Rattle.numa_requests.specs.NodeCounts.{node_text, nodes_text}
+use Rattle.numa_page_state.specs.Lying.{Arrival}
+use Rattle.numa_page_state.specs.Standing.{ArrivedAs}
+use Rattle.numa_page_state.specs.declared.arrived.Arrived.{Arrived}
+use Rattle.numa_script.specs.PageTexts.{placed_words}
+use Rattle.numa_run.specs.ArrivedTexts.{arrival_in, arrival_line, limit_of, room_text, rooms_text}
 use Rattle.numa_run.specs.MovedTexts.{all_flows_text, flow_text, flows_from_text}
 
 -- the texts of the nodes below a number
@@ -61,3 +68,46 @@ all-alike flow other same =
     ∙ texts-alike (flows_of flow) (flows_of other) 256
     (λ from small. from-alike from (flow from) (other from) (λ to lt. same from to))
     ∙ all-flows other 256 refl
+
+-- ---- rooms
+
+abbrev pub room_at : (ℕ → ℕ) → ℕ → List ℕ
+room_at room node = room_text node (limit_of (room node))
+
+pub rooms-all : (room : ℕ → ℕ) (n : ℕ) → n ≡ 256 → texts_below (room_at room) n ≡ rooms_text room
+unfolding texts_below rooms_text
+rooms-all room n e = ap (λ (k : ℕ). flat_map (room_at room) (range_with_len 0 k)) e
+
+pub rooms-alike : (room other : ℕ → ℕ) → ((node : ℕ) → node < 256 → room node ≡ other node)
+    → rooms_text room ≡ rooms_text other
+rooms-alike room other same =
+    sym (rooms-all room 256 refl)
+    ∙ texts-alike (room_at room) (room_at other) 256
+    (λ node small. ap (λ (k : ℕ). room_text node (limit_of k)) (same node small))
+    ∙ rooms-all other 256 refl
+
+-- ---- first touches
+
+abbrev count_at : (ℕ → ℕ) → ℕ → List ℕ
+count_at pages node = node_text node (pages node)
+
+counts-all : (pages : ℕ → ℕ) (n : ℕ) → n ≡ 256
+    → texts_below (count_at pages) n ≡ nodes_text pages
+unfolding texts_below nodes_text
+counts-all pages n e = ap (λ (k : ℕ). flat_map (count_at pages) (range_with_len 0 k)) e
+
+counts-alike : (pages other : ℕ → ℕ) → ((node : ℕ) → node < 256 → pages node ≡ other node)
+    → nodes_text pages ≡ nodes_text other
+counts-alike pages other same =
+    sym (counts-all pages 256 refl)
+    ∙ texts-alike (count_at pages) (count_at other) 256
+    (λ node small. ap (λ (k : ℕ). node_text node k) (same node small))
+    ∙ counts-all other 256 refl
+
+-- what they did, said
+pub arrival-told : (version : ℕ) (done : Arrived) (arrival : Arrival) → ArrivedAs done arrival
+    → arrival_line version (arrival_in done) ≡ arrival_line version arrival
+arrival-told version done arrival so =
+    let counts = counts-alike (slice_index done.on) arrival.on so.on in
+    λ i. codes "v" ++ decimal version ++ codes ": " ++ placed_words (so.placed i) (so.exhausted i)
+    ++ counts i ++ codes "\n"

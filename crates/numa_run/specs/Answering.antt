@@ -5,7 +5,8 @@ use Rattle.numa_script.specs.declared.reply.Reply.{Reply}
 use Rattle.numa_run.specs.States.{State}
 use Rattle.numa_run.specs.Work.{Outcome}
 
--- an answer: a reply, or the text that a question, `maps` or `moved` is answered
+-- an answer: a reply, or the text that a question, `maps`, `moved`, `populate` or `room` alone is
+-- answered
 pub data Answer : Type 0 where
   Replied : Reply → Answer
   Shown : List ℕ → Answer

@@ -11,8 +11,8 @@ pub use Rattle.numa_run.specs.States.{State, start, start_by}
 abbrev pub answer_of : Bool → State → Line → List ℕ
 answer_of refused state said = bytes_of (outcome_of refused state said).answer
 
--- the reply that is answered; none where a machine is ready and the line is a question, `maps` or
--- `moved`
+-- the reply that is answered; none where a machine is ready and the line is a question, `maps`,
+-- `moved`, `room` alone, or a `populate` that isn't refused
 abbrev pub reply_of : Bool → State → Line → Option Reply
 reply_of refused state said = reply_in (outcome_of refused state said).answer
 

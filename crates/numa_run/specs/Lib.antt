@@ -1,5 +1,6 @@
 pub mod Answering
 pub mod Answers
+pub mod ArrivedTexts
 pub mod Judged
 pub mod Listings
 pub mod Machines

@@ -16,7 +16,7 @@ use Rattle.numa_requests.specs.declared.refusal.Refusal.{Refusal}
 use Rattle.numa_requests.specs.declared.refusal.Refusal.TheVariants.{NoMemory}
 use Rattle.numa_space.specs.Policies.{allowed_nodes}
 use Rattle.numa_space.specs.Refusals.{refusal_of}
-use Rattle.numa_page_state.specs.Lying.{Lying}
+use Rattle.numa_page_state.specs.Lying.{Lying, with_spots}
 use Rattle.numa_page_state.specs.Outcomes.{followed, forgotten, has_stated, lack_of}
 use Rattle.numa_page_state.specs.Sending.{asked_of, command_of, rebinding_in, sent_in, sent_spots}
 use Rattle.numa_page_state.specs.Sending.{tells_left, with_sent}
@@ -72,13 +72,13 @@ abbrev pub unless_pages : Option PlacedRefusal → State → Served → Served
 unless_pages (Some why) state served = with_reply (command_reply why) state
 unless_pages None state served = served
 
--- nothing is stated any more of pages that were unmapped
+-- nothing is stated any more of pages that were unmapped, and their room is given back
 abbrev pub unmap_outcome : Bool → Hardware → State → ℕ → ℕ → Served
 unmap_outcome refused machine state start bytes =
     let spots = forgotten start bytes state.lying.spots in
     if has_stated state.lying.spots start bytes
     then unless_pages (lack_of refused spots) state (lying_so refused machine state
-    (Unmap start bytes) (record state.lying { spots = spots }))
+    (Unmap start bytes) (with_spots spots state.lying))
     else accepted_outcome refused machine state (Unmap start bytes)
 
 abbrev pub obeyed : Bool → Hardware → State → Command → Served

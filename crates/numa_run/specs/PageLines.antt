@@ -1,6 +1,7 @@
 -- What lines of workers and lines about pages are answered, and the state after them. `refused`
 -- says whether a growth was refused while the line was served.
 use Rattle.std.specs.Prelude.{ℕ, ◌&&◌, not, Bool, true, length, if◌then◌else◌, Result, Ok, Err}
+use Rattle.std.specs.Prelude.{List, Option, Some, None}
 use Rattle.numa_machine.specs.Machine.{Hardware}
 use Rattle.numa_mask.specs.declared.list.ListFault.{ListFault}
 use Rattle.numa_placed.specs.Spots.{is_placed}
@@ -10,6 +11,8 @@ use Rattle.numa_requests.specs.declared.page_refusal.PlacedRefusal.{PlacedRefusa
 use Rattle.numa_requests.specs.declared.page_refusal.PlacedRefusal.TheVariants as cause
 use Rattle.numa_page_state.specs.Lying.{Ground, Lying, ground_of}
 use Rattle.numa_page_state.specs.Outcomes.{at_outcome, migrate_outcome, move_outcome, room_outcome}
+use Rattle.numa_page_state.specs.Outcomes.{rooms_of}
+use Rattle.numa_page_state.specs.Touching.{populate_outcome}
 use Rattle.numa_page_state.specs.declared.shift.Shift.{Shift}
 use Rattle.numa_script.specs.declared.page_line.PageLine.{PageLine}
 use Rattle.numa_script.specs.declared.page_line.PageLine.TheVariants as page
@@ -19,6 +22,7 @@ use Rattle.numa_script.specs.declared.reply.Reply.TheVariants as reply
 use Rattle.numa_script.specs.declared.work.Work.{Work}
 use Rattle.numa_script.specs.declared.work.Work.TheVariants as work
 use Rattle.numa_run.specs.Answering.{Served, with_outcome, with_reply, with_text}
+use Rattle.numa_run.specs.ArrivedTexts.{arrival_line, rooms_line}
 use Rattle.numa_run.specs.MovedTexts.{last_line}
 use Rattle.numa_run.specs.States.{State, process_on, setup_with}
 use Rattle.numa_run.specs.Work.{work_outcome}
@@ -53,28 +57,48 @@ abbrev pub move_reply : ℕ → Result (Unit {0}) MoveRefusal → Reply
 move_reply node (Ok done) = reply.MovedTo node
 move_reply node (Err why) = reply.MoveRefused why
 
--- what a line changes, and its reply; `moved` changes nothing, and its answer is a text
-abbrev pub change_of : Bool → Ground → PageLine → Lying → Reply × Lying
+-- a refusal; what first touches did is no reply, but a text
+abbrev pub touch_reply : Result (Unit {0}) PlacedRefusal → Option Reply
+touch_reply (Ok done) = None
+touch_reply (Err why) = Some (reply.PlacedRefused why)
+
+-- what a line changes, and its reply, if it has one; `moved` and `room` alone change nothing, and
+-- their answers are texts
+abbrev pub change_of : Bool → Ground → PageLine → Lying → Option Reply × Lying
 change_of refused basis (page.At start bytes node) at =
     let done = at_outcome refused basis start bytes node at in
-    (page_reply reply.AtOk done.0, done.1)
+    (Some (page_reply reply.AtOk done.0), done.1)
 change_of refused basis (page.Room node pages) at =
-    let done = room_outcome basis.machine node pages at in (page_reply reply.RoomOk done.0, done.1)
+    let done = room_outcome basis.machine node pages at in
+    (Some (page_reply reply.RoomOk done.0), done.1)
 change_of refused basis (page.MemoryMigrate follows) at =
-    (reply.MemoryMigrateOk, record at { follows = follows })
+    (Some reply.MemoryMigrateOk, record at { follows = follows })
 change_of refused basis (page.Migrate from to) at =
-    let done = migrate_outcome refused basis from to at in (migrate_reply done.0, done.1)
+    let done = migrate_outcome refused basis from to at in (Some (migrate_reply done.0), done.1)
 change_of refused basis (page.Move address node) at =
-    let done = move_outcome refused basis address node at in (move_reply node done.0, done.1)
-change_of refused basis page.Moved at = (reply.Silent, at)
+    let done = move_outcome refused basis address node at in (Some (move_reply node done.0), done.1)
+change_of refused basis (page.Populate start bytes task cpu) at =
+    let done = populate_outcome refused basis start bytes task cpu at in
+    (touch_reply done.0, done.1)
+change_of refused basis page.Rooms at = (None, at)
+change_of refused basis page.Moved at = (None, at)
 
 -- that memory lacks for it
 abbrev pub lack_reply : PageLine → Reply
 lack_reply (page.Move address node) = reply.MoveRefused move.NoMemory
 lack_reply _ = reply.PlacedRefused cause.NoMemory
 
-abbrev pub with_change : State → Reply × Lying → Served
-with_change state done = with_reply done.0 (record state { lying = done.1 })
+-- what the last first touches did, at the version of the accepted commands
+abbrev pub arrived_text : State → List ℕ
+arrived_text state = arrival_line (length state.world.history) state.lying.arrived
+
+-- a line without a reply tells what it touched, as the state after it has it
+abbrev pub answered_by : Option Reply → State → Served
+answered_by (Some answer) state = with_reply answer state
+answered_by None state = with_text (arrived_text state) state
+
+abbrev pub with_change : State → Option Reply × Lying → Served
+with_change state done = answered_by done.0 (record state { lying = done.1 })
 
 -- the first change wants memory, whatever it is
 abbrev pub changed : Bool → Hardware → State → PageLine → Served
@@ -86,6 +110,8 @@ changed refused machine state said =
 abbrev pub page_outcome : Bool → Hardware → State → PageLine → Served
 page_outcome refused machine state page.Moved =
     with_text (last_line (length state.world.history) state.lying.last) state
+page_outcome refused machine state page.Rooms =
+    with_text (rooms_line (rooms_of state.lying.room)) state
 page_outcome refused machine state said = changed refused machine state said
 
 -- what is wrong with a list of nodes comes before every refusal

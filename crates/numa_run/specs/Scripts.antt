@@ -3,18 +3,21 @@ use Rattle.std.specs.Prelude.{◌≡◌, ◌↔◌, ℕ, Bool, List, Option, Som
 use Rattle.std.specs.Prelude.{IsTrue, Ok}
 use Rattle.numa_lines.specs.Written.{Said}
 use Rattle.numa_lines.specs.declared.watched.Watched.{Watched}
+use Rattle.numa_machine.specs.Machine.{Hardware}
 use Rattle.numa_maps.specs.Residents.{Kept}
 use Rattle.numa_script.specs.Replies.{LacksMemory, fault_in}
 use Rattle.numa_script.specs.declared.line.Line.{Line}
 use Rattle.numa_script.specs.declared.line.Line.TheVariants as line
 use Rattle.numa_script.specs.declared.page_line.PageLine.TheVariants as page
-use Rattle.numa_run.specs.Judged.{fault_of}
-use Rattle.numa_run.specs.Replies.{Answer, Replied, bytes_of, outcome_of}
+use Rattle.numa_run.specs.Judged.{asked_fault, fault_of, fault_or}
+use Rattle.numa_run.specs.PageLines.{arrived_text}
+use Rattle.numa_run.specs.Replies.{Answer, Replied, Shown, bytes_of, outcome_of, reply_in}
 pub use Rattle.numa_run.specs.Standing.{IsCoreIn}
 use Rattle.numa_run.specs.Answers.{reply_of, after}
 use Rattle.numa_run.specs.Standing.{Stands}
 use Rattle.numa_run.specs.States.{State}
 use Rattle.numa_script.specs.declared.reply.Reply.{Reply}
+use Rattle.numa_script.specs.declared.reply.Reply.TheVariants as reply
 use Rattle.numa_run.specs.declared.running.Taken.{Taken}
 use Rattle.numa_run.specs.declared.running.Taken.TheVariants as taken
 use Rattle.numa_run.specs.declared.script.Script.{Script}
@@ -46,7 +49,16 @@ ScriptJudges old said fault new =
 
 -- ---- a line that is taken, and then answered or judged
 
--- what was taken is the reply that the definition says, or, where it says none, the line itself
+-- what pages that were touched did, once a machine is ready
+abbrev pub arrived_on : Option Hardware → State → Answer
+arrived_on None state = Replied reply.BadState
+arrived_on (Some machine) state = Shown (arrived_text state)
+
+abbrev pub arrived_answer : State → Answer
+arrived_answer state = arrived_on state.machine state
+
+-- what was taken is the reply that the definition says, or, where it says none, the line itself; of
+-- `populate` it is the answer, which the state after it tells
 abbrev pub IsTaken : Bool → State → Line → Taken → Type 0
 IsTaken refused state said (taken.Reply answer) = Some answer ≡ reply_of refused state said
 IsTaken refused state said (taken.Question asked) =
@@ -55,6 +67,12 @@ IsTaken refused state said (taken.Maps task) =
     (None ≡ reply_of refused state said) × (said ≡ line.Maps task)
 IsTaken refused state said taken.Moved =
     (None ≡ reply_of refused state said) × (said ≡ line.Pages (Ok page.Moved))
+IsTaken refused state said taken.Rooms =
+    (None ≡ reply_of refused state said) × (said ≡ line.Pages (Ok page.Rooms))
+IsTaken refused state said taken.Arrived =
+    (None ≡ reply_of refused state said)
+    × (arrived_answer (after refused state said) ≡ (outcome_of refused state said).answer)
+    × (None ≡ asked_fault refused state said)
 
 -- the line was carried out, and the state that the definition says is reached
 abbrev pub ScriptTakes : Script → Line → Taken → Script → Type 0
@@ -71,12 +89,17 @@ answer_left refused state (taken.Question asked) =
 answer_left refused state (taken.Maps task) = (outcome_of refused state (line.Maps task)).answer
 answer_left refused state taken.Moved =
     (outcome_of refused state (line.Pages (Ok page.Moved))).answer
+answer_left refused state taken.Rooms =
+    (outcome_of refused state (line.Pages (Ok page.Rooms))).answer
+answer_left refused state taken.Arrived = arrived_answer state
 
 abbrev pub fault_left : Bool → State → Taken → Option Reply
 fault_left refused state (taken.Reply answer) = fault_in answer
 fault_left refused state (taken.Question asked) = fault_of refused state (line.Question asked)
 fault_left refused state (taken.Maps task) = fault_of refused state (line.Maps task)
 fault_left refused state taken.Moved = fault_of refused state (line.Pages (Ok page.Moved))
+fault_left refused state taken.Rooms = fault_of refused state (line.Pages (Ok page.Rooms))
+fault_left refused state taken.Arrived = fault_or (reply_in (arrived_answer state)) None
 
 -- the answer was said, and nothing else changed; and whether it tells lack of memory
 abbrev pub ScriptWrites : {W : Type 0} → (W → Option (List ℕ)) → Script → Watched W → Taken → Bool

@@ -6,8 +6,11 @@ use Rattle.numa_core.specs.Standing.{CoreState, CoreStandsFor, setup_of}
 use Rattle.numa_script.specs.declared.line.Line.{Line}
 use Rattle.numa_script.specs.declared.line.Line.TheVariants as line
 use Rattle.numa_script.specs.declared.page_line.PageLine.TheVariants as page
-use Rattle.numa_run.specs.Answering.{Replied, Served}
+use Rattle.numa_run.specs.Answering.{Replied, Served, Shown}
 use Rattle.numa_run.specs.Answers.{reply_of, after}
+use Rattle.numa_run.specs.Judged.{asked_fault}
+use Rattle.numa_run.specs.PageLines.{answered_by, arrived_text}
+use Rattle.numa_run.specs.Replies.{outcome_of}
 use Rattle.numa_run.specs.States.{State}
 use Rattle.numa_run.specs.Work.{Outcome}
 use Rattle.numa_script.specs.declared.reply.Reply.{Reply}
@@ -57,6 +60,14 @@ Serves old answer new serve =
     → (refused : Bool) × ((serve refused old.core.space.machine state).answer ≡ Replied answer)
     × RunsAs new (serve refused old.core.space.machine state).state
 
+-- the same, where a line may have no reply and tell what it touched
+abbrev pub Changes : Running → Option Reply → Running → (Bool → Hardware → State → Served)
+    → Type 0
+Changes old told new serve = (state : State) → RunsAs old state
+    → (refused : Bool) × (reached : State)
+    × (serve refused old.core.space.machine state ≡ answered_by told reached)
+    × RunsAs new reached
+
 -- the line has the reply that the definition says, and the state that it says is reached
 abbrev pub Replies : Settings → Option Running → Line → Option Reply → Settings → Option Running
     → Type 0
@@ -65,8 +76,14 @@ Replies settings running said answer settings_then running_then =
     → (refused : Bool) × (answer ≡ reply_of refused state said)
     × Stands settings_then running_then (after refused state said)
 
--- the same where a machine is ready; a question and the lines `maps` and `moved` are passed on, and
--- change nothing
+-- what a line came to that has this reply, or none, and was carried out
+abbrev pub taken_by : Option Reply → Taken
+taken_by (Some answer) = taken.Reply answer
+taken_by None = taken.Arrived
+
+-- the same where a machine is ready; a question and the lines `maps`, `moved` and `room` alone are
+-- passed on, and change nothing. `populate` is carried out, and what it did is told of the state that
+-- is reached
 abbrev pub Takes : Running → Line → Taken → Running → Type 0
 Takes old said (taken.Reply answer) new =
     (state : State) → RunsAs old state
@@ -75,3 +92,9 @@ Takes old said (taken.Reply answer) new =
 Takes old said (taken.Question asked) new = (said ≡ line.Question asked) × (new ≡ old)
 Takes old said (taken.Maps task) new = (said ≡ line.Maps task) × (new ≡ old)
 Takes old said taken.Moved new = (said ≡ line.Pages (Ok page.Moved)) × (new ≡ old)
+Takes old said taken.Rooms new = (said ≡ line.Pages (Ok page.Rooms)) × (new ≡ old)
+Takes old said taken.Arrived new =
+    (state : State) → RunsAs old state
+    → (refused : Bool)
+    × (Shown (arrived_text (after refused state said)) ≡ (outcome_of refused state said).answer)
+    × (None ≡ asked_fault refused state said) × RunsAs new (after refused state said)

@@ -1,6 +1,7 @@
 //! Running scripts: from a line to its reply or its answer.
 #![tactic(auto)]
 
+mod arrived;
 mod binding;
 mod build;
 pub mod judging;

@@ -17,7 +17,7 @@ use numa_script::tell::say_moved_words;
 use std::io::Write;
 
 /// Writes a text and a number.
-fn say_number<W: Write>(output: &mut Watched<W>, text: &[u8], number: u64)
+pub(crate) fn say_number<W: Write>(output: &mut Watched<W>, text: &[u8], number: u64)
     ensures { Said W.contents output.old output.new (text.now ++ decimal number) }
 {
     output.say(text);

@@ -1,10 +1,10 @@
 //! Lines about pages that are there.
-ghost use Rattle.std.specs.Prelude.{◌≡◌, ◌≢◌, Bool, Ok};
+ghost use Rattle.std.specs.Prelude.{◌≡◌, ◌≢◌, Bool, Ok, Some};
 ghost use Rattle.numa_page_state.specs.Lying.{Lying, ground_in};
 ghost use Rattle.numa_page_state.specs.Standing.{DoesAs, LiesAs};
 ghost use Rattle.numa_run.specs.PageLines.{change_of, changed, lack_reply, migrate_reply};
-ghost use Rattle.numa_run.specs.PageLines.{move_reply, page_reply};
-ghost use Rattle.numa_run.specs.Standing.{Serves, Takes};
+ghost use Rattle.numa_run.specs.PageLines.{move_reply, page_reply, touch_reply};
+ghost use Rattle.numa_run.specs.Standing.{Changes, Takes, taken_by};
 ghost use Rattle.numa_script.specs.declared.line.Line.{Line};
 ghost use Rattle.numa_script.specs.declared.page_line.PageLine.{PageLine};
 
@@ -48,6 +48,16 @@ fn move_reply(node: u32, done: Result<(), MoveRefusal>) -> Reply
     }
 }
 
+/// The reply to `populate`, if it is refused.
+fn touch_reply(done: Result<(), PlacedRefusal>) -> Option<Reply>
+    ensures { result ≡ touch_reply done }
+{
+    match done {
+        Ok(()) => None,
+        Err(why) => Some(Reply::PlacedRefused(why)),
+    }
+}
+
 /// The reply to a line about pages for which there is no memory.
 fn lack_reply(line: &PageLine) -> Reply
     ensures { result ≡ lack_reply line.now }
@@ -58,10 +68,17 @@ fn lack_reply(line: &PageLine) -> Reply
     }
 }
 
-/// Carries out a line that changes where pages lie, or how they move.
-fn change(kept: &mut PageState, space: &Space, resident: &Resident, line: &PageLine) -> Reply
-    requires { line.now ≢ PageLine.Moved }
-    ensures { DoesAs kept.old result kept.new (lack_reply line.now)
+/// Carries out a line that changes where pages lie, or how they move. What `populate` did is no
+/// reply.
+fn change(
+    kept: &mut PageState,
+    space: &Space,
+    resident: &Resident,
+    line: &PageLine,
+) -> Option<Reply>
+    requires moved { line.now ≢ PageLine.Moved }
+    requires rooms { line.now ≢ PageLine.Rooms }
+    ensures { DoesAs kept.old result kept.new (Some (lack_reply line.now))
         (λ refused at. change_of refused (ground_in space.now resident.now) line.now at) }
 {
     match line {
@@ -69,34 +86,57 @@ fn change(kept: &mut PageState, space: &Space, resident: &Resident, line: &PageL
             start,
             length,
             node,
-        } => page_reply(
+        } => Some(page_reply(
             Reply::AtOk,
             kept.at(space, resident, *start, *length, *node),
-        ),
-        PageLine::Room { node, pages } => {
-            page_reply(Reply::RoomOk, kept.limit(space, *node, *pages))
-        }
+        )),
+        PageLine::Room { node, pages } => Some(page_reply(
+            Reply::RoomOk,
+            kept.limit(space, *node, *pages),
+        )),
         PageLine::MemoryMigrate(follows) => {
             kept.set_follows(*follows);
-            Reply::MemoryMigrateOk
+            Some(Reply::MemoryMigrateOk)
         }
-        PageLine::Migrate { from, to } => migrate_reply(kept.migrate(space, resident, from, to)),
-        PageLine::Move { address, node } => {
-            move_reply(*node, kept.move_page(space, resident, *address, *node))
+        PageLine::Migrate { from, to } => {
+            Some(migrate_reply(kept.migrate(space, resident, from, to)))
         }
+        PageLine::Move { address, node } => Some(move_reply(
+            *node,
+            kept.move_page(space, resident, *address, *node),
+        )),
+        PageLine::Populate {
+            start,
+            length,
+            task,
+            cpu,
+        } => touch_reply(kept.populate(space, resident, *start, *length, *task, *cpu)),
+        PageLine::Rooms => unreachable!(),
         PageLine::Moved => unreachable!(),
     }
 }
 
+/// What a line came to that has this reply, or none, and was carried out.
+fn taken_by(told: Option<Reply>) -> Taken
+    ensures { result ≡ taken_by told }
+{
+    match told {
+        Some(reply) => Taken::Reply(reply),
+        None => Taken::Arrived,
+    }
+}
+
 impl Running {
-    /// Carries out a line that changes where pages lie, or how they move.
-    fn change(&mut self, alloc: Global, line: &PageLine) -> Reply
-        requires { line.now ≢ PageLine.Moved }
-        ensures { Serves self.old result self.new (λ refused machine state.
+    /// Carries out a line that changes where pages lie, or how they move. What `populate` did is no
+    /// reply.
+    fn change(&mut self, alloc: Global, line: &PageLine) -> Option<Reply>
+        requires moved { line.now ≢ PageLine.Moved }
+        requires rooms { line.now ≢ PageLine.Rooms }
+        ensures { Changes self.old result self.new (λ refused machine state.
             changed refused machine state line.now) }
     {
         if begins_starved(alloc, &mut self.pages) {
-            return lack_reply(line);
+            return Some(lack_reply(line));
         }
         let Some(kept) = &mut self.pages else {
             unreachable!()
@@ -104,15 +144,16 @@ impl Running {
         change(kept, self.core.space(), &self.resident, line)
     }
 
-    /// Carries out a line about pages, or tells what is wrong with its list. What `moved` tells is
-    /// still to be written.
+    /// Carries out a line about pages, or tells what is wrong with its list. What `moved`, `room`
+    /// alone and a `populate` that isn't refused tell is still to be written.
     #[inline(never)]
     pub(crate) fn page(&mut self, alloc: Global, said: &Result<PageLine, ListFault>) -> Taken
         ensures { Takes self.old (Line.Pages said.now) result self.new }
     {
         match said {
             Ok(PageLine::Moved) => Taken::Moved,
-            Ok(line) => Taken::Reply(self.change(alloc, line)),
+            Ok(PageLine::Rooms) => Taken::Rooms,
+            Ok(line) => taken_by(self.change(alloc, line)),
             Err(fault) => Taken::Reply(Reply::BadWord(WordError::List(*fault))),
         }
     }

@@ -9,15 +9,21 @@ ghost use Rattle.numa_run.specs.Answers.{State};
 ghost use Rattle.numa_run.specs.Judged.{question_cause};
 ghost use Rattle.numa_run.specs.Questions.{question_text};
 ghost use Rattle.numa_run.specs.Listings.{there_listing};
+ghost use Rattle.numa_placed.specs.Shifts.{AreRooms};
+ghost use Rattle.numa_page_state.specs.Lying.{Lying};
+ghost use Rattle.numa_page_state.specs.Outcomes.{rooms_of};
+ghost use Rattle.numa_page_state.specs.Standing.{Lies};
+ghost use Rattle.numa_run.specs.ArrivedTexts.{rooms_line};
 ghost use Rattle.numa_run.specs.MovedTexts.{last_line};
 ghost use Rattle.numa_run.specs.Obeying.{bind_nothing, command_outcome};
-ghost use Rattle.numa_run.specs.PageLines.{work_served};
+ghost use Rattle.numa_run.specs.PageLines.{arrived_text, work_served};
 ghost use Rattle.numa_run.specs.Standing.{Does, RunsAs, Serves, Takes};
 ghost use Rattle.numa_run.specs.States.{process_on};
 ghost use Rattle.numa_run.specs.Work.{kept_outcome, release_outcome, touch_outcome};
 ghost use Rattle.numa_run.specs.Work.{won_by};
 ghost use Rattle.numa_script.specs.Replies.{reply_to};
 
+use crate::arrived::{say_arrived, say_rooms};
 use crate::judging::{cause_at, refusal_by_plan};
 use crate::listing::say_there;
 use crate::moved::{say_last, say_told};
@@ -26,7 +32,9 @@ use numa_core::Core;
 use numa_lines::Watched;
 use numa_maps::{RecordRefusal, Resident};
 use numa_page_state::PageState;
+use numa_page_state::arrived::untouched;
 use numa_page_state::state::{is_there, still};
+use numa_placed::Rooms;
 use numa_requests::{CoreRefusal, CoreReply, Event, Placement, Request};
 use numa_script::commands::empty_bind;
 use numa_script::tell::{say_ranges, say_starved};
@@ -87,6 +95,19 @@ fn answered_by_space<W: Write>(core: &mut Core, question: Question, output: &mut
     true
 }
 
+/// How many more pages each node takes.
+fn rooms_in(pages: &Option<PageState>) -> Rooms
+    ensures { (lying : Lying) → Lies pages.now lying → AreRooms result (rooms_of lying.room) }
+{
+    let Some(kept) = pages else {
+        return Rooms::endless();
+    };
+    match kept.rooms() {
+        Some(rooms) => *rooms,
+        None => Rooms::endless(),
+    }
+}
+
 /// What a line came to: it has been carried out, or its answer shows what is.
 #[derive(Drop)]
 pub enum Taken {
@@ -98,6 +119,10 @@ pub enum Taken {
     Maps(u32),
     /// What the last move did is still to be told.
     Moved,
+    /// How many more pages nodes take is still to be told.
+    Rooms,
+    /// Pages were touched, and what came of it is still to be told.
+    Arrived,
 }
 
 /// A running machine: its core, which keeps the plan that answers questions, the placed pages, and
@@ -251,6 +276,28 @@ impl Running {
         }
     }
 
+    /// Writes how many more pages nodes take.
+    #[inline(never)]
+    pub fn tell_rooms<W: Write>(&self, output: &mut Watched<W>)
+        ensures { (state : State) → RunsAs self.now state
+            → Said W.contents output.old output.new (rooms_line (rooms_of state.lying.room)) }
+    {
+        say_rooms(output, &rooms_in(&self.pages));
+    }
+
+    /// Writes what the last first touches did.
+    #[inline(never)]
+    pub fn tell_arrived<W: Write>(&self, output: &mut Watched<W>)
+        ensures { (state : State) → RunsAs self.now state
+            → Said W.contents output.old output.new (arrived_text state) }
+    {
+        let version = self.core.space().version();
+        match &self.pages {
+            Some(kept) => say_arrived(output, version, kept.arrived()),
+            None => say_arrived(output, version, &untouched()),
+        }
+    }
+
     /// Carries out an `mbind` of length 0 whose mode, flag and nodes are refused together.
     fn bind_nothing(&mut self, start: u64, fault: WordError) -> Reply
         ensures { Serves self.old result self.new (λ refused machine state.
@@ -262,7 +309,8 @@ impl Running {
         Reply::BadWord(fault)
     }
 
-    /// Carries out a line. The answer to a question, `maps` or `moved` is still to be written.
+    /// Carries out a line. The answer to a question, `maps`, `moved`, `room` alone or a `populate`
+    /// that isn't refused is still to be written.
     #[inline(always)]
     pub fn take(&mut self, alloc: Global, line: &Line<'_>) -> Taken
         ensures { Takes self.old line.now result self.new }

@@ -1,5 +1,7 @@
 //! Running scripts.
-ghost use Rattle.std.specs.Prelude.{◌≡◌, ℕ, Option, None, Some, Ok, MatchOption, false};
+ghost use Rattle.std.specs.Prelude.{◌≡◌, ◌⊎◌, ℕ, Option, None, Some, Ok, MatchOption, false};
+ghost use Rattle.numa_page_state.specs.Lying.{nothing};
+ghost use Rattle.numa_page_state.specs.Standing.{LiesAs};
 ghost use Rattle.numa_run.specs.Answers.{State, own_line, start, start_by};
 ghost use Rattle.numa_run.specs.Scripts.{IsCoreIn, IsResidentIn, ScriptJudges, ScriptReplies};
 ghost use Rattle.numa_run.specs.Scripts.{ScriptStandsFor, ScriptTakes, ScriptTells, ScriptWrites};
@@ -13,6 +15,7 @@ use numa_lines::{Serve, Watched};
 use numa_machine::{MachineFault, Rules};
 use numa_maps::Resident;
 use numa_mask::{ListFault, NodeMask};
+use numa_page_state::PageState;
 use numa_requests::Limits;
 use numa_script::line::parse;
 use numa_script::tell::say_reply;
@@ -25,10 +28,20 @@ const WORKERS: u32 = 4;
 
 /// A running script: the limits, the rules and the nodes with CPUs of the machine to come, and the
 /// machine once it is ready.
-#[derive(Drop)]
 pub struct Script {
     pub(crate) settings: Settings,
     pub(crate) running: Option<Running>,
+}
+
+// (By hand, so that it is proved here alone: a derived one is proved in each crate that drops.)
+impl Drop for Script {
+    fn drop(self) {
+        let Script {
+            settings: _,
+            running,
+        } = self;
+        drop(running);
+    }
 }
 
 impl Script {
@@ -72,6 +85,17 @@ impl Script {
         Some(&running.resident)
     }
 
+    /// Where pages without a frame lie, once a line says so of one; before, all lie nowhere, and no
+    /// node fills.
+    pub fn pages(&self) -> Option<&PageState>
+        ensures { (state : State) → ScriptStandsFor self.now state
+            → MatchOption result ((state.machine ≡ None) ⊎ (state.lying ≡ nothing))
+            (λ pages. LiesAs pages.now state.lying) }
+    {
+        let running = self.running.as_ref()?;
+        running.pages.as_ref()
+    }
+
     /// Carries out a line. Its answer is still to be written ([`Script::write`]) or judged
     /// ([`Script::fault`]).
     #[inline(always)]
@@ -113,6 +137,14 @@ impl Script {
             }
             Taken::Moved => {
                 self.tell_last(output);
+                false
+            }
+            Taken::Rooms => {
+                self.tell_rooms(output);
+                false
+            }
+            Taken::Arrived => {
+                self.tell_arrived(output);
                 false
             }
         }
@@ -160,6 +192,30 @@ impl Script {
         running.tell_last(output);
     }
 
+    /// Writes how many more pages nodes take.
+    fn tell_rooms<W: Write>(&self, output: &mut Watched<W>)
+        ensures { ScriptWrites W.contents self.now output.old Taken.Rooms false
+            self.now output.new }
+    {
+        let Some(running) = &self.running else {
+            say_reply(output, &Reply::BadState);
+            return;
+        };
+        running.tell_rooms(output);
+    }
+
+    /// Writes what the last first touches did.
+    fn tell_arrived<W: Write>(&self, output: &mut Watched<W>)
+        ensures { ScriptWrites W.contents self.now output.old Taken.Arrived false
+            self.now output.new }
+    {
+        let Some(running) = &self.running else {
+            say_reply(output, &Reply::BadState);
+            return;
+        };
+        running.tell_arrived(output);
+    }
+
     /// The error or the refusal of a line that was taken; `None` if its answer is neither. A
     /// question is judged and not answered.
     pub fn fault(&mut self, taken: Taken) -> Option<Reply>
@@ -170,6 +226,8 @@ impl Script {
             Taken::Question(question) => self.question_fault(question),
             Taken::Maps(_) => self.text_fault(),
             Taken::Moved => self.text_fault(),
+            Taken::Rooms => self.text_fault(),
+            Taken::Arrived => self.text_fault(),
         }
     }
 
@@ -190,6 +248,8 @@ impl Script {
     fn text_fault(&self) -> Option<Reply>
         ensures maps { (task : ℕ) → ScriptTells self.now (Taken.Maps task) result self.now }
         ensures moved { ScriptTells self.now Taken.Moved result self.now }
+        ensures rooms { ScriptTells self.now Taken.Rooms result self.now }
+        ensures arrived { ScriptTells self.now Taken.Arrived result self.now }
     {
         match &self.running {
             Some(_) => None,
@@ -197,8 +257,9 @@ impl Script {
         }
     }
 
-    /// Carries out a line and returns its reply. A question to a ready machine and lines `maps` and
-    /// `moved` have none, and change nothing: their answers are texts, which `serve` writes.
+    /// Carries out a line and returns its reply. A question to a ready machine and lines `maps`,
+    /// `moved` and `room` alone have none, and change nothing; nor has a `populate` that isn't
+    /// refused. Their answers are texts, which `serve` writes.
     pub fn reply(&mut self, alloc: Global, line: &Line<'_>) -> Option<Reply>
         ensures { ScriptReplies self.old line.now result self.new }
     {
@@ -207,6 +268,8 @@ impl Script {
             Taken::Question(_) => None,
             Taken::Maps(_) => None,
             Taken::Moved => None,
+            Taken::Rooms => None,
+            Taken::Arrived => None,
         }
     }
 

@@ -64,11 +64,13 @@ numbers_of keyword.Give words e = refl
 numbers_of keyword.Touch words e = refl
 numbers_of keyword.Release words e = refl
 numbers_of keyword.At words e = refl
-numbers_of keyword.Room words e = refl
+numbers_of keyword.Room [] e = refl
+numbers_of keyword.Room (word ∷ words) e = refl
 numbers_of keyword.MemoryMigrate words e = cc
 numbers_of keyword.Migrate words e = cc
 numbers_of keyword.Move words e = refl
 numbers_of keyword.Moved words e = refl
+numbers_of keyword.Populate words e = refl
 numbers_of keyword.Host words e = refl
 numbers_of keyword.Group words e = refl
 numbers_of keyword.GroupMems words e = cc
@@ -110,6 +112,7 @@ not_in keyword.MemoryMigrate e = cc
 not_in keyword.Migrate e = cc
 not_in keyword.Move e = refl
 not_in keyword.Moved e = refl
+not_in keyword.Populate e = refl
 not_in keyword.Host e = refl
 not_in keyword.Group e = refl
 not_in keyword.GroupMems e = cc
@@ -238,7 +241,7 @@ no_keyword : keyword_of [] ≡ None
 unfolding keyword_of
 no_keyword = refl
 
-begun_empty : (words : List (List ℕ)) (it : Keyword × List (List ℕ)) → begun words ≡ Some it
+pub begun_empty : (words : List (List ℕ)) (it : Keyword × List (List ℕ)) → begun words ≡ Some it
     → any_empty words ≡ any_empty it.1
 begun_empty [] it some = cc
 begun_empty ([] ∷ rest) it some = by_keyword (keyword_of []) no_keyword some

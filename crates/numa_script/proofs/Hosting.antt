@@ -9,7 +9,8 @@ use Rattle.numa_script.specs.HostLines.{attach_line, exit_line, fork_line, group
 use Rattle.numa_script.specs.HostLines.{group_mems_line, group_nodes, host_line, own_nodes}
 use Rattle.numa_script.specs.HostLines.{process_line}
 use Rattle.numa_script.specs.PageLines.{at_line, between, memory_migrate_line, migrate_line}
-use Rattle.numa_script.specs.PageLines.{move_line, moved_line, room_line, switch_of}
+use Rattle.numa_script.specs.PageLines.{move_line, moved_line, populate_line, room_line}
+use Rattle.numa_script.specs.PageLines.{switch_of}
 use Rattle.std.specs.Str.{bytes_eq}
 use Rattle.numa_script.specs.Numbers.{number_of, small_of}
 use Rattle.numa_script.proofs.Misfits.{small, any_number, readable}
@@ -50,7 +51,7 @@ says_at c (a ∷ b ∷ d ∷ e ∷ words) = too_many keyword.At c (a ∷ b ∷ d
 
 pub says_room : (c : ℕ) (words : List (List ℕ)) → is_some (fault_behind keyword.Room c words)
     ≡ said (room_line words)
-says_room c [] = too_few keyword.Room c [] (omega arith)
+says_room c [] = enough keyword.Room c [] refl
 says_room c (a ∷ []) = too_few keyword.Room c (a ∷ []) (omega arith)
 says_room c (a ∷ b ∷ []) =
     enough keyword.Room c (a ∷ b ∷ []) refl
@@ -91,6 +92,20 @@ pub says_moved : (c : ℕ) (words : List (List ℕ)) → is_some (fault_behind k
 says_moved c [] =
     enough keyword.Moved c [] refl
 says_moved c (a ∷ words) = too_many keyword.Moved c (a ∷ words) (omega arith)
+
+pub says_populate : (c : ℕ) (words : List (List ℕ))
+    → is_some (fault_behind keyword.Populate c words) ≡ said (populate_line words)
+says_populate c [] = too_few keyword.Populate c [] (omega arith)
+says_populate c (a ∷ []) = too_few keyword.Populate c (a ∷ []) (omega arith)
+says_populate c (a ∷ b ∷ []) = too_few keyword.Populate c (a ∷ b ∷ []) (omega arith)
+says_populate c (a ∷ b ∷ d ∷ []) = too_few keyword.Populate c (a ∷ b ∷ d ∷ []) (omega arith)
+says_populate c (a ∷ b ∷ d ∷ e ∷ []) =
+    enough keyword.Populate c (a ∷ b ∷ d ∷ e ∷ []) refl
+    ∙ quadruple (λ v. line.Pages (Ok (pages.Populate v.0 v.1 v.2 v.3))) _ _ _ _
+    (number_of a) (number_of b) (small_of d) (small_of e) (λ v. refl) (any_number a) (any_number b)
+    (small d) (small e)
+says_populate c (a ∷ b ∷ d ∷ e ∷ f ∷ words) =
+    too_many keyword.Populate c (a ∷ b ∷ d ∷ e ∷ f ∷ words) (omega arith)
 
 pub says_host : (c : ℕ) (words : List (List ℕ)) → is_some (fault_behind keyword.Host c words)
     ≡ said (host_line words)

@@ -3,9 +3,11 @@ pub mod Counts
 pub mod Eaches
 pub mod EmptyNumbers
 pub mod EmptyWords
+pub mod Gaps
 pub mod Malformations
 pub mod Misfits
 pub mod Numerals
+pub mod PlainForms
 pub mod Seeing
 pub mod Spaces
 pub mod Worked

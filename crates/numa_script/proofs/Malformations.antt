@@ -31,7 +31,8 @@ use Rattle.numa_script.proofs.Telling.{says_ranges, says_release, says_rules, sa
 use Rattle.numa_script.proofs.Telling.{says_touch, says_try, says_unmap, says_weight}
 use Rattle.numa_script.proofs.Hosting.{says_at, says_attach, says_exit, says_fork, says_group}
 use Rattle.numa_script.proofs.Hosting.{says_group_mems, says_host, says_memory_migrate}
-use Rattle.numa_script.proofs.Hosting.{says_migrate, says_move, says_moved, says_process, says_room}
+use Rattle.numa_script.proofs.Hosting.{says_migrate, says_move, says_moved, says_populate}
+use Rattle.numa_script.proofs.Hosting.{says_process, says_room}
 
 -- a line of a keyword
 pub says : (k : Keyword) (c : ℕ) (words : List (List ℕ)) → is_in k ≡ false
@@ -66,6 +67,7 @@ says keyword.MemoryMigrate c words other = says_memory_migrate c words
 says keyword.Migrate c words other = says_migrate c words
 says keyword.Move c words other = says_move c words
 says keyword.Moved c words other = says_moved c words
+says keyword.Populate c words other = says_populate c words
 says keyword.Host c words other = says_host c words
 says keyword.Group c words other = says_group c words
 says keyword.GroupMems c words other = says_group_mems c words
@@ -107,6 +109,7 @@ told_not_in keyword.MemoryMigrate e = cc
 told_not_in keyword.Migrate e = refl
 told_not_in keyword.Move e = refl
 told_not_in keyword.Moved e = refl
+told_not_in keyword.Populate e = refl
 told_not_in keyword.Host e = cc
 told_not_in keyword.Group e = cc
 told_not_in keyword.GroupMems e = cc

@@ -155,6 +155,19 @@ room_for_pages : line_of (codes "room 1 512") ≡ alone (line.Pages (Ok (page.Ro
 unfolding line_of keyword_of number_of numeral_of in_64_bits
 room_for_pages = refl
 
+rooms_for_pages : line_of (codes "room") ≡ alone (line.Pages (Ok page.Rooms))
+unfolding line_of keyword_of number_of numeral_of in_64_bits
+rooms_for_pages = refl
+
+room_on_no_node : line_of (codes "room 512") ≡ alone line.Malformed
+unfolding line_of keyword_of number_of numeral_of in_64_bits
+room_on_no_node = refl
+
+touching_pages : line_of (codes "populate 0x10000 0x2000 7 1")
+    ≡ alone (line.Pages (Ok (page.Populate 65536 8192 7 1)))
+unfolding line_of keyword_of number_of numeral_of in_64_bits
+touching_pages = refl
+
 following : line_of (codes "memory-migrate on") ≡ alone (line.Pages (Ok (page.MemoryMigrate true)))
 unfolding line_of keyword_of number_of numeral_of in_64_bits
 following = refl

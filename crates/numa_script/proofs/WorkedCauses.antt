@@ -114,6 +114,27 @@ too_many-behind_strict : fault_of (codes "mbind 0 1 default strict 7")
 unfolding fault_of keyword_of
 too_many-behind_strict = refl
 
+-- ---- pages that are there
+
+room-lacks_pages : fault_of (codes "room 0")
+    ≡ Some (record { cause = cause.TooFewWords keyword.Room; column = 8 })
+unfolding fault_of keyword_of
+room-lacks_pages = refl
+
+too_many-behind_room : fault_of (codes "room 0 1 2")
+    ≡ Some (record { cause = cause.TooManyWords keyword.Room; column = 10 })
+unfolding fault_of keyword_of
+too_many-behind_room = refl
+
+rooms : fault_of (codes "room") ≡ None
+unfolding fault_of keyword_of
+rooms = refl
+
+nobody_touches_pages : fault_of (codes "populate 0 4096 1")
+    ≡ Some (record { cause = cause.TooFewWords keyword.Populate; column = 19 })
+unfolding fault_of keyword_of
+nobody_touches_pages = refl
+
 -- ---- what a process is told
 
 nobody_is_told : fault_of (codes "in 3")

@@ -63,6 +63,8 @@ parameters_of keyword.MemoryMigrate = parameter.Switch ∷ []
 parameters_of keyword.Migrate = parameter.FromList ∷ parameter.ToList ∷ []
 parameters_of keyword.Move = parameter.Address ∷ parameter.Node ∷ []
 parameters_of keyword.Moved = []
+parameters_of keyword.Populate =
+    parameter.Start ∷ parameter.Length ∷ parameter.Task ∷ parameter.Cpu ∷ []
 parameters_of keyword.Host = []
 parameters_of keyword.Group = parameter.Group ∷ parameter.Parent ∷ []
 parameters_of keyword.GroupMems = parameter.Group ∷ parameter.List ∷ []
@@ -88,10 +90,16 @@ behind_policy (word ∷ words) =
     else if bytes_eq word (codes "move") then moving_words
     else []
 
+-- a node and its pages, or nothing
+abbrev pub behind_room : List (List ℕ) → List Parameter
+behind_room [] = []
+behind_room (word ∷ words) = parameters_of keyword.Room
+
 -- the words that there should be, of which these are
 abbrev pub wanted_of : Keyword → List (List ℕ) → List Parameter
 wanted_of keyword.Mbind words = parameter.Start ∷ parameter.Length ∷ parameter.Policy
     ∷ behind_policy (drop 3 words)
+wanted_of keyword.Room words = behind_room words
 wanted_of k words = parameters_of k
 
 -- what each has to be: a number has a greatest, and for lists and policies anything may stand there

@@ -3,7 +3,6 @@ use Rattle.std.specs.Prelude.{ℕ, ◌==◌, ◌&&◌, Bool, true, false, List, 
 use Rattle.std.specs.Prelude.{nat_lt}
 use Rattle.std.specs.Prelude.{if◌then◌else◌, Option, Some, None, Result, Ok, Err, unwrap_or}
 use Rattle.std.specs.Prelude.{option_and_then}
-use Rattle.std.specs.List.{list_any}
 use Rattle.std.specs.Option.{option_map}
 use Rattle.std.specs.Str.{bytes_eq}
 use Rattle.numa_mask.specs.Lists.{list_of}
@@ -14,8 +13,9 @@ use Rattle.numa_mode.specs.declared.modes.NodeFlag.TheVariants as flag
 use Rattle.numa_requests.specs.declared.command.Command.{Command}
 use Rattle.numa_requests.specs.declared.command.Command.TheVariants as command
 use Rattle.numa_script.specs.Parts.{words_of}
+use Rattle.numa_script.specs.Words.{any_empty}
 use Rattle.numa_script.specs.Present.{with_two, with_three, two_of, three_of}
-use Rattle.numa_script.specs.Present.{four_of, two_words, three_words, four_words}
+use Rattle.numa_script.specs.Present.{four_of, two_words, four_words}
 use Rattle.numa_script.specs.Numbers.{number_of, small_of, few_of}
 use Rattle.numa_script.specs.Machines.{frames_of, distances_of, rules_of, has_kernel_orders}
 use Rattle.numa_script.specs.Policies.{policy_of, waits_for_pages}
@@ -24,7 +24,7 @@ use Rattle.numa_script.specs.Workers.{touch_work, release_work}
 use Rattle.numa_script.specs.HostLines.{attach_line, exit_line, fork_line, group_line, host_line}
 use Rattle.numa_script.specs.HostLines.{group_mems_line, process_line}
 use Rattle.numa_script.specs.PageLines.{at_line, memory_migrate_line, migrate_line, move_line}
-use Rattle.numa_script.specs.PageLines.{moved_line, room_line}
+use Rattle.numa_script.specs.PageLines.{moved_line, populate_line, room_line}
 use Rattle.numa_script.specs.declared.policy.WordError.{WordError}
 use Rattle.numa_script.specs.declared.policy.WordError.TheVariants as fault
 use Rattle.numa_script.specs.declared.keyword.Keyword.{Keyword}
@@ -70,6 +70,7 @@ first_word_of keyword.MemoryMigrate = codes "memory-migrate"
 first_word_of keyword.Migrate = codes "migrate"
 first_word_of keyword.Move = codes "move"
 first_word_of keyword.Moved = codes "moved"
+first_word_of keyword.Populate = codes "populate"
 first_word_of keyword.Host = codes "host"
 first_word_of keyword.Group = codes "cgroup"
 first_word_of keyword.GroupMems = codes "cgroup-mems"
@@ -101,6 +102,7 @@ keywords_of letters =
     else if letters == 7 then
     keyword.Publish ∷ keyword.Release ∷ keyword.Machine ∷ keyword.Inherit ∷ keyword.Process
     ∷ keyword.Migrate ∷ []
+    else if letters == 8 then keyword.Populate ∷ []
     else if letters == 11 then keyword.GroupMems ∷ []
     else if letters == 14 then keyword.MemoryMigrate ∷ []
     else []
@@ -297,6 +299,7 @@ line_after keyword.MemoryMigrate words = memory_migrate_line words
 line_after keyword.Migrate words = migrate_line words
 line_after keyword.Move words = move_line words
 line_after keyword.Moved words = moved_line words
+line_after keyword.Populate words = populate_line words
 line_after keyword.Host words = host_line words
 line_after keyword.Group words = group_line words
 line_after keyword.GroupMems words = group_mems_line words
@@ -305,6 +308,16 @@ line_after keyword.Exit words = exit_line words
 line_after keyword.Attach words = attach_line words
 line_after keyword.Fork words = fork_line words
 line_after keyword.In words = None
+
+-- keywords whose lines come most often
+abbrev pub is_common : Keyword → Bool
+is_common keyword.Place = true
+is_common keyword.Span = true
+is_common keyword.Counts = true
+is_common keyword.Mbind = true
+is_common keyword.Touch = true
+is_common keyword.Release = true
+is_common _ = false
 
 -- ---- lines
 
@@ -380,7 +393,7 @@ is_silent (b ∷ bs) = b == 35
 
 -- a word of the line has no byte: there are two spaces in a row, or one at an end
 abbrev pub has_empty_word : List ℕ → Bool
-has_empty_word bytes = list_any (λ word. length word == 0) (words_of bytes)
+has_empty_word bytes = any_empty (words_of bytes)
 
 -- what a line says, whatever its length: more than 4,096 bytes say nothing that is understood, and
 -- neither do words of which one is empty

@@ -6,7 +6,7 @@ use Rattle.std.specs.Str.{bytes_eq}
 use Rattle.numa_mask.specs.Lists.{list_of}
 use Rattle.numa_mask.specs.declared.list.ListFault.{ListFault}
 use Rattle.numa_script.specs.Numbers.{number_of, small_of}
-use Rattle.numa_script.specs.Present.{three_of, two_of}
+use Rattle.numa_script.specs.Present.{four_of, three_of, two_of}
 use Rattle.numa_script.specs.declared.line.Line.{Line}
 use Rattle.numa_script.specs.declared.line.Line.TheVariants as line
 use Rattle.numa_script.specs.declared.page_line.PageLine.TheVariants as page
@@ -16,10 +16,11 @@ abbrev pub at_line : List (List ℕ) → Option Line
 at_line words = option_map (λ v. line.Pages (Ok (page.At v.0 v.1 v.2)))
     (three_of number_of number_of small_of words)
 
--- room NODE PAGES
+-- room NODE PAGES, room
 abbrev pub room_line : List (List ℕ) → Option Line
-room_line words = option_map (λ v. line.Pages (Ok (page.Room v.0 v.1)))
-    (two_of small_of number_of words)
+room_line [] = Some (line.Pages (Ok page.Rooms))
+room_line (word ∷ words) = option_map (λ v. line.Pages (Ok (page.Room v.0 v.1)))
+    (two_of small_of number_of (word ∷ words))
 
 -- on, off
 abbrev pub switch_of : List ℕ → Option Bool
@@ -47,6 +48,11 @@ migrate_line _ = None
 abbrev pub move_line : List (List ℕ) → Option Line
 move_line words = option_map (λ v. line.Pages (Ok (page.Move v.0 v.1)))
     (two_of number_of small_of words)
+
+-- populate START LENGTH TASK CPU
+abbrev pub populate_line : List (List ℕ) → Option Line
+populate_line words = option_map (λ v. line.Pages (Ok (page.Populate v.0 v.1 v.2 v.3)))
+    (four_of number_of number_of small_of small_of words)
 
 -- moved
 abbrev pub moved_line : List (List ℕ) → Option Line

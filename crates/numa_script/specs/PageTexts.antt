@@ -14,6 +14,9 @@ placed_cause cause.NoSuchNode = codes "NoSuchNode EINVAL"
 placed_cause cause.Occupied = codes "Occupied EEXIST"
 placed_cause cause.NodesNotAllowed = codes "NodesNotAllowed EINVAL"
 placed_cause cause.Astray = codes "Astray EIO"
+placed_cause cause.BadCpu = codes "BadCpu EINVAL"
+placed_cause cause.Unmapped = codes "Unmapped ENOMEM"
+placed_cause cause.NoRoom = codes "NoRoom ENOMEM"
 placed_cause cause.TooManyRuns = codes "TooManyRuns ENOMEM"
 placed_cause cause.NoMemory = codes "NoMemory ENOMEM"
 
@@ -36,6 +39,11 @@ moved_words moved left = codes "moved " ++ decimal moved ++ codes " left " ++ de
 abbrev pub late_words : Bool → List ℕ
 late_words true = codes " EIO"
 late_words false = []
+
+-- `placed 3 exhausted 0`
+abbrev pub placed_words : ℕ → ℕ → List ℕ
+placed_words placed exhausted =
+    codes "placed " ++ decimal placed ++ codes " exhausted " ++ decimal exhausted
 
 -- `ok 4 moved 5 left 1`
 abbrev pub sent_text : ℕ → ℕ → ℕ → Bool → List ℕ

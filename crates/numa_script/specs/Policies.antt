@@ -36,6 +36,10 @@ mode_names =
 unfoldable pub mode_of : List ℕ → Option Mode
 mode_of name = meaning_of mode_names name
 
+-- a mode without flags
+abbrev pub plain_form : Mode → PolicyForm
+plain_form m = record { mode = m; is_static = false; is_relative = false }
+
 -- the mode of a name, with these flags
 abbrev pub form_with : Bool → Bool → List ℕ → Option PolicyForm
 form_with static relative name =

@@ -1,5 +1,5 @@
 //! Lines of commands that have a policy or a list of nodes.
-ghost use Rattle.std.specs.Prelude.{◌≡◌, Err};
+ghost use Rattle.std.specs.Prelude.{◌≡◌, Err, is_some, unwrap_or};
 ghost use Rattle.numa_script.specs.Lines.{bind_line, bound_line, empty_bind, mbind_line};
 ghost use Rattle.numa_script.specs.Lines.{mems_line, task_line};
 
@@ -75,8 +75,10 @@ fn bound<'a>(
 }
 
 /// `mbind START LENGTH POLICY`, and what follows the policy: `strict`, `move TASK CPU`, or both.
-pub(crate) fn mbind(mut words: Words) -> Option<Line>
-    ensures { result ≡ mbind_line words.entry }
+#[inline(always)]
+pub(crate) fn mbind(mut words: Words, said: &mut Line) -> Option<()>
+    ensures said { said.new ≡ unwrap_or (mbind_line words.entry) said.old }
+    ensures is { is_some result ≡ is_some (mbind_line words.entry) }
 {
     let start = words.next()?;
     let length = words.next()?;
@@ -84,7 +86,8 @@ pub(crate) fn mbind(mut words: Words) -> Option<Line>
     let start = number(start)?;
     let length = number(length)?;
     let pages = pages_said(words)?;
-    Some(bound(pages, start, length, read_policy(policy)))
+    *said = bound(pages, start, length, read_policy(policy));
+    Some(())
 }
 
 /// `task TASK POLICY`

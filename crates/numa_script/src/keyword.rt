@@ -2,7 +2,7 @@
 ghost use Rattle.std.specs.Prelude.{◌≡◌, ℕ, Option, Some, List, length};
 ghost use Rattle.std.specs.Str.{bytes_eq};
 ghost use Rattle.numa_script.specs.Lines.{first_word_of, is_in, keyword_among, keyword_of};
-ghost use Rattle.numa_script.specs.Lines.{keywords_of, later_of_four};
+ghost use Rattle.numa_script.specs.Lines.{keywords_of, later_of_four, takes_texts};
 
 use Keyword::*;
 
@@ -69,6 +69,8 @@ pub enum Keyword {
     Move,
     /// `moved`
     Moved,
+    /// `populate`
+    Populate,
     /// `host`
     Host,
     /// `cgroup`
@@ -88,7 +90,7 @@ pub enum Keyword {
 }
 
 /// The names of the keywords, in their order.
-static NAMES: [&str; 38] = [
+static NAMES: [&str; 39] = [
     "limits",
     "rules",
     "cpus",
@@ -119,6 +121,7 @@ static NAMES: [&str; 38] = [
     "migrate",
     "move",
     "moved",
+    "populate",
     "host",
     "cgroup",
     "cgroup-mems",
@@ -231,8 +234,21 @@ pub fn read_keyword(first: &[u8]) -> Option<Keyword>
         5 => of_five(first),
         6 => of_six(first),
         7 => of_seven(first),
+        8 => named!(first, b"populate" Populate; None),
         11 => named!(first, b"cgroup-mems" GroupMems; None),
         14 => named!(first, b"memory-migrate" MemoryMigrate; None),
         _ => None,
+    }
+}
+
+/// Whether something else than a number may stand behind a keyword.
+pub(crate) fn takes_texts(keyword: Keyword) -> bool
+    ensures { result ≡ takes_texts keyword }
+{
+    match keyword {
+        Keyword::Rules | Keyword::Cpus | Keyword::Machine => true,
+        Keyword::Mbind | Keyword::Task | Keyword::Mems => true,
+        Keyword::MemoryMigrate | Keyword::Migrate | Keyword::GroupMems | Keyword::In => true,
+        _ => false,
     }
 }

@@ -1,22 +1,25 @@
 //! Parsing a line of a script.
 ghost use Rattle.std.specs.Prelude.{◌≡◌, ◌==◌, ◌+◌, ◌≤◌, ◌<◌, ℕ, List, length, Option, Ok, Err};
-ghost use Rattle.std.specs.Prelude.{◌&&◌, if◌then◌else◌, unwrap_or};
+ghost use Rattle.std.specs.Prelude.{◌&&◌, if◌then◌else◌, false, is_some, unwrap_or};
 ghost use Rattle.std.specs.Option.{option_map};
 ghost use Rattle.numa_script.specs.Lines.{limits_line, machine_line};
 ghost use Rattle.numa_script.specs.Lines.{place_line, span_line, counts_line};
 ghost use Rattle.numa_script.specs.Lines.{ranges_line, maps_line, line_after, words_line};
 ghost use Rattle.numa_script.specs.Lines.{rules_line, cpus_line};
-ghost use Rattle.numa_script.specs.Lines.{alone, in_line, is_told, keyword_of};
+ghost use Rattle.numa_script.specs.Lines.{alone, in_line, is_common, is_told, keyword_of};
 ghost use Rattle.numa_script.specs.Lines.{script_after, told_line};
 ghost use Rattle.numa_script.specs.Lines.{is_silent, has_empty_word, line_of, takes_texts, begun};
 ghost use Rattle.numa_script.specs.Parts.{words_of};
+ghost use Rattle.numa_script.specs.Words.{any_empty};
 
 use crate::commands::{mbind, mems, task};
 use crate::host_line::{attach, exit, fork, group, group_mems, host, process};
-use crate::keyword::{Keyword, read_keyword};
+use crate::keyword::{Keyword, read_keyword, takes_texts};
 use crate::machine::{Distances, Frames, has_kernel_orders};
 use crate::number::{few_pages, small};
-use crate::page_line::{BoundPages, PageLine, at, memory_migrate, migrate, move_page, moved, room};
+use crate::page_line::{
+    BoundPages, PageLine, at, memory_migrate, migrate, move_page, moved, populate, room,
+};
 use crate::policy::WordError;
 use crate::reading::{four, four_words, three, two};
 use crate::rules::read_rules;
@@ -188,38 +191,47 @@ fn machine<'a>(words: Words<'a>) -> Option<Line<'a>>
 }
 
 /// `place TASK ADDR CPU`
-fn place(words: Words) -> Option<Line>
-    ensures { result ≡ place_line words.entry }
+#[inline(always)]
+fn place(words: Words, said: &mut Line) -> Option<()>
+    ensures said { said.new ≡ unwrap_or (place_line words.entry) said.old }
+    ensures is { is_some result ≡ is_some (place_line words.entry) }
 {
     let (task, address, cpu) = three(words)?;
-    Some(Line::Question(Question::Place { task, address, cpu }))
+    *said = Line::Question(Question::Place { task, address, cpu });
+    Some(())
 }
 
 /// `span TASK ADDR PAGES CPU`
-fn span(words: Words) -> Option<Line>
-    ensures { result ≡ span_line words.entry }
+#[inline(always)]
+fn span(words: Words, said: &mut Line) -> Option<()>
+    ensures said { said.new ≡ unwrap_or (span_line words.entry) said.old }
+    ensures is { is_some result ≡ is_some (span_line words.entry) }
 {
     let (task, address, pages, cpu) = four(words)?;
     let pages = few_pages(pages)?;
-    Some(Line::Question(Question::Span {
+    *said = Line::Question(Question::Span {
         task,
         address,
         pages,
         cpu,
-    }))
+    });
+    Some(())
 }
 
 /// `counts TASK ADDR PAGES CPU`
-fn counts(words: Words) -> Option<Line>
-    ensures { result ≡ counts_line words.entry }
+#[inline(always)]
+fn counts(words: Words, said: &mut Line) -> Option<()>
+    ensures said { said.new ≡ unwrap_or (counts_line words.entry) said.old }
+    ensures is { is_some result ≡ is_some (counts_line words.entry) }
 {
     let (task, address, pages, cpu) = four(words)?;
-    Some(Line::Question(Question::Counts {
+    *said = Line::Question(Question::Counts {
         task,
         address,
         pages,
         cpu,
-    }))
+    });
+    Some(())
 }
 
 /// `ranges`
@@ -253,8 +265,20 @@ fn work_line<'a>(work: Option<Work>) -> Option<Line<'a>>
     Some(Line::Work(work?))
 }
 
-/// The line of a keyword and the words after it.
-fn line_after(keyword: Keyword, words: Words) -> Option<Line>
+/// The line of an action of workers, written where it goes.
+#[inline(always)]
+fn tell_work(work: Option<Work>, said: &mut Line) -> Option<()>
+    ensures said { said.new ≡ unwrap_or (option_map Line.Work work) said.old }
+    ensures is { is_some result ≡ is_some (option_map Line.Work work) }
+{
+    *said = Line::Work(work?);
+    Some(())
+}
+
+/// The line of a keyword that comes less often, and of the words after it.
+#[inline(never)]
+fn rare_line(keyword: Keyword, words: Words) -> Option<Line>
+    requires { is_common keyword ≡ false }
     ensures { result ≡ line_after keyword words.entry }
 {
     match keyword {
@@ -268,7 +292,6 @@ fn line_after(keyword: Keyword, words: Words) -> Option<Line>
             offset,
         })),
         Keyword::Unmap => command_line(two(words).map(|(start, length)| Unmap { start, length })),
-        Keyword::Mbind => mbind(words),
         Keyword::Home => command_line(three(words).map(|(start, length, node)| SetHome {
             start,
             length,
@@ -281,9 +304,6 @@ fn line_after(keyword: Keyword, words: Words) -> Option<Line>
             weight,
         })),
         Keyword::Mems => mems(words),
-        Keyword::Place => place(words),
-        Keyword::Span => span(words),
-        Keyword::Counts => counts(words),
         Keyword::Ranges => ranges(words),
         Keyword::Maps => maps(words),
         Keyword::Publish => work_line(publish(words)),
@@ -291,14 +311,13 @@ fn line_after(keyword: Keyword, words: Words) -> Option<Line>
         Keyword::Look => work_line(look(words)),
         Keyword::Try => work_line(try_frame(words)),
         Keyword::Give => work_line(give(words)),
-        Keyword::Touch => work_line(touch(words)),
-        Keyword::Release => work_line(release(words)),
         Keyword::At => at(words),
         Keyword::Room => room(words),
         Keyword::MemoryMigrate => memory_migrate(words),
         Keyword::Migrate => migrate(words),
         Keyword::Move => move_page(words),
         Keyword::Moved => moved(words),
+        Keyword::Populate => populate(words),
         Keyword::Host => host(words),
         Keyword::Group => group(words),
         Keyword::GroupMems => group_mems(words),
@@ -307,69 +326,86 @@ fn line_after(keyword: Keyword, words: Words) -> Option<Line>
         Keyword::Attach => attach(words),
         Keyword::Fork => fork(words),
         Keyword::In => None,
+        _ => unreachable!(),
+    }
+}
+
+/// Writes such a line where it goes.
+#[inline(never)]
+fn tell_rare<'a>(keyword: Keyword, words: Words<'a>, said: &mut Line<'a>) -> Option<()>
+    requires { is_common keyword ≡ false }
+    ensures said { said.new ≡ unwrap_or (line_after keyword words.entry) said.old }
+    ensures is { is_some result ≡ is_some (line_after keyword words.entry) }
+{
+    *said = rare_line(keyword, words)?;
+    Some(())
+}
+
+/// Writes the line of a keyword and the words after it where it goes: a line is long, and each hop
+/// would copy it. `None` if they write none; then nothing is written.
+#[inline(always)]
+fn tell_line<'a>(keyword: Keyword, words: Words<'a>, said: &mut Line<'a>) -> Option<()>
+    ensures said { said.new ≡ unwrap_or (line_after keyword words.entry) said.old }
+    ensures is { is_some result ≡ is_some (line_after keyword words.entry) }
+{
+    match keyword {
+        Keyword::Place => place(words, said),
+        Keyword::Span => span(words, said),
+        Keyword::Counts => counts(words, said),
+        Keyword::Mbind => mbind(words, said),
+        Keyword::Touch => tell_work(touch(words), said),
+        Keyword::Release => tell_work(release(words), said),
+        _ => tell_rare(keyword, words, said),
     }
 }
 
 /// What a process is told.
-fn told_line<'a>(first: &[u8], words: Words<'a>) -> Option<Line<'a>>
-    ensures { result ≡ told_line (keyword_of first.now) words.entry }
+fn told_line<'a>(first: &[u8], words: Words<'a>, said: &mut Line<'a>) -> Option<()>
+    ensures said { said.new ≡ unwrap_or (told_line (keyword_of first.now) words.entry) said.old }
+    ensures is { is_some result ≡ is_some (told_line (keyword_of first.now) words.entry) }
 {
     let keyword = read_keyword(first)?;
     if !is_told(keyword) {
         return None;
     }
-    line_after(keyword, words)
+    tell_line(keyword, words, said)
 }
 
 /// `in P LINE`
-fn in_line(mut words: Words) -> Option<ScriptLine>
-    ensures { result ≡ in_line words.entry }
+fn in_line<'a>(mut words: Words<'a>, said: &mut ScriptLine<'a>) -> Option<()>
+    requires { said.old ≡ alone Line.Malformed }
+    ensures { said.new ≡ unwrap_or (in_line words.entry) (alone Line.Malformed) }
 {
     let process = words.next()?;
     let first = words.next()?;
     let process = small(process)?;
-    let line = told_line(first, words)?;
-    Some(ScriptLine {
-        process: Some(process),
-        line,
-    })
+    told_line(first, words, &mut said.line)?;
+    said.process = Some(process);
+    Some(())
 }
 
-/// A line that names no process.
+/// A malformed line, over which another can be written.
 #[inline(always)]
-fn alone<'a>(line: Line<'a>) -> ScriptLine<'a>
-    ensures { result ≡ alone line.entry }
+pub fn malformed<'a>() -> ScriptLine<'a>
+    ensures { result ≡ alone Line.Malformed }
 {
     ScriptLine {
         process: None,
-        line,
+        line: Line::Malformed,
     }
 }
 
-/// The line of a keyword and the words after it, which are malformed where they write none.
+/// The line of a keyword and the words after it, which stays malformed where they write none.
 #[inline(always)]
-fn script_after(keyword: Keyword, words: Words) -> ScriptLine
-    ensures { result ≡ unwrap_or (script_after keyword words.entry) (alone Line.Malformed) }
+fn script_after<'a>(keyword: Keyword, words: Words<'a>, said: &mut ScriptLine<'a>)
+    requires { said.old ≡ alone Line.Malformed }
+    ensures { said.new ≡ unwrap_or (script_after keyword words.entry) (alone Line.Malformed) }
 {
     if keyword.is_in() {
-        return in_line(words).unwrap_or(alone(Line::Malformed));
+        let _ = in_line(words, said);
+        return;
     }
-    match line_after(keyword, words) {
-        Some(line) => alone(line),
-        None => alone(Line::Malformed),
-    }
-}
-
-/// Whether a word of the line is empty: there are two spaces in a row, or one at an end.
-fn has_empty_word(line: &[u8]) -> bool
-    ensures { result ≡ has_empty_word line.now }
-{
-    for word in Words::new(line) {
-        if word.is_empty() {
-            return true;
-        }
-    }
-    false
+    let _ = tell_line(keyword, words, &mut said.line);
 }
 
 /// What a line begins with, and the words behind it.
@@ -380,18 +416,6 @@ fn begun(line: &[u8]) -> Option<(Keyword, Words<'_>)>
     let first = words.next()?;
     let keyword = read_keyword(first)?;
     Some((keyword, words))
-}
-
-/// Whether something else than a number may stand behind a keyword.
-fn takes_texts(keyword: Keyword) -> bool
-    ensures { result ≡ takes_texts keyword }
-{
-    match keyword {
-        Keyword::Rules | Keyword::Cpus | Keyword::Machine => true,
-        Keyword::Mbind | Keyword::Task | Keyword::Mems => true,
-        Keyword::MemoryMigrate | Keyword::Migrate | Keyword::GroupMems | Keyword::In => true,
-        _ => false,
-    }
 }
 
 /// Whether a process of a host may be told a line of the keyword; the others are the host's, or
@@ -408,39 +432,52 @@ pub(crate) fn is_told(keyword: Keyword) -> bool
     }
 }
 
-/// Whether the line has an empty word that could pass for something else than a number.
-fn has_empty_text(keyword: Keyword, line: &[u8]) -> bool
-    ensures { result ≡ (takes_texts keyword && has_empty_word line.now) }
+/// Whether a word behind the keyword is empty that could pass for something else than a number.
+fn has_empty_text(keyword: Keyword, words: &Words) -> bool
+    ensures { result ≡ (takes_texts keyword && any_empty words.now) }
 {
-    takes_texts(keyword) && has_empty_word(line)
+    takes_texts(keyword) && words.has_empty()
 }
 
 /// The line that the words of a line write, of which none may be empty.
 #[inline(always)]
-fn of_words(line: &[u8]) -> ScriptLine<'_>
-    ensures { result ≡ (if has_empty_word line.now then alone Line.Malformed
+fn of_words<'a>(line: &'a [u8], said: &mut ScriptLine<'a>)
+    requires { said.old ≡ alone Line.Malformed }
+    ensures { said.new ≡ (if has_empty_word line.now then alone Line.Malformed
         else unwrap_or (words_line (words_of line.now)) (alone Line.Malformed)) }
 {
     let Some(begun) = begun(line) else {
-        return alone(Line::Malformed);
+        return;
     };
-    if has_empty_text(begun.0, line) {
-        return alone(Line::Malformed);
+    if has_empty_text(begun.0, &begun.1) {
+        return;
     }
-    script_after(begun.0, begun.1)
+    script_after(begun.0, begun.1, said);
+}
+
+/// Parses a line, which comes without its line feed, and writes what it says over a malformed line:
+/// so that it isn't copied.
+#[inline(never)]
+#[tactic(auto, unfolding(crate::specs::Lines::line_of))]
+pub fn parse_over<'a>(line: &'a [u8], said: &mut ScriptLine<'a>)
+    requires { said.old ≡ alone Line.Malformed }
+    ensures { said.new ≡ line_of line.now }
+{
+    if is_silent_line(line) {
+        said.line = Line::Silent;
+        return;
+    }
+    if line.len() > LIMIT {
+        return;
+    }
+    of_words(line, said);
 }
 
 /// Parses a line, which comes without its line feed.
-#[inline(never)]
-#[tactic(auto, unfolding(crate::specs::Lines::line_of))]
 pub fn parse(line: &[u8]) -> ScriptLine<'_>
     ensures { result ≡ line_of line.now }
 {
-    if is_silent_line(line) {
-        return alone(Line::Silent);
-    }
-    if line.len() > LIMIT {
-        return alone(Line::Malformed);
-    }
-    of_words(line)
+    let mut said = malformed();
+    parse_over(line, &mut said);
+    said
 }

@@ -83,13 +83,16 @@ static ERRNO_NAMES: [&[u8]; 7] = [
 static PLACE_NAMES: [&[u8]; 2] = [b"BadCpu", b"Unmapped"];
 
 /// The names of the refusals of lines about pages, with their error numbers.
-static PLACED_CAUSES: [&[u8]; 8] = [
+static PLACED_CAUSES: [&[u8]; 11] = [
     b"Unaligned EINVAL",
     b"OutOfSpace ENOMEM",
     b"NoSuchNode EINVAL",
     b"Occupied EEXIST",
     b"NodesNotAllowed EINVAL",
     b"Astray EIO",
+    b"BadCpu EINVAL",
+    b"Unmapped ENOMEM",
+    b"NoRoom ENOMEM",
     b"TooManyRuns ENOMEM",
     b"NoMemory ENOMEM",
 ];

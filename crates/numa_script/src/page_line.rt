@@ -3,10 +3,12 @@ ghost use Rattle.std.specs.Prelude.{◌≡◌, ◌∷◌};
 ghost use Rattle.numa_mask.specs.Lists.{list_of};
 ghost use Rattle.numa_script.specs.Lines.{bound_pages, move_pages, pages_behind_strict, pages_said};
 ghost use Rattle.numa_script.specs.PageLines.{at_line, between, memory_migrate_line, migrate_line};
-ghost use Rattle.numa_script.specs.PageLines.{move_line, moved_line, room_line, switch_of};
+ghost use Rattle.numa_script.specs.PageLines.{move_line, moved_line, populate_line, room_line};
+ghost use Rattle.numa_script.specs.PageLines.{switch_of};
 
 use crate::line::Line;
-use crate::reading::{three, two, two_words};
+use crate::number::{number, small};
+use crate::reading::{four, three, two, two_words};
 use crate::words::Words;
 use numa_mask::{NodeMask, read_list};
 
@@ -14,17 +16,40 @@ use numa_mask::{NodeMask, read_list};
 #[derive(Clone, Copy, Drop)]
 pub enum PageLine {
     /// The mapped pages of a span lie on a node; start and length are in bytes.
-    At { start: u64, length: u64, node: u32 },
+    At {
+        start: u64,
+        length: u64,
+        node: u32,
+    },
     /// How many more pages a node takes.
-    Room { node: u32, pages: u64 },
+    Room {
+        node: u32,
+        pages: u64,
+    },
+    /// How many more pages each node takes, of those that fill.
+    Rooms,
     /// Whether pages follow the allowed nodes.
     MemoryMigrate(bool),
     /// Pages leave the nodes of one list for the allowed nodes of another.
-    Migrate { from: NodeMask, to: NodeMask },
+    Migrate {
+        from: NodeMask,
+        to: NodeMask,
+    },
     /// The page of an address, in bytes, goes to a node.
-    Move { address: u64, node: u32 },
+    Move {
+        address: u64,
+        node: u32,
+    },
     /// What was moved last.
     Moved,
+    /// A task on a CPU of node `cpu` writes to each page of a span (madvise(2),
+    /// MADV_POPULATE_WRITE); start and length are in bytes.
+    Populate {
+        start: u64,
+        length: u64,
+        task: u32,
+        cpu: u32,
+    },
 }
 
 /// What follows the policy of an `mbind` that moves pages: whether `strict` does, and for which
@@ -57,12 +82,24 @@ pub(crate) fn at<'a>(words: Words<'a>) -> Option<Line<'a>>
     })))
 }
 
-/// `room NODE PAGES`
-pub(crate) fn room<'a>(words: Words<'a>) -> Option<Line<'a>>
+/// The pages that a node takes, whose number is the first word.
+fn room_of<'a>(first: &[u8], words: Words<'a>) -> Option<Line<'a>>
+    ensures { result ≡ room_line (first.now ∷ words.entry) }
+{
+    let pages = words.only()?;
+    let node = small(first)?;
+    let pages = number(pages)?;
+    Some(Line::Pages(Ok(PageLine::Room { node, pages })))
+}
+
+/// `room NODE PAGES`, or `room`
+pub(crate) fn room<'a>(mut words: Words<'a>) -> Option<Line<'a>>
     ensures { result ≡ room_line words.entry }
 {
-    let (node, pages) = two(words)?;
-    Some(Line::Pages(Ok(PageLine::Room { node, pages })))
+    match words.next() {
+        None => Some(Line::Pages(Ok(PageLine::Rooms))),
+        Some(first) => room_of(first, words),
+    }
 }
 
 /// `on` or `off`
@@ -114,6 +151,19 @@ pub(crate) fn move_page<'a>(words: Words<'a>) -> Option<Line<'a>>
 {
     let (address, node) = two(words)?;
     Some(Line::Pages(Ok(PageLine::Move { address, node })))
+}
+
+/// `populate START LENGTH TASK CPU`
+pub(crate) fn populate<'a>(words: Words<'a>) -> Option<Line<'a>>
+    ensures { result ≡ populate_line words.entry }
+{
+    let (start, length, task, cpu) = four(words)?;
+    Some(Line::Pages(Ok(PageLine::Populate {
+        start,
+        length,
+        task,
+        cpu,
+    })))
 }
 
 /// `moved`

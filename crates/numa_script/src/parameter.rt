@@ -1,7 +1,7 @@
 //! The words of a line after its keyword.
 ghost use Rattle.std.specs.Prelude.{◌≡◌, ◌∷◌, ℕ, List, Option};
-ghost use Rattle.numa_script.specs.Causes.{behind_policy, behind_strict, form_of, misfit_of};
-ghost use Rattle.numa_script.specs.Causes.{parameters_of, wanted_of};
+ghost use Rattle.numa_script.specs.Causes.{behind_policy, behind_room, behind_strict, form_of};
+ghost use Rattle.numa_script.specs.Causes.{misfit_of, parameters_of, wanted_of};
 
 use crate::keyword::Keyword;
 use crate::machine;
@@ -255,6 +255,7 @@ pub fn parameters(keyword: Keyword) -> &'static [Parameter]
         Keyword::Migrate => &[FromList, ToList],
         Keyword::Move => &[Address, Node],
         Keyword::Moved | Keyword::Host => &[],
+        Keyword::Populate => &[Start, Length, Task, Cpu],
         Keyword::Group => &[Group, Parent],
         Keyword::GroupMems => &[Group, List],
         Keyword::Process | Keyword::Attach => &[Process, Group],
@@ -289,8 +290,18 @@ fn bind_parameters(mut words: Parts) -> &'static [Parameter]
     }
 }
 
+/// The words behind `room`, which are these: a node and its pages, or none.
+fn room_parameters(mut words: Parts) -> &'static [Parameter]
+    ensures { result.now ≡ behind_room words.entry }
+{
+    match words.next() {
+        Some(_) => &[Node, RoomPages],
+        None => &[],
+    }
+}
+
 /// The words that a line of this keyword should have: those behind the policy of an `mbind` go by
-/// the first of them.
+/// the first of them, and `room` has two or none.
 pub(crate) fn wanted(keyword: Keyword, mut words: Parts) -> &'static [Parameter]
     ensures { result.now ≡ wanted_of keyword words.entry }
 {
@@ -301,6 +312,7 @@ pub(crate) fn wanted(keyword: Keyword, mut words: Parts) -> &'static [Parameter]
             let _ = words.next();
             bind_parameters(words)
         }
+        Keyword::Room => room_parameters(words),
         other => parameters(other),
     }
 }

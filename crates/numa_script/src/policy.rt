@@ -2,7 +2,7 @@
 ghost use Rattle.std.specs.Prelude.{◌≡◌, ◌==◌, ℕ, true, Ok};
 ghost use Rattle.numa_mode.specs.Flags.{has_static, has_relative};
 ghost use Rattle.numa_script.specs.Policies.{mode_of, form_with, form_of, form_of_two};
-ghost use Rattle.numa_script.specs.Policies.{form_of_three, policy_from, policy_of};
+ghost use Rattle.numa_script.specs.Policies.{form_of_three, plain_form, policy_from, policy_of};
 ghost use Rattle.numa_script.specs.Policies.{waits_for_pages};
 
 use crate::table::meaning;
@@ -47,6 +47,18 @@ fn read_mode(name: &[u8]) -> Option<Mode>
     meaning(&MODE_NAMES, name)
 }
 
+/// The form of a mode without flags.
+#[inline(always)]
+fn plain_form(mode: Mode) -> PolicyForm
+    ensures { result ≡ plain_form mode }
+{
+    PolicyForm {
+        mode,
+        is_static: false,
+        is_relative: false,
+    }
+}
+
 /// The form of a name with these flags.
 fn form_with(is_static: bool, is_relative: bool, name: &[u8]) -> Option<PolicyForm>
     ensures { result ≡ form_with is_static is_relative name.now }
@@ -84,8 +96,20 @@ fn form_of_three(name: &[u8], first: &[u8], second: &[u8]) -> Option<PolicyForm>
     None
 }
 
-/// The part of a policy word before its first colon, if it has the right form.
+/// The part of a policy word before its first colon, if it has the right form. Most are a name
+/// alone, which is looked up before the text is cut.
 fn read_form(text: &[u8]) -> Option<PolicyForm>
+    ensures { result ≡ form_of text.now }
+{
+    if let Some(mode) = read_mode(text) {
+        return Some(plain_form(mode));
+    }
+    form_of_parts(text)
+}
+
+/// The same, where the text is cut.
+#[inline(never)]
+fn form_of_parts(text: &[u8]) -> Option<PolicyForm>
     ensures { result ≡ form_of text.now }
 {
     let mut parts = Parts::new(text, b'=');

@@ -4,10 +4,11 @@ ghost use Rattle.std.specs.Prelude.{◌≡◌, ℕ, ◌+◌, ◌≤◌, ◌++◌
 ghost use Rattle.std.specs.Prelude.{flat_map, slice_index, true};
 ghost use Rattle.numa_lines.specs.Written.{Said};
 ghost use Rattle.numa_requests.specs.Errors.{errno_of};
-ghost use Rattle.numa_requests.specs.NodeCounts.{node_text as count_of_node, nodes_text as counts_text};
+ghost use Rattle.numa_requests.specs.NodeCounts.{node_text as count_of_node};
+ghost use Rattle.numa_requests.specs.NodeCounts.{nodes_text as counts_text};
 ghost use Rattle.numa_script.specs.HostTexts.{host_cause};
 ghost use Rattle.numa_script.specs.Names.{cause_name, errno_name, place_name, refusal_name};
-ghost use Rattle.numa_script.specs.PageTexts.{late_words, moved_words, sent_text};
+ghost use Rattle.numa_script.specs.PageTexts.{late_words, moved_words, placed_words, sent_text};
 ghost use Rattle.numa_script.specs.Texts.{counts_answer, frame_text, nodes_answer, ranges_answer};
 ghost use Rattle.numa_script.specs.Replies.{is_wider};
 ghost use Rattle.numa_script.specs.Texts.{refused_text, text_of, win_answer, word_text};
@@ -184,8 +185,9 @@ fn say_count_of<W: Write>(output: &mut Watched<W>, node: usize, pages: u64)
     }
 }
 
-/// Writes each node that has pages, in ascending order.
-fn say_each_count<W: Write>(output: &mut Watched<W>, pages: &[u64; 256])
+/// Writes each node that has pages, in ascending order: ` N0=3 N1=1`. `pages[n]` is the number for
+/// node n.
+pub fn say_each_count<W: Write>(output: &mut Watched<W>, pages: &[u64; 256])
     ensures { Said W.contents output.old output.new
         (counts_text (λ node. slice_index pages.now node)) }
 {
@@ -235,6 +237,14 @@ fn say_moved<W: Write>(output: &mut Watched<W>, moved: u64, left: u64)
 {
     say_moved_words(output, moved, left);
     output.say(b"\n");
+}
+
+/// Writes how many pages went to a node, and how many found no room.
+pub fn say_placed_words<W: Write>(output: &mut Watched<W>, placed: u64, exhausted: u64)
+    ensures { Said W.contents output.old output.new (placed_words placed exhausted) }
+{
+    say_number(output, b"placed ", placed);
+    say_number(output, b" exhausted ", exhausted);
 }
 
 /// Writes that pages stayed that had to go, if that is told.

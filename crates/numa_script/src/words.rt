@@ -4,7 +4,7 @@ ghost use Rattle.std.specs.Prelude.{◌≡◌, ℕ, ◌+◌, ◌-◌, ◌*◌, �
 ghost use Rattle.std.specs.Prelude.{drop, position, IfSome, MatchOption, Some};
 ghost use Rattle.std.specs.Iterator.{YieldsFirstRef, item_count};
 ghost use Rattle.numa_script.specs.Parts.{words_of};
-ghost use Rattle.numa_script.specs.Words.{Marks, MarksFrom};
+ghost use Rattle.numa_script.specs.Words.{Marks, MarksFrom, any_empty};
 
 use numa_mask::parts::first_place;
 use std::marker::Model;
@@ -131,6 +131,24 @@ fn cut(text: &[u8], marks: Option<u64>) -> Option<(&[u8], &[u8], Option<u64>)>
     Some((&text[..end], &text[end + 1..], later))
 }
 
+/// Whether one of the words of a text is empty: there are two spaces in a row, or one at an end.
+#[inline(always)]
+fn has_gap(text: &[u8], marks: u64) -> bool
+    requires { Marks text.now marks }
+    ensures { result ≡ any_empty (words_of text.now) }
+{
+    if text.is_empty() {
+        return true;
+    }
+    if text[text.len() - 1] == b' ' {
+        return true;
+    }
+    if marks & 1 == 1 {
+        return true;
+    }
+    marks & marks >> 1 != 0
+}
+
 /// The words of a line, from the front. Between two spaces in a row is an empty word.
 #[derive(Drop)]
 pub struct Words<'a> {
@@ -161,6 +179,20 @@ impl<'a> Words<'a> {
             rest: line,
             marks: spaces(line),
             ended: false,
+        }
+    }
+
+    /// Whether one of the words is empty.
+    #[inline(always)]
+    pub(crate) fn has_empty(&self) -> bool
+        ensures { result ≡ any_empty self.now }
+    {
+        if self.ended {
+            return false;
+        }
+        match self.marks {
+            Some(marks) => has_gap(self.rest, marks),
+            None => has_empty_word(self.rest),
         }
     }
 
@@ -203,4 +235,17 @@ impl<'a> Iterator for Words<'a> {
             }
         }
     }
+}
+
+/// Whether one of the words of a line is empty, where each is sought by itself.
+#[inline(never)]
+fn has_empty_word(line: &[u8]) -> bool
+    ensures { result ≡ any_empty (words_of line.now) }
+{
+    for word in Words::new(line) {
+        if word.is_empty() {
+            return true;
+        }
+    }
+    false
 }

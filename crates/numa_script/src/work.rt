@@ -22,6 +22,7 @@ pub enum Work {
 }
 
 /// `TASK ADDR CPU`
+#[inline(always)]
 fn request(words: Words) -> Option<Request>
     ensures { result ≡ request_of words.entry }
 {
@@ -81,6 +82,7 @@ pub fn give(mut words: Words) -> Option<Work>
 }
 
 /// `touch W TASK ADDR CPU`. `None` is a malformed line.
+#[inline(always)]
 pub fn touch(mut words: Words) -> Option<Work>
     ensures { result ≡ touch_work words.entry }
 {
@@ -88,6 +90,7 @@ pub fn touch(mut words: Words) -> Option<Work>
 }
 
 /// `release W ADDR`. `None` is a malformed line.
+#[inline(always)]
 pub fn release(words: Words) -> Option<Work>
     ensures { result ≡ release_work words.entry }
 {

@@ -4,11 +4,13 @@ use numa_fault::Gate;
 use std::sync::atomic::{AtomicU64, Ordering};
 use std::thread;
 
-/// The number of turns that a worker waits for the first requests of the others.
-const FIRST_TURNS: u64 = 10_000_000;
+/// The number of turns that a worker waits for the first requests of the others. In each turn it
+/// gives its processor away, so a turn takes under a microsecond on an idle machine and many where
+/// others want to run: without memory for a thread, all of these turns pass.
+const FIRST_TURNS: u64 = 1_000_000;
 
 /// The number of turns that workers and policies wait for each other.
-const TURNS: u64 = 1_000_000;
+const TURNS: u64 = 100_000;
 
 /// The number of requests that begin from one policy to the next.
 const STEP: u64 = 32;

@@ -21,11 +21,19 @@ use std::marker::Model;
 
 /// The replays of a host's processes, by their numbers, on frames that all share: where a page of
 /// one process lies no page of another does.
-#[derive(Drop)]
 pub struct HostReplay {
     processes: BTreeMap<u32, ProcessReplay>,
     // The number of frames that each node has left.
     free: Vec<u32>,
+}
+
+// (By hand, so that it is proved here alone: a derived one is proved in each crate that drops.)
+impl Drop for HostReplay {
+    fn drop(self) {
+        let HostReplay { processes, free } = self;
+        drop(processes);
+        drop(free);
+    }
 }
 
 impl Model for HostReplay {

@@ -1,6 +1,6 @@
 //! Where pages lie after a replay, as JSON.
 use crate::replay::Replay;
-use numa_reports::Written;
+use numa_sheets::Written;
 use std::alloc::{AllocError, Global};
 
 /// Pages in a row that lie on one node.

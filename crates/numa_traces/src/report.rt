@@ -4,7 +4,7 @@ use crate::replay::Replay;
 use crate::summary::Summary;
 use crate::tallies::{AccessCounts, Route, Tallies};
 use numa_machine::Machine;
-use numa_reports::{Format, Object, Written};
+use numa_sheets::{Format, Object, Written};
 use serde_json::Value;
 use std::alloc::{AllocError, Global};
 

@@ -1,49 +1,19 @@
-//! Differences after scripts.
-use numa_answers::{PageData, page_of, view_text};
+//! Differences of a space, or of each process of a host, from a state before.
+use numa_answers::{About, PageData, add_answer, page_of, reported, shown_as, told_of, view_text};
 use numa_host::{Host, Process};
-use numa_host_script::HostScript;
-use numa_lines::{RunFault, TakeLine};
-use numa_play::{
-    Ended, Findings, Halt, PLAIN, Scripts, Subject, add_answer, answer, member, play, reported,
-    shown_as, subject_of,
-};
+use numa_lines::RunFault;
 use numa_reports::{
-    ByProcess, DifferenceRequest, Format, MoveSum, Outlook, PredictionRequest, Touch, Watch,
-    difference_more, difference_text, outlook_of,
+    ByProcess, DifferenceRequest, MoveSum, Outlook, PredictionRequest, difference_more,
+    difference_text, outlook_of,
 };
+use numa_sheets::{Format, Touch, Watch};
 use numa_space::Space;
+use numa_subjects::{Halt, Subject, member};
 use std::alloc::{AllocError, Global};
-use std::io::{Read, Write};
-
-/// The name of the added lines in messages.
-const ADDED: &str = "--then";
 
 /// The state of a space.
 pub(crate) fn outlook_in(alloc: Global, space: &Space) -> Result<Outlook, Halt> {
     reported(outlook_of(alloc, space), space.machine().nodes())
-}
-
-/// Plays added lines, whose messages have the name `--then` and numbers from 1 on.
-///
-/// # Errors
-/// `Write` or `Memory`, as [`Findings`] takes lines.
-pub fn play_added<T: Write>(findings: &mut Findings<T>, lines: &[String]) -> Result<(), RunFault> {
-    let mut place = 1u64;
-    for line in lines {
-        if let Err(why) = findings.take(ADDED, place, line.as_str().as_bytes(), &mut ()) {
-            return Err(why);
-        }
-        place = place.saturating_add(1);
-    }
-    Ok(())
-}
-
-/// Plays the added lines, and finishes the messages.
-fn play_lines<T: Write>(findings: &mut Findings<T>, lines: &[String]) -> Result<(), RunFault> {
-    if let Err(why) = play_added(findings, lines) {
-        return Err(why);
-    }
-    findings.end()
 }
 
 /// The state of a process, or of the one space, and in a page its object too.
@@ -55,22 +25,32 @@ struct ProcessOutlook {
 }
 
 /// What a difference is asked of: the states before.
-#[derive(Drop)]
 pub struct StatesBefore {
     // Whether the states are those of all processes of a host.
     is_each: bool,
     outlooks: Vec<ProcessOutlook>,
 }
 
+// (By hand, so that it is proved here alone: a derived one is proved in each crate that drops.)
+impl Drop for StatesBefore {
+    fn drop(self) {
+        let StatesBefore {
+            is_each: _,
+            outlooks,
+        } = self;
+        drop(outlooks);
+    }
+}
+
 /// A difference that is asked for.
 #[derive(Clone, Copy)]
-pub struct DiffAsked {
-    /// The process of a host, if not all are asked for.
-    pub process: Option<u32>,
+pub struct DiffAsked<'a> {
     /// How pages are touched.
     pub touch: Touch,
     /// Text, JSON, SVG or HTML.
     pub format: Format,
+    /// The lines that make the difference.
+    pub lines: &'a [String],
 }
 
 /// The object of a state, if a page is asked for.
@@ -78,7 +58,7 @@ pub(crate) fn view_in(
     alloc: Global,
     space: &Space,
     outlook: &Outlook,
-    asked: DiffAsked,
+    asked: DiffAsked<'_>,
 ) -> Result<Vec<u8>, Halt> {
     let Format::Html(number) = asked.format else {
         return Ok(Vec::new(alloc));
@@ -93,7 +73,7 @@ fn outlook_of_process(
     alloc: Global,
     process: u32,
     space: &Space,
-    asked: DiffAsked,
+    asked: DiffAsked<'_>,
 ) -> Result<ProcessOutlook, Halt> {
     let outlook = outlook_in(alloc, space)?;
     match view_in(alloc, space, &outlook, asked) {
@@ -115,7 +95,7 @@ fn add_outlook(
     outlooks: &mut Vec<ProcessOutlook>,
     process: u32,
     space: &Space,
-    asked: DiffAsked,
+    asked: DiffAsked<'_>,
 ) -> Result<(), Halt> {
     let one = outlook_of_process(alloc, process, space, asked)?;
     match outlooks.push(one) {
@@ -144,7 +124,7 @@ fn add_outlooks(
     alloc: Global,
     processes: &[Process],
     outlooks: &mut Vec<ProcessOutlook>,
-    asked: DiffAsked,
+    asked: DiffAsked<'_>,
 ) -> Result<(), Halt> {
     for process in processes {
         add_outlook(alloc, outlooks, process.id, &process.space, asked)?;
@@ -189,7 +169,7 @@ pub(crate) fn difference_to<'a, P: Watch>(
     space: &Space,
     after: &'a Outlook,
     nodes: u32,
-    asked: DiffAsked,
+    asked: DiffAsked<'_>,
     watch: &mut P,
 ) -> Result<Vec<u8>, Halt> {
     let DiffAsked { touch, format, .. } = asked;
@@ -215,7 +195,7 @@ fn difference_of_one<P: Watch>(
     alloc: Global,
     before: &StatesBefore,
     space: &Space,
-    asked: DiffAsked,
+    asked: DiffAsked<'_>,
     watch: &mut P,
 ) -> Result<Vec<u8>, Halt> {
     let Some(one) = before.outlooks.first() else {
@@ -244,7 +224,7 @@ fn difference_in<'a, P: Watch>(
     one: &'a ProcessOutlook,
     space: &Space,
     after: &'a Outlook,
-    asked: DiffAsked,
+    asked: DiffAsked<'_>,
     sum: &mut MoveSum,
     watch: &mut P,
 ) -> Result<Vec<u8>, Halt> {
@@ -271,7 +251,7 @@ fn add_difference<P: Watch>(
     alloc: Global,
     one: &ProcessOutlook,
     now: &Process,
-    asked: DiffAsked,
+    asked: DiffAsked<'_>,
     answers: &mut ByProcess,
     sum: &mut MoveSum,
     watch: &mut P,
@@ -287,7 +267,7 @@ fn add_differences<P: Watch>(
     alloc: Global,
     before: &[ProcessOutlook],
     host: &Host,
-    asked: DiffAsked,
+    asked: DiffAsked<'_>,
     answers: &mut ByProcess,
     sum: &mut MoveSum,
     watch: &mut P,
@@ -305,7 +285,7 @@ fn differences<P: Watch>(
     alloc: Global,
     before: &[ProcessOutlook],
     host: &Host,
-    asked: DiffAsked,
+    asked: DiffAsked<'_>,
     answers: &mut ByProcess,
     watch: &mut P,
 ) -> Result<Vec<u8>, Halt> {
@@ -321,7 +301,7 @@ fn difference_of_each<P: Watch>(
     alloc: Global,
     before: &StatesBefore,
     host: &Host,
-    asked: DiffAsked,
+    asked: DiffAsked<'_>,
     watch: &mut P,
 ) -> Result<Vec<u8>, Halt> {
     let nodes = host.machine().nodes();
@@ -344,112 +324,51 @@ fn difference_of_each<P: Watch>(
     text
 }
 
-/// The states to which a script led, with which [`difference_since`] compares.
-///
-/// # Errors
-/// Why there is no answer.
-pub fn states_of(
+/// A difference, which says what it is of if it is a picture or a page.
+pub(crate) fn told_of_difference(
     alloc: Global,
-    script: &HostScript,
-    asked: DiffAsked,
-) -> Result<StatesBefore, Halt> {
-    match subject_of(script, asked.process) {
-        Ok(Subject::One(space)) => before_of_one(alloc, space, asked),
-        Ok(Subject::Each(host)) => before_of_each(alloc, host, asked),
+    subject: Subject<'_>,
+    asked: DiffAsked<'_>,
+    text: Result<Vec<u8>, Halt>,
+) -> Result<Vec<u8>, Halt> {
+    match text {
+        Ok(text) => {
+            let about = About::of(subject, Some(asked.touch), asked.lines);
+            told_of(alloc, asked.format, &about, text)
+        }
         Err(halt) => Err(halt),
     }
 }
 
-/// The states to which the script led. If they can't be had, what is wrong with the script is
-/// written first.
-fn states_before<T: Write>(
+/// The states of the one space or of each process, with which [`difference_since`] compares.
+///
+/// # Errors
+/// `NoNode`, or `Stopped`: out of memory.
+pub fn states_of(
     alloc: Global,
-    findings: &mut Findings<T>,
-    asked: DiffAsked,
+    subject: Subject<'_>,
+    asked: DiffAsked<'_>,
 ) -> Result<StatesBefore, Halt> {
-    match states_of(alloc, findings.script(), asked) {
-        Ok(before) => Ok(before),
-        Err(halt) => match findings.end() {
-            Ok(()) => Err(halt),
-            Err(why) => Err(Halt::Stopped(why)),
-        },
+    match subject {
+        Subject::One(space) => before_of_one(alloc, space, asked),
+        Subject::Each(host) => before_of_each(alloc, host, asked),
     }
 }
 
-/// Which pages go elsewhere by the lines that a script was played since these states, as a text.
+/// Which pages go elsewhere since these states, as a text.
 ///
 /// # Errors
 /// Why there is no answer.
 pub fn difference_since<P: Watch>(
     alloc: Global,
     before: &StatesBefore,
-    script: &HostScript,
-    asked: DiffAsked,
+    subject: Subject<'_>,
+    asked: DiffAsked<'_>,
     watch: &mut P,
 ) -> Result<Vec<u8>, Halt> {
-    match subject_of(script, asked.process) {
-        Ok(Subject::One(space)) => difference_of_one(alloc, before, space, asked, watch),
-        Ok(Subject::Each(host)) => difference_of_each(alloc, before, host, asked, watch),
-        Err(halt) => Err(halt),
-    }
-}
-
-/// Plays the lines, and returns which pages go elsewhere after them, as a text.
-fn difference_from<T: Write, P: Watch>(
-    alloc: Global,
-    before: &StatesBefore,
-    findings: &mut Findings<T>,
-    lines: &[String],
-    asked: DiffAsked,
-    watch: &mut P,
-) -> Result<Vec<u8>, Halt> {
-    if let Err(why) = play_lines(findings, lines) {
-        return Err(Halt::Stopped(why));
-    }
-    difference_since(alloc, before, findings.script(), asked, watch)
-}
-
-/// Which pages go elsewhere after the lines, as a text.
-fn difference<T: Write, P: Watch>(
-    alloc: Global,
-    findings: &mut Findings<T>,
-    lines: &[String],
-    asked: DiffAsked,
-    watch: &mut P,
-) -> Result<Vec<u8>, Halt> {
-    let before = match states_before(alloc, findings, asked) {
-        Ok(before) => before,
-        Err(halt) => return Err(halt),
+    let text = match subject {
+        Subject::One(space) => difference_of_one(alloc, before, space, asked, watch),
+        Subject::Each(host) => difference_of_each(alloc, before, host, asked, watch),
     };
-    let text = difference_from(alloc, &before, findings, lines, asked, watch);
-    drop(before);
-    text
-}
-
-/// Plays the scripts and then the lines, and writes which pages would go to another node after the
-/// lines than before, if they were touched; comparing is watched. Of a host without a process the
-/// answer is by process, of those that are there before and after, and of all together. What is
-/// wrong with a line is written to `told`, and the line is skipped; the added lines have the name
-/// `--then` and numbers from 1 on. The answer is complete before its first byte is written.
-///
-/// # Errors
-/// Why there is no answer. Text already written to `told` stays.
-pub fn diff<R: Read + Drop, W: Write, T: Write + Drop, P: Watch>(
-    alloc: Global,
-    scripts: Scripts<R>,
-    lines: &[String],
-    asked: Touch,
-    format: Format,
-    output: &mut W,
-    told: T,
-    watch: &mut P,
-) -> Result<Ended, Halt> {
-    let asked = DiffAsked {
-        process: scripts.process,
-        touch: asked,
-        format,
-    };
-    let mut findings = play(alloc, scripts, PLAIN, told)?;
-    let text = difference(alloc, &mut findings, lines, asked, watch);
-    answer(findings, text, output)
+    told_of_difference(alloc, subject, asked, text)
 }

@@ -1,7 +1,8 @@
-//! What a change of a script would make of its pages (`diff`), and what a trace of accesses meets
-//! after a script (`replay`).
+//! What a change makes of the pages of a space, or of each process of a host, and what a trace of
+//! accesses meets there.
 //!
-//! [`diff_spaces`] and [`replay_space`] answer the same about spaces, without scripts.
+//! [`difference_since`] and [`replayed_of`] answer about what scripts led to, [`diff_spaces`] and
+//! [`replay_space`] about spaces.
 #![tactic(auto)]
 
 mod differing;
@@ -9,6 +10,6 @@ mod met;
 mod replaying;
 mod spaces;
 
-pub use differing::{DiffAsked, StatesBefore, diff, difference_since, play_added, states_of};
-pub use replaying::{replay, replay_space};
+pub use differing::{DiffAsked, StatesBefore, difference_since, states_of};
+pub use replaying::{Replayed, replay_space, replayed_of};
 pub use spaces::diff_spaces;

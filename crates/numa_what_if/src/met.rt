@@ -1,9 +1,10 @@
 //! The report of what a trace met, as a text or as a page.
-use numa_answers::{PageData, view_text};
+use numa_answers::{About, PageData, reported, shown_as, told_of, view_text};
 use numa_plan::Plan;
-use numa_play::{Halt, reported, shown_as};
-use numa_reports::{Format, PredictionRequest, ReportError, Touch};
+use numa_reports::{PredictionRequest, ReportError};
+use numa_sheets::{Format, Touch};
 use numa_space::Space;
+use numa_subjects::{Halt, Subject};
 use numa_traces::{PlanReplay, Replay, Replaying, placed_text, report_text};
 use std::alloc::Global;
 
@@ -74,5 +75,7 @@ pub(crate) fn met(
         return Err(Halt::BadAccess(place, fault));
     }
     let text = report_in(alloc, space, plan, &replaying.replay().replay, format)?;
-    shown_as(alloc, format, "replay", text)
+    let text = shown_as(alloc, format, "replay", text)?;
+    let about = About::of(Subject::One(space), None, &[]);
+    told_of(alloc, format, &about, text)
 }

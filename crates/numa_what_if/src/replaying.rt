@@ -1,18 +1,17 @@
-//! Replaying traces after scripts.
+//! Replaying traces in a space, or in each process of a host.
 use crate::met::{met, report_in};
+use numa_answers::{About, add_answer, shown_as, told_of};
 use numa_compile::compile;
 use numa_host::{Host, Process};
 use numa_lines::{RunFault, TakeLine};
 use numa_plan::Plan;
-use numa_play::{
-    Ended, Findings, Halt, Scripts, Subject, Twin, add_answer, answer, differ, other_space,
-    plain_by, play, shown_as, subject_of,
-};
-use numa_reports::{ByProcess, Format};
+use numa_reports::ByProcess;
+use numa_sheets::Format;
 use numa_space::Space;
+use numa_subjects::{Halt, Subject, differ, host_in, space_in};
 use numa_traces::{HostReplay, PlanReplay, Replaying, read_by, total_text};
 use std::alloc::Global;
-use std::io::{Read, Write};
+use std::io::Read;
 
 /// A replay, and the same by the other rules, if that is wanted.
 #[derive(Drop)]
@@ -58,9 +57,9 @@ fn read_whole<S: Read + Drop, T: TakeLine<()> + Drop>(
 
 /// A report, and whether it is another by the other rules.
 #[derive(Drop)]
-struct Replayed {
-    text: Vec<u8>,
-    is_other: bool,
+pub struct Replayed {
+    pub text: Vec<u8>,
+    pub is_other: bool,
 }
 
 /// A report, if there is one, that is another by the other rules or isn't.
@@ -260,7 +259,9 @@ fn reports(
     answers.end_trace(total.as_slice());
     drop(total);
     let text = answers.take()?;
-    shown_as(alloc, format, "replay", text)
+    let text = shown_as(alloc, format, "replay", text)?;
+    let about = About::of(Subject::Each(host), None, &[]);
+    told_of(alloc, format, &about, text)
 }
 
 /// The reports of a whole trace.
@@ -323,55 +324,26 @@ fn replayed_in_each<S: Read + Drop>(
     replayed_as(text, is_other)
 }
 
-/// Finishes the messages, replays a trace by the plans of all accepted commands, and by the other
-/// rules, if the lines were played by them.
-fn replayed_whole<S: Read + Drop, T: Write>(
+/// Replays a trace by the plans of all accepted commands, of the one space or of each process, and
+/// by the other rules, if `other` is the same by those. Of the one process of a host with a number
+/// what others do is left out.
+///
+/// # Errors
+/// `BadAccess`: the first line of the trace that can't be replayed; or `Stopped`: a read failed, or
+/// out of memory.
+pub fn replayed_of<S: Read + Drop>(
     alloc: Global,
-    findings: &mut Findings<T>,
+    subject: Subject<'_>,
+    other: Option<Subject<'_>>,
     process: Option<u32>,
     trace: Vec<(String, S)>,
     format: Format,
 ) -> Result<Replayed, Halt> {
-    if let Err(why) = findings.end() {
-        drop(trace);
-        return Err(Halt::Stopped(why));
-    }
-    let other = findings.other();
-    match subject_of(findings.script(), process) {
-        Ok(Subject::One(space)) => {
-            let other = other_space(other, process);
-            replayed_in(alloc, space, other, process, trace, format)
+    match subject {
+        Subject::One(space) => {
+            replayed_in(alloc, space, space_in(other), process, trace, format)
         }
-        Ok(Subject::Each(host)) => {
-            let other = match other {
-                Some(other) => other.host(),
-                None => None,
-            };
-            replayed_in_each(alloc, host, other, trace, format)
-        }
-        Err(halt) => {
-            drop(trace);
-            Err(halt)
-        }
-    }
-}
-
-/// The report of a replay, after the remark that it is another by the other rules, if it is.
-fn told_of<T: Write>(
-    findings: &mut Findings<T>,
-    replayed: Result<Replayed, Halt>,
-) -> Result<Vec<u8>, Halt> {
-    let Replayed { text, is_other } = replayed?;
-    if !is_other {
-        return Ok(text);
-    }
-    findings.tell_other();
-    match findings.end_remarks() {
-        Ok(()) => Ok(text),
-        Err(why) => {
-            drop(text);
-            Err(Halt::Stopped(why))
-        }
+        Subject::Each(host) => replayed_in_each(alloc, host, host_in(other), trace, format),
     }
 }
 
@@ -388,36 +360,4 @@ pub fn replay_space<S: Read + Drop>(
 ) -> Result<Vec<u8>, Halt> {
     let replayed = replayed_in(alloc, space, None, None, trace, format)?;
     Ok(replayed.text)
-}
-
-/// Plays the scripts, replays a trace on a machine where no page is placed, by the plan of all
-/// accepted commands, and writes the report. Of a host without a process the lines of the trace
-/// name theirs, the report is by process and of all, and all processes take the same frames; with
-/// one the lines that name others are left out. What is wrong with a line of the scripts is written
-/// to `told`, and the line is skipped; so is, with this twin, that by the other rules the report is
-/// another. The answer is complete before its first byte is written.
-///
-/// # Errors
-/// Why there is no answer; `BadAccess` is the first line of the trace that can't be replayed. Text
-/// already written to `told` stays.
-pub fn replay<R: Read + Drop, S: Read + Drop, W: Write, T: Write + Drop>(
-    alloc: Global,
-    scripts: Scripts<R>,
-    trace: Vec<(String, S)>,
-    format: Format,
-    twin: Twin,
-    output: &mut W,
-    told: T,
-) -> Result<Ended, Halt> {
-    let process = scripts.process;
-    let mut findings = match play(alloc, scripts, plain_by(twin), told) {
-        Ok(findings) => findings,
-        Err(halt) => {
-            drop(trace);
-            return Err(halt);
-        }
-    };
-    let replayed = replayed_whole(alloc, &mut findings, process, trace, format);
-    let text = told_of(&mut findings, replayed);
-    answer(findings, text, output)
 }

@@ -1,8 +1,9 @@
 //! Differences of two spaces, without scripts.
-use crate::differing::{DiffAsked, difference_to, outlook_in, view_in};
-use numa_play::Halt;
-use numa_reports::{Format, Outlook, Touch};
+use crate::differing::{DiffAsked, difference_to, outlook_in, told_of_difference, view_in};
+use numa_reports::Outlook;
+use numa_sheets::{Format, Touch};
 use numa_space::Space;
+use numa_subjects::{Halt, Subject};
 use std::alloc::Global;
 
 /// The difference from a state to a space, on machines with up to so many nodes.
@@ -12,7 +13,7 @@ fn difference_from(
     view: &[u8],
     after: &Space,
     nodes: u32,
-    asked: DiffAsked,
+    asked: DiffAsked<'_>,
 ) -> Result<Vec<u8>, Halt> {
     let outlook = outlook_in(alloc, after)?;
     let text = difference_to(alloc, before, view, after, &outlook, nodes, asked, &mut ());
@@ -27,7 +28,7 @@ fn difference_between(
     outlook: &Outlook,
     after: &Space,
     nodes: u32,
-    asked: DiffAsked,
+    asked: DiffAsked<'_>,
 ) -> Result<Vec<u8>, Halt> {
     let view = view_in(alloc, before, outlook, asked)?;
     let text = difference_from(alloc, outlook, view.as_slice(), after, nodes, asked);
@@ -52,12 +53,12 @@ pub fn diff_spaces(
         return Err(Halt::NoNode(nodes.min(others)));
     }
     let asked = DiffAsked {
-        process: None,
         touch,
         format,
+        lines: &[],
     };
     let outlook = outlook_in(alloc, before)?;
     let text = difference_between(alloc, before, &outlook, after, nodes.max(others), asked);
     drop(outlook);
-    text
+    told_of_difference(alloc, Subject::One(after), asked, text)
 }

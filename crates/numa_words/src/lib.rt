@@ -1,20 +1,24 @@
-//! Where pages would go after scripts (`predict`), why (`explain`), and what becomes of those that
-//! are there (`moves`).
+//! What the program's commands answer after scripts: where pages would go (`predict`), why
+//! (`explain`), what a change of a script would make of them (`diff`), what a trace of accesses
+//! meets (`replay`), and what becomes of those that are there (`moves`).
 //!
-//! [`predict_space`] and [`explain_space`] answer the same about a space, without scripts. Where
-//! pages lie that are there state lines of scripts, or of further texts ([`play_there`]): [`moves`]
-//! tells what becomes of them, and in [`predict_at`] they stay.
+//! numa_questions and numa_what_if answer the same about a space, without scripts. Where pages lie
+//! that are there state lines of scripts, or of further texts ([`play_there`]): [`moves`] tells
+//! what becomes of them, and in [`predict_at`] they stay.
 #![tactic(auto)]
 
 mod asking;
-mod each;
+mod differing;
 mod explaining;
 mod moving;
 mod placing;
+mod replaying;
 mod there;
 
-pub use asking::{predict, predict_space, predicted, prediction_there};
-pub use explaining::{AskedPages, explain, explain_space, explained, explanation};
+pub use asking::{predict, prediction_there};
+pub use differing::{diff, play_added};
+pub use explaining::{explain, explanation};
 pub use moving::{Answer, Playing, moves_of};
 pub use placing::{PlacedAsked, moves, predict_at};
+pub use replaying::replay;
 pub use there::{LineFaults, Played, Reading, play_there, stated_in};

@@ -1,13 +1,17 @@
 //! Playing lines that move pages that are there, and telling what becomes of these.
 use crate::there::{LineFaults, scene_of};
+use numa_answers::{About, told_of};
 use numa_host_script::HostScript;
 use numa_lines::{RunFault, TakeLine};
 use numa_mask::NodeMask;
 use numa_moves::{
-    Asked, AtLines, Holdings, MoveLine, Origin, PassOver, RefusedAt, Step, moves_text, read_move,
+    Asked, AtLines, Holdings, MoveLine, Origin, PassOver, RefusedAt, Scene, Step, moves_text,
+    read_move,
 };
-use numa_play::{Findings, Halt};
-use numa_reports::{Format, FreePages, ReportError};
+use numa_play::Findings;
+use numa_reports::ReportError;
+use numa_sheets::{Format, FreePages};
+use numa_subjects::{Halt, Subject};
 use std::alloc::Global;
 use std::io::Write;
 
@@ -270,6 +274,29 @@ fn answer_of(
     Ok(Answer { text, is_other })
 }
 
+/// What became of pages, which says what it is of if it is a picture.
+fn told_of_moves(
+    alloc: Global,
+    script: &HostScript,
+    origin: Origin<'_>,
+    playing: Playing<'_>,
+    answer: Answer,
+) -> Result<Answer, Halt> {
+    let Answer { text, is_other } = answer;
+    let subject = match scene_of(script, playing.process, playing.format) {
+        Ok(Scene::One(_, space)) => Subject::One(space),
+        Ok(Scene::Each(host)) => Subject::Each(host),
+        Err(_) => return Ok(Answer { text, is_other }),
+    };
+    let touch = match origin {
+        Origin::Touched(touch) => Some(touch),
+        Origin::Stated(_) => None,
+    };
+    let about = About::of(subject, touch, playing.lines);
+    let text = told_of(alloc, playing.format, &about, text)?;
+    Ok(Answer { text, is_other })
+}
+
 /// Plays lines, and returns what becomes of the pages that are there, as a text.
 ///
 /// # Errors
@@ -299,5 +326,5 @@ pub fn moves_of<T: Write>(
     };
     drop(course);
     drop(other);
-    answer
+    told_of_moves(alloc, findings.script(), origin, playing, answer?)
 }

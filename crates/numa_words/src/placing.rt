@@ -6,8 +6,9 @@ use crate::there::{Played, Reading, play_there, stated_in};
 use numa_host_script::HostScript;
 use numa_moves::{AtLines, Origin, PassOver, RefusedAt};
 use numa_placed::Placed;
-use numa_play::{Ended, Halt, Scripts, Twin};
-use numa_reports::{Format, FreePages, Touch, Watch};
+use numa_play::Scripts;
+use numa_sheets::{Format, FreePages, Touch, Watch};
+use numa_subjects::{Ended, Halt, Twin};
 use std::alloc::Global;
 use std::io::{Read, Write};
 
@@ -15,6 +16,7 @@ use std::io::{Read, Write};
 const KEEPING: Reading = Reading {
     task: None,
     other: Twin::None,
+    heeds_at: false,
     keeps_at: true,
 };
 

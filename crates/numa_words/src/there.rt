@@ -6,8 +6,9 @@ use numa_lines::{RunFault, TakeLine};
 use numa_machine::Rules;
 use numa_moves::{AtLines, PassOver, RefusedAt, Scene, add_stated};
 use numa_placed::Placed;
-use numa_play::{Ended, Findings, Halt, Look, PLAIN, Scripts, Twin, answer};
-use numa_reports::{Format, Written};
+use numa_play::{Findings, Look, PLAIN, Scripts, answer};
+use numa_sheets::{Format, Written};
+use numa_subjects::{Ended, Halt, Twin};
 use numa_traces::read_by;
 use std::alloc::Global;
 use std::io::{Read, Write};
@@ -118,6 +119,8 @@ pub struct Reading {
     pub task: Option<u32>,
     /// The rules by which they are played too.
     pub other: Twin,
+    /// Whether lines `at` of a script of one process count, so that it is told why one is refused.
+    pub heeds_at: bool,
     /// Whether pages are there: then the lines that state where they lie are kept, of a host too,
     /// and judged at the end. Else they are passed over, but for malformed and early ones.
     pub keeps_at: bool,
@@ -185,6 +188,7 @@ fn begin<T: Write + Drop>(
 ) -> Result<Keeping<T>, Halt> {
     let look = Look {
         other: how.other,
+        tells_own_at: how.heeds_at,
         tells_at: false,
         ..PLAIN
     };

@@ -9,15 +9,14 @@
 ghost use Rattle.std.specs.Prelude.{IfOk};
 ghost use Rattle.numa_command_line.specs.Jobs.{CanBeDone};
 
-mod shell;
-mod terminal;
 mod words;
 
 use numa_answers::Comparison;
 use numa_command_line::{Job, JobFault, ScriptJob, job, open_all, open_with_typed, open_worked};
+use numa_commands::{check, expect, run, terminal};
 use numa_console::{Asking, Question, tell_fault};
 use numa_play::Scripts;
-use numa_reports::Format;
+use numa_sheets::Format;
 use std::env::Env;
 use std::io::{IsTerminal, Read};
 use std::process::ExitCode;
@@ -26,7 +25,7 @@ use std::sync::Wait;
 use std::thread::Threads;
 use std::{env, io};
 use words::replay::TraceAsked;
-use words::{asked, check, expect, replay, run, storm};
+use words::{asked, replay, storm};
 
 /// The message for an argument that isn't UTF-8.
 const NOT_UTF_8: &str = "error: an argument isn't UTF-8\n\nFor more information, try '--help'.\n";

@@ -102,6 +102,9 @@ placed-errno-same placed.NoSuchNode = refl
 placed-errno-same placed.Occupied = refl
 placed-errno-same placed.NodesNotAllowed = refl
 placed-errno-same placed.Astray = refl
+placed-errno-same placed.BadCpu = refl
+placed-errno-same placed.Unmapped = refl
+placed-errno-same placed.NoRoom = refl
 placed-errno-same placed.TooManyRuns = refl
 placed-errno-same placed.NoMemory = refl
 

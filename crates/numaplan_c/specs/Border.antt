@@ -147,11 +147,15 @@ AnswersKeeping {A} from old code = (is_some old ≡ true → code ≡ 2)
     × (old ≡ None → from ≡ None → code ≡ 1)
     × (old ≡ None → (kept : A) → from ≡ Some kept → is_done code ≡ true)
 
--- a handle is to keep what another one keeps, and goes on keeping; `kept` is what one keeps
+-- a handle is to keep what another one keeps
+abbrev pub Gives : {A : Type 0} → Option A → Option A → ℕ → Option A → Type 0
+Gives from other code other_then = (code ≡ 0 → (other_then ≡ from) × (is_some from ≡ true))
+    × (code ≢ 0 → other_then ≡ other) × AnswersKeeping from other code
+
+-- the same where the other one is taken out, and goes on keeping; `kept` is what one keeps
 abbrev pub Shares : {H A : Type 0} → (H → Option A) → H → H → ℕ → H → H → Type 0
 Shares kept from other code from_then other_then = (kept from_then ≡ kept from)
-    × (code ≡ 0 → (kept other_then ≡ kept from) × (is_some (kept from) ≡ true))
-    × (code ≢ 0 → kept other_then ≡ kept other) × AnswersKeeping (kept from) (kept other) code
+    × Gives (kept from) (kept other) code (kept other_then)
 
 -- a handle is to keep what is made of what another one keeps, of which `made` tells
 abbrev pub Makes : {A B : Type 0} → (Option A → B → Type 0) → Option A → Option B → ℕ → Option B
@@ -164,8 +168,12 @@ abbrev pub IsPlanBy : Commands → Option CoreState → PlanData → Type 0
 IsPlanBy commands.Accepted core plan = Compiles core plan
 IsPlanBy commands.Published core plan = Publishes core plan
 
--- a question leaves what a handle keeps as it was, and `told` says what is told of it; a closed
--- handle answers 1, and nothing is told, which is `untold`
+-- a question of what a handle keeps, and `told` says what is told of it; a closed handle answers 1,
+-- and nothing is told, which is `untold`
+abbrev pub Read : {A : Type 0} → Option A → ℕ → Type 0 → (A → Type 0) → Type 0
+Read {A} kept code untold told = (kept ≡ None → (code ≡ 1) × untold)
+    × ((it : A) → kept ≡ Some it → told it)
+
+-- the same of a question that takes it out, and leaves it as it was
 abbrev pub Asked : {A : Type 0} → Option A → Option A → ℕ → Type 0 → (A → Type 0) → Type 0
-Asked {A} old new code untold told = (new ≡ old) × (old ≡ None → (code ≡ 1) × untold)
-    × ((kept : A) → old ≡ Some kept → told kept)
+Asked old new code untold told = (new ≡ old) × Read old code untold told

@@ -15,7 +15,7 @@ use Rattle.numa_plan.specs.Meaning.{PlanData}
 use Rattle.numa_ranges.specs.declared.run.Run.{Run}
 use Rattle.numa_space.specs.Limited.{Bounds}
 use Rattle.numaplan_handles.specs.Hosts.{Obeys}
-use Rattle.numaplan_handles.specs.declared.plan_handle.ChoiceRefusal.{ChoiceRefusal}
+use Rattle.numaplan_handles.specs.declared.plan_view.ChoiceRefusal.{ChoiceRefusal}
 use Rattle.numaplan_c.specs.Border.{IsMachineOf, is_done}
 use Rattle.numaplan_c.specs.Codes.{refusal_code}
 use Rattle.numaplan_c.specs.Questions.{AreTold, choice_code}

@@ -98,7 +98,8 @@ late_names =
     ∷ named 100 (codes "TooManyRuns") ∷ named 101 (codes "Astray")
     ∷ named 102 (codes "NoSuchTarget") ∷ named 103 (codes "TargetNotAllowed")
     ∷ named 104 (codes "PageUnmapped") ∷ named 105 (codes "NotPlaced")
-    ∷ named 106 (codes "NodeFull") ∷ named 107 (codes "Occupied") ∷ []
+    ∷ named 106 (codes "NodeFull") ∷ named 107 (codes "Occupied")
+    ∷ named 108 (codes "NoSuchCpu") ∷ named 109 (codes "SpanUnmapped") ∷ []
 
 -- the name of a number, without a byte where it has none
 abbrev pub name_in : List Named → ℕ → List ℕ
@@ -152,7 +153,8 @@ placed_errnos =
     placed_errno_of placed.TooManyRuns ∷ placed_errno_of placed.Astray
     ∷ move_errno_of move.NoSuchNode ∷ move_errno_of move.NodesNotAllowed
     ∷ move_errno_of move.Unmapped ∷ move_errno_of move.NotPlaced ∷ move_errno_of move.NoRoom
-    ∷ placed_errno_of placed.Occupied ∷ []
+    ∷ placed_errno_of placed.Occupied ∷ placed_errno_of placed.BadCpu
+    ∷ placed_errno_of placed.Unmapped ∷ []
 
 abbrev pub placed_errno : ℕ → ℕ
 placed_errno code = if nat_lt code 100 then 0 else slice_index placed_errnos (code - 100)

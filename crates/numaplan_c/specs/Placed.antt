@@ -5,6 +5,7 @@ use Rattle.numa_pages.specs.declared.binding.Rebound.{Rebound}
 use Rattle.numa_pages.specs.declared.listing.PageRun.{PageRun}
 use Rattle.numa_pages.specs.declared.refusal.ChangeRefusal.{ChangeRefusal}
 use Rattle.numa_pages.specs.declared.refusal.ChangeRefusal.TheVariants as change
+use Rattle.numa_page_state.specs.declared.arrived.Arrived.{Arrived}
 use Rattle.numa_placed.specs.declared.moved.Moved.{Moved}
 use Rattle.numa_requests.specs.declared.page_refusal.MoveRefusal.{MoveRefusal}
 use Rattle.numa_requests.specs.declared.page_refusal.MoveRefusal.TheVariants as move
@@ -14,8 +15,9 @@ use Rattle.numaplan_c.specs.Codes.{refusal_code}
 use Rattle.numaplan_c.specs.Compared.{IsListed}
 use Rattle.numaplan_c.specs.declared.placed_moves.NpBound.{NpBound}
 use Rattle.numaplan_c.specs.declared.placed_moves.NpMoves.{NpMoves}
+use Rattle.numaplan_c.specs.declared.placed_moves.NpArrived.{NpArrived}
 use Rattle.numaplan_handles.specs.Handles.{pages_in}
-use Rattle.numaplan_handles.specs.Pages.{OfPages}
+use Rattle.numaplan_handles.specs.Pages.{OfPages, Touches}
 use Rattle.numaplan_handles.specs.declared.pages_handle.PagesHandle.{PagesHandle}
 
 -- ---- codes
@@ -28,6 +30,9 @@ placed_code placed.NoSuchNode = 17
 placed_code placed.Occupied = 107
 placed_code placed.NodesNotAllowed = 19
 placed_code placed.Astray = 101
+placed_code placed.BadCpu = 108
+placed_code placed.Unmapped = 109
+placed_code placed.NoRoom = 106
 placed_code placed.TooManyRuns = 100
 placed_code placed.NoMemory = 3
 
@@ -75,6 +80,19 @@ abbrev pub PagesAnswerRead : {W F A E : Type 0} → Result W F → (F → ℕ) �
 PagesAnswerRead word fault_code code_of told old code new = MatchResult word
     (λ it. PagesAnswer code_of (told it) old code new)
     (λ fault. (code ≡ fault_code fault) × (pages_in new ≡ pages_in old))
+
+-- what first touches did is told; where they are refused, what stood there stays
+abbrev pub TellsArrived : NpArrived → NpArrived → Result Arrived PlacedRefusal → Type 0
+TellsArrived old new (Ok arrived) = (new.placed ≡ arrived.placed)
+    × (new.exhausted ≡ arrived.exhausted) × (new.nodes ≡ arrived.on)
+TellsArrived old new (Err cause) = new ≡ old
+
+-- a call that touches the pages of a span first
+abbrev pub PagesTouch : ℕ → ℕ → ℕ → ℕ → PagesHandle → ℕ → PagesHandle → NpArrived → NpArrived
+    → Type 0
+PagesTouch start bytes task cpu old code new arrived arrived-then =
+    PagesTell (done_code placed_code) (TellsArrived arrived arrived-then)
+    (arrived-then ≡ arrived) (Touches start bytes task cpu) old code new
 
 -- what went where is told; where it is refused, what stood there stays
 abbrev pub TellsMoved : {E : Type 0} → NpMoves → NpMoves → Result Moved E → Type 0

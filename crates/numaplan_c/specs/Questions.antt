@@ -1,8 +1,8 @@
 -- What an exported question about a plan answers.
 use Rattle.std.specs.Prelude.{◌≡◌, ℕ, Result, Ok, Err}
 use Rattle.numa_machine.specs.declared.refusal.PlaceRefusal.{PlaceRefusal}
-use Rattle.numaplan_handles.specs.declared.plan_handle.ChoiceRefusal.{ChoiceRefusal}
-use Rattle.numaplan_handles.specs.declared.plan_handle.ChoiceRefusal.TheVariants as refused
+use Rattle.numaplan_handles.specs.declared.plan_view.ChoiceRefusal.{ChoiceRefusal}
+use Rattle.numaplan_handles.specs.declared.plan_view.ChoiceRefusal.TheVariants as refused
 use Rattle.numaplan_c.specs.Codes.{place_code}
 
 abbrev pub choice_code : Result ℕ ChoiceRefusal → ℕ

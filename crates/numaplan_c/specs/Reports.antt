@@ -1,12 +1,12 @@
 -- What an exported call that reports on scripts answers.
 use Rattle.std.specs.Prelude.{◌≡◌, ◌==◌, ◌||◌, ◌+◌, ℕ, Bool, true, List, length}
 use Rattle.std.specs.Prelude.{Option, Some, None, Result, Ok, Err, if◌then◌else◌}
-use Rattle.numa_reports.specs.declared.sheet.Format.{Format}
-use Rattle.numa_reports.specs.declared.sheet.Format.TheVariants as format
-use Rattle.numa_play.specs.declared.findings.Ended.{Ended}
-use Rattle.numa_play.specs.declared.findings.Ended.TheVariants as ended
-use Rattle.numa_play.specs.declared.halt.Halt.{Halt}
-use Rattle.numa_play.specs.declared.halt.Halt.TheVariants as halt
+use Rattle.numa_sheets.specs.declared.format.Format.{Format}
+use Rattle.numa_sheets.specs.declared.format.Format.TheVariants as format
+use Rattle.numa_subjects.specs.declared.ended.Ended.{Ended}
+use Rattle.numa_subjects.specs.declared.ended.Ended.TheVariants as ended
+use Rattle.numa_subjects.specs.declared.halt.Halt.{Halt}
+use Rattle.numa_subjects.specs.declared.halt.Halt.TheVariants as halt
 use Rattle.numaplan_handles.specs.Room.{Copies}
 use Rattle.numaplan_reports.specs.declared.report.Report.{Report}
 use Rattle.numaplan_c.specs.Border.{Asked}

@@ -5,7 +5,7 @@ ghost use Rattle.numaplan_c.specs.Reports.{Reported, is_untold};
 use crate::codes::Code;
 use crate::options::rules_of;
 use crate::reports::{NpFree, NpQuestion, NpReport, known_format, made, tell_made, touch_of};
-use numa_reports::{Format, FreePages, Touch};
+use numa_sheets::{Format, FreePages, Touch};
 use numaplan_reports::{Report, ScriptText, check, diff, explain, predict, replay};
 use std::alloc::{AllocError, Global};
 

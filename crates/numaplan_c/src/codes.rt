@@ -100,10 +100,14 @@ pub(crate) enum Code {
     PageUnmapped = 104,
     /// A page lies nowhere.
     NotPlaced = 105,
-    /// A node has no room for a page that is to move to it.
+    /// A node has no room for a page that is to move to it, or for as many as are stated there.
     NodeFull = 106,
     /// A page lies somewhere already.
     Occupied = 107,
+    /// The machine has no node by this number, on a CPU of which a task should touch pages.
+    NoSuchCpu = 108,
+    /// A page of a span that a task should touch isn't mapped.
+    SpanUnmapped = 109,
 }
 
 /// The code of a command's refusal: most are in order from 10; a later one has a later number.

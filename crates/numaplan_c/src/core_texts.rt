@@ -7,7 +7,7 @@ ghost use Rattle.numaplan_handles.specs.Handles.{core_in};
 use crate::asking::free_by_node;
 use crate::keeping::ensure_open;
 use crate::reports::{NpFree, NpQuestion, NpReport, known_format, made, tell_made, touch_of};
-use numa_reports::Touch;
+use numa_sheets::Touch;
 use numaplan_handles::CoreHandle;
 use numaplan_reports::{
     Report, diff_cores_text, explain_core_text, predict_core_text, replay_core_text,

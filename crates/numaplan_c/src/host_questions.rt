@@ -13,7 +13,7 @@ ghost use Rattle.numaplan_handles.specs.Hosts.{ChoosesBy, CountsRanges, FindsPol
 ghost use Rattle.numaplan_handles.specs.Hosts.{HasGroupAt, HasGroupNodes, HasGroups};
 ghost use Rattle.numaplan_handles.specs.Hosts.{HasHostVersion, HasProcessAt, HasProcesses};
 ghost use Rattle.numaplan_handles.specs.Hosts.{IsPlanned, OfHost, OfProcess};
-ghost use Rattle.numaplan_handles.specs.declared.plan_handle.ChoiceRefusal.{ChoiceRefusal};
+ghost use Rattle.numaplan_handles.specs.declared.plan_view.ChoiceRefusal.{ChoiceRefusal};
 ghost use Rattle.numaplan_c.specs.Border.{Asked, Opens};
 ghost use Rattle.numaplan_c.specs.Hosts.{AnswersPlan, TellsChoice, TellsGroup, TellsGroupNodes};
 ghost use Rattle.numaplan_c.specs.Hosts.{TellsNumber, TellsPolicyIn, TellsProcess, TellsRangeIn};

@@ -1,7 +1,8 @@
 //! The C library: the functions that `c/numaplan.h` declares, each one call of a library below.
 //!
 //! The header says what a C caller has to ensure: pointers that aren't null and are valid during
-//! the call, and handles that begin as zero bytes and are passed to one call at a time.
+//! the call, and handles that begin as zero bytes and are passed to one call at a time, but for
+//! those that are only lent to a call, which threads may share.
 #![tactic(auto)]
 
 mod asking;

@@ -88,7 +88,7 @@ static FAULT_NAMES: [(u32, &[u8]); 23] = [
 ];
 
 /// The names of the codes of causes that only a host or pages have.
-static LATE_NAMES: [(u32, &[u8]); 17] = [
+static LATE_NAMES: [(u32, &[u8]); 19] = [
     (90, b"GroupExists"),
     (91, b"NoSuchGroup"),
     (92, b"TooManyGroups"),
@@ -106,6 +106,8 @@ static LATE_NAMES: [(u32, &[u8]); 17] = [
     (105, b"NotPlaced"),
     (106, b"NodeFull"),
     (107, b"Occupied"),
+    (108, b"NoSuchCpu"),
+    (109, b"SpanUnmapped"),
 ];
 
 /// The name of a code in a table, empty if it has none.
@@ -235,6 +237,8 @@ fn placed_errno(code: u32) -> u32
         105 => MoveRefusal::NotPlaced.errno(),
         106 => MoveRefusal::NoRoom.errno(),
         107 => PlacedRefusal::Occupied.errno(),
+        108 => PlacedRefusal::BadCpu.errno(),
+        109 => PlacedRefusal::Unmapped.errno(),
         _ => 0,
     }
 }

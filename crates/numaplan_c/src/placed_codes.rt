@@ -18,6 +18,9 @@ pub(crate) fn placed_code(cause: PlacedRefusal) -> u32
         PlacedRefusal::Occupied => Code::Occupied as u32,
         PlacedRefusal::NodesNotAllowed => refusal_code(Refusal::NodesNotAllowed),
         PlacedRefusal::Astray => Code::Astray as u32,
+        PlacedRefusal::BadCpu => Code::NoSuchCpu as u32,
+        PlacedRefusal::Unmapped => Code::SpanUnmapped as u32,
+        PlacedRefusal::NoRoom => Code::NodeFull as u32,
         PlacedRefusal::TooManyRuns => Code::TooManyRuns as u32,
         PlacedRefusal::NoMemory => Code::NoMemory as u32,
     }

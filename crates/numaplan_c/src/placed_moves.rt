@@ -1,21 +1,23 @@
-//! Stating where pages lie, and moving them.
+//! Stating where pages lie, touching them first, and moving them.
 ghost use Rattle.std.specs.Prelude.{◌≡◌, MatchResult};
 ghost use Rattle.numa_mask.specs.Lists.{list_of};
 ghost use Rattle.numa_pages.specs.Changes.{BindsMoving, Limits, Migrates, MovesMems, MovesPage};
 ghost use Rattle.numa_pages.specs.Changes.{Places};
 ghost use Rattle.numa_script.specs.Policies.{policy_of};
 ghost use Rattle.numaplan_c.specs.Codes.{list_code, word_code};
-ghost use Rattle.numaplan_c.specs.Placed.{PagesAnswer, PagesBind, PagesMove, TellsBound};
-ghost use Rattle.numaplan_c.specs.Placed.{TellsMoved, change_code, move_code, placed_code};
+ghost use Rattle.numaplan_c.specs.Placed.{PagesAnswer, PagesBind, PagesMove, PagesTouch};
+ghost use Rattle.numaplan_c.specs.Placed.{TellsArrived, TellsBound, TellsMoved, change_code};
+ghost use Rattle.numaplan_c.specs.Placed.{move_code, placed_code};
 ghost use Rattle.numaplan_handles.specs.Handles.{pages_in};
 
 use crate::codes::{list_code, word_code};
 use crate::keeping::{if_open, or_return};
 use crate::placed_codes::{changed_code, moved_code, set_code};
 use numa_mask::{NodeMask, read_list};
-use numa_page_state::{Rebinding, Toucher};
+use numa_page_state::{Arrived, Rebinding, Toucher};
 use numa_pages::{ChangeRefusal, Rebound};
 use numa_placed::Moved;
+use numa_requests::PlacedRefusal;
 use numa_script::policy::read_policy;
 use numaplan_handles::PagesHandle;
 use std::alloc::Global;
@@ -44,6 +46,31 @@ pub struct NpBound {
 }
 
 const _: () = prove!(size_of::<NpBound>() == 24);
+
+/// What first touches of a span did: how many pages went to a node, how many found no room, and how
+/// many went to each node.
+#[repr(C)]
+#[derive(Clone, Copy)]
+pub struct NpArrived {
+    pub placed: u64,
+    pub exhausted: u64,
+    pub nodes: [u64; 256],
+}
+
+const _: () = prove!(size_of::<NpArrived>() == 2064);
+
+/// Writes what first touches of a span did, if they weren't refused.
+fn tell_arrived(answer: &Result<Arrived, PlacedRefusal>, arrived: &mut NpArrived)
+    ensures { TellsArrived arrived.old arrived.new answer.now }
+{
+    if let Ok(done) = answer {
+        *arrived = NpArrived {
+            placed: done.placed,
+            exhausted: done.exhausted,
+            nodes: done.on,
+        };
+    }
+}
 
 /// Writes what moving pages to where a policy puts them did, if it wasn't refused.
 fn tell_bound(answer: &Result<Rebound, ChangeRefusal>, bound: &mut NpBound)
@@ -84,6 +111,25 @@ pub extern "C" fn np_pages_place(
     ensures { PagesAnswer placed_code (Places start length node) pages.old result pages.new }
 {
     if_open!(pages.place(alloc, start, length, node), answer => set_code(answer))
+}
+
+/// Touches each page of a span for the first time, as a task does that writes to it.
+#[unsafe(no_mangle)]
+pub extern "C" fn np_pages_populate(
+    alloc: Global,
+    pages: &mut PagesHandle,
+    start: u64,
+    length: u64,
+    task: u32,
+    cpu: u32,
+    arrived: &mut NpArrived,
+) -> u32
+    ensures { PagesTouch start length task cpu pages.old result pages.new arrived.old arrived.new }
+{
+    if_open!(pages.populate(alloc, start, length, task, cpu), answer => {
+        tell_arrived(&answer, arrived);
+        set_code(answer)
+    })
 }
 
 /// Says how many more pages a node takes.

@@ -2,12 +2,12 @@
 ghost use Rattle.std.specs.Prelude.{◌≡◌, ◌≢◌, Some, None, IfSome, is_some, true, Result, Ok, Err};
 ghost use Rattle.std.specs.Prelude.{ℕ, IfOk, MatchOption};
 ghost use Rattle.numa_plan.specs.Meaning.{PlanData};
-ghost use Rattle.numaplan_c.specs.Border.{AnswersKeeping, Asked, IsPlanBy, Makes, Opens};
-ghost use Rattle.numaplan_c.specs.Border.{Shares, is_done};
-ghost use Rattle.numaplan_handles.specs.Handles.{core_in, plan_in};
+ghost use Rattle.numaplan_c.specs.Border.{AnswersKeeping, Gives, IsPlanBy, Makes, Opens};
+ghost use Rattle.numaplan_c.specs.Border.{Read, is_done};
+ghost use Rattle.numaplan_handles.specs.Handles.{core_in, plan_in, plan_seen};
 ghost use Rattle.numaplan_handles.specs.Steps.{Compiles, Publishes};
 ghost use Rattle.numaplan_handles.specs.Plans.{Chooses, Fills, Counts};
-ghost use Rattle.numaplan_handles.specs.declared.plan_handle.ChoiceRefusal.{ChoiceRefusal};
+ghost use Rattle.numaplan_handles.specs.declared.plan_view.ChoiceRefusal.{ChoiceRefusal};
 ghost use Rattle.numa_machine.specs.declared.refusal.PlaceRefusal.{PlaceRefusal};
 ghost use Rattle.numaplan_c.specs.Codes.{place_code};
 ghost use Rattle.numaplan_c.specs.Questions.{choice_code, fill_code, AreTold};
@@ -16,7 +16,7 @@ use crate::codes::{Code, place_code};
 use crate::keeping::{ensure_closed, if_open, memory_code, open_from, tell_if_open};
 use numa_machine::{NoMemory, PlaceRefusal};
 use numa_plan::Plan;
-use numaplan_handles::{ChoiceRefusal, CoreHandle, PlanHandle};
+use numaplan_handles::{ChoiceRefusal, CoreHandle, PlanHandle, PlanView};
 use std::alloc::Global;
 
 /// The commands of a core for which a plan is made.
@@ -99,19 +99,19 @@ pub extern "C" fn np_core_compile(
 
 /// Opens another handle of the same plan.
 #[unsafe(no_mangle)]
-pub extern "C" fn np_plan_share(alloc: Global, plan: &mut PlanHandle, other: &mut PlanHandle) -> u32
-    ensures { Shares plan_in plan.old other.old result plan.new other.new }
+pub extern "C" fn np_plan_share(alloc: Global, plan: &PlanView, other: &mut PlanHandle) -> u32
+    ensures { Gives (plan_seen plan.now) (plan_in other.old) result (plan_in other.new) }
 {
     open_from!(other, plan.share(alloc, other))
 }
 
 /// Returns the version of a plan.
 #[unsafe(no_mangle)]
-pub extern "C" fn np_plan_version(alloc: Global, plan: &mut PlanHandle, version: &mut u64) -> u32
-    ensures { Asked (plan_in plan.old) (plan_in plan.new) result (version.new ≡ version.old)
+pub extern "C" fn np_plan_version(plan: &PlanView, version: &mut u64) -> u32
+    ensures { Read (plan_seen plan.now) result (version.new ≡ version.old)
         (λ kept. (result ≡ 0) × (version.new ≡ kept.version)) }
 {
-    tell_if_open!(version, plan.version(alloc))
+    tell_if_open!(version, plan.version())
 }
 
 /// The code of the result of a question for a list.
@@ -147,21 +147,19 @@ pub(crate) fn tell_choice(answer: Result<usize, ChoiceRefusal>, count: &mut usiz
 /// Copies the fallback list of a page.
 #[unsafe(no_mangle)]
 pub extern "C" fn np_plan_choice(
-    alloc: Global,
-    plan: &mut PlanHandle,
+    plan: &PlanView,
     task: u32,
     page: u64,
     cpu: u32,
     nodes: &mut [u8],
     count: &mut usize,
 ) -> u32
-    ensures { Asked (plan_in plan.old) (plan_in plan.new) result
-        ((nodes.new ≡ nodes.old) × (count.new ≡ count.old))
+    ensures { Read (plan_seen plan.now) result ((nodes.new ≡ nodes.old) × (count.new ≡ count.old))
         (λ kept. (answer : Result ℕ ChoiceRefusal) × (result ≡ choice_code answer)
-        × Chooses (plan_in plan.old) task page cpu answer nodes.old nodes.new
+        × Chooses (plan_seen plan.now) task page cpu answer nodes.old nodes.new
         × AreTold answer count.old count.new) }
 {
-    if_open!(plan.choose(alloc, task, page, cpu, nodes), answer => tell_choice(answer, count))
+    if_open!(plan.choose(task, page, cpu, nodes), answer => tell_choice(answer, count))
 }
 
 /// The code of the result of a question about a span.
@@ -177,41 +175,38 @@ fn fill_code(answer: Result<(), PlaceRefusal>) -> u32
 /// Writes the first node of each page's list.
 #[unsafe(no_mangle)]
 pub extern "C" fn np_plan_fill(
-    alloc: Global,
-    plan: &mut PlanHandle,
+    plan: &PlanView,
     task: u32,
     cpu: u32,
     first: u64,
     nodes: &mut [u8],
 ) -> u32
-    ensures { Asked (plan_in plan.old) (plan_in plan.new) result (nodes.new ≡ nodes.old)
+    ensures { Read (plan_seen plan.now) result (nodes.new ≡ nodes.old)
         (λ kept. (answer : Result (Unit {0}) PlaceRefusal) × (result ≡ fill_code answer)
-        × Fills (plan_in plan.old) task first cpu answer nodes.old nodes.new) }
+        × Fills (plan_seen plan.now) task first cpu answer nodes.old nodes.new) }
 {
-    if_open!(plan.fill(alloc, task, first, cpu, nodes), answer => fill_code(answer))
+    if_open!(plan.fill(task, first, cpu, nodes), answer => fill_code(answer))
 }
 
 /// Counts, for each node, the pages of a span whose list begins with it.
 #[unsafe(no_mangle)]
 pub extern "C" fn np_plan_counts(
-    alloc: Global,
-    plan: &mut PlanHandle,
+    plan: &PlanView,
     task: u32,
     cpu: u32,
     first: u64,
     pages: u64,
     counts: &mut NpCounts,
 ) -> u32
-    ensures same { plan_in plan.new ≡ plan_in plan.old }
-    ensures closed { plan_in plan.old ≡ None → (result ≡ 1) × (counts.new ≡ counts.old) }
-    ensures ok { result ≡ 0 → (kept : PlanData) → plan_in plan.old ≡ Some kept →
-        Counts (plan_in plan.old) task first pages cpu (Ok counts.new.pages) }
+    ensures closed { plan_seen plan.now ≡ None → (result ≡ 1) × (counts.new ≡ counts.old) }
+    ensures ok { result ≡ 0 → (kept : PlanData) → plan_seen plan.now ≡ Some kept →
+        Counts (plan_seen plan.now) task first pages cpu (Ok counts.new.pages) }
     ensures err { result ≢ 0 → counts.new ≡ counts.old }
-    ensures refused { result ≢ 0 → (kept : PlanData) → plan_in plan.old ≡ Some kept →
+    ensures refused { result ≢ 0 → (kept : PlanData) → plan_seen plan.now ≡ Some kept →
         (cause : PlaceRefusal) × (result ≡ place_code cause)
-        × Counts (plan_in plan.old) task first pages cpu (Err cause) }
+        × Counts (plan_seen plan.now) task first pages cpu (Err cause) }
 {
-    match plan.counts(alloc, task, first, pages, cpu) {
+    match plan.counts(task, first, pages, cpu) {
         None => Code::Closed as u32,
         Some(Ok(found)) => {
             counts.pages = found;

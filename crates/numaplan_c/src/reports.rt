@@ -4,8 +4,8 @@ ghost use Rattle.numaplan_c.specs.Reports.{Reported, TellsReport, end_code, faul
 ghost use Rattle.numaplan_c.specs.Reports.{format_of, halt_code, is_untold};
 
 use crate::codes::Code;
-use numa_play::{Ended, Halt};
-use numa_reports::{DRAWN, Format, LISTED, Touch};
+use numa_sheets::{DRAWN, Format, LISTED, Touch};
+use numa_subjects::{Ended, Halt};
 use numaplan_handles::copy_items;
 use numaplan_reports::Report;
 use std::alloc::AllocError;

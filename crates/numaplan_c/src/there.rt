@@ -4,7 +4,7 @@ ghost use Rattle.numaplan_c.specs.Reports.{Reported, is_untold};
 
 use crate::asking::{Question, free_by_node, question_of};
 use crate::reports::{NpFree, NpQuestion, NpReport, made, tell_made, touch_of};
-use numa_reports::FreePages;
+use numa_sheets::FreePages;
 use numa_words::PlacedAsked;
 use numaplan_reports::{Origin, Report, moves, predict_at};
 use std::alloc::Global;

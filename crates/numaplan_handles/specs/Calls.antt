@@ -7,10 +7,13 @@ use Rattle.std.specs.Prelude.{OnErr}
 abbrev pub Keeps : {K E : Type 0} → K → Result (Unit {0}) E → Option K → Type 0
 Keeps value answer kept = OnOk answer (kept ≡ Some value) × OnErr answer (kept ≡ None)
 
--- a question leaves what is kept as it was
+-- the answer to a question of what is kept
+abbrev pub Reads : {K A : Type 0} → (A → Type 0) → Option K → Option A → Type 0
+Reads told kept answer = (kept ≡ None → answer ≡ None) × MatchOption answer (kept ≡ None) told
+
+-- a question that takes what is kept out, and leaves it as it was
 abbrev pub Asks : {K A : Type 0} → (A → Type 0) → Option K → Option A → Option K → Type 0
-Asks told old answer new =
-    (new ≡ old) × (old ≡ None → answer ≡ None) × MatchOption answer (old ≡ None) told
+Asks told old answer new = (new ≡ old) × Reads told old answer
 
 -- any other call may change it, but a closed handle stays closed
 abbrev pub Calls : {K A : Type 0} → (Option K → Option K → A → Type 0) → Option K → Option A

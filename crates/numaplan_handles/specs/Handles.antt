@@ -11,6 +11,7 @@ use Rattle.numaplan_handles.specs.declared.core_handle.CoreHandle.{CoreHandle}
 use Rattle.numaplan_handles.specs.declared.host_handle.HostHandle.{HostHandle}
 use Rattle.numaplan_handles.specs.declared.pages_handle.PagesHandle.{PagesHandle}
 use Rattle.numaplan_handles.specs.declared.plan_handle.PlanHandle.{PlanHandle}
+use Rattle.numaplan_handles.specs.declared.plan_view.PlanView.{PlanView}
 use Rattle.numaplan_handles.specs.declared.seat_handle.SeatHandle.{SeatHandle}
 use Rattle.numaplan_handles.specs.declared.script_handle.ScriptHandle.{ScriptHandle}
 
@@ -21,6 +22,10 @@ core_in h = core_of h.handle.held.kept
 -- the plan that a handle keeps
 abbrev pub plan_in : PlanHandle → Option PlanData
 plan_in h = plan_of h.handle.held.kept
+
+-- the plan of a handle that is only looked at
+abbrev pub plan_seen : PlanView → Option PlanData
+plan_seen v = plan_of v.view.held.kept
 
 -- the seat that a handle keeps
 abbrev pub seat_in : SeatHandle → Option Seated

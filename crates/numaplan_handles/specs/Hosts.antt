@@ -19,8 +19,8 @@ use Rattle.numa_space.specs.Policies.{task_record}
 use Rattle.numa_space.specs.Refusals.{range_count_of}
 use Rattle.numa_space.specs.Standing.{place_refusal_of}
 use Rattle.numa_requests.specs.declared.command.Command.{Command}
-use Rattle.numaplan_handles.specs.declared.plan_handle.ChoiceRefusal.{ChoiceRefusal}
-use Rattle.numaplan_handles.specs.declared.plan_handle.ChoiceRefusal.TheVariants as refused
+use Rattle.numaplan_handles.specs.declared.plan_view.ChoiceRefusal.{ChoiceRefusal}
+use Rattle.numaplan_handles.specs.declared.plan_view.ChoiceRefusal.TheVariants as refused
 
 -- the command took the host that is kept from one state to another with this answer
 abbrev pub Obeys : HostCommand → Option HostState → Option HostState

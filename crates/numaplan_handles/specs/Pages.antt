@@ -1,15 +1,16 @@
 -- What a call does to a core with its pages that is kept, and what it answers.
 use Rattle.std.specs.Prelude.{◌≡◌, ◌<◌, ℕ, true, false, Option, Some, None, Result, Ok, Err, List}
-use Rattle.std.specs.Prelude.{OnOk, OnErr, IfSome, MatchOption, is_some, slice_index}
+use Rattle.std.specs.Prelude.{OnOk, OnErr, IfOk, IfSome, MatchOption, is_some, slice_index}
 use Rattle.numa_core.specs.Standing.{CoreState}
 use Rattle.numa_machine.specs.declared.no_memory.NoMemory.{NoMemory}
-use Rattle.numa_pages.specs.Changes.{PagesState}
+use Rattle.numa_pages.specs.Changes.{PagesState, Populates}
 use Rattle.numa_pages.specs.Listing.{listed}
 use Rattle.numa_pages.specs.declared.listing.PageRun.{PageRun}
 use Rattle.numa_placed.specs.Refusals.{lacks_node}
 use Rattle.numa_page_state.specs.Lying.{Lying, nothing}
 use Rattle.numa_page_state.specs.Outcomes.{rooms_of}
-use Rattle.numa_page_state.specs.Standing.{LiesAs}
+use Rattle.numa_page_state.specs.Standing.{ArrivedAs, LiesAs}
+use Rattle.numa_page_state.specs.declared.arrived.Arrived.{Arrived}
 use Rattle.numa_placed.specs.Spots.{is_on, node_of, pages_where, spot_at}
 use Rattle.numa_placed.specs.Wholes.{AreWhole}
 use Rattle.numa_requests.specs.declared.page_refusal.PlacedRefusal.{PlacedRefusal}
@@ -50,6 +51,20 @@ IsMade made from answer new = (from ≡ None → answer ≡ None)
     × MatchOption answer ((from ≡ None) × (new ≡ None)) (λ it. (is_some from ≡ true)
     × OnOk it (is_some new ≡ true) × OnErr it (new ≡ None))
     × IfSome new (made from)
+
+-- ---- first touches
+
+-- the same without what it tells
+abbrev pub untold : {E : Type 0} → Result Arrived E → Result (Unit {0}) E
+untold (Ok arrived) = Ok tt
+untold (Err why) = Err why
+
+-- a task touched the pages of a span first, and what that did is told; or it is told why not
+pub record Touches (start bytes task cpu : ℕ) (before : PagesState)
+    (answer : Result Arrived PlacedRefusal) (after : PagesState) : Type 0 where
+  pub does : Populates start bytes task cpu before (untold answer) after
+  pub told : IfOk answer (λ arrived. (lying : Lying) → LiesAs after.state lying
+      → ArrivedAs arrived lying.arrived)
 
 -- ---- questions
 

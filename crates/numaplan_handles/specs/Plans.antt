@@ -5,8 +5,8 @@ use Rattle.numa_plan.specs.Found.{IsMapped}
 use Rattle.numa_plan.specs.Meaning.{PlanData, planned_list, planned_first, place_refusal}
 use Rattle.numa_plan.specs.Meaning.{CountsFirsts, RefusesSpan}
 use Rattle.numa_machine.specs.declared.refusal.PlaceRefusal.{PlaceRefusal}
-use Rattle.numaplan_handles.specs.declared.plan_handle.ChoiceRefusal.{ChoiceRefusal}
-use Rattle.numaplan_handles.specs.declared.plan_handle.ChoiceRefusal.TheVariants as refused
+use Rattle.numaplan_handles.specs.declared.plan_view.ChoiceRefusal.{ChoiceRefusal}
+use Rattle.numaplan_handles.specs.declared.plan_view.ChoiceRefusal.TheVariants as refused
 
 -- the list of a page of the plan, for a task and a fault on the node
 abbrev pub IsListOf : Option PlanData → ℕ → ℕ → ℕ → List ℕ → Type 0

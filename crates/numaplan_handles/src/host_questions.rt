@@ -19,7 +19,7 @@ use crate::core_questions::range_of;
 use crate::handle::of_kept;
 use crate::host_handle::HostHandle;
 use crate::kept::Kept;
-use crate::plan_handle::ChoiceRefusal;
+use crate::plan_view::ChoiceRefusal;
 use crate::room::copy_items;
 use numa_compile::compile;
 use numa_host::{ControlGroup, Host};

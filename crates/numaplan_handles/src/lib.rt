@@ -1,7 +1,8 @@
 //! Handles for C callers: of a core, a plan, a seat at pools of frames, a script, a host, or a core
 //! with its pages. A handle is 16 bytes, initially 0: a flag that says whether it is open, and a
 //! pointer to a value on the heap, which the handle owns. The calls that ask whether it is open and
-//! that close it are the same for all kinds: those of its `handle`.
+//! that close it are the same for all kinds: those of its `handle`. A plan is asked by a view of
+//! its handle, which threads share.
 #![tactic(auto)]
 
 mod core_handle;
@@ -17,10 +18,12 @@ mod pages_moves;
 mod pages_questions;
 mod place;
 mod plan_handle;
+mod plan_view;
 mod room;
 mod script_handle;
 mod search;
 mod seat_handle;
+mod view;
 
 pub use core_handle::{CoreHandle, compile_kept};
 pub use core_questions::core_kept;
@@ -30,7 +33,9 @@ pub use held::HeapSlot;
 pub use host_handle::HostHandle;
 pub use kept::Kept;
 pub use pages_handle::PagesHandle;
-pub use plan_handle::{ChoiceRefusal, PlanHandle};
+pub use plan_handle::PlanHandle;
+pub use plan_view::{ChoiceRefusal, PlanView};
 pub use room::copy_items;
 pub use script_handle::ScriptHandle;
 pub use seat_handle::SeatHandle;
+pub use view::{LentSlot, View};

@@ -1,19 +1,35 @@
-//! Stating where pages lie, and moving them, through a handle.
+//! Stating where pages lie, touching them first, and moving them, through a handle.
 ghost use Rattle.numa_pages.specs.Changes.{BindsMoving, Limits, Migrates, MovesMems, MovesPage};
 ghost use Rattle.numa_pages.specs.Changes.{Places};
 ghost use Rattle.numaplan_handles.specs.Calls.{Calls};
 ghost use Rattle.numaplan_handles.specs.Handles.{pages_in};
-ghost use Rattle.numaplan_handles.specs.Pages.{OfPages};
+ghost use Rattle.numaplan_handles.specs.Pages.{OfPages, Touches};
 
 use crate::handle::of_kept;
 use crate::kept::Kept;
 use crate::pages_handle::PagesHandle;
 use numa_mask::NodeMask;
-use numa_page_state::{Rebinding, Toucher};
-use numa_pages::{ChangeRefusal, Rebound};
+use numa_page_state::{Arrived, Rebinding, Toucher};
+use numa_pages::{ChangeRefusal, Pages, Rebound};
 use numa_placed::Moved;
 use numa_requests::{MoveRefusal, PlacedRefusal};
 use std::alloc::Global;
+
+/// Touches each page of a span for the first time, and returns what that did.
+fn touched(
+    pages: &mut Pages,
+    start: u64,
+    length: u64,
+    task: u32,
+    cpu: u32,
+) -> Result<Arrived, PlacedRefusal>
+    ensures { Touches start length task cpu pages.old result pages.new }
+{
+    match pages.populate(start, length, task, cpu) {
+        Ok(()) => Ok(*pages.arrived()),
+        Err(cause) => Err(cause),
+    }
+}
 
 impl PagesHandle {
     /// States that the mapped pages of a span lie on a node. `None` if the handle is closed.
@@ -31,6 +47,28 @@ impl PagesHandle {
             (pages_in self.new) }
     {
         of_kept!(self.handle, alloc, Kept::Pages(pages) => pages.place(start, length, node))
+    }
+
+    /// Touches each page of a span for the first time, as a task on a CPU of node `cpu` does that
+    /// writes to it, and returns how many pages went to a node, to which, and how many found no
+    /// room. `None` if the handle is closed.
+    ///
+    /// # Errors
+    /// In the `Some`, as [`Pages::populate`](numa_pages::Pages::populate).
+    pub fn populate(
+        &mut self,
+        alloc: Global,
+        start: u64,
+        length: u64,
+        task: u32,
+        cpu: u32,
+    ) -> Option<Result<Arrived, PlacedRefusal>>
+        ensures { Calls (OfPages (Touches start length task cpu)) (pages_in self.old) result
+            (pages_in self.new) }
+    {
+        of_kept!(self.handle, alloc, Kept::Pages(pages) => {
+            touched(pages, start, length, task, cpu)
+        })
     }
 
     /// Says how many more pages a node takes; 2^64 - 1 if it never fills. `None` if the handle is

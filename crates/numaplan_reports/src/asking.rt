@@ -3,10 +3,10 @@
 use crate::lines::lines_of;
 use crate::report::{Report, report_of};
 use crate::sources::{ScriptText, first_of, named, scripts_of};
-use numa_play::{Ended, Halt, Twin};
-use numa_reports::{Format, FreePages, Touch, Written};
+use numa_questions::AskedPages;
+use numa_sheets::{Format, FreePages, Touch, Written};
+use numa_subjects::{Ended, Halt, Twin};
 use numa_traces::ReplayError;
-use numa_words::AskedPages;
 use std::alloc::{AllocError, Global};
 
 /// The report of a word of the program, which appends its answer and the messages about lines to
@@ -59,12 +59,12 @@ fn diff_by(
 ) -> Result<Report, AllocError> {
     let scripts = first_of(alloc, script)?;
     report_by!(alloc, answer, told => {
-        numa_what_if::diff(alloc, scripts, lines, asked, format, &mut answer, &mut told, &mut ())
+        numa_words::diff(alloc, scripts, lines, asked, format, &mut answer, &mut told, &mut ())
     })
 }
 
 /// Which pages would go to another node after the lines behind a script than before them, as
-/// [`numa_what_if::diff`] writes it.
+/// [`numa_words::diff`] writes it.
 ///
 /// # Errors
 /// `AllocError`: out of memory.
@@ -138,7 +138,7 @@ pub(crate) fn replay_of(
     }
 }
 
-/// What a trace meets after a script, as [`numa_what_if::replay`] writes it. Messages call the
+/// What a trace meets after a script, as [`numa_words::replay`] writes it. Messages call the
 /// trace `trace`; the last is about the line that can't be replayed, if there is one.
 ///
 /// # Errors
@@ -156,7 +156,7 @@ pub fn replay(
     };
     let mut answer = Vec::new(alloc);
     let mut told = Vec::new(alloc);
-    let ended = numa_what_if::replay(
+    let ended = numa_words::replay(
         alloc,
         scripts,
         traces,

@@ -6,7 +6,8 @@ ghost use Rattle.numaplan_handles.specs.Steps.{Compiles};
 ghost use Rattle.numaplan_reports.specs.Compared.{AsksBoth, Differs, IsCompared, IsPlanFor};
 
 use numa_plan::Plan;
-use numa_reports::{ReportError, SpanMove, Touch, all_moves};
+use numa_reports::{ReportError, SpanMove, all_moves};
+use numa_sheets::Touch;
 use numa_space::Space;
 use numaplan_handles::{CoreHandle, Kept, compile_kept, core_kept};
 use std::alloc::Global;

@@ -5,8 +5,8 @@ ghost use Rattle.numaplan_handles.specs.Handles.{core_in};
 ghost use Rattle.numaplan_handles.specs.Kinds.{core_of, is_core};
 ghost use Rattle.numaplan_reports.specs.Asked.{Explains, IsExplained};
 
-use numa_reports::Touch;
 use numa_rules::{Explanation, ReasonError, explain};
+use numa_sheets::Touch;
 use numa_space::Space;
 use numaplan_handles::{CoreHandle, Kept, core_kept, of_kept};
 use std::alloc::Global;

@@ -10,7 +10,8 @@ ghost use Rattle.numaplan_handles.specs.Steps.{Compiles};
 ghost use Rattle.numaplan_reports.specs.Asked.{Fills, IsFilled};
 
 use numa_plan::{Plan, Tally};
-use numa_reports::{ReportError, Touch, fill_all};
+use numa_reports::{ReportError, fill_all};
+use numa_sheets::Touch;
 use numa_space::Space;
 use numaplan_handles::{CoreHandle, Kept, compile_kept, core_kept, of_kept};
 use std::alloc::Global;

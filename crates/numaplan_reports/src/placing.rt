@@ -4,7 +4,7 @@ use crate::lines::lines_of;
 use crate::report::{Report, report_of};
 use crate::sources::{ScriptText, first_of, named, scripts_of};
 use numa_play::Scripts;
-use numa_reports::{Format, FreePages, Touch};
+use numa_sheets::{Format, FreePages, Touch};
 use numa_words::PlacedAsked;
 use std::alloc::{AllocError, Global};
 

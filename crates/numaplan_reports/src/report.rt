@@ -1,7 +1,7 @@
 //! What a word of the program answered.
 ghost use Rattle.std.specs.Prelude.{◌≡◌, ◌≤◌, ◌++◌, length, IfOk};
 
-use numa_play::{Ended, Halt};
+use numa_subjects::{Ended, Halt};
 use std::alloc::AllocError;
 
 /// What a word of the program answered.

@@ -8,10 +8,10 @@ ghost use Rattle.numaplan_reports.specs.Compared.{AsksBoth};
 use crate::asking::replay_of;
 use crate::report::{Report, report_of};
 use crate::sources::named;
-use numa_play::{Ended, Halt};
-use numa_reports::{Format, FreePages, Touch};
+use numa_questions::{explain_space, predict_space};
+use numa_sheets::{Format, FreePages, Touch};
+use numa_subjects::{Ended, Halt};
 use numa_what_if::{diff_spaces, replay_space};
-use numa_words::{explain_space, predict_space};
 use numaplan_handles::{CoreHandle, Kept, core_kept, of_kept};
 use std::alloc::{AllocError, Global};
 

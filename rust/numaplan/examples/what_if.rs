@@ -23,7 +23,7 @@ fn core() -> Result<Core, Refused> {
 }
 
 /// How many pages of each task have each of the four nodes first.
-fn spread(plan: &mut Plan) -> Result<Vec<Vec<u64>>, Refused> {
+fn spread(plan: &Plan) -> Result<Vec<Vec<u64>>, Refused> {
     (1..=3)
         .map(|task| Ok(plan.counts(task, 0, FIRST, PAGES)?[..4].to_vec()))
         .collect()
@@ -31,13 +31,17 @@ fn spread(plan: &mut Plan) -> Result<Vec<Vec<u64>>, Refused> {
 
 fn main() -> Result<(), Refused> {
     let mut core = core()?;
-    let mut before = core.compile()?;
+    let before = core.compile()?;
     core.set_mems("1,3")?;
-    let mut after = core.compile()?;
-    // (both plans stand: a plan never changes; another thread reads a share of one)
-    let mut shared = before.share()?;
-    let before = std::thread::spawn(move || spread(&mut shared)).join().unwrap()?;
-    for (task, (now, then)) in before.iter().zip(spread(&mut after)?).enumerate() {
+    let after = core.compile()?;
+    // (both plans stand: a plan never changes, and threads ask it at once)
+    let ask = |plan| move || spread(plan);
+    let (before, after) = std::thread::scope(|scope| {
+        let threads = [&before, &after].map(|plan| scope.spawn(ask(plan)));
+        let [before, after] = threads.map(|thread| thread.join().unwrap());
+        Ok::<_, Refused>((before?, after?))
+    })?;
+    for (task, (now, then)) in before.iter().zip(after).enumerate() {
         println!("task {}: {now:?} becomes {then:?}", task + 1);
     }
     println!("{}", core.map(1, 4096, 0).unwrap_err());

@@ -163,9 +163,13 @@ causes! {
     105 NOT_PLACED "NotPlaced"
         "the page lies nowhere; state where it lies, by place";
     106 NODE_FULL "NodeFull"
-        "the node has no room for the page; move another away from it, or give it room by set_room";
+        "the node has no room for the page, or for so many; move others away from it, or give it room by set_room";
     107 OCCUPIED "Occupied"
         "the page lies somewhere already; unmap it first";
+    108 NO_SUCH_CPU "NoSuchCpu"
+        "the machine lacks the node of the task's CPU; its nodes are numbered from 0";
+    109 SPAN_UNMAPPED "SpanUnmapped"
+        "a page of the span isn't mapped; map it first, or touch each mapped part";
 }
 
 impl Refused {

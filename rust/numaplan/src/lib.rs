@@ -40,7 +40,7 @@ pub use cores::{Core, Policy, Range, Ranges};
 pub use explanations::{Explanation, OrderRule, Scope};
 pub use hosts::{Group, Host, Processes};
 pub use options::{Options, Orders, Rules};
-pub use pages::{Bound, Flow, Moved, Pages};
+pub use pages::{Arrived, Bound, Flow, Moved, Pages};
 pub use plans::Plan;
 pub use raw::{Access, Frame, Move, PageRun, Placement, Process};
 pub use reports::{Format, Question, Report, Unanswered};

@@ -1,7 +1,7 @@
 //! Cores whose pages are there. Each call of the library is as `calls` says.
 
 use crate::calls::done;
-use crate::raw::{self, Counts, Handle, ToldBound, ToldMoves};
+use crate::raw::{self, Counts, Handle, ToldArrived, ToldBound, ToldMoves};
 use crate::{Core, PageRun, Refused};
 
 /// The room of a node that never fills (NP_ENDLESS).
@@ -33,6 +33,15 @@ impl Moved {
     }
 }
 
+/// What a task's first touches of the pages of a span did: how many went to a node, how many found no node
+/// with room, and how many went to each node.
+#[derive(Clone, Debug, PartialEq, Eq)]
+pub struct Arrived {
+    pub placed: u64,
+    pub exhausted: u64,
+    pub nodes: [u64; 256],
+}
+
 /// What a policy did to the pages of its span: how many went to another node, how many had to go and found no
 /// node with room, and the error number that mbind(2) answers all the same, 5 (EIO) or 0.
 #[derive(Clone, Copy, Debug, PartialEq, Eq)]
@@ -42,9 +51,9 @@ pub struct Bound {
     pub errno: u32,
 }
 
-/// A core together with where its pages lie: as it is stated, and then where Linux moves them. It has a
-/// copy of the core, and each command of that is given here; of a page that is unmapped nothing is stated
-/// any more. Frames that workers take are apart.
+/// A core together with where its pages lie: as it is stated, or a task touches them first, and then where
+/// Linux moves them. It has a copy of the core, and each command of that is given here; a page that is
+/// unmapped lies nowhere any more. Frames that workers take are apart.
 ///
 /// ```
 /// use numaplan::{Core, Pages, Refused};
@@ -58,10 +67,13 @@ pub struct Bound {
 /// let moved = pages.move_mems("0,2")?;
 /// assert_eq!((moved.moved, pages.counts()[2]), (3, 4));
 /// assert_eq!(pages.move_page(0x10000, 1), Err(Refused::TARGET_NOT_ALLOWED));
-/// // of an unmapped page nothing is stated any more
+/// // an unmapped page lies nowhere any more, until a task touches it
 /// pages.unmap(0x10000, 0x1000)?;
 /// pages.map(0x10000, 0x1000, 0x10)?;
 /// assert_eq!(pages.node_of(0x10000)?, None);
+/// pages.set_task(7, "bind:0")?;
+/// assert_eq!(pages.populate(0x10000, 0x4000, 7, 1)?.placed, 1);
+/// assert_eq!(pages.node_of(0x10000)?, Some(0));
 /// # Ok::<(), Refused>(())
 /// ```
 #[derive(Debug)]
@@ -106,7 +118,7 @@ impl Pages {
         done(unsafe { raw::np_pages_map(&mut self.0, start, length, offset) })
     }
 
-    /// Unmaps the pages of a span; then nothing is stated of them any more.
+    /// Unmaps the pages of a span; then they lie nowhere, and give back the room that they took.
     pub fn unmap(&mut self, start: u64, length: u64) -> Result<(), Refused> {
         done(unsafe { raw::np_pages_unmap(&mut self.0, start, length) })
     }
@@ -154,13 +166,33 @@ impl Pages {
         done(unsafe { raw::np_pages_set_mems(&mut self.0, nodes.as_ptr(), nodes.len()) })
     }
 
-    /// States that the mapped pages of a span lie on a node; a later statement counts.
+    /// States that the mapped pages of a span lie on a node; a later statement counts. Refused as
+    /// [`Refused::NODE_FULL`] where more come to the node than it takes.
     pub fn place(&mut self, start: u64, length: u64, node: u32) -> Result<(), Refused> {
         done(unsafe { raw::np_pages_place(&mut self.0, start, length, node) })
     }
 
-    /// Says how many more pages a node takes: each page that moves there takes one, and each that moves away
-    /// gives one back; `place` takes none. `None`, as at first: it never fills.
+    /// Touches each page of a span for the first time, as a task on a CPU of node `cpu` does that writes to
+    /// it (madvise(2), MADV_POPULATE_WRITE): the lowest first, each that lies nowhere goes to the first node
+    /// of its list that has room by then. Pages that lie somewhere are passed over; one that finds no room
+    /// stays nowhere, and the next go on. Refused as [`Refused::SPAN_UNMAPPED`] where one isn't mapped.
+    pub fn populate(
+        &mut self,
+        start: u64,
+        length: u64,
+        task: u32,
+        cpu: u32,
+    ) -> Result<Arrived, Refused> {
+        let mut told = ToldArrived { placed: 0, exhausted: 0, nodes: [0; 256] };
+        done(unsafe {
+            raw::np_pages_populate(&mut self.0, start, length, task, cpu, &mut told)
+        })?;
+        Ok(Arrived { placed: told.placed, exhausted: told.exhausted, nodes: told.nodes })
+    }
+
+    /// Says how many more pages a node takes from now on: each page that comes to it (by `place`, `populate`
+    /// or a move) takes one, and each that leaves it (by a later `place`, a move or `unmap`) gives one back.
+    /// `None`, as at first: it never fills.
     pub fn set_room(&mut self, node: u32, pages: Option<u64>) -> Result<(), Refused> {
         done(unsafe { raw::np_pages_set_room(&mut self.0, node, pages.unwrap_or(ENDLESS)) })
     }

@@ -4,49 +4,81 @@ use crate::calls::done;
 use crate::raw::{self, Counts, Handle};
 use crate::Refused;
 
-/// A plan, which never changes: the list of nodes of each page.
+/// A plan, which never changes: the list of nodes of each page. Threads ask it at once, by `&Plan`,
+/// an `Arc<Plan>`, or each by its own (`try_clone`).
+///
+/// ```
+/// use numaplan::{Core, Refused};
+/// use std::thread;
+///
+/// let mut core = Core::open("0-1", &[8, 8], &[10, 20, 20, 10], 1)?;
+/// core.map(0x10000, 0x4000, 0x10)?;
+/// let plan = core.compile()?;
+/// let firsts = thread::scope(|scope| {
+///     let ask = |node| plan.choice(1, 0x10, node).map(|nodes| nodes[0]);
+///     let threads = [0, 1].map(|node| scope.spawn(move || ask(node)));
+///     threads.map(|thread| thread.join().unwrap())
+/// });
+/// assert_eq!(firsts, [Ok(0), Ok(1)]);
+/// # Ok::<(), Refused>(())
+/// ```
 #[derive(Debug)]
 #[must_use]
 pub struct Plan(pub(crate) Handle);
 
 // SAFETY: as for a core.
 unsafe impl Send for Plan {}
+// SAFETY: the library's calls only look at a plan, whose handle they take `const`; any number of
+// threads may do so at once (numaplan.h).
+unsafe impl Sync for Plan {}
 
 impl Plan {
-    /// The same plan, for another thread.
-    pub fn share(&mut self) -> Result<Plan, Refused> {
+    /// The same plan once more: it is freed with the last one of it.
+    ///
+    /// # Errors
+    /// `NO_MEMORY`.
+    pub fn try_clone(&self) -> Result<Plan, Refused> {
         let mut other = Plan(Handle::closed());
-        done(unsafe { raw::np_plan_share(&mut self.0, &mut other.0) })?;
+        done(unsafe { raw::np_plan_share(&self.0, &mut other.0) })?;
         Ok(other)
     }
 
     /// How many commands it was made of.
     #[must_use]
-    pub fn version(&mut self) -> u64 {
+    pub fn version(&self) -> u64 {
         let mut version = 0;
-        unsafe { raw::np_plan_version(&mut self.0, &mut version) };
+        unsafe { raw::np_plan_version(&self.0, &mut version) };
         version
     }
 
     /// The nodes on which memory for a page is looked for, the first first.
-    pub fn choice(&mut self, task: u32, page: u64, cpu: u32) -> Result<Vec<u8>, Refused> {
+    ///
+    /// # Errors
+    /// `BAD_CPU`, `UNMAPPED`.
+    pub fn choice(&self, task: u32, page: u64, cpu: u32) -> Result<Vec<u8>, Refused> {
         let (mut nodes, mut count) = ([0; 256], 0);
         done(unsafe {
-            raw::np_plan_choice(&mut self.0, task, page, cpu, nodes.as_mut_ptr(), 256, &mut count)
+            raw::np_plan_choice(&self.0, task, page, cpu, nodes.as_mut_ptr(), 256, &mut count)
         })?;
         Ok(nodes[..count].to_vec())
     }
 
     /// Writes the first node of each page's list, for as many pages as there are places.
-    pub fn fill(&mut self, task: u32, cpu: u32, first: u64, out: &mut [u8]) -> Result<(), Refused> {
+    ///
+    /// # Errors
+    /// `BAD_CPU`, `UNMAPPED`; then nothing was written.
+    pub fn fill(&self, task: u32, cpu: u32, first: u64, out: &mut [u8]) -> Result<(), Refused> {
         done(unsafe {
-            raw::np_plan_fill(&mut self.0, task, cpu, first, out.as_mut_ptr(), out.len())
+            raw::np_plan_fill(&self.0, task, cpu, first, out.as_mut_ptr(), out.len())
         })
     }
 
     /// How many pages of a span have each node first.
+    ///
+    /// # Errors
+    /// `BAD_CPU`, `UNMAPPED`.
     pub fn counts(
-        &mut self,
+        &self,
         task: u32,
         cpu: u32,
         first: u64,
@@ -54,7 +86,7 @@ impl Plan {
     ) -> Result<[u64; 256], Refused> {
         let mut counts = Counts { pages: [0; 256] };
         done(unsafe {
-            raw::np_plan_counts(&mut self.0, task, cpu, first, pages, &mut counts)
+            raw::np_plan_counts(&self.0, task, cpu, first, pages, &mut counts)
         })?;
         Ok(counts.pages)
     }

@@ -118,6 +118,13 @@ pub struct PageRun {
 }
 
 #[repr(C)]
+pub(crate) struct ToldArrived {
+    pub placed: u64,
+    pub exhausted: u64,
+    pub nodes: [u64; 256],
+}
+
+#[repr(C)]
 #[derive(Default)]
 pub(crate) struct ToldBound {
     pub moved: u64,
@@ -205,7 +212,7 @@ const _: () = assert!(size_of::<ToldReport>() == 24 && size_of::<ToldExplanation
 
 const _: () = assert!(size_of::<ToldGroup>() == 48 && size_of::<Process>() == 8);
 const _: () = assert!(size_of::<PageRun>() == 24 && size_of::<ToldMoves>() == 2320);
-const _: () = assert!(size_of::<ToldBound>() == 24);
+const _: () = assert!(size_of::<ToldBound>() == 24 && size_of::<ToldArrived>() == 2064);
 
 #[rustfmt::skip]
 #[link(name = "numaplan", kind = "static")]
@@ -236,12 +243,12 @@ extern "C" {
     pub(crate) fn np_core_give(core: &mut Handle, worker: u32, node: u8, frame: u16) -> u32;
     pub(crate) fn np_core_compile(core: &mut Handle, plan: &mut Handle) -> u32;
     pub(crate) fn np_core_plan(core: &mut Handle, plan: &mut Handle) -> u32;
-    pub(crate) fn np_plan_share(plan: &mut Handle, other: &mut Handle) -> u32;
+    pub(crate) fn np_plan_share(plan: &Handle, other: &mut Handle) -> u32;
     pub(crate) fn np_plan_close(plan: &mut Handle);
-    pub(crate) fn np_plan_version(plan: &mut Handle, version: &mut u64) -> u32;
-    pub(crate) fn np_plan_choice(plan: &mut Handle, task: u32, page: u64, cpu: u32, nodes: *mut u8, room: usize, count: &mut usize) -> u32;
-    pub(crate) fn np_plan_fill(plan: &mut Handle, task: u32, cpu: u32, first: u64, nodes: *mut u8, pages: usize) -> u32;
-    pub(crate) fn np_plan_counts(plan: &mut Handle, task: u32, cpu: u32, first: u64, pages: u64, counts: &mut Counts) -> u32;
+    pub(crate) fn np_plan_version(plan: &Handle, version: &mut u64) -> u32;
+    pub(crate) fn np_plan_choice(plan: &Handle, task: u32, page: u64, cpu: u32, nodes: *mut u8, room: usize, count: &mut usize) -> u32;
+    pub(crate) fn np_plan_fill(plan: &Handle, task: u32, cpu: u32, first: u64, nodes: *mut u8, pages: usize) -> u32;
+    pub(crate) fn np_plan_counts(plan: &Handle, task: u32, cpu: u32, first: u64, pages: u64, counts: &mut Counts) -> u32;
     pub(crate) fn np_seat_open(seat: &mut Handle, memory: *const u8, memory_length: usize, frames: *const u32, nodes: usize, distances: *const u8, distances_count: usize) -> u32;
     pub(crate) fn np_seat_split(seat: &mut Handle, other: &mut Handle) -> u32;
     pub(crate) fn np_seat_take(seat: &mut Handle, nodes: *const u8, count: usize, frame: &mut Frame, rank: &mut usize) -> u32;
@@ -313,6 +320,7 @@ extern "C" {
     pub(crate) fn np_pages_set_weight(pages: &mut Handle, node: u32, weight: u32) -> u32;
     pub(crate) fn np_pages_set_mems(pages: &mut Handle, nodes: *const u8, nodes_length: usize) -> u32;
     pub(crate) fn np_pages_place(pages: &mut Handle, start: u64, length: u64, node: u32) -> u32;
+    pub(crate) fn np_pages_populate(pages: &mut Handle, start: u64, length: u64, task: u32, cpu: u32, arrived: &mut ToldArrived) -> u32;
     pub(crate) fn np_pages_set_room(pages: &mut Handle, node: u32, room: u64) -> u32;
     pub(crate) fn np_pages_room(pages: &mut Handle, node: u32, room: &mut u64) -> u32;
     pub(crate) fn np_pages_node(pages: &mut Handle, address: u64, node: &mut u32) -> u32;

@@ -250,7 +250,8 @@ impl<'a> Question<'a> {
         })
     }
 
-    /// Why the page of a number (address / 4096) would go where it goes: `numaplan explain`.
+    /// Why the page of a number (address / 4096) would go where it goes, and of one that is there
+    /// where it lies and how it would come there: `numaplan explain`.
     pub fn explain(&self, page: u64, format: Format) -> Result<Report, Unanswered> {
         let asked = self.asked(format);
         told(|text, report| unsafe {

@@ -5,8 +5,8 @@ ghost use Rattle.std.specs.List.{list_all};
 ghost use Rattle.numa_script.specs.Numbers.{number_of};
 ghost use Rattle.numa_command_line.specs.Values.{address_of, is_hexadecimal, sure};
 
-use numa_reports::AddressAsked;
 use numa_script::number::number;
+use numa_sheets::AddressAsked;
 use std::alloc::{AllocError, Global};
 
 /// The fewest digits of an address in an answer.

@@ -9,8 +9,8 @@ use crate::found::{is_on, small_at, text_at};
 use crate::jobs::{JobFault, PageQuestion, ScriptJob};
 use crate::usage::{Argument, Takes};
 use clap::ArgMatches;
-use numa_reports::{CpuAsked, Format, TouchAsked};
 use numa_script::number::small;
+use numa_sheets::{CpuAsked, Format, TouchAsked};
 use std::alloc::Global;
 
 /// The message for an invalid node.

@@ -17,7 +17,7 @@ use crate::words::format::{COMPARED, LARGEST, format_in, is_drawn};
 use crate::words::lenient::LENIENT;
 use crate::words::process::PROCESS;
 use clap::ArgMatches;
-use numa_reports::Format;
+use numa_sheets::Format;
 use std::alloc::Global;
 
 /// The message for pages that are there in a picture or a page.

@@ -18,7 +18,7 @@ use crate::words::format::{PLAIN, format_in};
 use crate::words::lenient::LENIENT;
 use crate::words::process::PROCESS;
 use clap::ArgMatches;
-use numa_reports::AddressAsked;
+use numa_sheets::AddressAsked;
 use std::alloc::Global;
 
 /// The message for an invalid address.
@@ -55,7 +55,9 @@ repository:\n  ./numaplan explain --node 3 0x32000 examples/interleaved-range.nu
 touched it now on a CPU of the node. Six lines give the nodes in order; the range, with the \
 page's index; which policy counts, and why the other doesn't; the sets of nodes; the rule \
 that chose the first node, with its arithmetic; and the order of the others, with their \
-distances.\n\nADDRESS is hexadecimal after 0x, with a letter, or as eight digits or more of \
+distances. Of a page that is there, by at, populate, touch or a move, a line before says \
+where it lies, and one behind from which nodes, or with which nodes full, it would come \
+there.\n\nADDRESS is hexadecimal after 0x, with a letter, or as eight digits or more of \
 which the first is 0, as answers print it. Other digits are decimal, or hexadecimal if only \
 that page is mapped; if both pages are, write the one that is meant with 0x.\n\nWith --pages \
 it names, for each stretch of so many pages from there on, the policy that counts and its \

@@ -7,7 +7,7 @@ ghost use Rattle.numa_command_line.specs.Values.{format_in, format_named};
 use crate::found::{small_at, text_at};
 use crate::usage::{Argument, Takes};
 use clap::ArgMatches;
-use numa_reports::{DRAWN, Format, LISTED};
+use numa_sheets::{DRAWN, Format, LISTED};
 
 /// The option `--format FORMAT` of a subcommand that answers as text or in one of these formats.
 macro_rules! format_option {

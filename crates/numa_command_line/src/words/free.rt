@@ -12,9 +12,9 @@ use crate::sizes::pages_of;
 use crate::usage::{Argument, Takes};
 use clap::ArgMatches;
 use numa_mask::Parts;
-use numa_reports::FreePages;
 use numa_script::number::node;
 use numa_script::parts::items;
+use numa_sheets::FreePages;
 use std::alloc::{AllocError, Global};
 
 /// The message for an invalid value.

@@ -20,7 +20,7 @@ use crate::words::lenient::LENIENT;
 use crate::words::process::PROCESS;
 use crate::words::{asked, free};
 use clap::ArgMatches;
-use numa_reports::{Format, FreePages};
+use numa_sheets::{Format, FreePages};
 use std::alloc::Global;
 
 /// The message for pages that are there in a page.

@@ -2,7 +2,8 @@
 
 use crate::sums::{AllMoves, MoveSum};
 use numa_placed::Rooms;
-use numa_reports::{FreePages, PageSpan, Written};
+use numa_reports::PageSpan;
+use numa_sheets::{FreePages, Written};
 
 /// The bytes of a page.
 const PAGE_BYTES: u64 = 4096;

@@ -3,7 +3,8 @@
 use crate::sheet::lines::addresses;
 use crate::sums::{AllMoves, MoveSum};
 use numa_placed::Rooms;
-use numa_reports::{FreePages, Items, Object, PageSpan, Written};
+use numa_reports::PageSpan;
+use numa_sheets::{FreePages, Items, Object, Written};
 
 /// Adds pages on a node to a list.
 fn push_node(items: &mut Items, node: u64, pages: u64) {

@@ -1,62 +1,13 @@
 //! The bars of pictures: pages one by one, or by node.
 
-use crate::sheet::colours::{fill_of, ink_of};
 use crate::sheet::fields::{PlacedPages, bytes};
 use crate::sheet::nodes::NodePages;
-use crate::sheet::scale::share;
-use crate::sheet::written::Written;
-
-/// The least pixels of a cell with a number.
-pub(crate) const CELL: u64 = 12;
-
-/// Where a part of a bar is drawn: its first column and its row of pixels, and its size.
-#[derive(Clone, Copy)]
-pub(crate) struct Rectangle {
-    pub(crate) left: u64,
-    pub(crate) top: u64,
-    pub(crate) width: u64,
-    pub(crate) height: u64,
-}
-
-/// Draws a rectangle.
-pub(crate) fn put_rectangle(text: &mut Written, place: Rectangle, fill: &str) {
-    let numbers = [place.left, place.top, place.width, place.height];
-    text.put_form(
-        b"<rect x=\"$\" y=\"$\" width=\"$\" height=\"$\" stroke=\"#333333\" \
-        stroke-width=\"0.5\" fill=\"",
-        &numbers,
-    );
-    text.put(fill.as_bytes());
-    text.put(b"\"/>");
-}
-
-/// Writes the number of a node in the middle of a place, if there is room for it.
-fn put_number(text: &mut Written, place: Rectangle, node: u64) {
-    if place.width < CELL {
-        return;
-    }
-    let size = if node < 100 || place.width >= 20 {
-        9
-    } else {
-        6
-    };
-    let middle = place.left.saturating_add(place.width / 2);
-    let line = place.top.saturating_add(place.height / 2).saturating_add(3);
-    text.put_form(
-        b"<text x=\"$\" y=\"$\" font-size=\"$\" text-anchor=\"middle\" fill=\"",
-        &[middle, line, size],
-    );
-    text.put(ink_of(node).as_bytes());
-    text.put(b"\">");
-    text.put_number(node);
-    text.put(b"</text>");
-}
+use numa_sheets::{Rectangle, Written, put_hatched, put_node as put_box, share};
 
 /// Draws a part of a bar in the colour of a node, with its number. Its title, which tells more
 /// where the mouse points, was written before it.
 pub(crate) fn put_part(text: &mut Written, place: Rectangle, node: u64) {
-    put_rectangle(text, place, fill_of(node));
-    put_number(text, place, node);
+    put_box(text, place, node);
     text.put(b"</g>");
 }
 
@@ -95,8 +46,8 @@ fn put_node(text: &mut Written, whole: Rectangle, before: u64, all: u64, one: No
         ..whole
     };
     text.put_form(b"<g><title>node $: ", &[one.node]);
-    text.put_pages(one.pages);
-    text.put_form(b", $ bytes</title>", &[bytes(one.pages)]);
+    text.put_amount(one.pages);
+    text.put(b"</title>");
     put_part(text, place, one.node);
 }
 
@@ -119,8 +70,8 @@ pub(crate) fn put_nodes(text: &mut Written, whole: Rectangle, placed: PlacedPage
         ..whole
     };
     text.put(b"<g class=\"exhausted\"><title>no free page: ");
-    text.put_pages(lacking);
+    text.put_amount(lacking);
     text.put(b"</title>");
-    put_rectangle(text, place, "none");
+    put_hatched(text, place);
     text.put(b"</g>");
 }

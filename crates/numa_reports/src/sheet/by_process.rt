@@ -1,7 +1,6 @@
 //! Answers about several processes as one text.
 
 use crate::account::Account;
-use crate::filling::FreePages;
 use crate::moves::{ENTRIES, empty_table};
 use crate::sheet::changes::put_moves;
 use crate::sheet::fields::{PlacedPages, placed_of};
@@ -9,11 +8,10 @@ use crate::sheet::node_moves::NodeMoves;
 use crate::sheet::nodes::{NodePages, list_nodes};
 use crate::sheet::parts::left_on;
 use crate::sheet::sections::{Section, put_moved, put_placed, put_section};
-use crate::sheet::written::Written;
-use crate::sheet::{Format, lines, moved_objects, objects, records};
-use crate::touch::Touch;
+use crate::sheet::{lines, moved_objects, objects, records};
 use itoa::Buffer;
 use numa_mask::Parts;
+use numa_sheets::{Format, FreePages, Touch, Written};
 use std::alloc::{AllocError, Global};
 
 /// The pages of several processes that go from each node to each.

@@ -9,11 +9,10 @@ use crate::fault::ReportError;
 use crate::filling::fill_few;
 use crate::period::period_in;
 use crate::request::PredictionRequest;
-use crate::sheet::written::Written;
-use crate::touch::Touch;
 use numa_machine::PlaceRefusal;
 use numa_placed::Placed;
 use numa_ranges::Run;
+use numa_sheets::{Touch, Written};
 use numa_space::RangeRecord;
 use std::alloc::Global;
 

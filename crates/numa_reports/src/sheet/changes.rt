@@ -17,12 +17,10 @@ use crate::sheet::by_process::MoveSum;
 use crate::sheet::fields::bytes;
 use crate::sheet::moved_parts::SpanTexts;
 use crate::sheet::node_moves::NodeMoves;
-use crate::sheet::scale::Scale;
-use crate::sheet::written::Written;
-use crate::sheet::{Format, moved_objects, moved_pictures};
-use crate::touch::Touch;
-use crate::watch::Watch;
+use crate::sheet::scale::scale_of_spans;
+use crate::sheet::{moved_objects, moved_pictures};
 use numa_machine::PlaceRefusal;
+use numa_sheets::{Format, Scale, Touch, Watch, Written};
 use std::alloc::{AllocError, Global};
 
 /// Writes the number of pages that go from a node to each other node, where it isn't 0.
@@ -275,7 +273,7 @@ pub fn difference_more<W: Watch>(
     }
     let spans = common_spans(alloc, before.spans.as_slice(), after.spans.as_slice())?;
     watch.begin(pages_of(&spans).saturating_mul(2));
-    let scale = Scale::of_spans(&spans);
+    let scale = scale_of_spans(&spans);
     let mut difference = Difference::new(alloc, asked.format, asked.touch, scale)?;
     let change = Change {
         before: &before.plan,

@@ -3,13 +3,11 @@
 use crate::fault::ReportError;
 use crate::period::period_in;
 use crate::sheet::fields::bytes;
-use crate::sheet::items::Items;
 use crate::sheet::largest::Largest;
-use crate::sheet::object::Object;
-use crate::touch::Touch;
 use numa_machine::PlaceRefusal;
 use numa_plan::Plan;
 use numa_ranges::Run;
+use numa_sheets::{Items, Object, Touch};
 use numa_space::{RangeRecord, Space};
 use std::alloc::Global;
 

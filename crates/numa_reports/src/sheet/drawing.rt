@@ -3,11 +3,10 @@
 use crate::sheet::fields::{RangeRow, placed_of};
 use crate::sheet::largest::Largest;
 use crate::sheet::nodes::{NodePages, list_nodes};
-use crate::sheet::scale::Scale;
-use crate::sheet::written::Written;
+use crate::sheet::scale::scale_of;
 use crate::sheet::{objects, pictures};
-use crate::touch::Touch;
 use numa_requests::PAGE_BYTES;
+use numa_sheets::{Scale, Touch, Written};
 use numa_space::Space;
 use std::alloc::AllocError;
 
@@ -44,7 +43,7 @@ impl Drawing {
         Drawing {
             number,
             largest,
-            scale: Scale::of(sizes, largest),
+            scale: scale_of(sizes, largest),
             rows: 0,
             others: 0,
             pages: 0,

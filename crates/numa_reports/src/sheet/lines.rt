@@ -2,7 +2,7 @@
 
 use crate::sheet::fields::{PlacedPages, RangeRow};
 use crate::sheet::nodes::{NodePages, put_nodes};
-use crate::sheet::written::Written;
+use numa_sheets::Written;
 
 /// Writes the number of pages that find no free page, if there are any.
 pub(crate) fn put_lacking(text: &mut Written, placed: PlacedPages<'_>) {

@@ -2,12 +2,9 @@
 
 use crate::outlook::PageSpan;
 use crate::sheet::fields::bytes;
-use crate::sheet::items::Items;
 use crate::sheet::moved_parts::ShownSpans;
 use crate::sheet::node_moves::NodeMoves;
-use crate::sheet::object::Object;
-use crate::sheet::written::Written;
-use crate::touch::Touch;
+use numa_sheets::{Items, Object, Touch, Written};
 
 /// Begins the object, and its list of spans.
 pub(crate) fn put_head(text: &mut Written, touch: Touch) {

@@ -2,8 +2,8 @@
 //! the others.
 
 use crate::sheet::largest::Largest;
-use crate::sheet::written::Written;
 use crate::sheet::{moved_objects, moved_pictures};
+use numa_sheets::Written;
 use std::alloc::{AllocError, Global};
 
 /// The spans so far: how many pages of each move, and where its text ends.

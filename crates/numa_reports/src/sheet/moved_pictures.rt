@@ -5,18 +5,19 @@
 //! differ have a thick frame.
 
 use crate::outlook::PageSpan;
-use crate::sheet::bars::{Rectangle, put_part};
+use crate::sheet::bars::put_part;
 use crate::sheet::fields::bytes;
 use crate::sheet::moved_parts::ShownSpans;
 use crate::sheet::node_moves::NodeMoves;
-use crate::sheet::scale::{Scale, share};
-use crate::sheet::written::Written;
-use crate::touch::Touch;
+use numa_sheets::{Rectangle, Scale, Touch, Written, put_frame, put_node, share};
 
 /// The first row of pixels of the spans, and the rows of a span.
 const TOP: u64 = 60;
 
 const SPAN_ROWS: u64 = 60;
+
+/// The most nodes of a legend. (Those whose numbers differ by a multiple of 16 share a colour.)
+const MARKS: u32 = 32;
 
 /// The row of pixels at which this many spans end.
 fn below(spans: u64) -> u64 {
@@ -25,30 +26,25 @@ fn below(spans: u64) -> u64 {
 
 /// Begins the picture of this many spans.
 pub(crate) fn put_head(text: &mut Written, touch: Touch, spans: u64, scale: &Scale) {
-    text.begin_picture(below(spans).saturating_add(40));
+    text.begin_picture(below(spans).saturating_add(56));
     text.put_form(
         b"<text x=\"16\" y=\"24\" font-size=\"14\">Pages that would go elsewhere, if task $ \
         touched them on node $: before, and below it after</text>\n",
         &[touch.task as u64, touch.cpu as u64],
     );
-    scale.put_line(text);
+    scale.put_line(text, 44);
 }
 
 /// Draws the pages that go from a node to another, in a bar.
 fn put_pages(text: &mut Written, place: Rectangle, from: u64, to: u64, node: u64, pages: u64) {
     text.put_form(b"<g><title>node $ to node $: ", &[from, to]);
-    text.put_pages(pages);
+    text.put_amount(pages);
     text.put(b"</title>");
     put_part(text, place, node);
     if from == to {
         return;
     }
-    let numbers = [place.left, place.top, place.width, place.height];
-    text.put_form(
-        b"<rect class=\"differs\" x=\"$\" y=\"$\" width=\"$\" height=\"$\" fill=\"none\" \
-        stroke=\"#000000\" stroke-width=\"3\"/>",
-        &numbers,
-    );
+    put_frame(text, place, b"differs");
 }
 
 /// Draws the pages that go from a node to each node in both bars of a width, of which `before` of
@@ -110,6 +106,22 @@ pub(crate) fn put_span(text: &mut Written, span: PageSpan, counts: NodeMoves<'_>
     text.put(b"</g>\n");
 }
 
+/// Draws the nodes in their colours, in a row of pixels.
+fn put_legend(text: &mut Written, nodes: u32, top: u64) {
+    let mut place = Rectangle {
+        left: 16,
+        top,
+        width: 24,
+        height: 16,
+    };
+    text.put(b"<g class=\"legend\">");
+    for node in 0..nodes.min(MARKS) {
+        put_node(text, place, u64::from(node));
+        place.left = place.left.saturating_add(28);
+    }
+    text.put(b"</g>\n");
+}
+
 /// Ends the picture, behind these spans, with all pages.
 pub(crate) fn put_total(text: &mut Written, shown: ShownSpans, counts: NodeMoves<'_>) {
     text.put_form(
@@ -117,5 +129,7 @@ pub(crate) fn put_total(text: &mut Written, shown: ShownSpans, counts: NodeMoves
         &[below(shown.rows).saturating_add(20), counts.moved()],
     );
     text.put_undrawn(b"span", shown.others, shown.moved);
-    text.put(b"</text>\n</svg>\n");
+    text.put(b"</text>\n");
+    put_legend(text, counts.nodes, below(shown.rows).saturating_add(32));
+    text.put(b"</svg>\n");
 }

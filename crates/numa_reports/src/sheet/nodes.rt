@@ -1,6 +1,6 @@
 //! Nodes, each with its pages.
 
-use crate::sheet::written::Written;
+use numa_sheets::Written;
 use std::alloc::AllocError;
 
 /// A number of pages of a node.

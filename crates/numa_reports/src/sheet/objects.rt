@@ -3,9 +3,7 @@
 
 use crate::sheet::fields::{PlacedPages, RangeRow};
 use crate::sheet::nodes::NodePages;
-use crate::sheet::object::Object;
-use crate::sheet::written::Written;
-use crate::touch::Touch;
+use numa_sheets::{Object, Touch, Written};
 use serde_json::{ToValue, Value};
 use std::alloc::{AllocError, Global};
 

@@ -3,7 +3,6 @@ ghost use Rattle.numa_reports.specs.Failing.{FailsForNode};
 
 use crate::absent::both_of;
 use crate::fault::ReportError;
-use crate::filling::FreePages;
 use crate::prediction::{RangePrediction, TakeRange};
 use crate::request::PredictionRequest;
 use crate::sheet::cells::{CELLS, first_cells};
@@ -12,10 +11,9 @@ use crate::sheet::fields::{RangeRow, bytes, placed_of};
 use crate::sheet::largest::sizes_of;
 use crate::sheet::nodes::{NodePages, list_nodes};
 use crate::sheet::policies::PolicyTexts;
-use crate::sheet::written::Written;
-use crate::sheet::{Format, lines, objects, pictures, records};
-use crate::watch::Watch;
+use crate::sheet::{lines, objects, pictures, records};
 use numa_ranges::Run;
+use numa_sheets::{Format, FreePages, Watch, Written};
 use numa_space::{RangeRecord, Space};
 use std::alloc::{AllocError, Global};
 

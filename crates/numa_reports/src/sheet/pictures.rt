@@ -4,16 +4,11 @@
 //! a bar. Parts of bars have the colour and the number of their node, so nothing depends on
 //! colours.
 
-use crate::sheet::bars::{
-    CELL, Rectangle, put_nodes as put_bar, put_pages, put_part, put_rectangle,
-};
-use crate::sheet::colours::fill_of;
-use crate::sheet::fields::{PlacedPages, RangeRow, bytes};
+use crate::sheet::bars::{put_nodes as put_bar, put_pages, put_part};
+use crate::sheet::fields::{PlacedPages, RangeRow};
 use crate::sheet::lines::put_lacking;
 use crate::sheet::nodes::{NodePages, put_nodes};
-use crate::sheet::scale::{Scale, share};
-use crate::sheet::written::Written;
-use crate::touch::Touch;
+use numa_sheets::{CELL, Rectangle, Scale, Touch, Written, fill_of, put_rectangle, share};
 
 /// The most nodes that are named in the line of a range.
 const NAMED: usize = 8;
@@ -25,8 +20,10 @@ const RANGE_ROWS: u64 = 40;
 
 const NODE_ROWS: u64 = 20;
 
-/// The pixels of a node's number, and those of the longest bar of a node, which begins behind it.
+/// The pixels of a node's number, the first column of its bar, and the pixels of the longest one.
 const NODE_MARK: u64 = 24;
+
+const NODE_BAR: u64 = 32;
 
 const NODE_WIDTH: u64 = 400;
 
@@ -54,7 +51,7 @@ pub(crate) fn put_head(
         task $ touched on node $ (version $)</text>\n",
         &[touch.task as u64, touch.cpu as u64, version],
     );
-    scale.put_line(text);
+    scale.put_line(text, 44);
 }
 
 /// Writes the nodes that get pages, each with its pages, or their number.
@@ -148,7 +145,7 @@ fn put_left(text: &mut Written, node: usize, left: &[NodePages]) {
     for one in left {
         if one.node == node as u64 {
             text.put(b", ");
-            text.put_pages(one.pages);
+            text.put_amount(one.pages);
             text.put(b" left");
         }
     }
@@ -166,7 +163,7 @@ fn put_node_bar(text: &mut Written, node: u64, bar: u64, top: u64) {
     put_part(text, mark, node);
     if bar > 0 {
         let place = Rectangle {
-            left: NODE_MARK,
+            left: NODE_BAR,
             width: bar,
             ..mark
         };
@@ -182,13 +179,12 @@ fn put_node(text: &mut Written, node: usize, pages: u64, most: u64, top: u64, le
         pages => share(NODE_WIDTH, pages, most).max(1),
     };
     put_node_bar(text, number, bar, top);
-    let column = bar.saturating_add(NODE_MARK).saturating_add(8);
+    let column = bar.saturating_add(NODE_BAR).saturating_add(8);
     text.put_form(
         b"<text x=\"$\" y=\"$\">N$=",
         &[column, top.saturating_add(12), number],
     );
-    text.put_pages(pages);
-    text.put_form(b", $ bytes", &[bytes(pages)]);
+    text.put_amount(pages);
     put_left(text, node, left);
     text.put(b"</text>\n");
 }
@@ -220,8 +216,7 @@ pub(crate) fn put_totals(
         b"<g class=\"total\" transform=\"translate(16,$)\"><text y=\"16\">total anon=",
         &[first],
     );
-    text.put_pages(placed.pages);
-    text.put_form(b", $ bytes", &[bytes(placed.pages)]);
+    text.put_amount(placed.pages);
     put_lacking(text, placed);
     text.put(b"</text>\n");
     let most = most_of(counts);

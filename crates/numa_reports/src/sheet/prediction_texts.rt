@@ -7,15 +7,14 @@ ghost use Rattle.numa_reports.specs.Lying.{LeavesFree};
 
 use crate::account::Account;
 use crate::fault::ReportError;
-use crate::filling::{FreePages, fill_ranges};
+use crate::filling::fill_ranges;
 use crate::prediction::predict_ranges;
 use crate::request::PredictionRequest;
-use crate::sheet::Format;
 use crate::sheet::parts::{PredictionWriter, WatchedWriter, begin, left_on, sum_of};
-use crate::touch::{Touch, has_node};
-use crate::watch::Watch;
+use crate::touch::has_node;
 use numa_machine::PlaceRefusal;
 use numa_plan::Plan;
+use numa_sheets::{Format, FreePages, Touch, Watch};
 use numa_space::Space;
 use std::alloc::Global;
 

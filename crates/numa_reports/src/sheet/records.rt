@@ -3,9 +3,9 @@
 
 use crate::sheet::fields::{PlacedPages, RangeRow, placed_of};
 use crate::sheet::nodes::NodePages;
-use crate::sheet::written::Written;
 use csv::{Writer, WriterBuilder};
 use itoa::Buffer;
+use numa_sheets::Written;
 use std::alloc::Global;
 
 /// Writes the header record.

@@ -4,9 +4,8 @@
 use crate::sheet::fields::PlacedPages;
 use crate::sheet::nodes::NodePages;
 use crate::sheet::pictures;
-use crate::sheet::written::Written;
-use numa_mask::Parts;
 use numa_mask::parts::first_place;
+use numa_sheets::{Written, height_of};
 
 /// The rows of pixels of a heading, and behind the last section.
 const HEADING: u64 = 40;
@@ -22,28 +21,6 @@ pub(crate) struct Section {
     pub(crate) top: u64,
     pub(crate) process: u32,
     pub(crate) group: u32,
-}
-
-/// A number of decimal digits.
-fn number_of(digits: &[u8]) -> u64 {
-    let mut number = 0u64;
-    for digit in digits {
-        let value = u64::from(digit.saturating_sub(b'0'));
-        number = number.saturating_mul(10).saturating_add(value);
-    }
-    number
-}
-
-/// The rows of pixels of a picture, by its first attribute `height`.
-fn height_of(picture: &[u8]) -> u64 {
-    let mut is_height = false;
-    for word in Parts::new(picture, b'"') {
-        if is_height {
-            return number_of(word);
-        }
-        is_height = word == b" height=".as_slice();
-    }
-    0
 }
 
 /// A picture without its first line, which says that it is XML.

@@ -3,8 +3,9 @@
 use crate::words::texts::{reading_of, text_of};
 use numa_command_line::{JobFault, Outlet, Texts, open_all};
 use numa_console::{Asking, Paced, PacedPages, StandardError, answered, with_progress};
-use numa_play::{Ended, Halt, Scripts};
-use numa_reports::Watch;
+use numa_play::Scripts;
+use numa_sheets::Watch;
+use numa_subjects::{Ended, Halt};
 use numa_words::play_there;
 use std::io;
 use std::io::{IsTerminal, Read};

@@ -1,6 +1,6 @@
 //! Answers that are put together: those on each node, and a difference with moves behind it.
-use numa_play::Halt;
-use numa_reports::{Format, Touch, Written};
+use numa_sheets::{Format, Touch, Written};
+use numa_subjects::Halt;
 use std::alloc::{AllocError, Global};
 
 /// A text without its last line feed.

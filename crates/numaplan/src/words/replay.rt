@@ -1,8 +1,9 @@
 //! Replays a trace of accesses.
 use numa_command_line::{JobFault, Outlet, open_all};
 use numa_console::{StandardError, ended, with_progress};
-use numa_play::{Scripts, Twin};
-use numa_reports::Format;
+use numa_play::Scripts;
+use numa_sheets::Format;
+use numa_subjects::Twin;
 use std::io;
 use std::io::{IsTerminal, Read};
 use std::process::ExitCode;
@@ -34,7 +35,7 @@ where
 {
     let outlet = Outlet::new();
     let mut output = outlet.writer(io::writer(rt));
-    let answer = numa_what_if::replay(
+    let answer = numa_words::replay(
         rt.alloc(),
         scripts,
         traces,

@@ -5,11 +5,13 @@ use numa_host_script::HostScript;
 use numa_lines::RunFault;
 use numa_moves::{AtLines, Origin, PassOver, RefusedAt};
 use numa_placed::Placed;
-use numa_play::{Findings, Halt, differ, page_meant, touches};
-use numa_reports::{AddressAsked, Format, FreePages, Touch, Watch};
-use numa_what_if::{DiffAsked, StatesBefore, difference_since, play_added, states_of};
+use numa_play::{Findings, page_meant, subject_of, touches};
+use numa_questions::AskedPages;
+use numa_sheets::{AddressAsked, Format, FreePages, Touch, Watch};
+use numa_subjects::{Halt, differ};
+use numa_what_if::{DiffAsked, StatesBefore, difference_since, states_of};
 use numa_words::{
-    Answer, AskedPages, LineFaults, Played, Playing, Reading, explanation, moves_of,
+    Answer, LineFaults, Played, Playing, Reading, explanation, moves_of, play_added,
     prediction_there, stated_in,
 };
 use std::alloc::Global;
@@ -144,19 +146,22 @@ fn prediction<T: Write, P: Watch>(
 }
 
 /// A difference that is asked for.
-fn diff_asked(meant: Meant<'_>, touch: Touch) -> DiffAsked {
+fn diff_asked<'a>(meant: Meant<'_>, touch: Touch, lines: &'a [String]) -> DiffAsked<'a> {
     DiffAsked {
-        process: meant.process,
         touch,
         format: meant.asking.format,
+        lines,
     }
 }
 
 /// The states to which a script led, before the added lines.
 fn states_in(alloc: Global, script: &HostScript, meant: Meant<'_>) -> Result<StatesBefore, Halt> {
-    match meant.touches.first() {
-        Some(touch) => states_of(alloc, script, diff_asked(meant, *touch)),
-        None => Err(Halt::NoMachine),
+    let Some(touch) = meant.touches.first() else {
+        return Err(Halt::NoMachine);
+    };
+    match subject_of(script, meant.process) {
+        Ok(subject) => states_of(alloc, subject, diff_asked(meant, *touch, &[])),
+        Err(halt) => Err(halt),
     }
 }
 
@@ -166,12 +171,14 @@ fn difference_in<P: Watch>(
     before: &StatesBefore,
     script: &HostScript,
     meant: Meant<'_>,
+    lines: &[String],
     watch: &mut P,
 ) -> Result<Vec<u8>, Halt> {
+    let subject = subject_of(script, meant.process)?;
     let mut texts = Vec::new(alloc);
     for touch in meant.touches {
-        let asked = diff_asked(meant, *touch);
-        let text = difference_since(alloc, before, script, asked, watch)?;
+        let asked = diff_asked(meant, *touch, lines);
+        let text = difference_since(alloc, before, subject, asked, watch)?;
         add(&mut texts, text)?;
     }
     meant.whole(alloc, texts)
@@ -213,8 +220,8 @@ fn differs_elsewhere(
     meant: Meant<'_>,
 ) -> bool {
     let meant = meant.as_text();
-    let text = difference_in(alloc, own.0, own.1, meant, &mut ());
-    let by_other = difference_in(alloc, other.0, other.1, meant, &mut ());
+    let text = difference_in(alloc, own.0, own.1, meant, &[], &mut ());
+    let by_other = difference_in(alloc, other.0, other.1, meant, &[], &mut ());
     differ(text, by_other)
 }
 
@@ -255,7 +262,7 @@ fn difference_by<T: Write, P: Watch>(
 ) -> Result<Answer, Halt> {
     let moves = play(alloc, findings, meant, lines, faults)?;
     let script = findings.script();
-    let text = difference_in(alloc, states.0, script, meant, watch)?;
+    let text = difference_in(alloc, states.0, script, meant, lines, watch)?;
     let is_other = match (states.1, findings.other()) {
         (Some(before), Some(other)) => {
             differs_elsewhere(alloc, (states.0, script), (before, other), meant)
@@ -383,6 +390,7 @@ pub fn reading_of(asking: Asking<'_>) -> Reading {
     Reading {
         task: asking.task(),
         other: asking.twin(),
+        heeds_at: matches!(asking.question, Question::Explain(..)),
         keeps_at: is_moves || !asking.at.is_empty(),
     }
 }

@@ -1,5 +1,5 @@
 use Rattle.std.proofs.Common.{◌≡◌, ℕ, ◌∙◌, ap, subst}
-use Rattle.numa_placed.specs.Binds.{asked_in, bound_spots}
+use Rattle.numa_placed.specs.Binds.{asked_by, bound_spots}
 use Rattle.numa_placed.specs.Refusals.{IsLack}
 use Rattle.numa_placed.specs.Spots.{spot_at, too_many}
 use Rattle.numa_placed.specs.declared.spot.Spot.{Spot}
@@ -23,7 +23,7 @@ returns-in-Ok-put-clause-few c =
 
 pub returns-in-Err-clause-lack : goal.returns-in-Err-clause-lack
 returns-in-Err-clause-lack c room are =
-    let asked = asked_in c.args.space.now c.args.first c.args.pages c.args.list.now
+    let asked = asked_by c.args.space.now c.args.wants.now c.args.first c.args.pages
     c.args.touch.task c.args.touch.cpu in
     let bound = c.in-Ok-bind_runs.ensures.bound room are in
     let alike : spot_at c.bind_runs.new.map.runs ≡ bound_spots asked

@@ -1,17 +1,13 @@
-use Rattle.std.proofs.Common.{ℕ, Bool, is_some, ap, ◌∙◌}
+use Rattle.std.proofs.Common.{ℕ, Bool, is_some}
 use Rattle.numa_ranges.specs.Runs.{page_at}
-use Rattle.numa_placed.specs.Spots.{passed_over, spot_at, stated_beside}
-use Rattle.numa_placed.specs.declared.spot.Spot.{Spot}
+use Rattle.numa_placed.specs.Spots.{spot_at, stated_beside}
 use Rattle.numa_placed.proofs.Edits.{edit-alike}
 use Rattle.numa_placed.proofs.spans.state_others.Goals as goal
 
 pub returns-clause-edit : goal.returns-clause-edit
 returns-clause-edit c =
     let mapped : ℕ → Bool = λ p. is_some (page_at c.args.space.now.ranges p) in
-    edit-alike (spot_at c.pass_over.new.map.runs)
+    edit-alike (spot_at c.in-Ok.next.runs)
     (stated_beside mapped c.args.resident.now c.args.said.first c.args.said.pages c.args.said.node
-    (spot_at c.args.map.now.runs)) c.args.map.now c.put.new.map c.put.result
-    (λ page. c.in-Ok-pass_over.ensures.spots page
-    ∙ ap (λ (s : ℕ → Spot). passed_over c.args.resident.now c.args.said.first
-    c.args.said.pages s page) (λ i p. c.in-Ok.ensures.spots p i))
+    (spot_at c.args.map.now.runs)) c.args.map.now c.put.new.map c.put.result c.in-Ok.ensures.spots
     c.put.ensures.edit

@@ -1,4 +1,4 @@
-use Rattle.std.proofs.Common.{◌≡◌, ℕ, ◌-◌, arith, get_or, refl}
+use Rattle.std.proofs.Common.{ℕ, ◌-◌, arith, get_or, refl}
 use Rattle.std.proofs.lemmas.Simd.{get_or-replicate}
 use Rattle.numa_plan.specs.Meaning.{is_number}
 use Rattle.numa_placed.proofs.Shared.{count-le}

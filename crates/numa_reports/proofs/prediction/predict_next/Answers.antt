@@ -1,4 +1,4 @@
-use Rattle.std.proofs.Common.{◌<◌, arith}
+use Rattle.std.proofs.Common.{arith}
 use Rattle.std.proofs.lemmas.Result.{err_from_is_err_and}
 use Rattle.numa_reports.specs.Lying.{spots_in}
 use Rattle.numa_reports.proofs.There.{few-there, range-lies}

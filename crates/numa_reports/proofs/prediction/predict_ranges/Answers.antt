@@ -1,4 +1,4 @@
-use Rattle.std.proofs.Common.{◌≡◌, ℕ, ◌<◌, List, arith, ap, subst, sym, ◌∙◌, Option, Bool, refl}
+use Rattle.std.proofs.Common.{◌≡◌, ℕ, List, arith, ap, subst, sym, ◌∙◌, Option, Bool, refl}
 use Rattle.std.proofs.Common.{length, inl, inr}
 use Rattle.std.proofs.lemmas.Simd.{get_or-replicate}
 use Rattle.std.proofs.lemmas.Result.{err_from_is_err_and}

@@ -1,10 +1,11 @@
-use Rattle.std.proofs.Common.{Err}
+use Rattle.std.proofs.Common.{Err, Some}
 use Rattle.numa_page_state.specs.Lying.{ground_in}
 use Rattle.numa_page_state.specs.Outcomes.{at_outcome, migrate_outcome, move_outcome, room_outcome}
 use Rattle.numa_requests.specs.declared.page_refusal.MoveRefusal.TheVariants as move
 use Rattle.numa_requests.specs.declared.page_refusal.PlacedRefusal.TheVariants as cause
 use Rattle.numa_script.specs.declared.reply.Reply.TheVariants as reply
-use Rattle.numa_run.specs.PageLines.{migrate_reply, move_reply, page_reply}
+use Rattle.numa_page_state.specs.Touching.{populate_outcome}
+use Rattle.numa_run.specs.PageLines.{migrate_reply, move_reply, page_reply, touch_reply}
 use Rattle.numa_run.proofs.PageChanges.{replied, succeeds}
 use Rattle.numa_run.proofs.paging.change.Goals as goal
 
@@ -14,20 +15,20 @@ returns-in-At c =
     (replied c.args.kept.now c.at.new.self c.at.result (Err cause.NoMemory)
     (λ refused at. at_outcome refused (ground_in c.args.space.now c.args.resident.now)
     c.in-At.start c.in-At.length c.in-At.node at)
-    (page_reply reply.AtOk) c.at.ensures.does)
+    (λ done. Some (page_reply reply.AtOk done)) c.at.ensures.does)
 
 pub returns-in-Room : goal.returns-in-Room
 returns-in-Room c =
     rw (c.in-Room.is, c.page_reply-in-Room.ensures)
     (replied c.args.kept.now c.limit.new.self c.limit.result (Err cause.NoMemory)
     (λ refused at. room_outcome c.args.space.now.machine c.in-Room.node c.in-Room.pages at)
-    (page_reply reply.RoomOk) c.limit.ensures.does)
+    (λ done. Some (page_reply reply.RoomOk done)) c.limit.ensures.does)
 
 pub returns-in-MemoryMigrate : goal.returns-in-MemoryMigrate
 returns-in-MemoryMigrate c =
     rw c.in-MemoryMigrate.is
-    (succeeds c.args.kept.now c.set_follows.new.self reply.MemoryMigrateOk
-    (reply.PlacedRefused cause.NoMemory)
+    (succeeds c.args.kept.now c.set_follows.new.self (Some reply.MemoryMigrateOk)
+    (Some (reply.PlacedRefused cause.NoMemory))
     (λ at. record at { follows = c.in-MemoryMigrate.follows }) c.set_follows.ensures)
 
 pub returns-in-Migrate : goal.returns-in-Migrate
@@ -36,7 +37,7 @@ returns-in-Migrate c =
     (replied c.args.kept.now c.migrate.new.self c.migrate.result (Err cause.NoMemory)
     (λ refused at. migrate_outcome refused (ground_in c.args.space.now c.args.resident.now)
     c.in-Migrate.from c.in-Migrate.to at)
-    migrate_reply c.migrate.ensures.does)
+    (λ done. Some (migrate_reply done)) c.migrate.ensures.does)
 
 pub returns-in-Move : goal.returns-in-Move
 returns-in-Move c =
@@ -44,4 +45,12 @@ returns-in-Move c =
     (replied c.args.kept.now c.move_page.new.self c.move_page.result (Err move.NoMemory)
     (λ refused at. move_outcome refused (ground_in c.args.space.now c.args.resident.now)
     c.in-Move.address c.in-Move.node at)
-    (move_reply c.in-Move.node) c.move_page.ensures.does)
+    (λ done. Some (move_reply c.in-Move.node done)) c.move_page.ensures.does)
+
+pub returns-in-Populate : goal.returns-in-Populate
+returns-in-Populate c =
+    rw (c.in-Populate.is, c.touch_reply.ensures)
+    (replied c.args.kept.now c.populate.new.self c.populate.result (Err cause.NoMemory)
+    (λ refused at. populate_outcome refused (ground_in c.args.space.now c.args.resident.now)
+    c.in-Populate.start c.in-Populate.length c.in-Populate.task c.in-Populate.cpu at)
+    touch_reply c.populate.ensures.does)

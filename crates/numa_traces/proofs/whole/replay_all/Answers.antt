@@ -1,4 +1,4 @@
-use Rattle.std.proofs.Common.{◌+◌, List, inr, reverse, subst, sym, take}
+use Rattle.std.proofs.Common.{List, inr, reverse, subst, sym, take}
 use Rattle.std.proofs.lemmas.List.{take_all}
 use Rattle.numa_traces.specs.Replaying.{IsReplay}
 use Rattle.numa_traces.specs.declared.access.Access.{Access}

@@ -2,8 +2,8 @@ use Rattle.numaplan_c.proofs.ranges.np_core_range.Goals as goal
 
 pub returns-in-Some-None-clause-meaning : goal.returns-in-Some-None-clause-meaning
 returns-in-Some-None-clause-meaning c kept is history stands =
-    (c.in-Some-None.ensures.range.2 kept is).1 history stands
+    (c.in-Some-None.ensures.range.1.1 kept is).1 history stands
 
 pub returns-in-Some-Some-clause-meaning : goal.returns-in-Some-Some-clause-meaning
 returns-in-Some-Some-clause-meaning c kept is history stands =
-    (c.in-Some-Some.ensures.range.2 kept is).1 history stands
+    (c.in-Some-Some.ensures.range.1.1 kept is).1 history stands

@@ -1,8 +1,8 @@
 use Rattle.std.proofs.Common.{◌≡◌, ℕ, List, Option, Some, Result, codes, sym}
 use Rattle.std.specs.Prelude.{option_map}
 use Rattle.clap.specs.Words.{Row, found_of, rows_of}
-use Rattle.numa_reports.specs.declared.asked.AddressAsked.{AddressAsked}
-use Rattle.numa_reports.specs.declared.sheet.Format.{Format}
+use Rattle.numa_sheets.specs.declared.asked.AddressAsked.{AddressAsked}
+use Rattle.numa_sheets.specs.declared.format.Format.{Format}
 use Rattle.numa_command_line.specs.Asked.{asked_in}
 use Rattle.numa_command_line.specs.Jobs.{IsMade, explain, work_of}
 use Rattle.numa_command_line.specs.Values.{format_in, small_at}

@@ -1,6 +1,6 @@
 use Rattle.std.proofs.Common.{◌≡◌, ◌∙◌, ◌==◌, ◌∷◌, List, Some, None, ap, refl, sym, true}
 use Rattle.std.specs.List.{list_any}
-use Rattle.numa_reports.specs.declared.filling.FreePages.{FreePages}
+use Rattle.numa_sheets.specs.declared.asked.FreePages.{FreePages}
 use Rattle.numa_command_line.specs.Jobs.{Text}
 use Rattle.numa_command_line.specs.Values.{free_in, frees_from}
 use Rattle.numa_command_line.proofs.words.free.read.Goals as goal

@@ -11,9 +11,10 @@ returns-in-Ok c = λ lying kept lies by.
       rooms = c.follow.new.rooms;
       follows = c.args.self.now.follows;
       last = c.keep-in-Ok.new.last;
+      arrived = c.args.self.now.arrived;
     }) lying lies
     c.args.old.now c.args.new.now kept c.if-not-self.false c.in-Ok.moved c.with_held.result
-    is.0 is.1 (c.with_held.ensures _ kept is.1.told by) refl c.keep-in-Ok.ensures
+    is.0 is.1 (c.with_held.ensures _ kept is.1.told by) refl refl c.keep-in-Ok.ensures
 
 pub returns-in-Err : goal.returns-in-Err
 returns-in-Err c = λ lying kept lies by.
@@ -23,9 +24,10 @@ returns-in-Err c = λ lying kept lies by.
       rooms = c.follow.new.rooms;
       follows = c.args.self.now.follows;
       last = c.keep-in-Err.new.last;
+      arrived = c.args.self.now.arrived;
     }) lying lies
     c.args.old.now c.args.new.now kept c.if-not-self.false
-    _ c.still-in-Err.result is.0 is.1 is.2 refl c.still-in-Err.ensures c.keep-in-Err.ensures
+    _ c.still-in-Err.result is.0 is.1 is.2 refl refl c.still-in-Err.ensures c.keep-in-Err.ensures
 
 pub with_held-requires : goal.with_held-requires
 with_held-requires c =

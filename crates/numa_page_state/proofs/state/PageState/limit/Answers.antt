@@ -18,7 +18,9 @@ returns-clause-does c = λ lying lies.
       rooms = Some c.limited.result;
       follows = c.args.self.now.follows;
       last = c.args.self.now.last;
+      arrived = c.args.self.now.arrived;
     })
     lying lies c.args.space.now.machine c.args.node c.args.pages c.limited.result
     (ap (λ (machine : Hardware). lacks_node machine c.args.node) (sym c.machine.ensures)
-    ∙ sym c.lacks_node.ensures.lacks ∙ c.if-lacks_node.false) c.limited.ensures refl refl refl refl
+    ∙ sym c.lacks_node.ensures.lacks ∙ c.if-lacks_node.false) c.limited.ensures refl refl refl
+    refl refl

@@ -16,11 +16,12 @@ returns-clause-does c = λ lying lies.
       rooms = c.migrate.new.rooms;
       follows = c.args.self.now.follows;
       last = c.keep.new.last;
+      arrived = c.args.self.now.arrived;
     }) lying lies c.args.resident.now
     (motion lying.room lying.spots c.args.from.now to)
     (migrate_cause c.args.space.now.allowed c.args.to.now) c.in_ok-moved.moved
     c.with_held-done.result is.0 is.1
-    (c.with_held-done.ensures _ c.args.resident.now is.1.told refl) refl c.keep.ensures
+    (c.with_held-done.ensures _ c.args.resident.now is.1.told refl) refl refl c.keep.ensures
 
 pub returns-in_err-moved-clause-does : goal.returns-in_err-moved-clause-does
 returns-in_err-moved-clause-does c =
@@ -33,6 +34,7 @@ returns-in_err-moved-clause-does c =
       rooms = c.migrate.new.rooms;
       follows = c.args.self.now.follows;
       last = c.args.self.now.last;
+      arrived = c.args.self.now.arrived;
     }) lying lies c.args.resident.now
     (motion lying.room lying.spots c.args.from.now to)
     (migrate_cause c.args.space.now.allowed c.args.to.now) c.in_err-moved.field-0.0 is.0
@@ -41,6 +43,7 @@ returns-in_err-moved-clause-does c =
       rooms = is.2 i;
       follows = c.args.self.now.follows;
       last = c.args.self.now.last;
+      arrived = c.args.self.now.arrived;
     }))
 
 pub returns-in_err-moved-clause-unchanged : goal.returns-in_err-moved-clause-unchanged
@@ -56,6 +59,7 @@ returns-in_err-moved-clause-unchanged c =
       rooms = is.1 i;
       follows = c.args.self.now.follows;
       last = c.args.self.now.last;
+      arrived = c.args.self.now.arrived;
     })
 
 pub with_held-done-requires : goal.with_held-done-requires

@@ -13,10 +13,11 @@ returns-clause-does c = λ lying lies.
       rooms = c.follow.new.rooms;
       follows = c.args.self.now.follows;
       last = c.keep.new.last;
+      arrived = c.args.self.now.arrived;
     }) lying lies c.args.resident.now
     (motion lying.room lying.spots c.args.old.now c.args.new.now) None c.in_ok-moved.moved
     c.with_held-done.result is.0 is.1
-    (c.with_held-done.ensures _ c.args.resident.now is.1.told refl) refl c.keep.ensures
+    (c.with_held-done.ensures _ c.args.resident.now is.1.told refl) refl refl c.keep.ensures
 
 pub returns-in_err-moved-clause-does : goal.returns-in_err-moved-clause-does
 returns-in_err-moved-clause-does c =
@@ -28,6 +29,7 @@ returns-in_err-moved-clause-does c =
       rooms = c.follow.new.rooms;
       follows = c.args.self.now.follows;
       last = c.args.self.now.last;
+      arrived = c.args.self.now.arrived;
     }) lying lies c.args.resident.now
     (motion lying.room lying.spots c.args.old.now c.args.new.now) None c.in_err-moved.field-0.0 is.0
     (λ i. record {
@@ -35,6 +37,7 @@ returns-in_err-moved-clause-does c =
       rooms = is.2 i;
       follows = c.args.self.now.follows;
       last = c.args.self.now.last;
+      arrived = c.args.self.now.arrived;
     }))
 
 pub returns-in_err-moved-clause-unchanged : goal.returns-in_err-moved-clause-unchanged
@@ -49,6 +52,7 @@ returns-in_err-moved-clause-unchanged c =
       rooms = is.1 i;
       follows = c.args.self.now.follows;
       last = c.args.self.now.last;
+      arrived = c.args.self.now.arrived;
     })
 
 pub with_held-done-requires : goal.with_held-done-requires

@@ -13,9 +13,10 @@ returns-clause-does c = λ lying lies.
       rooms = c.move_page.new.rooms;
       follows = c.args.self.now.follows;
       last = c.keep.new.last;
+      arrived = c.args.self.now.arrived;
     }) lying lies (ground_in c.args.space.now [])
     c.args.page c.args.node c.at-spot.result c.told_of.result is.0 is.1 is.2
-    c.at-spot.ensures (c.told_of.ensures is.3) refl c.keep.ensures
+    c.at-spot.ensures (c.told_of.ensures is.3) refl refl c.keep.ensures
 
 pub returns-in_err-move_page-clause-does : goal.returns-in_err-move_page-clause-does
 returns-in_err-move_page-clause-does c =
@@ -27,6 +28,7 @@ returns-in_err-move_page-clause-does c =
       rooms = c.move_page.new.rooms;
       follows = c.args.self.now.follows;
       last = c.args.self.now.last;
+      arrived = c.args.self.now.arrived;
     }) lying lies
     (ground_in c.args.space.now []) c.args.page c.args.node
     c.in_err-move_page.field-0.0 is.0
@@ -35,6 +37,7 @@ returns-in_err-move_page-clause-does c =
       rooms = is.2 i;
       follows = c.args.self.now.follows;
       last = c.args.self.now.last;
+      arrived = c.args.self.now.arrived;
     }))
 
 pub returns-in_err-move_page-clause-unchanged : goal.returns-in_err-move_page-clause-unchanged
@@ -49,4 +52,5 @@ returns-in_err-move_page-clause-unchanged c =
       rooms = is.1 i;
       follows = c.args.self.now.follows;
       last = c.args.self.now.last;
+      arrived = c.args.self.now.arrived;
     })

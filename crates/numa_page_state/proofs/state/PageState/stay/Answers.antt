@@ -13,10 +13,12 @@ returns-clause-does c = λ lying lies.
       rooms = c.args.self.now.rooms;
       follows = c.args.self.now.follows;
       last = c.keep.new.last;
+      arrived = c.args.self.now.arrived;
     }) lying lies
     (move_cause c.args.space.now.machine c.args.space.now.allowed c.args.node
     (is_some (page_at c.args.space.now.ranges c.args.page)) (Held c.args.from))
-    c.still.result c.in_ok-judge_move.ensures.cause refl refl refl c.still.ensures c.keep.ensures
+    c.still.result c.in_ok-judge_move.ensures.cause refl refl refl refl c.still.ensures
+    c.keep.ensures
 
 pub returns-in_err-judge_move-clause-does : goal.returns-in_err-judge_move-clause-does
 returns-in_err-judge_move-clause-does c =

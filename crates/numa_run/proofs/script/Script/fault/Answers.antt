@@ -12,3 +12,9 @@ returns-in-Maps c = rw c.in-Maps.is (c.text_fault.ensures.maps c.in-Maps.field-0
 
 pub returns-in-Moved : goal.returns-in-Moved
 returns-in-Moved c = rw c.in-Moved.is c.text_fault-in-Moved.ensures.moved
+
+pub returns-in-Rooms : goal.returns-in-Rooms
+returns-in-Rooms c = rw c.in-Rooms.is c.text_fault-in-Rooms.ensures.rooms
+
+pub returns-in-Arrived : goal.returns-in-Arrived
+returns-in-Arrived c = rw c.in-Arrived.is c.text_fault-in-Arrived.ensures.arrived

@@ -14,3 +14,11 @@ returns-in-Maps c = λ state stands.
 pub returns-in-Moved : goal.returns-in-Moved
 returns-in-Moved c = λ state stands.
     let t = c.in-Moved.ensures state stands in (t.0, t.1.0, t.2)
+
+pub returns-in-Rooms : goal.returns-in-Rooms
+returns-in-Rooms c = λ state stands.
+    let t = c.in-Rooms.ensures state stands in (t.0, t.1.0, t.2)
+
+pub returns-in-Arrived : goal.returns-in-Arrived
+returns-in-Arrived c = λ state stands.
+    let t = c.in-Arrived.ensures state stands in (t.0, t.1.0, t.2)

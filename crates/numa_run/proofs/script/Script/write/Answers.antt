@@ -15,3 +15,9 @@ returns-in-Maps g c = rw c.in-Maps.is c.list.ensures
 
 pub returns-in-Moved : goal.returns-in-Moved
 returns-in-Moved g c = rw c.in-Moved.is c.tell_last.ensures
+
+pub returns-in-Rooms : goal.returns-in-Rooms
+returns-in-Rooms g c = rw c.in-Rooms.is c.tell_rooms.ensures
+
+pub returns-in-Arrived : goal.returns-in-Arrived
+returns-in-Arrived g c = rw c.in-Arrived.is c.tell_arrived.ensures

@@ -1,0 +1,229 @@
+//! What a picture or a page is of, as its last part: the machine, by whose rules, how pages are
+//! touched, the lines that were added, and which program answered.
+ghost use Rattle.std.specs.Prelude.{◌<◌};
+
+use crate::about_forms::{page_with, picture_with};
+use numa_lines::RunFault;
+use numa_machine::{Fallback, Machine};
+use numa_mask::{NodeMask, list_text};
+use numa_sheets::{Format, Touch, VERSION, Written};
+use numa_subjects::{Halt, Subject};
+use std::alloc::{AllocError, Global};
+
+/// The most nodes whose distances are told one by one.
+const NODES: u32 = 16;
+
+/// The most lines that are told, and the most bytes in a row.
+const LINES: usize = 12;
+
+const WIDE: usize = 110;
+
+/// What an answer is of.
+#[derive(Clone, Copy)]
+pub struct About<'a> {
+    /// The machine.
+    pub machine: &'a Machine,
+    /// The nodes that the one process is allowed, behind added lines.
+    pub allowed: Option<NodeMask>,
+    /// How pages are touched, if they are.
+    pub touch: Option<Touch>,
+    /// The lines that were added.
+    pub lines: &'a [String],
+}
+
+impl<'a> About<'a> {
+    /// What an answer about a space, or about all processes of a host, is of.
+    pub fn of(subject: Subject<'a>, touch: Option<Touch>, lines: &'a [String]) -> About<'a> {
+        let (machine, allowed) = match subject {
+            Subject::One(space) => (space.machine(), Some(space.allowed())),
+            Subject::Each(host) => (host.machine(), None),
+        };
+        About {
+            machine,
+            allowed,
+            touch,
+            lines,
+        }
+    }
+}
+
+/// Writes the nodes of a set, as `0-1,3`.
+fn put_nodes(text: &mut Written, nodes: &NodeMask) {
+    let list = list_text(nodes);
+    text.put(list.as_bytes());
+}
+
+/// Writes the number of nodes, the rules, and how allocations fall back.
+fn put_machine(text: &mut Written, machine: &Machine) {
+    let nodes = u64::from(machine.nodes());
+    text.put_form(b"Machine: $ node", &[nodes]);
+    text.put(if nodes == 1 { b"".as_slice() } else { b"s" });
+    text.put(b" with memory on ");
+    put_nodes(text, &machine.memory());
+    text.put(if machine.rules().is_linux() {
+        b"; rules of a running kernel (linux)".as_slice()
+    } else {
+        b"; rules of Linux's documents (document)"
+    });
+    match machine.fallback() {
+        Fallback::Nearest => text.put(b"; the nearest node with room is next\n"),
+        Fallback::Kernel(cpus) => {
+            text.put(b"; CPUs on ");
+            put_nodes(text, &cpus);
+            text.put(b", next is as kernels order nodes\n");
+        }
+    }
+}
+
+/// Writes a number in so many columns of letters.
+fn put_column(text: &mut Written, number: u64, columns: u64) {
+    let digits = match number {
+        0..=9 => 1,
+        10..=99 => 2,
+        _ => 3,
+    };
+    for _ in digits..columns {
+        text.put(b" ");
+    }
+    text.put_number(number);
+}
+
+/// Writes the head of the table of distances.
+fn put_head(text: &mut Written, nodes: u32) {
+    text.put(b"node distances to");
+    for to in 0..nodes {
+        put_column(text, u64::from(to), 4);
+    }
+    text.put(b"  frames\n");
+}
+
+/// Writes a node's row: its distances, and its memory.
+fn put_row(text: &mut Written, machine: &Machine, from: u32)
+    requires { from < machine.now.nodes }
+{
+    put_column(text, u64::from(from), 4);
+    text.put(b"             ");
+    for to in 0..machine.nodes() {
+        put_column(text, u64::from(machine.distance(from, to)), 4);
+    }
+    let frames = u64::from(machine.frames(from));
+    text.put(b"  ");
+    if frames > 0 {
+        text.put_amount(frames);
+    } else {
+        text.put(if machine.memory().has(from as u8) {
+            b"not told".as_slice()
+        } else {
+            b"no memory"
+        });
+    }
+    text.put(b"\n");
+}
+
+/// Writes the table of distances, if it is small.
+fn put_distances(text: &mut Written, machine: &Machine) {
+    let nodes = machine.nodes();
+    if nodes > NODES {
+        return;
+    }
+    put_head(text, nodes);
+    for from in 0..nodes {
+        put_row(text, machine, from);
+    }
+}
+
+/// Writes how pages are touched, and the nodes that the process is allowed.
+fn put_touch(text: &mut Written, about: &About<'_>) {
+    if let Some(touch) = about.touch {
+        text.put_form(
+            b"Task $ touches pages on a CPU of node $\n",
+            &[u64::from(touch.task), u64::from(touch.cpu)],
+        );
+    }
+    if let Some(allowed) = about.allowed {
+        text.put(if about.lines.is_empty() {
+            b"Allowed nodes: ".as_slice()
+        } else {
+            b"Allowed nodes after the added lines: "
+        });
+        put_nodes(text, &allowed);
+        text.put(b"\n");
+    }
+}
+
+/// Writes an added line, in rows of text.
+fn put_line(text: &mut Written, line: &[u8]) {
+    text.put(b"Added line: ");
+    let mut column = 0usize;
+    for byte in line {
+        if column == WIDE {
+            text.put(b"\n            ");
+            column = 0;
+        }
+        text.put_escaped(&[*byte]);
+        column = column.saturating_add(1);
+    }
+    text.put(b"\n");
+}
+
+/// Writes the added lines.
+fn put_lines(text: &mut Written, lines: &[String]) {
+    for line in lines.get(..lines.len().min(LINES)).unwrap_or(&[]) {
+        put_line(text, line.as_bytes());
+    }
+    let others = lines.len().saturating_sub(LINES);
+    if others > 0 {
+        text.put_form(b"and $ more added lines\n", &[others as u64]);
+    }
+}
+
+/// What an answer is of, in rows of text that stand as they are in a picture and in a page.
+fn rows_of(alloc: Global, about: &About<'_>) -> Result<Vec<u8>, AllocError> {
+    let mut text = Written::new(alloc);
+    put_lines(&mut text, about.lines);
+    put_touch(&mut text, about);
+    put_machine(&mut text, about.machine);
+    put_distances(&mut text, about.machine);
+    text.put(b"numaplan ");
+    text.put(VERSION.as_bytes());
+    text.put(b"\n");
+    text.take()
+}
+
+/// A picture, or else a page, that ends with what it is of.
+fn ended_with(
+    alloc: Global,
+    is_picture: bool,
+    about: &About<'_>,
+    text: Vec<u8>,
+) -> Result<Vec<u8>, Halt> {
+    let Ok(rows) = rows_of(alloc, about) else {
+        drop(text);
+        return Err(Halt::Stopped(RunFault::Memory));
+    };
+    let whole = if is_picture {
+        picture_with(alloc, text.as_slice(), rows.as_slice())
+    } else {
+        page_with(alloc, text.as_slice(), rows.as_slice())
+    };
+    drop(rows);
+    drop(text);
+    Ok(whole?)
+}
+
+/// An answer, which says what it is of if it is a picture or a page; other answers are as they are.
+///
+/// # Errors
+/// `Stopped`: out of memory.
+pub fn told_of(
+    alloc: Global,
+    format: Format,
+    about: &About<'_>,
+    text: Vec<u8>,
+) -> Result<Vec<u8>, Halt> {
+    match format {
+        Format::Svg(_) => ended_with(alloc, true, about, text),
+        Format::Html(_) => ended_with(alloc, false, about, text),
+        _ => Ok(text),
+    }
+}

@@ -1,0 +1,67 @@
+//! Which pages are to go.
+ghost use Rattle.std.specs.Prelude.{◌≡◌, ℕ, IfSome, false};
+ghost use Rattle.numa_placed.specs.Binds.{is_absent, wants_of};
+ghost use Rattle.numa_placed.specs.declared.spot.Spot.TheVariants.{Nowhere};
+
+use crate::astray::is_astray;
+use crate::spot::Spot;
+use numa_maps::Resident;
+use numa_mask::NodeMask;
+
+/// Which pages are to go, by where they lie.
+#[derive(Clone, Copy)]
+pub(crate) enum Wants<'a> {
+    /// Those that lie on a node that isn't in the list.
+    Astray(&'a NodeMask),
+    /// Those that lie nowhere, but those that keep a frame.
+    Absent(&'a Resident),
+}
+
+/// Whether a page is nowhere: it keeps no frame either.
+fn is_absent(page: u64, spot: Spot, resident: &Resident) -> bool
+    ensures { result ≡ is_absent resident.now page spot }
+{
+    match spot {
+        Spot::Nowhere => resident.at(page).is_none(),
+        Spot::Stated(_) => false,
+        Spot::Held(_) => false,
+    }
+}
+
+impl<'a> Wants<'a> {
+    /// Whether a page that lies here is to go.
+    pub(crate) fn takes(&self, page: u64, spot: Spot) -> bool
+        ensures { result ≡ wants_of self.now page spot }
+    {
+        match *self {
+            Wants::Astray(list) => is_astray(spot, list),
+            Wants::Absent(resident) => is_absent(page, spot, resident),
+        }
+    }
+
+    /// Whether any page that lies here may be to go.
+    pub(crate) fn may_take(&self, spot: Spot) -> bool
+        ensures { result ≡ false → (page : ℕ) → wants_of self.now page spot ≡ false }
+    {
+        match *self {
+            Wants::Astray(list) => is_astray(spot, list),
+            Wants::Absent(_) => spot.node().is_none(),
+        }
+    }
+    /// The record of the pages that keep frames, where all others that lie here are to go, and
+    /// these lie nowhere.
+    pub(crate) fn absent(&self, spot: Spot) -> Option<&'a Resident>
+        ensures nowhere { IfSome result (λ resident. spot ≡ Nowhere) }
+        ensures wants { IfSome result (λ resident. (page : ℕ)
+            → wants_of self.now page spot ≡ is_absent resident.now page spot) }
+    {
+        let Wants::Absent(resident) = *self else {
+            return None;
+        };
+        match spot {
+            Spot::Nowhere => Some(resident),
+            Spot::Stated(_) => None,
+            Spot::Held(_) => None,
+        }
+    }
+}

@@ -1,0 +1,13 @@
+//! Where pages of a space, or of each process of a host, would go, and why.
+//!
+//! [`prediction_of`] and [`reasons_of`] answer about what scripts led to, [`predict_space`] and
+//! [`explain_space`] about a space.
+#![tactic(auto)]
+
+mod each;
+mod explaining;
+mod predicting;
+
+pub use each::EachAsked;
+pub use explaining::{AskedPages, ReasonsAsked, explain_space, reasons_of};
+pub use predicting::{predict_space, prediction_of};

@@ -1,0 +1,16 @@
+use Rattle.numa_script.specs.declared.page_line.PageLine.TheVariants as page
+use Rattle.numa_run.proofs.JudgeLemmas.{rooms-text, rooms_left}
+use Rattle.numa_run.proofs.Taking.{text-unready, text-written}
+use Rattle.numa_run.proofs.script.Script.tell_rooms.Goals as goal
+
+pub returns-in_default : goal.returns-in_default
+returns-in_default g c =
+    rw c.in_default.is
+    (text-unready g.W.Write.contents c.args.output.now c.say_reply.new.output
+    c.args.self.now.settings page.Rooms c.say_reply.ensures)
+
+pub returns : goal.returns
+returns g c =
+    rw c.in-Some.is
+    (text-written g.W.Write.contents c.args.output.now c.tell_rooms.new.output page.Rooms
+    rooms_left rooms-text c.in-Some.running c.tell_rooms.ensures)

@@ -1,0 +1,29 @@
+//! What answers are asked with and written with: touches, free pages and formats, texts that are
+//! written part by part, JSON objects and lists, the parts of pictures, and a watch on work that
+//! takes long.
+#![tactic(auto)]
+
+mod asked;
+mod boxes;
+mod bytes_text;
+mod colours;
+mod format;
+mod items;
+mod object;
+mod pictures;
+mod scale;
+mod version;
+mod watch;
+mod written;
+
+pub use asked::{AddressAsked, CpuAsked, FreePages, Touch, TouchAsked};
+pub use boxes::{CELL, Rectangle, put_frame, put_hatched, put_node, put_rectangle};
+pub use colours::{fill_of, ink_of, put_colours};
+pub use format::{DRAWN, Format, LISTED};
+pub use items::Items;
+pub use object::Object;
+pub use pictures::height_of;
+pub use scale::{Scale, share};
+pub use version::VERSION;
+pub use watch::Watch;
+pub use written::Written;

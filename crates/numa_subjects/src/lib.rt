@@ -1,0 +1,19 @@
+//! What answers after scripts are about, on which of their lines they are based, and why there is
+//! none.
+//!
+//! Other commands than `check` answer by the accepted lines, and return in [`Ended`] whether there
+//! were others, or in [`Halt`] why there is no answer. [`tells_fault`] recognizes the answers of
+//! malformed and refused lines.
+#![tactic(auto)]
+
+mod ended;
+mod faults;
+mod halt;
+mod page_place;
+mod subject;
+
+pub use ended::{Ended, Twin};
+pub use faults::tells_fault;
+pub use halt::Halt;
+pub use page_place::PagePlace;
+pub use subject::{Subject, differ, host_in, member, space_in};

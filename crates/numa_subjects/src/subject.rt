@@ -1,0 +1,47 @@
+//! What an answer is about.
+use crate::halt::Halt;
+use numa_host::{Host, Process};
+use numa_space::Space;
+
+/// What an answer is about.
+#[derive(Clone, Copy)]
+pub enum Subject<'a> {
+    /// The space of the script, or of the chosen process of a host.
+    One(&'a Space),
+    /// All processes of a host.
+    Each(&'a Host),
+}
+
+/// The one space of what an answer is about, if it is one.
+pub fn space_in(subject: Option<Subject<'_>>) -> Option<&Space> {
+    match subject {
+        Some(Subject::One(space)) => Some(space),
+        _ => None,
+    }
+}
+
+/// The host of what an answer is about, if it is all processes.
+pub fn host_in(subject: Option<Subject<'_>>) -> Option<&Host> {
+    match subject {
+        Some(Subject::Each(host)) => Some(host),
+        _ => None,
+    }
+}
+
+/// The process of this number, with its group.
+pub fn member(host: &Host, process: u32) -> Option<&Process> {
+    host.processes().iter().find(|one| one.id == process)
+}
+
+/// Whether an answer by the other rules is another one; no, if memory lacked for it.
+pub fn differ(own: Result<Vec<u8>, Halt>, other: Result<Vec<u8>, Halt>) -> bool {
+    let differ = match (&own, &other) {
+        (Ok(own), Ok(other)) => own.as_slice() != other.as_slice(),
+        (Ok(_), Err(Halt::Stopped(_))) => false,
+        (Ok(_), Err(_)) => true,
+        (Err(_), _) => false,
+    };
+    drop(own);
+    drop(other);
+    differ
+}

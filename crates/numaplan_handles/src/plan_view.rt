@@ -1,0 +1,145 @@
+//! Plans as threads look at them.
+ghost use Rattle.std.specs.Prelude.{◌≡◌, Some, None, IfSome, MatchOption, true};
+ghost use Rattle.numaplan_handles.specs.Calls.{IsShared, Reads};
+ghost use Rattle.numaplan_handles.specs.Kinds.{plan_of, is_plan};
+ghost use Rattle.numaplan_handles.specs.Plans.{IsListOf, Chooses, Fills, Counts};
+
+use crate::kept::Kept;
+use crate::plan_handle::PlanHandle;
+use crate::room::copy_items;
+use crate::view::View;
+use numa_machine::PlaceRefusal;
+use numa_plan::Plan;
+use numa_requests::Request;
+use std::alloc::{AllocError, Global};
+
+/// Handles of plans that are only looked at. Threads can share one.
+#[repr(C)]
+pub struct PlanView {
+    view: View,
+    ghost kind: { is_plan view.held.kept ≡ true },
+}
+
+/// Why the list of a page wasn't copied.
+#[derive(Clone, Copy, Debug, PartialEq, Eq)]
+pub enum ChoiceRefusal {
+    /// There is no list.
+    Place(PlaceRefusal),
+    /// The list has this many nodes, more than there is room for.
+    TooShort(usize),
+}
+
+/// The plan that is kept.
+fn plan_kept(kept: &Kept) -> &Plan
+    requires plan { is_plan (Some kept.now) ≡ true }
+    ensures plan { plan_of (Some kept.now) ≡ Some result.now }
+{
+    let Kept::Plan(plan) = kept else {
+        unreachable!()
+    };
+    plan
+}
+
+/// Copies the list of a page.
+fn choose(plan: &Plan, asked: Request, nodes: &mut [u8]) -> Result<usize, ChoiceRefusal>
+    ensures { Chooses (Some plan.now) asked.task asked.page asked.cpu result nodes.old nodes.new }
+{
+    let list = match plan.fallback_list(asked.task, asked.page, asked.cpu) {
+        Ok(list) => list,
+        Err(refusal) => return Err(ChoiceRefusal::Place(refusal)),
+    };
+    copy_items(list, nodes).map_err(ChoiceRefusal::TooShort)
+}
+
+impl PlanView {
+    ghost use Rattle.numaplan_handles.specs.Handles.{plan_in, plan_seen};
+
+    /// Puts the same plan into a closed handle. `None` if this one is closed.
+    ///
+    /// # Errors
+    /// `AllocError`: out of memory, or the plan has as many handles as it can.
+    pub fn share(&self, alloc: Global, other: &mut PlanHandle) -> Option<Result<(), AllocError>>
+        requires closed { plan_in other.old ≡ None }
+        ensures shared { IsShared (plan_seen self.now) result (plan_in other.new) }
+    {
+        self.view.share(alloc, &mut other.handle)
+    }
+
+    /// The plan, if the handle is open.
+    fn plan(&self) -> Option<&Plan>
+        ensures { MatchOption result (plan_seen self.now ≡ None)
+            (λ plan. plan_seen self.now ≡ Some plan.now) }
+    {
+        let kept = self.view.lent()?;
+        Some(plan_kept(kept))
+    }
+
+    /// The version of the plan. `None` if the handle is closed.
+    pub fn version(&self) -> Option<u64>
+        ensures { Reads (λ version. IfSome (plan_seen self.now) (λ plan. version ≡ plan.version))
+            (plan_seen self.now) result }
+    {
+        let plan = self.plan()?;
+        Some(plan.version())
+    }
+
+    /// Copies the fallback list of a page, and returns the number of nodes. `None` if the handle is
+    /// closed.
+    ///
+    /// # Errors
+    /// As [`Plan::fallback_list`], and `TooShort`: there is no room for the list.
+    pub fn choose(
+        &self,
+        task: u32,
+        page: u64,
+        cpu: u32,
+        nodes: &mut [u8],
+    ) -> Option<Result<usize, ChoiceRefusal>>
+        ensures chooses { Reads (λ answer.
+            Chooses (plan_seen self.now) task page cpu answer nodes.old nodes.new)
+            (plan_seen self.now) result }
+        ensures closed { plan_seen self.now ≡ None → nodes.new ≡ nodes.old }
+    {
+        let plan = self.plan()?;
+        Some(choose(plan, Request { task, page, cpu }, nodes))
+    }
+
+    /// Writes the first node of each page's list, for as many pages from page `first` on as there
+    /// are places. `None` if the handle is closed.
+    ///
+    /// # Errors
+    /// As [`Plan::fill`].
+    pub fn fill(
+        &self,
+        task: u32,
+        first: u64,
+        cpu: u32,
+        nodes: &mut [u8],
+    ) -> Option<Result<(), PlaceRefusal>>
+        ensures fills { Reads (λ answer.
+            Fills (plan_seen self.now) task first cpu answer nodes.old nodes.new)
+            (plan_seen self.now) result }
+        ensures closed { plan_seen self.now ≡ None → nodes.new ≡ nodes.old }
+    {
+        let plan = self.plan()?;
+        Some(plan.fill(task, first, cpu, nodes))
+    }
+
+    /// Counts, for each node, the pages of a span whose list begins with it. `None` if the handle
+    /// is closed.
+    ///
+    /// # Errors
+    /// As [`Plan::counts`].
+    pub fn counts(
+        &self,
+        task: u32,
+        first: u64,
+        pages: u64,
+        cpu: u32,
+    ) -> Option<Result<[u64; 256], PlaceRefusal>>
+        ensures { Reads (Counts (plan_seen self.now) task first pages cpu) (plan_seen self.now) result }
+    {
+        let plan = self.plan()?;
+        Some(plan.counts(task, first, pages, cpu))
+    }
+}

@@ -1,0 +1,97 @@
+"""What pictures and pages say of what they are of. Not proved."""
+
+import re
+from html.parser import HTMLParser
+from xml.etree import ElementTree
+
+SCRIPT = """machine 3 0,2 8,0,1024 10,20,255;20,10,20;255,20,10
+map 0x10000 0x4000 0x10
+map 0x20000 0x2000 0x20
+task 1 interleave:0,2
+"""
+HOST = """rules linux
+cpus 0-1
+machine 2 0-1 0 kernel:flat
+host
+cgroup 5 0
+process 1 5
+in 1 map 0x10000 0x2000 0
+"""
+ROWS = ["Machine: 3 nodes with memory on 0,2; rules of Linux's documents (document); the nearest node"
+        " with room is next",
+        "node distances to   0   1   2  frames",
+        "   0               10  20 255  8 pages (32 KiB)",
+        "   1               20  10  20  no memory",
+        "   2              255  20  10  1,024 pages (4 MiB)"]
+HOST_ROWS = ["Machine: 2 nodes with memory on 0-1; rules of a running kernel (linux); CPUs on 0-1, next is"
+             " as kernels order nodes",
+             "node distances to   0   1  frames",
+             "   0               10  20  not told",
+             "   1               20  10  not told"]
+TOUCH = "Task 1 touches pages on a CPU of node 0"
+HOSTILE = "mems\t'0'&\"\x1b[1m</script><script>alert(1)</script>\u202e"
+SHOWN = ("mems\ufffd'0'&\"\ufffd[1m</script><script>alert(1)</script>" + 3 * "\ufffd")
+LONG = "task 2 bind:" + ",".join(["0,2"] * 60)
+
+
+class Page(HTMLParser):
+    """The tags of a page, and the text of its last part."""
+
+    def __init__(self, text):
+        super().__init__()
+        self.tags, self.rows, self.is_in = [], "", False
+        self.feed(text)
+
+    def handle_starttag(self, tag, attributes):
+        self.tags.append(tag)
+        self.is_in = tag == "pre" and ("id", "about") in attributes
+
+    def handle_endtag(self, tag):
+        self.is_in = False
+
+    def handle_data(self, data):
+        self.rows += data if self.is_in else ""
+
+
+def rows_of(text, form):
+    if form == "svg":
+        groups = [it for it in ElementTree.fromstring(text) if it.get("class") == "about"]
+        return [row.text for group in groups for row in group if row.text]
+    page = Page(text)
+    if page.tags.count("script") != 2 or re.search(r"<script[^>]*\bsrc|https?://", text):
+        return [f"{page.tags.count('script')} scripts"]
+    return page.rows.splitlines()
+
+
+def wrapped(line):
+    """The rows of a line that is added."""
+    parts = [line[k:k + 110] for k in range(0, len(line), 110)] or [""]
+    return ["Added line: " + parts[0], *("            " + it for it in parts[1:])]
+
+
+def try_about(call, tell, folder):
+    version = call("--version")[1].strip()
+    good = True
+    for kind, script, rows, allowed in (("one", SCRIPT, ROWS, "0,2"), ("host", HOST, HOST_ROWS, None)):
+        name = f"{folder}/about-{kind}"
+        with open(name, "w", encoding="utf-8") as file:
+            file.write(script)
+        added = [HOSTILE, LONG] if allowed else ["cgroup-mems 5 1"]
+        shown = [row for it in ([SHOWN, LONG] if allowed else added) for row in wrapped(it)]
+        then = [word for it in added for word in ("--then", it)]
+        ends = [*rows, version]
+        now = [f"Allowed nodes: {allowed}"] * bool(allowed)
+        after = [f"Allowed nodes after the added lines: {allowed}"] * bool(allowed)
+        asked = ["--task", "1", "--node", "0", "--lenient"]
+        for form in "svg", "html":
+            for words, want in ((["predict", *asked], [TOUCH, *now, *ends]),
+                                (["diff", *asked, *then], [*shown, TOUCH, *after, *ends])):
+                got = rows_of(call(*words, "--format", form, name)[1], form)
+                good &= tell(got == want, f"what a {form} of {words[0]} is of, {kind}"
+                             + ("" if got == want else f": {got}, not {want}"))
+        words = ["moves", *asked[:4], "--lenient", "--then", added[0], "--format", "svg"]
+        if allowed:
+            want = [*wrapped(SHOWN), TOUCH, *after, *ends]
+            got = rows_of(call(*words, name)[1], "svg")
+            good &= tell(got == want, "what a picture of moves is of" + ("" if got == want else f": {got}"))
+    return good
