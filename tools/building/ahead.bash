@@ -3,8 +3,8 @@
 # rt gives a proof the processors that no other waits for, and so one to each crate of the chain while
 # others are there. Where it keeps what passes, beside the kit and each crate as soon as it is proved,
 # each crate of the chain has a run of its own, which gives it two jobs on four processors; beside
-# that, in another run and with less of the processors' time, are proved the crates that can be by
-# then. The whole run begins when the chain is proved, and takes what both have kept. Not proved.
+# that, in other runs and with less of the processors' time, are proved the crates that can be by
+# then. The whole run begins when the chain is proved, and takes what all have kept. Not proved.
 
 # Whether the kit's rt keeps what passes, in a folder of that name (rattle-kit-13b's doesn't).
 keeps_proofs() {
@@ -39,16 +39,23 @@ prove_chain() {
     wait "$before"
 }
 
+# How many runs go beside the chain's: three, if each finds 4 GB of memory.
+runs_beside() { awk '/^MemAvailable/ { n = int($2 / 4e6) } END { print n < 1 ? 1 : n > 3 ? 3 : n }' /proc/meminfo; }
+
 # Proves what can be once a crate of the chain is, a line of $groups each, while that file is there.
+# The runs go side by side, and a later one waits where it needs what an earlier one proves.
 prove_beside() {
-    local proved=$1 name others
+    local proved=$1 name others most
+    most=$(runs_beside)
     while read -r name others; do
         until [ "$name" = - ] || grep -qsx "$name" "$proved"; do
-            [ -e "$proved" ] || return
+            [ -e "$proved" ] || break 2
             sleep 1
         done
-        [ -z "$others" ] || RT_JOBS=$(($(nproc) - 2)) ci_of $others || return
+        while (($(jobs -rp | wc -l) >= most)); do wait -n; done
+        [ -z "$others" ] || RT_JOBS=$(($(nproc) - 2)) ci_of $others &
     done <<<"$groups"
+    wait
 }
 
 # Runs `rt ci` at the top of a repository here, where the folder of this file is in $building.

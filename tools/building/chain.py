@@ -1,6 +1,6 @@
 #!/usr/bin/env python3
 """chain.py [FOLDER]: of the repository in a folder, the crates whose proofs wait for one another
-longest, by their lines: a line each, the lowest first, with the other crates that can be proved once
+longest, by an estimate: a line each, the lowest first, with the other crates that can be proved once
 it is. The first line is of none: `-`, and the crates that stand on none of these. Not proved."""
 
 import os
@@ -51,20 +51,27 @@ def groups_of(crates, chain):
     return groups
 
 
+OF_LIBRARY = 70  # lines of code are proved in the time in which a library is loaded, for each function and each drop
+
+
+def costs_of(crates, top):
+    """What a proof takes, in lines of code: those of the crate, and what it takes to load the libraries below it."""
+    return {name: lines_of(f"{top}/crates/{name}/src") + OF_LIBRARY * len(below)
+            for name, below in all_below(crates).items()}
+
+
 def lines_of(folder):
-    """How many lines the check of a crate reads, beside the libraries."""
     count = 0
-    for part in ("src", "specs", "proofs"):
-        for at, _, names in os.walk(f"{folder}/{part}"):
-            for name in names:
-                with open(f"{at}/{name}", "rb") as file:
-                    count += file.read().count(b"\n")
+    for at, _, names in os.walk(folder):
+        for name in names:
+            with open(f"{at}/{name}", "rb") as file:
+                count += file.read().count(b"\n")
     return count
 
 
 if __name__ == "__main__":
     top = sys.argv[1] if sys.argv[1:] else "."
     crates = read_crates(f"{top}/crates.txt")
-    chain = longest_chain(crates, {name: lines_of(f"{top}/crates/{name}") for name in crates})
+    chain = longest_chain(crates, costs_of(crates, top))
     for name, others in groups_of(crates, chain).items():
         print(name or "-", *others)
