@@ -65,7 +65,7 @@ class Terminal:
             shell(command)
         self.text = ""
 
-    def want(self, text, seconds=20):
+    def want(self, text, seconds=200):
         """Waits for a text."""
         end = time.time() + seconds
         while text not in self.text:
