@@ -62,21 +62,23 @@ def try_rows(call, tell):
     return good
 
 
-# Lines that moves passes over: the pages lie as lines `at` say.
+# Other lines about pages: one of them goes to node 1, and two go to node 0; node 3 takes 9 more.
 OTHERS = ["memory-migrate on", "room 3 9", "moved", "move 0x30000 1",
           "mbind 0x40000 0x2000 bind:0 move 1 0"]
 
 
 def try_others(call, tell, room):
-    """A script with lines about pages of each kind is played, and nothing is told of it."""
+    """Pages lie, and nodes take more, as lines of each kind about pages leave them."""
     with open(room + "/script", "w", encoding="utf-8") as file:
         for name in ".numaplan", ".at":
             with open(EXAMPLE + name, encoding="utf-8") as part:
                 file.write(part.read())
         file.write("".join(line + "\n" for line in OTHERS))
-    words, want = ROWS[0]
-    got = call("moves", *words, room + "/script")
-    return tell(got == (0, want, ""), f"moves passes over other lines about pages: {got}")
+    want = ("00030000-00034000 placed=3 moved=1 N2->N0=1 stays=2 N0=1 N1=1\n"
+            "00040000-00042000 placed=2 moved=0 stays=2 N0=2\n"
+            "total placed=5 moved=1 N2->N0=1 stays=4 N0=3 N1=1\nleft N3=9\n")
+    got = call("moves", *ROWS[0][0], room + "/script")
+    return tell(got == (0, want, ""), f"moves goes by other lines about pages: {got}")
 
 
 # Lines that aren't as they have to be, and what is told of them.

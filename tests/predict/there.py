@@ -1,5 +1,6 @@
 """`numaplan predict --at` against the model, page by page. Not proved."""
 
+import copy
 import csv
 import io
 import json
@@ -14,20 +15,19 @@ from space import index_at, is_live, policy_list, ranges, resolved
 PAGES = 5_000  # more pages in all aren't looked at one by one
 
 
-def stated(dice, space):
-    """Lines that state where pages lie, and the node of each such page."""
-    lines, pages, spans = [], {}, [(it.first, it.end) for it in ranges(space)]
+def stated(dice, state):
+    """Lines that state where pages lie, and the node of each page that lies somewhere by the script
+    and by them, without a frame. Lines that the model refuses aren't among them."""
+    state = copy.deepcopy(state)
+    lines, spans = [], [(it.first, it.end) for it in ranges(state.space)]
     for _ in range(dice.randrange(0, 7)):
         first = dice.choice(spans)[0] if spans else 0
         first = max(0, first + dice.randrange(-2, 9))
-        count, node = dice.randrange(1, 12), dice.choice(sorted(space.machine.memory))
-        if first + count > 2**35:  # (pages end there)
-            continue
-        lines.append(f"at 0x{first * 4096:x} 0x{count * 4096 - dice.choice([0, 1]):x} {node}\n")
-        for page in range(first, first + count):
-            if any(low <= page < high for low, high in spans):
-                pages[page] = node
-    return lines, pages
+        count, node = dice.randrange(1, 12), dice.choice(sorted(state.space.machine.memory))
+        line = f"at 0x{first * 4096:x} 0x{count * 4096 - dice.choice([0, 1]):x} {node}"
+        if model.answer(state, line) == "at ok":
+            lines.append(line + "\n")
+    return lines, state.placed.stated
 
 
 def rows_of(space, task, cpu, pages, free):
@@ -83,12 +83,13 @@ def wrong_by(call, words, name, told, rows, left, nodes):
     return f"{words}: svg: {wrong}" if wrong else None
 
 
-def difference(call, name, space, task, cpu, told):
+def difference(call, name, state, task, cpu, told):
     """What is wrong with predictions where some pages are there, in each format, or None."""
+    space = state.space
     count = sum(each.end - each.first for each in ranges(space))
     if count > PAGES:
         return None
-    lines, pages = stated(random.Random(f"{os.path.basename(name)} {cpu}"), space)
+    lines, pages = stated(random.Random(f"{os.path.basename(name)} {cpu}"), state)
     with open(name + ".at", "w", encoding="utf-8") as file:
         file.writelines(["# where pages lie\n", *lines])
     words = ["predict", "--task", str(task), "--cpu", str(cpu), "--at", name + ".at"]

@@ -1,5 +1,8 @@
 //! Where the pages of processes lie, and what becomes of them.
 ghost use Rattle.std.specs.Prelude.{◌≡◌, ◌<◌, ◌^◌, ℕ, IfOk};
+ghost use Rattle.numa_page_state.specs.Lying.{Lying};
+ghost use Rattle.numa_page_state.specs.Outcomes.{rooms_of};
+ghost use Rattle.numa_page_state.specs.Standing.{LiesAs};
 ghost use Rattle.numa_placed.specs.Shifts.{AreRooms};
 ghost use Rattle.numa_moves.specs.Moving.{moves_of, shares_behind};
 ghost use Rattle.numa_moves.specs.Shares.{pages_on};
@@ -8,9 +11,10 @@ use crate::at_lines::AtLine;
 use crate::moving::{ShareMove, moves_within, shares_behind};
 use crate::share::Share;
 use crate::shares::{stated_shares, touched_shares};
-use crate::stating::{Member, RefusedAt, Scene, note_lacking, placed_of};
+use crate::stating::{Member, RefusedAt, Scene, note_lacking, pages_of};
 use numa_compile::compile;
 use numa_mask::NodeMask;
+use numa_page_state::PageState;
 use numa_placed::Rooms;
 use numa_reports::ReportError;
 use numa_sheets::{FreePages, Touch};
@@ -57,41 +61,57 @@ fn touched(alloc: Global, space: &Space, touch: Touch) -> Result<Vec<Share>, Rep
     shares
 }
 
-/// Where pages of a process lie, as lines state it.
+/// How many more pages each node takes.
+fn rooms_in(pages: &PageState) -> Rooms
+    ensures { (lying : Lying) → LiesAs pages.now lying → AreRooms result (rooms_of lying.room) }
+{
+    match pages.rooms() {
+        Some(rooms) => *rooms,
+        None => Rooms::endless(),
+    }
+}
+
+/// Where pages of a process lie, as its script has left them and lines state it, and how many more
+/// each node takes then.
 fn stated(
     alloc: Global,
     member: Member<'_>,
     lines: &[AtLine],
     refused: &mut Vec<RefusedAt>,
+    rooms: &mut Rooms,
 ) -> Result<Vec<Share>, AllocError> {
-    let placed = placed_of(alloc, member, lines, refused)?;
-    let shares = stated_shares(alloc, member.space, &placed);
-    drop(placed);
+    let pages = pages_of(alloc, member, lines, refused)?;
+    *rooms = rooms_in(&pages);
+    let shares = stated_shares(alloc, member.space, pages.placed());
+    drop(pages);
     shares
 }
 
-/// Where pages of a process lie.
+/// Where pages of a process lie. The rooms are those that it leaves, where lines state that.
 fn shares_by(
     alloc: Global,
     member: Member<'_>,
     origin: Origin<'_>,
     refused: &mut Vec<RefusedAt>,
+    rooms: &mut Rooms,
 ) -> Result<Vec<Share>, ReportError> {
     match origin {
         Origin::Touched(touch) => touched(alloc, member.space, touch),
-        Origin::Stated(lines) => match stated(alloc, member, lines, refused) {
+        Origin::Stated(lines) => match stated(alloc, member, lines, refused, rooms) {
             Ok(shares) => Ok(shares),
             Err(_) => Err(ReportError::Memory),
         },
     }
 }
 
-/// Appends what the one space holds, or each process of a host.
+/// Appends what the one space holds, or each process of a host. The rooms are those that a script of
+/// one process leaves; in a host no node fills.
 fn add_all(
     alloc: Global,
     scene: Scene<'_>,
     origin: Origin<'_>,
     refused: &mut Vec<RefusedAt>,
+    rooms: &mut Rooms,
     holdings: &mut Vec<Holding>,
 ) -> Result<(), ReportError> {
     if let Origin::Stated(lines) = origin {
@@ -101,7 +121,7 @@ fn add_all(
     }
     for place in 0..scene.members() {
         if let Some(member) = scene.member(place) {
-            let shares = shares_by(alloc, member, origin, refused)?;
+            let shares = shares_by(alloc, member, origin, refused, rooms)?;
             let holding = Holding {
                 process: member.process,
                 allowed: member.space.allowed(),
@@ -205,18 +225,17 @@ pub struct Holdings {
     rooms: Rooms,
 }
 
-/// The rooms of nodes, of which the named ones take so many more pages.
-fn rooms_of(free: &[FreePages]) -> Rooms {
-    let mut rooms = Rooms::endless();
+/// Says that named nodes take so many more pages.
+fn limit_all(rooms: &mut Rooms, free: &[FreePages]) {
     for one in free {
         rooms.limit(one.node, one.pages);
     }
-    rooms
 }
 
 impl Holdings {
-    /// Where pages lie before the first line; named nodes take so many more. Lines that are refused
-    /// are noted.
+    /// Where pages lie before the first line. Named nodes take so many more, and the others as many
+    /// as a script of one process leaves them, if it has stated where pages lie. Lines that are
+    /// refused are noted.
     ///
     /// # Errors
     /// `Refused(BadCpu)`: the machine lacks the node on which a task touches pages. `Memory`: out
@@ -229,11 +248,12 @@ impl Holdings {
         refused: &mut Vec<RefusedAt>,
     ) -> Result<Holdings, ReportError> {
         let mut list = Vec::new(alloc);
-        match add_all(alloc, scene, origin, refused, &mut list) {
-            Ok(()) => Ok(Holdings {
-                list,
-                rooms: rooms_of(free),
-            }),
+        let mut rooms = Rooms::endless();
+        match add_all(alloc, scene, origin, refused, &mut rooms, &mut list) {
+            Ok(()) => {
+                limit_all(&mut rooms, free);
+                Ok(Holdings { list, rooms })
+            }
             Err(fault) => {
                 drop(list);
                 Err(fault)
@@ -274,6 +294,11 @@ impl Holdings {
     /// `AllocError`: out of memory.
     pub fn stay(&mut self, alloc: Global) -> Result<Step, AllocError> {
         act_on_each(alloc, self.list.as_mut_slice(), Act::Stay, &mut self.rooms)
+    }
+
+    /// How many more pages each node takes.
+    pub fn rooms(&self) -> &Rooms {
+        &self.rooms
     }
 
     /// The nodes that a process is allowed, if it is there.

@@ -28,4 +28,4 @@ pub use moving::{ShareMove, moves_within, pages_by_node, shares_behind};
 pub use share::Share;
 pub use shares::{stated_shares, touched_shares};
 pub use sheet::{Asked, moves_text};
-pub use stating::{RefusedAt, Scene, add_stated};
+pub use stating::{RefusedAt, Scene, There, add_stated};

@@ -2,17 +2,29 @@
 
 use crate::at_lines::{AtLine, LinePlace};
 use numa_host::Host;
+use numa_maps::Resident;
 use numa_mask::NodeMask;
+use numa_page_state::PageState;
 use numa_placed::Placed;
 use numa_requests::PlacedRefusal;
 use numa_space::Space;
 use std::alloc::{AllocError, Global};
 
+/// What a script of one process has made of its pages: which keep a frame, and where the others
+/// lie, once a line says so of one.
+#[derive(Clone, Copy)]
+pub struct There<'a> {
+    pub resident: &'a Resident,
+    pub pages: Option<&'a PageState>,
+}
+
 /// What is told of.
 #[derive(Clone, Copy)]
 pub enum Scene<'a> {
-    /// One space: a script's, or that of a process of a host.
-    One(Option<u32>, &'a Space),
+    /// The space of a script, and its pages.
+    Own(&'a Space, There<'a>),
+    /// The space of a process of a host.
+    One(u32, &'a Space),
     /// All processes of a host.
     Each(&'a Host),
 }
@@ -29,7 +41,7 @@ impl<'a> Scene<'a> {
     /// How many processes are told of.
     pub(crate) fn members(&self) -> usize {
         match self {
-            Scene::One(..) => 1,
+            Scene::Own(..) | Scene::One(..) => 1,
             Scene::Each(host) => host.processes().len(),
         }
     }
@@ -37,7 +49,8 @@ impl<'a> Scene<'a> {
     /// One of the processes, in the order in which they were made.
     pub(crate) fn member(&self, place: usize) -> Option<Member<'a>> {
         let (process, space) = match self {
-            Scene::One(process, space) => (process.unwrap_or(0), *space),
+            Scene::Own(space, _) => (0, *space),
+            Scene::One(process, space) => (*process, *space),
             Scene::Each(host) => {
                 let process = host.processes().get(place)?;
                 (process.id, &process.space)
@@ -55,7 +68,7 @@ impl Scene<'_> {
     /// The number of nodes of the machine.
     pub fn nodes(&self) -> u32 {
         match self {
-            Scene::One(_, space) => space.machine().nodes(),
+            Scene::Own(space, _) | Scene::One(_, space) => space.machine().nodes(),
             Scene::Each(host) => host.machine().nodes(),
         }
     }
@@ -68,7 +81,7 @@ impl Scene<'_> {
     /// The nodes that a process is allowed, if it is there.
     pub(crate) fn allowed(&self, process: u32) -> Option<NodeMask> {
         match self {
-            Scene::One(_, space) => Some(space.allowed()),
+            Scene::Own(space, _) | Scene::One(_, space) => Some(space.allowed()),
             Scene::Each(host) => {
                 let space = host.process(process)?;
                 Some(space.allowed())
@@ -81,8 +94,8 @@ impl Scene<'_> {
     /// Whether a line states where pages of this process lie.
     fn is_of(&self, process: u32, line: &AtLine) -> bool {
         match self {
-            Scene::One(None, _) => line.process.is_none(),
-            Scene::One(Some(own), _) => line.process.unwrap_or(*own) == *own,
+            Scene::Own(..) => line.process.is_none(),
+            Scene::One(own, _) => line.process.unwrap_or(*own) == *own,
             Scene::Each(_) => line.process == Some(process),
         }
     }
@@ -90,8 +103,8 @@ impl Scene<'_> {
     /// Whether a line is of no process that is there.
     fn lacks(&self, line: &AtLine) -> bool {
         match (self, line.process) {
-            (Scene::One(None, _), named) => named.is_some(),
-            (Scene::One(Some(_), _), _) => false,
+            (Scene::Own(..), named) => named.is_some(),
+            (Scene::One(..), _) => false,
             (Scene::Each(host), Some(process)) => host.process(process).is_none(),
             (Scene::Each(_), None) => true,
         }
@@ -123,6 +136,9 @@ impl RefusedAt {
             Some(PlacedRefusal::NoSuchNode) => {
                 "refused NoSuchNode EINVAL: the machine has no such node with memory"
             }
+            Some(PlacedRefusal::NoRoom) => {
+                "refused NoRoom ENOMEM: the node takes fewer pages than would come to it"
+            }
             Some(PlacedRefusal::TooManyRuns) => {
                 "refused TooManyRuns ENOMEM: at most 1,048,576 runs of pages can be stated"
             }
@@ -133,12 +149,13 @@ impl RefusedAt {
 
 /// States where the pages of a line lie, or notes why not.
 fn state_line(
-    placed: &mut Placed,
+    pages: &mut PageState,
     space: &Space,
+    resident: &Resident,
     line: &AtLine,
     refused: &mut Vec<RefusedAt>,
 ) -> Result<(), AllocError> {
-    match placed.state(space, line.start, line.length, line.node) {
+    match pages.at(space, resident, line.start, line.length, line.node) {
         Ok(()) => Ok(()),
         Err(PlacedRefusal::NoMemory) => Err(AllocError),
         Err(cause) => {
@@ -153,35 +170,85 @@ fn state_line(
 
 /// States where the pages of a process lie, by its lines.
 fn state_lines(
-    placed: &mut Placed,
+    pages: &mut PageState,
     member: Member<'_>,
+    resident: &Resident,
     lines: &[AtLine],
     refused: &mut Vec<RefusedAt>,
 ) -> Result<(), AllocError> {
     for line in lines {
         if member.scene.is_of(member.process, line) {
-            state_line(placed, member.space, line, refused)?;
+            state_line(pages, member.space, resident, line, refused)?;
         }
     }
     Ok(())
 }
 
-/// Where pages of a process lie.
-pub(crate) fn placed_of(
+/// Where pages of a process lie before its lines are heeded.
+fn pages_before(alloc: Global, member: Member<'_>) -> Result<PageState, AllocError> {
+    let pages = match member.scene {
+        Scene::Own(
+            _,
+            There {
+                pages: Some(pages),
+                ..
+            },
+        ) => pages.copy(),
+        _ => PageState::new(alloc),
+    };
+    match pages {
+        Ok(pages) => Ok(pages),
+        Err(_) => Err(AllocError),
+    }
+}
+
+/// Heeds the lines of a process.
+fn heed_lines(
+    alloc: Global,
+    pages: &mut PageState,
+    member: Member<'_>,
+    lines: &[AtLine],
+    refused: &mut Vec<RefusedAt>,
+) -> Result<(), AllocError> {
+    if let Scene::Own(_, there) = member.scene {
+        return state_lines(pages, member, there.resident, lines, refused);
+    }
+    let none = Resident::new(alloc);
+    let stated = state_lines(pages, member, &none, lines, refused);
+    drop(none);
+    stated
+}
+
+/// Where pages of a process lie: as its script has left them, and then as lines state it.
+pub(crate) fn pages_of(
+    alloc: Global,
+    member: Member<'_>,
+    lines: &[AtLine],
+    refused: &mut Vec<RefusedAt>,
+) -> Result<PageState, AllocError> {
+    let mut pages = pages_before(alloc, member)?;
+    match heed_lines(alloc, &mut pages, member, lines, refused) {
+        Ok(()) => Ok(pages),
+        Err(fault) => {
+            drop(pages);
+            Err(fault)
+        }
+    }
+}
+
+/// The same, without rooms.
+fn placed_of(
     alloc: Global,
     member: Member<'_>,
     lines: &[AtLine],
     refused: &mut Vec<RefusedAt>,
 ) -> Result<Placed, AllocError> {
-    let Ok(mut placed) = Placed::new(alloc) else {
-        return Err(AllocError);
-    };
-    match state_lines(&mut placed, member, lines, refused) {
-        Ok(()) => Ok(placed),
-        Err(fault) => {
-            drop(placed);
-            Err(fault)
-        }
+    let pages = pages_of(alloc, member, lines, refused)?;
+    let placed = pages.placed().copy();
+    drop(pages);
+    match placed {
+        Ok(placed) => Ok(placed),
+        Err(_) => Err(AllocError),
     }
 }
 

@@ -8,11 +8,12 @@ use numa_moves::{
     Asked, AtLines, Holdings, MoveLine, Origin, PassOver, RefusedAt, Scene, Step, moves_text,
     read_move,
 };
+use numa_placed::Rooms;
 use numa_play::Findings;
 use numa_reports::ReportError;
 use numa_sheets::{Format, FreePages};
 use numa_subjects::{Halt, Subject};
-use std::alloc::Global;
+use std::alloc::{AllocError, Global};
 use std::io::Write;
 
 /// The name of the added lines in messages.
@@ -284,7 +285,7 @@ fn told_of_moves(
 ) -> Result<Answer, Halt> {
     let Answer { text, is_other } = answer;
     let subject = match scene_of(script, playing.process, playing.format) {
-        Ok(Scene::One(_, space)) => Subject::One(space),
+        Ok(Scene::Own(space, _) | Scene::One(_, space)) => Subject::One(space),
         Ok(Scene::Each(host)) => Subject::Each(host),
         Err(_) => return Ok(Answer { text, is_other }),
     };
@@ -297,7 +298,66 @@ fn told_of_moves(
     Ok(Answer { text, is_other })
 }
 
-/// Plays lines, and returns what becomes of the pages that are there, as a text.
+/// The nodes that fill, with how many more pages each takes.
+fn limits_of(alloc: Global, rooms: &Rooms) -> Result<Vec<FreePages>, AllocError> {
+    let mut limits = Vec::new(alloc);
+    for node in 0..256u32 {
+        let node = node as u8;
+        if let Some(pages) = rooms.at(node) {
+            limits.push(FreePages { node, pages })?;
+        }
+    }
+    Ok(limits)
+}
+
+/// Plays the lines, and returns what becomes of the pages, as a text, which tells at the end what is
+/// left on these nodes.
+fn moves_by<T: Write>(
+    alloc: Global,
+    findings: &mut Findings<T>,
+    course: &mut Course,
+    other: &mut Option<Course>,
+    playing: Playing<'_>,
+    limits: &[FreePages],
+    faults: &mut LineFaults,
+) -> Result<Answer, Halt> {
+    let scene = scene_of(findings.script(), playing.process, playing.format)?;
+    let told = Asked {
+        lines: playing.lines,
+        is_each: scene.is_each(),
+        nodes: scene.nodes(),
+        free: limits,
+        format: playing.format,
+    };
+    match play_lines(alloc, findings, course, other, playing, faults) {
+        Ok(()) => answer_of(alloc, course, other, told),
+        Err(halt) => Err(halt),
+    }
+}
+
+/// The same, where it is told what is left of the nodes whose free pages are asked for, or else of
+/// those that fill.
+fn moves_left<T: Write>(
+    alloc: Global,
+    findings: &mut Findings<T>,
+    course: &mut Course,
+    other: &mut Option<Course>,
+    playing: Playing<'_>,
+    faults: &mut LineFaults,
+) -> Result<Answer, Halt> {
+    if !playing.free.is_empty() {
+        let free = playing.free;
+        return moves_by(alloc, findings, course, other, playing, free, faults);
+    }
+    let limits = limits_of(alloc, course.holdings.rooms())?;
+    let free = limits.as_slice();
+    let answer = moves_by(alloc, findings, course, other, playing, free, faults);
+    drop(limits);
+    answer
+}
+
+/// Plays lines, and returns what becomes of the pages that are there, as a text. Nodes take as many
+/// more pages as is asked for, else as many as a script of one process leaves them.
 ///
 /// # Errors
 /// Why there is no answer.
@@ -309,21 +369,9 @@ pub fn moves_of<T: Write>(
     playing: Playing<'_>,
     faults: &mut LineFaults,
 ) -> Result<Answer, Halt> {
-    let scene = scene_of(findings.script(), playing.process, playing.format)?;
-    let told = Asked {
-        lines: playing.lines,
-        is_each: scene.is_each(),
-        nodes: scene.nodes(),
-        free: playing.free,
-        format: playing.format,
-    };
     let mut course = begin_told(alloc, findings.script(), at, origin, playing, faults)?;
     let mut other = begin_beside(alloc, findings.other(), origin, playing);
-    let played = play_lines(alloc, findings, &mut course, &mut other, playing, faults);
-    let answer = match played {
-        Ok(()) => answer_of(alloc, &course, &other, told),
-        Err(halt) => Err(halt),
-    };
+    let answer = moves_left(alloc, findings, &mut course, &mut other, playing, faults);
     drop(course);
     drop(other);
     told_of_moves(alloc, findings.script(), origin, playing, answer?)

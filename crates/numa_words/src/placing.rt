@@ -12,11 +12,11 @@ use numa_subjects::{Ended, Halt, Twin};
 use std::alloc::Global;
 use std::io::{Read, Write};
 
-/// Lines that state where pages lie are kept, and nothing is remarked on an answer.
+/// Lines that state where pages lie count, and nothing is remarked on an answer.
 const KEEPING: Reading = Reading {
     task: None,
     other: Twin::None,
-    heeds_at: false,
+    heeds_at: true,
     keeps_at: true,
 };
 

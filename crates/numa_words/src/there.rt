@@ -4,7 +4,7 @@ use numa_host::Host;
 use numa_host_script::HostScript;
 use numa_lines::{RunFault, TakeLine};
 use numa_machine::Rules;
-use numa_moves::{AtLines, PassOver, RefusedAt, Scene, add_stated};
+use numa_moves::{AtLine, AtLines, PassOver, RefusedAt, Scene, There, add_stated};
 use numa_placed::Placed;
 use numa_play::{Findings, Look, PLAIN, Scripts, answer};
 use numa_sheets::{Format, Written};
@@ -20,7 +20,7 @@ const BAD_AT: &str = "bad words; write at START LENGTH NODE, in a host in P at S
 fn scene_of_host(host: &Host, process: Option<u32>, format: Format) -> Result<Scene<'_>, Halt> {
     match (process, format) {
         (Some(process), _) => match host.process(process) {
-            Some(space) => Ok(Scene::One(Some(process), space)),
+            Some(space) => Ok(Scene::One(process, space)),
             None => Err(Halt::NoProcess(process)),
         },
         (None, Format::Svg(_)) => Err(Halt::ManyProcesses),
@@ -43,11 +43,14 @@ pub(crate) fn scene_of(
     let Some(script) = script.script() else {
         return Err(Halt::NoMachine);
     };
-    match script.core() {
-        None => Err(Halt::NoMachine),
-        Some(_) if process.is_some() => Err(Halt::NoHost),
-        Some(core) => Ok(Scene::One(None, core.space())),
+    let (Some(core), Some(resident)) = (script.core(), script.resident()) else {
+        return Err(Halt::NoMachine);
+    };
+    if process.is_some() {
+        return Err(Halt::NoHost);
     }
+    let pages = script.pages();
+    Ok(Scene::Own(core.space(), There { resident, pages }))
 }
 
 /// What is wrong with lines about pages that are there: a message on each, and how many.
@@ -92,8 +95,9 @@ impl LineFaults {
     }
 }
 
-/// Appends where pages lie after a script, of the one space or of each process in the order in
-/// which they were made, and notes the lines that are refused.
+/// Appends where pages lie after a script and these lines, of the one space or of each process in the
+/// order in which they were made, and notes the lines that are refused. Pages that keep frames aren't
+/// among them.
 ///
 /// # Errors
 /// `NoMachine`, `NoHost`, `NoProcess`, or `Stopped`: out of memory.
@@ -121,8 +125,9 @@ pub struct Reading {
     pub other: Twin,
     /// Whether lines `at` of a script of one process count, so that it is told why one is refused.
     pub heeds_at: bool,
-    /// Whether pages are there: then the lines that state where they lie are kept, of a host too,
-    /// and judged at the end. Else they are passed over, but for malformed and early ones.
+    /// Whether pages are there: then lines that state where they lie are kept, but those that a
+    /// script of one process carries out, and judged at the end. Else they are passed over, but for
+    /// malformed and early ones.
     pub keeps_at: bool,
 }
 
@@ -131,6 +136,14 @@ pub struct Reading {
 struct Keeping<T> {
     at: AtLines<Findings<T>>,
     keeps_at: bool,
+}
+
+/// Whether the lines have one behind so many that names no process.
+fn has_own(lines: &[AtLine], count: usize) -> bool {
+    match lines.last() {
+        Some(line) => lines.len() > count && line.process.is_none(),
+        None => false,
+    }
 }
 
 /// Whether no machine is ready.
@@ -153,10 +166,12 @@ impl<T: Write> TakeLine<()> for Keeping<T> {
             return self.at.taker.take(name, place, line, output);
         }
         let is_early = lacks_machine(self.at.taker.script());
+        let is_alone = self.at.taker.script().host().is_none();
         let count = self.at.lines.len();
         let taken = self.at.take(name, place, line, output);
-        if is_early {
-            // (It isn't judged, as no line is that wants a machine.)
+        // (An early line isn't judged, as none is that wants a machine. That of a script of one
+        // process is carried out there.)
+        if is_early || is_alone && has_own(self.at.lines.as_slice(), count) {
             self.at.lines.truncate(count);
         }
         taken

@@ -387,11 +387,12 @@ fn touches_in<T: Write>(
 /// pages that are there.
 pub fn reading_of(asking: Asking<'_>) -> Reading {
     let is_moves = matches!(asking.question, Question::Moves(..));
+    let keeps_at = is_moves || !asking.at.is_empty();
     Reading {
         task: asking.task(),
         other: asking.twin(),
-        heeds_at: matches!(asking.question, Question::Explain(..)),
-        keeps_at: is_moves || !asking.at.is_empty(),
+        heeds_at: keeps_at || matches!(asking.question, Question::Explain(..)),
+        keeps_at,
     }
 }
 
