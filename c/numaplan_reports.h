@@ -7,10 +7,11 @@
  * script, and lines to add to it, as texts: messages call the script `-`, the lines `--then`, a
  * trace `trace` and a text of lines `at` `at`.
  *
- * Pages that are there. np_predict_at and np_moves_at are told where pages lie: lines `at START
- * LENGTH NODE` say so, in a host `in P at ..`, of the script and of a further text `at`, whose other
- * lines are passed over. The other calls are about first touches, and judge lines `at` as
- * np_script_run does; np_explain says too where the lines of a script put its page.
+ * Pages that are there. np_predict_at and np_moves_at go by the pages that a script of one process
+ * leaves (at, populate, moves), and then by lines `at START LENGTH NODE` of a further text `at`, in
+ * a host by lines `in P at ..` of both; other lines of that text are passed over. The other calls
+ * are about first touches, and judge lines `at` as np_script_run does; np_explain says too where
+ * the lines of a script put its page.
  *
  * Rooms. The answer stands at the start of `text`, and the messages after it. `report` gets how
  * many bytes each has. NP_NO_ROOM where both together are longer than the room: then `report` gives
@@ -172,9 +173,10 @@ uint32_t np_predict_at(const uint8_t *script, size_t length, const uint8_t *line
 
 /* What becomes of pages that are there, line by line (numaplan moves --then): a line `mems`,
  * `migrate`, `cgroup-mems` or `attach` each, of which the last may end with a line feed. `at` has
- * lines `at`, and so may the script. Nodes take as many more pages as free_pages says; others never
- * fill. The question's task and node don't count. NP_BAD_RULES; NP_BAD_FORMAT; NP_NO_MEMORY;
- * NP_NO_MACHINE; NP_MANY_PROCESSES for a picture of a host; NP_NO_SUCH_NODE as np_predict. */
+ * lines `at`, and so may the script. Nodes take as many more pages as free_pages says, else as the
+ * lines `room` of a script of one process leave; others never fill. The question's task and node
+ * don't count. NP_BAD_RULES; NP_BAD_FORMAT; NP_NO_MEMORY; NP_NO_MACHINE; NP_MANY_PROCESSES for a
+ * picture of a host; NP_NO_SUCH_NODE as np_predict. */
 uint32_t np_moves_at(const uint8_t *script, size_t length, const uint8_t *lines,
                      size_t lines_length, const uint8_t *at, size_t at_length,
                      const np_question *asked, const np_free *free_pages, size_t free_count,

@@ -41,18 +41,18 @@ from the top of the repository:\n  ./numaplan diff --node 0 --then 'mems 0' \
 examples/interleaved-range.numaplan\n  ./numaplan diff --task 1 --node all --then 'task 1 \
 bind:2' examples/before-a-node-goes.numaplan",
     more: "Pages that are there don't move by it: it compares first touches after the lines \
-with those before them, and `moves` shows what becomes of pages that are there. For each span \
-of pages, and in total, it counts those that would go to another node (differs=), by node, if \
-the task touched each page on a CPU of the node. Pages that are mapped only before or only \
-after are left out.\n\nWith --at it then shows what becomes of pages that are there, as \
-`moves` does: they lie as lines `at START LENGTH NODE` of the scripts and of that file state, \
-and lines `migrate FROM TO` move them too; without it such lines of the scripts are passed \
-over. Of a host each process is answered for, in the order in which they were made, and then \
-all together; with --process only process P is.\n\nLines that are faulty or refused are \
-reported on standard error as by `check`, and skipped. The status is 3 if there are some, \
-unless --lenient is given, and if no machine is ready after the scripts. If neither --rules \
-nor a line says whose rules count, and a kernel's would give another answer, a line on \
-standard error says so.",
+with those before them, and `moves` shows what becomes of pages that are there. For each \
+span of pages, and in total, it counts those that would go to another node (differs=), by \
+node, if the task touched each page on a CPU of the node. Pages that are mapped only before \
+or only after are left out.\n\nWith --at it then shows what becomes of pages that are there, \
+as `moves` does: they lie as the scripts leave them and lines `at START LENGTH NODE` of that \
+file state, and lines `migrate FROM TO` move them too; without it such lines of the scripts \
+are passed over. Of a host each process is answered for, in the order in which they were \
+made, and then all together; with --process only process P is.\n\nLines that are faulty or \
+refused are reported on standard error as by `check`, and skipped. The status is 3 if there \
+are some, unless --lenient is given, and if no machine is ready after the scripts. If \
+neither --rules nor a line says whose rules count, and a kernel's would give another answer, \
+a line on standard error says so.",
     reads_lines: true,
     arguments: &[
         TASK, NODE, THEN, AT, PROCESS, COMPARED, LARGEST, LENIENT, FILES,

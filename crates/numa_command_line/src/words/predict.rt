@@ -34,20 +34,20 @@ static WORD: SubcommandHelp = SubcommandHelp {
 from the top of the repository:\n  ./numaplan predict --node 0 \
 examples/interleaved-range.numaplan\n  ./numaplan predict --task 1 --node all --free 0=2,1=0 \
 examples/interleaved-range.numaplan",
-    more: "All mapped pages are counted by the first node of each page's list, for each range \
-and in total, as if the task touched each of them now on a CPU of the node.\n\nWith --at \
-pages that are there stay: they are counted where lines `at START LENGTH NODE` of the scripts \
-and of that file state that they lie, and take no free page; without it such lines are passed \
-over.\n\nWith --free the named nodes have so many free pages, and the others never fill: each \
-page, the lowest first, goes to the first node of its list that has one left; the answer says \
-how many pages find none (exhausted=) and what is left on the named nodes.\n\nOf a host each \
-process is answered for, in the order in which they were made, and then all together: the \
-free pages are those of the whole host, and each process takes from what those before it \
-left. With --process only process P is.\n\nLines that are faulty or refused are reported on \
-standard error as by `check`, and skipped. The status is 3 if there are some, unless \
---lenient is given, and if no machine is ready after the scripts. If neither --rules nor a \
-line says whose rules count, and a kernel's would give another answer, a line on standard \
-error says so.",
+    more: "All mapped pages are counted by the first node of each page's list, for each \
+range and in total, as if the task touched each of them now on a CPU of the node.\n\nWith \
+--at pages that are there stay: they are counted where the scripts leave them and lines `at \
+START LENGTH NODE` of that file state, and take no free page; without it such lines are \
+passed over.\n\nWith --free the named nodes have so many free pages, and the others never \
+fill: each page, the lowest first, goes to the first node of its list that has one left; the \
+answer says how many pages find none (exhausted=) and what is left on the named nodes.\n\nOf \
+a host each process is answered for, in the order in which they were made, and then all \
+together: the free pages are those of the whole host, and each process takes from what those \
+before it left. With --process only process P is.\n\nLines that are faulty or refused are \
+reported on standard error as by `check`, and skipped. The status is 3 if there are some, \
+unless --lenient is given, and if no machine is ready after the scripts. If neither --rules \
+nor a line says whose rules count, and a kernel's would give another answer, a line on \
+standard error says so.",
     reads_lines: true,
     arguments: &[
         TASK, NODE, AT, PROCESS, PREDICTED, LARGEST, FREE, LENIENT, FILES,
