@@ -2,4 +2,5 @@ pub mod Clipped
 pub mod Counted
 pub mod Lists
 pub mod PageMoves
+pub mod Telling
 pub mod Touched

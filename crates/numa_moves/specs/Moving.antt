@@ -1,14 +1,23 @@
 -- What becomes of the pages of shares when those of each node go to another, as many as have room:
 -- the first ones go first.
 use Rattle.std.specs.Prelude.{◌≡◌, ℕ, zero, suc, ◌-◌, ◌<◌, ◌^◌, ◌==◌, ◌&&◌, ◌++◌, true, List, []}
-use Rattle.std.specs.Prelude.{◌∷◌, min, nat_lt, if◌then◌else◌}
+use Rattle.std.specs.Prelude.{◌∷◌, min, nat_lt, if◌then◌else◌, All, Option, Some}
+use Rattle.std.specs.Prelude.{false, map}
+use Rattle.numa_mask.specs.NodeSet.{both}
 use Rattle.numa_ranges.specs.Counts.{count_pages}
 use Rattle.numa_placed.specs.Moves.{moved_node}
-use Rattle.numa_placed.specs.Shifts.{Going, counted_shift, is_stated, shift_of, stated_below}
+use Rattle.numa_placed.specs.Shifts.{AreRooms, Going, counted_shift, is_stated, shift_of, stated_below}
 use Rattle.numa_placed.specs.declared.spot.Spot.{Spot}
 use Rattle.numa_reports.specs.Common.{AreRising, has_page}
 use Rattle.numa_reports.specs.declared.outlook.PageSpan.{PageSpan}
 use Rattle.numa_moves.specs.Shares.{pages_on, share_by, stated_in}
+use Rattle.numa_moves.specs.declared.holding.Holding.{Holding}
+use Rattle.numa_moves.specs.declared.holding.HoldingMoves.{HoldingMoves}
+use Rattle.numa_moves.specs.declared.holding.Act.{Act}
+use Rattle.numa_moves.specs.declared.holding.Act.TheVariants.{Follow, Migrate, Stay}
+use Rattle.numa_moves.specs.declared.holding.Step.{Step}
+use Rattle.numa_moves.specs.declared.stating.Scene.{Scene}
+use Rattle.numa_moves.specs.declared.stating.Scene.TheVariants.{Own, One, Each}
 use Rattle.numa_moves.specs.declared.moving.ShareMove.{ShareMove}
 use Rattle.numa_moves.specs.declared.share.Share.{Share}
 
@@ -40,6 +49,67 @@ shares_behind [] = []
 shares_behind (move ∷ moves) =
     (share_by move.share.span move.share.node (move.share.there - move.moved)
     ++ share_by move.share.span move.to move.moved) ++ shares_behind moves
+
+-- ---- by lines
+
+-- what becomes of the pages of one process after the other, when those of each leave one set for
+-- another: those of each find the rooms that are behind the ones before it
+abbrev pub told_by : (Holding → ℕ) → (Holding → ℕ) → List Holding → (ℕ → ℕ)
+    → List (List ShareMove)
+told_by from to [] room = []
+told_by from to (holding ∷ holdings) room =
+    moves_of holding.shares.items (from holding) (to holding) room
+    ∷ told_by from to holdings
+    (shift_by holding.shares.items (from holding) (to holding) room).room
+
+-- the rooms behind them
+abbrev pub rooms_by : (Holding → ℕ) → (Holding → ℕ) → List Holding → (ℕ → ℕ) → ℕ → ℕ
+rooms_by from to [] room = room
+rooms_by from to (holding ∷ holdings) room = rooms_by from to holdings
+    (shift_by holding.shares.items (from holding) (to holding) room).room
+
+-- no process has more pages on a node than are counted
+abbrev pub AreCounted : List Holding → Type 0
+AreCounted holdings = All (λ (h : Holding). (node : ℕ) → pages_on h.shares.items node < 2 ^ 64)
+    holdings
+
+-- what was told of the pages of a process
+abbrev pub moves_in : HoldingMoves → List ShareMove
+moves_in told = told.moves.items
+
+-- pages of one process alone migrate, to nodes that it is allowed
+abbrev pub migrates_to : ℕ → ℕ → ℕ → Holding → ℕ
+migrates_to process from to holding =
+    if holding.process == process then both to holding.allowed else from
+
+-- the nodes that the processes of one space are allowed
+abbrev pub Allows : Scene → Option ℕ → Type 0
+Allows (Own space there) result = result ≡ Some space.now.allowed
+Allows (One process space) result = result ≡ Some space.now.allowed
+Allows (Each host) result = Unit {0}
+
+-- between which sets the pages of each process go when it follows the nodes that it is allowed: told
+-- of one space
+abbrev pub Follows : Scene → (Holding → ℕ) → (Holding → ℕ) → Type 0
+Follows (Own space there) from to = (holding : Holding)
+    → (from holding ≡ holding.allowed) × (to holding ≡ space.now.allowed)
+Follows (One process space) from to = (holding : Holding)
+    → (from holding ≡ holding.allowed) × (to holding ≡ space.now.allowed)
+Follows (Each host) from to = true ≡ false
+
+-- between which sets a line sends the pages of each process
+abbrev pub Sends : Act → (Holding → ℕ) → (Holding → ℕ) → Type 0
+Sends (Follow scene) from to = Follows scene from to
+Sends (Migrate process old new) from to = (holding : Holding)
+    → (from holding ≡ old.now) × (to holding ≡ migrates_to process old.now new.now holding)
+Sends Stay from to = (holding : Holding)
+    → (from holding ≡ holding.allowed) × (to holding ≡ holding.allowed)
+
+-- what a line did to the pages of all processes
+abbrev pub IsStep : (Holding → ℕ) → (Holding → ℕ) → List Holding → (ℕ → ℕ) → Step → Type 0
+IsStep from to holdings room step =
+    (map moves_in step.told.items ≡ told_by from to holdings room)
+    × AreRooms step.rooms (rooms_by from to holdings room)
 
 -- ---- by pages
 

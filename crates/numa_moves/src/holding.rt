@@ -1,11 +1,13 @@
 //! Where the pages of processes lie, and what becomes of them.
-ghost use Rattle.std.specs.Prelude.{◌≡◌, ◌<◌, ◌^◌, ℕ, IfOk};
+ghost use Rattle.std.specs.Prelude.{◌≡◌, ◌<◌, ◌^◌, ℕ, IfOk, OnOk};
 ghost use Rattle.numa_page_state.specs.Lying.{Lying};
 ghost use Rattle.numa_page_state.specs.Outcomes.{rooms_of};
 ghost use Rattle.numa_page_state.specs.Standing.{LiesAs};
 ghost use Rattle.numa_placed.specs.Shifts.{AreRooms};
-ghost use Rattle.numa_moves.specs.Moving.{moves_of, shares_behind};
+ghost use Rattle.numa_moves.specs.Moving.{AreCounted, Follows, IsStep, Sends, migrates_to};
+ghost use Rattle.numa_moves.specs.Moving.{moves_of, shares_behind, shift_by};
 ghost use Rattle.numa_moves.specs.Shares.{pages_on};
+ghost use Rattle.numa_moves.specs.declared.holding.Holding.{Holding};
 
 use crate::at_lines::AtLine;
 use crate::moving::{ShareMove, moves_within, shares_behind};
@@ -149,6 +151,10 @@ fn move_pages(
         ≡ moves_of holding.old.shares.items old.now new.now room) }
     ensures behind { IfOk result (λ told.
         holding.new.shares.items ≡ shares_behind told.moves.items) }
+    ensures rooms { (room : ℕ → ℕ) → AreRooms rooms.old room
+        → ((node : ℕ) → pages_on holding.old.shares.items node < 2 ^ 64)
+        → OnOk result
+        (AreRooms rooms.new (shift_by holding.old.shares.items old.now new.now room).room) }
 {
     let moves = moves_within(alloc, holding.shares.as_slice(), old, new, rooms)?;
     let behind = shares_behind(alloc, moves.as_slice())?;
@@ -176,7 +182,20 @@ fn act_on(
     holding: &mut Holding,
     act: Act<'_>,
     rooms: &mut Rooms,
-) -> Result<HoldingMoves, AllocError> {
+) -> Result<HoldingMoves, AllocError>
+    ensures moves { (from to : Holding → ℕ) (room : ℕ → ℕ) → Sends act.entry from to
+        → AreRooms rooms.old room
+        → ((node : ℕ) → pages_on holding.old.shares.items node < 2 ^ 64)
+        → IfOk result (λ told. told.moves.items
+        ≡ moves_of holding.old.shares.items (from holding.old) (to holding.old) room) }
+    ensures behind { IfOk result (λ told.
+        holding.new.shares.items ≡ shares_behind told.moves.items) }
+    ensures rooms { (from to : Holding → ℕ) (room : ℕ → ℕ) → Sends act.entry from to
+        → AreRooms rooms.old room
+        → ((node : ℕ) → pages_on holding.old.shares.items node < 2 ^ 64)
+        → OnOk result (AreRooms rooms.new
+        (shift_by holding.old.shares.items (from holding.old) (to holding.old) room).room) }
+{
     let nodes = holding.allowed;
     match act {
         Act::Follow(scene) => {
@@ -208,7 +227,11 @@ fn act_on_each(
     holdings: &mut [Holding],
     act: Act<'_>,
     rooms: &mut Rooms,
-) -> Result<Step, AllocError> {
+) -> Result<Step, AllocError>
+    ensures { (from to : Holding → ℕ) (room : ℕ → ℕ) → Sends act.entry from to
+        → AreRooms rooms.old room → AreCounted holdings.old
+        → IfOk result (IsStep from to holdings.old room) }
+{
     let mut told = Vec::new(alloc);
     for holding in holdings.iter_mut() {
         let moves = act_on(alloc, holding, act, rooms)?;
@@ -267,7 +290,11 @@ impl Holdings {
     ///
     /// # Errors
     /// `AllocError`: out of memory.
-    pub fn follow(&mut self, alloc: Global, scene: Scene<'_>) -> Result<Step, AllocError> {
+    pub fn follow(&mut self, alloc: Global, scene: Scene<'_>) -> Result<Step, AllocError>
+        ensures { (from to : Holding → ℕ) (room : ℕ → ℕ) → Follows scene.entry from to
+            → AreRooms self.old.rooms room → AreCounted self.old.list.items
+            → IfOk result (IsStep from to self.old.list.items room) }
+    {
         let act = Act::Follow(scene);
         act_on_each(alloc, self.list.as_mut_slice(), act, &mut self.rooms)
     }
@@ -283,7 +310,11 @@ impl Holdings {
         process: u32,
         from: &NodeMask,
         to: &NodeMask,
-    ) -> Result<Step, AllocError> {
+    ) -> Result<Step, AllocError>
+        ensures { (room : ℕ → ℕ) → AreRooms self.old.rooms room → AreCounted self.old.list.items
+            → IfOk result (IsStep (λ holding. from.now) (migrates_to process from.now to.now)
+            self.old.list.items room) }
+    {
         let act = Act::Migrate(process, from, to);
         act_on_each(alloc, self.list.as_mut_slice(), act, &mut self.rooms)
     }
@@ -292,7 +323,11 @@ impl Holdings {
     ///
     /// # Errors
     /// `AllocError`: out of memory.
-    pub fn stay(&mut self, alloc: Global) -> Result<Step, AllocError> {
+    pub fn stay(&mut self, alloc: Global) -> Result<Step, AllocError>
+        ensures { (room : ℕ → ℕ) → AreRooms self.old.rooms room → AreCounted self.old.list.items
+            → IfOk result (IsStep (λ holding. holding.allowed) (λ holding. holding.allowed)
+            self.old.list.items room) }
+    {
         act_on_each(alloc, self.list.as_mut_slice(), Act::Stay, &mut self.rooms)
     }
 

@@ -1,4 +1,5 @@
 //! Where pages lie, as lines state it.
+ghost use Rattle.numa_moves.specs.Moving.{Allows};
 
 use crate::at_lines::{AtLine, LinePlace};
 use numa_host::Host;
@@ -79,7 +80,9 @@ impl Scene<'_> {
     }
 
     /// The nodes that a process is allowed, if it is there.
-    pub(crate) fn allowed(&self, process: u32) -> Option<NodeMask> {
+    pub(crate) fn allowed(&self, process: u32) -> Option<NodeMask>
+        ensures { Allows self.now result }
+    {
         match self {
             Scene::Own(space, _) | Scene::One(_, space) => Some(space.allowed()),
             Scene::Each(host) => {

@@ -1,0 +1,34 @@
+-- What is told of one more process.
+use Rattle.std.proofs.Common.{◌≡◌, ◌∙◌, ℕ, ◌++◌, List, [], ◌∷◌, ap, append_assoc, sym}
+use Rattle.std.specs.Prelude.{map}
+use Rattle.std.proofs.lemmas.List.{map-append}
+use Rattle.numa_moves.specs.Moving.{moves_in, moves_of, shift_by, rooms_by, told_by}
+use Rattle.numa_moves.specs.declared.holding.Holding.{Holding}
+use Rattle.numa_moves.specs.declared.holding.HoldingMoves.{HoldingMoves}
+use Rattle.numa_moves.specs.declared.moving.ShareMove.{ShareMove}
+
+-- the rooms behind those of a process
+abbrev pub behind : (Holding → ℕ) → (Holding → ℕ) → Holding → (ℕ → ℕ) → ℕ → ℕ
+behind from to holding room =
+    (shift_by holding.shares.items (from holding) (to holding) room).room
+
+pub told-next : (from to : Holding → ℕ) (ahead rest : List Holding) (holding : Holding)
+    (before after : List HoldingMoves) (told : HoldingMoves) (room : ℕ → ℕ)
+    (whole : List (List ShareMove)) → ahead ≡ holding ∷ rest → after ≡ before ++ (told ∷ [])
+    → told.moves.items ≡ moves_of holding.shares.items (from holding) (to holding) room
+    → map moves_in before ++ told_by from to ahead room ≡ whole
+    → map moves_in after ++ told_by from to rest (behind from to holding room) ≡ whole
+told-next from to ahead rest holding before after told room whole is added moves done =
+    let more = told_by from to rest (behind from to holding room) in
+    ap (λ (l : List HoldingMoves). map moves_in l ++ more) added
+    ∙ ap (λ (l : List (List ShareMove)). l ++ more) (map-append moves_in before (told ∷ []))
+    ∙ append_assoc (map moves_in before) (told.moves.items ∷ []) more
+    ∙ ap (λ (m : List ShareMove). map moves_in before ++ (m ∷ more)) moves
+    ∙ ap (λ (l : List Holding). map moves_in before ++ told_by from to l room) (sym is)
+    ∙ done
+
+pub rooms-next : (from to : Holding → ℕ) (ahead rest : List Holding) (holding : Holding)
+    (room whole : ℕ → ℕ) → ahead ≡ holding ∷ rest → rooms_by from to ahead room ≡ whole
+    → rooms_by from to rest (behind from to holding room) ≡ whole
+rooms-next from to ahead rest holding room whole is done =
+    ap (λ (l : List Holding). rooms_by from to l room) (sym is) ∙ done
