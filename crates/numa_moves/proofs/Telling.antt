@@ -1,10 +1,13 @@
 -- What is told of one more process.
-use Rattle.std.proofs.Common.{◌≡◌, ◌∙◌, ℕ, ◌++◌, List, [], ◌∷◌, ap, append_assoc, sym}
+use Rattle.std.proofs.Common.{◌≡◌, ◌∙◌, ℕ, ◌++◌, List, [], ◌∷◌, ap, ap₂, append_assoc}
+use Rattle.std.proofs.Common.{◌+◌, ◌<◌, length, set, sym, take}
 use Rattle.std.specs.Prelude.{map}
-use Rattle.std.proofs.lemmas.List.{map-append}
-use Rattle.numa_moves.specs.Moving.{moves_in, moves_of, shift_by, rooms_by, told_by}
+use Rattle.std.proofs.lemmas.List.{map-append, take_more_set}
+use Rattle.numa_moves.specs.Moving.{left_by, moves_in, moves_of, rooms_by, shares_behind}
+use Rattle.numa_moves.specs.Moving.{shares_in, shift_by, told_by}
 use Rattle.numa_moves.specs.declared.holding.Holding.{Holding}
 use Rattle.numa_moves.specs.declared.holding.HoldingMoves.{HoldingMoves}
+use Rattle.numa_moves.specs.declared.share.Share.{Share}
 use Rattle.numa_moves.specs.declared.moving.ShareMove.{ShareMove}
 
 -- the rooms behind those of a process
@@ -32,3 +35,16 @@ pub rooms-next : (from to : Holding → ℕ) (ahead rest : List Holding) (holdin
     → rooms_by from to rest (behind from to holding room) ≡ whole
 rooms-next from to ahead rest holding room whole is done =
     ap (λ (l : List Holding). rooms_by from to l room) (sym is) ∙ done
+
+-- one more process whose pages lie as was told
+pub left-next : (k : ℕ) (news : List Holding) (d new : Holding) (before after : List HoldingMoves)
+    (told : HoldingMoves) → k < length {A = Holding} news → after ≡ before ++ (told ∷ [])
+    → new.shares.items ≡ shares_behind told.moves.items
+    → map shares_in (take k news) ≡ map left_by before
+    → map shares_in (take (k + 1) (set news k new)) ≡ map left_by after
+left-next k news d new before after told inside added behind done =
+    ap (λ (l : List Holding). map shares_in l) (take_more_set news k new inside)
+    ∙ map-append shares_in (take k news) (new ∷ [])
+    ∙ ap₂ (λ (l : List (List Share)) (s : List Share). l ++ (s ∷ [])) done behind
+    ∙ sym (map-append left_by before (told ∷ []))
+    ∙ ap (λ (l : List HoldingMoves). map left_by l) (sym added)

@@ -111,6 +111,17 @@ IsStep from to holdings room step =
     (map moves_in step.told.items ≡ told_by from to holdings room)
     × AreRooms step.rooms (rooms_by from to holdings room)
 
+-- where the pages of a process lie, and where those lie of which something was told
+abbrev pub shares_in : Holding → List Share
+shares_in holding = holding.shares.items
+
+abbrev pub left_by : HoldingMoves → List Share
+left_by told = shares_behind told.moves.items
+
+-- they lie as a line left them
+abbrev pub AreLeft : List Holding → Step → Type 0
+AreLeft holdings step = map shares_in holdings ≡ map left_by step.told.items
+
 -- ---- by pages
 
 -- spans with all pages that are stated to lie somewhere, which lie on nodes below a number

@@ -4,7 +4,8 @@ ghost use Rattle.numa_page_state.specs.Lying.{Lying};
 ghost use Rattle.numa_page_state.specs.Outcomes.{rooms_of};
 ghost use Rattle.numa_page_state.specs.Standing.{LiesAs};
 ghost use Rattle.numa_placed.specs.Shifts.{AreRooms};
-ghost use Rattle.numa_moves.specs.Moving.{AreCounted, Follows, IsStep, Sends, migrates_to};
+ghost use Rattle.numa_moves.specs.Moving.{AreCounted, AreLeft, Follows, IsStep, Sends};
+ghost use Rattle.numa_moves.specs.Moving.{migrates_to};
 ghost use Rattle.numa_moves.specs.Moving.{moves_of, shares_behind, shift_by};
 ghost use Rattle.numa_moves.specs.Shares.{pages_on};
 ghost use Rattle.numa_moves.specs.declared.holding.Holding.{Holding};
@@ -228,9 +229,11 @@ fn act_on_each(
     act: Act<'_>,
     rooms: &mut Rooms,
 ) -> Result<Step, AllocError>
-    ensures { (from to : Holding → ℕ) (room : ℕ → ℕ) → Sends act.entry from to
+    ensures does { (from to : Holding → ℕ) (room : ℕ → ℕ) → Sends act.entry from to
         → AreRooms rooms.old room → AreCounted holdings.old
         → IfOk result (IsStep from to holdings.old room) }
+    ensures left { IfOk result (AreLeft holdings.new) }
+    ensures rooms { IfOk result (λ step. step.rooms ≡ rooms.new) }
 {
     let mut told = Vec::new(alloc);
     for holding in holdings.iter_mut() {
@@ -291,9 +294,11 @@ impl Holdings {
     /// # Errors
     /// `AllocError`: out of memory.
     pub fn follow(&mut self, alloc: Global, scene: Scene<'_>) -> Result<Step, AllocError>
-        ensures { (from to : Holding → ℕ) (room : ℕ → ℕ) → Follows scene.entry from to
+        ensures does { (from to : Holding → ℕ) (room : ℕ → ℕ) → Follows scene.entry from to
             → AreRooms self.old.rooms room → AreCounted self.old.list.items
             → IfOk result (IsStep from to self.old.list.items room) }
+        ensures left { IfOk result (AreLeft self.new.list.items) }
+        ensures rooms { IfOk result (λ step. step.rooms ≡ self.new.rooms) }
     {
         let act = Act::Follow(scene);
         act_on_each(alloc, self.list.as_mut_slice(), act, &mut self.rooms)
@@ -311,9 +316,12 @@ impl Holdings {
         from: &NodeMask,
         to: &NodeMask,
     ) -> Result<Step, AllocError>
-        ensures { (room : ℕ → ℕ) → AreRooms self.old.rooms room → AreCounted self.old.list.items
+        ensures does { (room : ℕ → ℕ) → AreRooms self.old.rooms room
+            → AreCounted self.old.list.items
             → IfOk result (IsStep (λ holding. from.now) (migrates_to process from.now to.now)
             self.old.list.items room) }
+        ensures left { IfOk result (AreLeft self.new.list.items) }
+        ensures rooms { IfOk result (λ step. step.rooms ≡ self.new.rooms) }
     {
         let act = Act::Migrate(process, from, to);
         act_on_each(alloc, self.list.as_mut_slice(), act, &mut self.rooms)
@@ -324,9 +332,12 @@ impl Holdings {
     /// # Errors
     /// `AllocError`: out of memory.
     pub fn stay(&mut self, alloc: Global) -> Result<Step, AllocError>
-        ensures { (room : ℕ → ℕ) → AreRooms self.old.rooms room → AreCounted self.old.list.items
+        ensures does { (room : ℕ → ℕ) → AreRooms self.old.rooms room
+            → AreCounted self.old.list.items
             → IfOk result (IsStep (λ holding. holding.allowed) (λ holding. holding.allowed)
             self.old.list.items room) }
+        ensures left { IfOk result (AreLeft self.new.list.items) }
+        ensures rooms { IfOk result (λ step. step.rooms ≡ self.new.rooms) }
     {
         act_on_each(alloc, self.list.as_mut_slice(), Act::Stay, &mut self.rooms)
     }

@@ -1,13 +1,14 @@
 use Rattle.std.proofs.Common.{◌≡◌, ◌∙◌, ◌<◌, ◌≤◌, ◌^◌, ◌+◌, ◌++◌, ◌∷◌, ℕ, List, [], ap, arith}
 use Rattle.std.proofs.Common.{drop, get_or, length, refl, sym}
 use Rattle.std.specs.Prelude.{map}
-use Rattle.std.proofs.lemmas.List.{append-nil, drop_all, drop_more}
+use Rattle.std.proofs.lemmas.List.{append-nil, drop_all, drop_more, take_all}
 use Rattle.numa_host.proofs.Following.{partly-more, partly-next}
-use Rattle.numa_moves.specs.Moving.{moves_in, rooms_by, told_by}
+use Rattle.numa_moves.specs.Moving.{left_by, moves_in, rooms_by, shares_in, told_by}
 use Rattle.numa_moves.specs.Shares.{pages_on}
 use Rattle.numa_moves.specs.declared.holding.Holding.{Holding}
+use Rattle.numa_moves.specs.declared.holding.HoldingMoves.{HoldingMoves}
 use Rattle.numa_moves.specs.declared.moving.ShareMove.{ShareMove}
-use Rattle.numa_moves.proofs.Telling.{behind, rooms-next, told-next}
+use Rattle.numa_moves.proofs.Telling.{behind, left-next, rooms-next, told-next}
 use Rattle.numa_moves.proofs.holding.act_on_each.Goals as goal
 
 pub loop-holding-init : goal.loop-holding-init
@@ -24,6 +25,7 @@ loop-holding-init c = record {
         c.new-told.ensures.items,
     refl,
   );
+  left = ap (λ (l : List HoldingMoves). map left_by l) (sym c.new-told.ensures.items);
 }
 
 pub loop-holding-preserved : goal.loop-holding-preserved
@@ -56,10 +58,22 @@ loop-holding-preserved c =
             rooms-next from to (drop k olds) (drop (k + 1) olds) now so.0
                 (rooms_by from to olds room) ahead so.3,
           );
+      left = left-next k news d c.act_on.new.holding c.loop-holding.told.items
+          c.push.new.self.items c.in_ok-moves.moves
+          (omega (arith, inside, partly.count)) c.in_ok-push.ensures.items
+          c.in_ok-moves.ensures.behind c.loop-holding.invariant.left;
     }
 
-pub returns : goal.returns
-returns c from to room sends are counted =
+pub returns-clause-left : goal.returns-clause-left
+returns-clause-left c =
+    let k = c.loop-holding.holding-index in
+    let news : List Holding = c.loop-holding.holdings in
+    let short : length {A = Holding} news ≤ k = omega (arith, c.loop-holding-test.false) in
+    ap (λ (l : List Holding). map shares_in l) (sym (take_all k news short))
+    ∙ c.loop-holding.invariant.left
+
+pub returns-clause-does : goal.returns-clause-does
+returns-clause-does c from to room sends are counted =
     let k = c.loop-holding.holding-index in
     let olds : List Holding = c.args.holdings.now in
     let so = c.loop-holding.invariant.told from to room sends are counted in

@@ -1,9 +1,10 @@
 -- What was told of the processes so far, and what is to be told of those that are left, are all.
-use Rattle.std.proofs.Common.{◌≡◌, ℕ, ◌++◌, drop}
+use Rattle.std.proofs.Common.{◌≡◌, ℕ, ◌++◌, drop, take}
 use Rattle.std.specs.Prelude.{map}
 use Rattle.numa_host.proofs.Following.{ArePartly}
 use Rattle.numa_placed.specs.Shifts.{AreRooms}
-use Rattle.numa_moves.specs.Moving.{AreCounted, Sends, moves_in, rooms_by, told_by}
+use Rattle.numa_moves.specs.Moving.{AreCounted, Sends, left_by, moves_in, rooms_by}
+use Rattle.numa_moves.specs.Moving.{shares_in, told_by}
 use Rattle.numa_moves.specs.declared.holding.Holding.{Holding}
 use Rattle.numa_moves.proofs.holding.act_on_each.Given as goal
 
@@ -18,4 +19,5 @@ invariant-loop-holding l = record {
       ≡ told_by from to l.fn.holdings room)
       × (rooms_by from to (drop l.holding-index l.fn.holdings) rest
       ≡ rooms_by from to l.fn.holdings room);
+  left : map shares_in (take l.holding-index l.holdings) ≡ map left_by l.told.items;
 }
