@@ -37,12 +37,12 @@ rooms-next from to ahead rest holding room whole is done =
     ap (λ (l : List Holding). rooms_by from to l room) (sym is) ∙ done
 
 -- one more process whose pages lie as was told
-pub left-next : (k : ℕ) (news : List Holding) (d new : Holding) (before after : List HoldingMoves)
+pub left-next : (k : ℕ) (news : List Holding) (new : Holding) (before after : List HoldingMoves)
     (told : HoldingMoves) → k < length {A = Holding} news → after ≡ before ++ (told ∷ [])
     → new.shares.items ≡ shares_behind told.moves.items
     → map shares_in (take k news) ≡ map left_by before
     → map shares_in (take (k + 1) (set news k new)) ≡ map left_by after
-left-next k news d new before after told inside added behind done =
+left-next k news new before after told inside added behind done =
     ap (λ (l : List Holding). map shares_in l) (take_more_set news k new inside)
     ∙ map-append shares_in (take k news) (new ∷ [])
     ∙ ap₂ (λ (l : List (List Share)) (s : List Share). l ++ (s ∷ [])) done behind

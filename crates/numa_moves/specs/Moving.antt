@@ -1,12 +1,12 @@
 -- What becomes of the pages of shares when those of each node go to another, as many as have room:
 -- the first ones go first.
 use Rattle.std.specs.Prelude.{◌≡◌, ℕ, zero, suc, ◌-◌, ◌<◌, ◌^◌, ◌==◌, ◌&&◌, ◌++◌, true, List, []}
-use Rattle.std.specs.Prelude.{◌∷◌, min, nat_lt, if◌then◌else◌, All, Option, Some}
-use Rattle.std.specs.Prelude.{false, map}
+use Rattle.std.specs.Prelude.{◌∷◌, false, map, min, nat_lt, if◌then◌else◌, All, Option, Some}
 use Rattle.numa_mask.specs.NodeSet.{both}
 use Rattle.numa_ranges.specs.Counts.{count_pages}
 use Rattle.numa_placed.specs.Moves.{moved_node}
-use Rattle.numa_placed.specs.Shifts.{AreRooms, Going, counted_shift, is_stated, shift_of, stated_below}
+use Rattle.numa_placed.specs.Shifts.{AreRooms, Going, counted_shift, is_stated, shift_of}
+use Rattle.numa_placed.specs.Shifts.{stated_below}
 use Rattle.numa_placed.specs.declared.spot.Spot.{Spot}
 use Rattle.numa_reports.specs.Common.{AreRising, has_page}
 use Rattle.numa_reports.specs.declared.outlook.PageSpan.{PageSpan}

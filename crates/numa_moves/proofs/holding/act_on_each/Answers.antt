@@ -58,7 +58,7 @@ loop-holding-preserved c =
             rooms-next from to (drop k olds) (drop (k + 1) olds) now so.0
                 (rooms_by from to olds room) ahead so.3,
           );
-      left = left-next k news d c.act_on.new.holding c.loop-holding.told.items
+      left = left-next k news c.act_on.new.holding c.loop-holding.told.items
           c.push.new.self.items c.in_ok-moves.moves
           (omega (arith, inside, partly.count)) c.in_ok-push.ensures.items
           c.in_ok-moves.ensures.behind c.loop-holding.invariant.left;
