@@ -88,8 +88,8 @@ Allows (Own space there) result = result ≡ Some space.now.allowed
 Allows (One process space) result = result ≡ Some space.now.allowed
 Allows (Each host) result = Unit {0}
 
--- between which sets the pages of each process go when it follows the nodes that it is allowed: told
--- of one space
+-- between which sets the pages of each process go when it follows the nodes that it is allowed:
+-- told of one space
 abbrev pub Follows : Scene → (Holding → ℕ) → (Holding → ℕ) → Type 0
 Follows (Own space there) from to = (holding : Holding)
     → (from holding ≡ holding.allowed) × (to holding ≡ space.now.allowed)

@@ -107,8 +107,8 @@ fn shares_by(
     }
 }
 
-/// Appends what the one space holds, or each process of a host. The rooms are those that a script of
-/// one process leaves; in a host no node fills.
+/// Appends what the one space holds, or each process of a host. The rooms are those that a script
+/// of one process leaves; in a host no node fills.
 fn add_all(
     alloc: Global,
     scene: Scene<'_>,
@@ -259,8 +259,8 @@ fn limit_all(rooms: &mut Rooms, free: &[FreePages]) {
 }
 
 impl Holdings {
-    /// Where pages lie before the first line. Named nodes take so many more, and the others as many
-    /// as a script of one process leaves them, if it has stated where pages lie. Lines that are
+    /// Where pages lie before the first line. Named nodes take so many more, the others as many as
+    /// a script of one process leaves them, if it has stated where pages lie. Lines that are
     /// refused are noted.
     ///
     /// # Errors

@@ -310,8 +310,8 @@ fn limits_of(alloc: Global, rooms: &Rooms) -> Result<Vec<FreePages>, AllocError>
     Ok(limits)
 }
 
-/// Plays the lines, and returns what becomes of the pages, as a text, which tells at the end what is
-/// left on these nodes.
+/// Plays the lines, and returns what becomes of the pages, as a text, which tells at the end what
+/// is left on these nodes.
 fn moves_by<T: Write>(
     alloc: Global,
     findings: &mut Findings<T>,

@@ -95,9 +95,9 @@ impl LineFaults {
     }
 }
 
-/// Appends where pages lie after a script and these lines, of the one space or of each process in the
-/// order in which they were made, and notes the lines that are refused. Pages that keep frames aren't
-/// among them.
+/// Appends where pages lie after a script and these lines, of the one space or of each process in
+/// the order in which they were made, and notes the lines that are refused. Pages that keep frames
+/// aren't among them.
 ///
 /// # Errors
 /// `NoMachine`, `NoHost`, `NoProcess`, or `Stopped`: out of memory.
@@ -126,8 +126,8 @@ pub struct Reading {
     /// Whether lines `at` of a script of one process count, so that it is told why one is refused.
     pub heeds_at: bool,
     /// Whether pages are there: then lines that state where they lie are kept, but those that a
-    /// script of one process carries out, and judged at the end. Else they are passed over, but for
-    /// malformed and early ones.
+    /// script of one process carries out, and judged at the end. Else they are passed over, but
+    /// for malformed and early ones.
     pub keeps_at: bool,
 }
 
