@@ -415,6 +415,7 @@ impl HostScript {
 }
 
 impl Serve for HostScript {
+    ghost use Rattle.std.specs.Prelude.{Bool, false};
     ghost use Rattle.numa_host_script.specs.Sessions.{Session, session_after_bytes};
     ghost use Rattle.numa_host_script.specs.Sessions.{session_answer_to};
     ghost use Rattle.numa_host_script.specs.Taking.{SessionStandsFor};
@@ -422,6 +423,10 @@ impl Serve for HostScript {
     ghost State = { Session };
 
     ghost stands_for = { SessionStandsFor };
+
+    ghost Lack = { Bool };
+
+    ghost plenty = { false };
 
     ghost answer_of = { session_answer_to };
 

@@ -65,17 +65,17 @@ module _ {W : Type 0} (contents : W → Option (List ℕ)) where
       says_front (contents old.inner) (contents last.inner) (has_failed last) (held_in last)
       (unsent old ++ text) broken (since old from last text begun said)
 
-module _ {State : Type 0} (answer_of : Bool → State → List ℕ → List ℕ)
-    (after : Bool → State → List ℕ → State) (enough : SeesEnough answer_of after) where
+module _ {Lack State : Type 0} (answer_of : Lack → State → List ℕ → List ℕ)
+    (after : Lack → State → List ℕ → State) (enough : SeesEnough answer_of after) where
   -- what a server is given of the lines is answered as the lines are
-  answers_seen : (refused : ℕ → Bool) (state : State) (lines : List (List ℕ))
+  answers_seen : (refused : ℕ → Lack) (state : State) (lines : List (List ℕ))
       → answers answer_of after refused state (map given_part lines)
       ≡ answers answer_of after refused state lines
   unfolding answers
   answers_seen refused state [] = refl
   answers_seen refused state (line ∷ lines) =
       let same = enough (refused 0) state line in
-      let later : ℕ → Bool = λ k. refused (suc k) in
+      let later : ℕ → Lack = λ k. refused (suc k) in
       ap (λ said. said ++ answers answer_of after later
       (after (refused 0) state (given_part line)) (map given_part lines)) same.0
       ∙ ap (λ next. answer_of (refused 0) state line
@@ -83,17 +83,17 @@ module _ {State : Type 0} (answer_of : Bool → State → List ℕ → List ℕ)
       ∙ ap (λ rest. answer_of (refused 0) state line ++ rest)
       (answers_seen later (after (refused 0) state line) lines)
 
-module _ {State W : Type 0} (contents : W → Option (List ℕ))
-    (answer_of : Bool → State → List ℕ → List ℕ) (after : Bool → State → List ℕ → State)
+module _ {Lack State W : Type 0} (contents : W → Option (List ℕ)) (plenty : Lack)
+    (answer_of : Lack → State → List ℕ → List ℕ) (after : Lack → State → List ℕ → State)
     (start : State) (enough : SeesEnough answer_of after) (stands : State → Type 0) where
   -- the lines that had ended were answered
   pub answered_so_far : (from now : Watched W) (front : List ℕ)
-      → Progress contents answer_of after start stands from now
+      → Progress contents plenty answer_of after start stands from now
       (map given_part (ended_lines front))
-      → (refused : ℕ → Bool)
+      → (refused : ℕ → Lack)
       × Said contents from now (answers answer_of after refused start (ended_lines front))
   answered_so_far from now front so_far =
-      let refused : ℕ → Bool = among so_far.flags in (
+      let refused : ℕ → Lack = among plenty so_far.flags in (
         refused,
         subst (Said contents from now)
             (answers_seen answer_of after enough refused start (ended_lines front)) so_far.says,
@@ -101,9 +101,9 @@ module _ {State W : Type 0} (contents : W → Option (List ℕ))
 
   -- the script was answered to its end
   pub answered_to_end : (from now : Watched W) (script : List ℕ)
-      → Progress contents answer_of after start stands from now
+      → Progress contents plenty answer_of after start stands from now
       (map given_part (ended_lines (script ++ 10 ∷ [])))
-      → (refused : ℕ → Bool)
+      → (refused : ℕ → Lack)
       × Said contents from now (output_of answer_of after start refused script)
   answered_to_end from now script so_far =
       let far = answered_so_far from now (script ++ 10 ∷ []) so_far in (

@@ -1,5 +1,5 @@
 -- How a run goes on line by line.
-use Rattle.std.specs.Prelude.{◌≡◌, ℕ, ◌+◌, ◌++◌, Bool, true, false, Option, List, [], ◌∷◌, map}
+use Rattle.std.specs.Prelude.{◌≡◌, ℕ, ◌+◌, ◌++◌, true, false, Option, List, [], ◌∷◌, map}
 use Rattle.std.specs.Prelude.{refl, Result, Ok, Err, IfErr, OnOk, OnErr}
 use Rattle.std.proofs.Common.{sym, ◌∙◌, ap, subst, length-append}
 use Rattle.numa_lines.specs.Lines.{ended_lines, open_line, given_part}
@@ -14,13 +14,13 @@ use Rattle.numa_lines.proofs.Adding.{said_both, said_nothing, said_still}
 use Rattle.numa_lines.proofs.Answering.{answers_more, state_more}
 use Rattle.numa_lines.proofs.Cuts.{given_none, open_none}
 
-module _ {State W : Type 0} (contents : W → Option (List ℕ))
-    (answer_of : Bool → State → List ℕ → List ℕ) (after : Bool → State → List ℕ → State)
+module _ {Lack State W : Type 0} (contents : W → Option (List ℕ)) (plenty : Lack)
+    (answer_of : Lack → State → List ℕ → List ℕ) (after : Lack → State → List ℕ → State)
     (start : State) where
   -- no line was taken yet
   pub progress_new : (stands : State → Type 0) (from now : Watched W)
       → SaidNothing contents from now → stands start
-      → Progress contents answer_of after start stands from now []
+      → Progress contents plenty answer_of after start stands from now []
   unfolding answers state_after
   progress_new stands from now still ready = record {
     flags = [];
@@ -32,34 +32,34 @@ module _ {State W : Type 0} (contents : W → Option (List ℕ))
   -- one more line is answered
   pub progress_line : (stands later : State → Type 0) (from now then : Watched W)
       (lines : List (List ℕ)) (line : List ℕ)
-      → ((state : State) → stands state → (refused : Bool) × later (after refused state line)
+      → ((state : State) → stands state → (refused : Lack) × later (after refused state line)
       × Said contents now then (answer_of refused state line))
-      → Progress contents answer_of after start stands from now lines
-      → Progress contents answer_of after start later from then (lines ++ line ∷ [])
+      → Progress contents plenty answer_of after start stands from now lines
+      → Progress contents plenty answer_of after start later from then (lines ++ line ∷ [])
   progress_line stands later from now then lines line serves so_far =
-      let told : List ℕ = answers answer_of after (among so_far.flags) start lines in
-      let state : State = state_after answer_of after (among so_far.flags) start lines in
+      let told : List ℕ = answers answer_of after (among plenty so_far.flags) start lines in
+      let state : State = state_after answer_of after (among plenty so_far.flags) start lines in
       let served = serves state so_far.reached in
-      let flag : Bool = served.0 in
-      let flags : List Bool = so_far.flags ++ flag ∷ [] in
+      let flag : Lack = served.0 in
+      let flags : List Lack = so_far.flags ++ flag ∷ [] in
       record {
         flags = flags;
         count = length-append so_far.flags (flag ∷ []) ∙ ap (λ n. n + 1) so_far.count
             ∙ sym (length-append lines (line ∷ []));
         says = subst (Said contents from then)
-            (sym (answers_more answer_of after so_far.flags flag start lines line so_far.count))
+            (sym (answers_more plenty answer_of after so_far.flags flag start lines line so_far.count))
             (said_both contents from now then told (answer_of flag state line) so_far.says
             served.2);
         reached = subst later
-            (sym (state_more answer_of after so_far.flags flag start lines line so_far.count))
+            (sym (state_more plenty answer_of after so_far.flags flag start lines line so_far.count))
             served.1;
       }
 
   -- what is held back is handed over
   pub progress_handed : (stands : State → Type 0) (from now then : Watched W)
       (lines : List (List ℕ)) → SaidNothing contents now then
-      → Progress contents answer_of after start stands from now lines
-      → Progress contents answer_of after start stands from then lines
+      → Progress contents plenty answer_of after start stands from now lines
+      → Progress contents plenty answer_of after start stands from then lines
   progress_handed stands from now then lines still so_far = record {
     flags = so_far.flags;
     count = so_far.count;
@@ -68,16 +68,16 @@ module _ {State W : Type 0} (contents : W → Option (List ℕ))
   }
 
 -- no byte was taken yet
-pub progress_starts : {State W : Type 0} (contents : W → Option (List ℕ))
-    (answer_of : Bool → State → List ℕ → List ℕ) (after : Bool → State → List ℕ → State)
+pub progress_starts : {Lack State W : Type 0} (contents : W → Option (List ℕ)) (plenty : Lack)
+    (answer_of : Lack → State → List ℕ → List ℕ) (after : Lack → State → List ℕ → State)
     (stands : State → Type 0) (from now : Watched W) (line : List ℕ)
     → SaidNothing contents from now → line ≡ []
-    → ((start : State) → stands start → Progress contents answer_of after start stands from now
+    → ((start : State) → stands start → Progress contents plenty answer_of after start stands from now
     (map given_part (ended_lines []))) × (line ≡ given_part (open_line []))
-progress_starts contents answer_of after stands from now line still empty = (
+progress_starts contents plenty answer_of after stands from now line still empty = (
   λ start ready.
-      subst (Progress contents answer_of after start stands from now) (sym given_none)
-      (progress_new contents answer_of after start stands from now still ready),
+      subst (Progress contents plenty answer_of after start stands from now) (sym given_none)
+      (progress_new contents plenty answer_of after start stands from now still ready),
   empty ∙ open_none,
 )
 

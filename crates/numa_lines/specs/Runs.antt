@@ -1,6 +1,6 @@
 -- How a run over a reader and a writer ends. `remaining` gives the bytes that a reader has left and
 -- `contents` those that a writer has taken, where they are known.
-use Rattle.std.specs.Prelude.{◌≡◌, ℕ, ◌+◌, ◌⊎◌, Bool, true, false, Option, List}
+use Rattle.std.specs.Prelude.{◌≡◌, ℕ, ◌+◌, ◌⊎◌, true, false, Option, List}
 use Rattle.std.specs.Io.KnownBytes.{Consumes, IsAtEnd, Keeps}
 use Rattle.numa_lines.specs.Lines.{ended_lines}
 use Rattle.numa_lines.specs.Output.{answers, output_of}
@@ -12,14 +12,14 @@ use Rattle.numa_lines.specs.declared.watched.Watched.{Watched}
 abbrev pub most_reads : ℕ
 most_reads = 4294967295
 
-module _ {State R W : Type 0} (remaining : R → Option (List ℕ)) (contents : W → Option (List ℕ))
-    (answer_of : Bool → State → List ℕ → List ℕ) (after : Bool → State → List ℕ → State)
+module _ {Lack State R W : Type 0} (remaining : R → Option (List ℕ)) (contents : W → Option (List ℕ))
+    (answer_of : Lack → State → List ℕ → List ℕ) (after : Lack → State → List ℕ → State)
     (start : State)
     (input input_then : Watched R) (output output_then : Watched W) where
   -- The script was read to its end, and its output was written. No call failed.
   pub record AnswersAll : Type 0 where
     pub script : List ℕ
-    pub refused : ℕ → Bool
+    pub refused : ℕ → Lack
     pub read : Consumes (remaining input.inner) (remaining input_then.inner) script
     pub ended : IsAtEnd (remaining input_then.inner)
     pub written : Wrote contents output output_then (output_of answer_of after start refused script)
@@ -30,7 +30,7 @@ module _ {State R W : Type 0} (remaining : R → Option (List ℕ)) (contents : 
   -- were written.
   pub record StopsAtRead : Type 0 where
     pub front : List ℕ
-    pub refused : ℕ → Bool
+    pub refused : ℕ → Lack
     pub read : Consumes (remaining input.inner) (remaining input_then.inner) front
     pub written : Wrote contents output output_then
         (answers answer_of after refused start (ended_lines front))
@@ -42,7 +42,7 @@ module _ {State R W : Type 0} (remaining : R → Option (List ℕ)) (contents : 
   -- where the script had been read to its end, of its output.
   pub record StopsAtWrite : Type 0 where
     pub front : List ℕ
-    pub refused : ℕ → Bool
+    pub refused : ℕ → Lack
     pub read : Consumes (remaining input.inner) (remaining input_then.inner) front
     pub written : WroteFront contents output output_then
         (answers answer_of after refused start (ended_lines front))

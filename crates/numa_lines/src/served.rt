@@ -18,7 +18,7 @@ impl<S: Serve + Drop, W: Write> TakeLine<Watched<W>> for Served<S> {
 
     ghost has_taken = { λ first begun now output lines.
         (start : S.State) → S.stands_for first.server start
-        → Progress W.contents S.answer_of S.after start (S.stands_for now.server)
+        → Progress W.contents S.plenty S.answer_of S.after start (S.stands_for now.server)
         begun output lines };
 
     ghost fails = { λ _. ⊥ };

@@ -389,12 +389,17 @@ impl Script {
 }
 
 impl Serve for Script {
+    ghost use Rattle.std.specs.Prelude.{Bool, false};
     ghost use Rattle.numa_run.specs.Answers.{State, answer_to, after_bytes};
     ghost use Rattle.numa_run.specs.Scripts.{ScriptStandsFor};
 
     ghost State = { State };
 
     ghost stands_for = { ScriptStandsFor };
+
+    ghost Lack = { Bool };
+
+    ghost plenty = { false };
 
     ghost answer_of = { answer_to };
 

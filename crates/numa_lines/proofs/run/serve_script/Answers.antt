@@ -13,7 +13,7 @@ pub returns-in_default-hand_over-clause-write : goal.returns-in_default-hand_ove
 returns-in_default-hand_over-clause-write g c start stands e =
     let from = c.begin-2.new.self in
     let starts =
-    progress_starts g.W.Write.contents g.S.Serve.answer_of g.S.Serve.after
+    progress_starts g.W.Write.contents g.S.Serve.plenty g.S.Serve.answer_of g.S.Serve.after
     (g.S.Serve.stands_for c.in-Ok.lines.taker.server) from c.hand_over.new.self c.in-Ok.lines.line
     c.hand_over.ensures.says c.in-Ok.ensures.line in
     let standing = subst (λ taker. g.S.Serve.stands_for taker.server start)
@@ -23,7 +23,7 @@ returns-in_default-hand_over-clause-write g c start stands e =
     c.gather.ensures.failed c.gather.ensures.held c.begin-2.ensures.inner c.begin-2.ensures.well
     c.begin-2.ensures.held in
     let far =
-    answered_so_far g.W.Write.contents g.S.Serve.answer_of g.S.Serve.after start
+    answered_so_far g.W.Write.contents g.S.Serve.plenty g.S.Serve.answer_of g.S.Serve.after start
     c.requires.enough
     (g.S.Serve.stands_for c.in-Ok.lines.taker.server) from c.hand_over.new.self []
     (starts.0 start standing) in
@@ -44,7 +44,7 @@ pub returns-in-Err-clause-read : goal.returns-in-Err-clause-read
 returns-in-Err-clause-read g c start stands e =
     let from = c.begin-2.new.self in
     let starts =
-    progress_starts g.W.Write.contents g.S.Serve.answer_of g.S.Serve.after
+    progress_starts g.W.Write.contents g.S.Serve.plenty g.S.Serve.answer_of g.S.Serve.after
     (g.S.Serve.stands_for c.in-Ok.lines.taker.server) from c.hand_over.new.self c.in-Ok.lines.line
     c.hand_over.ensures.says c.in-Ok.ensures.line in
     let standing = subst (λ taker. g.S.Serve.stands_for taker.server start)
@@ -56,7 +56,7 @@ returns-in-Err-clause-read g c start stands e =
     let stops = at_input c.in-Err.why _ _ (λ lost. lost.lost.0) e c.in-Err.ensures.err in
     let taken = stops.has_read.takes c.in-Ok.lines from [] starts in
     let far =
-    answered_so_far g.W.Write.contents g.S.Serve.answer_of g.S.Serve.after start
+    answered_so_far g.W.Write.contents g.S.Serve.plenty g.S.Serve.answer_of g.S.Serve.after start
     c.requires.enough
     (g.S.Serve.stands_for c.read_text.new.taker.taker.server) from c.read_text.new.output
     stops.bytes (taken.0 start standing) in
@@ -80,7 +80,7 @@ pub returns-in-Err-clause-write : goal.returns-in-Err-clause-write
 returns-in-Err-clause-write g c start stands e =
     let from = c.begin-2.new.self in
     let starts =
-    progress_starts g.W.Write.contents g.S.Serve.answer_of g.S.Serve.after
+    progress_starts g.W.Write.contents g.S.Serve.plenty g.S.Serve.answer_of g.S.Serve.after
     (g.S.Serve.stands_for c.in-Ok.lines.taker.server) from c.hand_over.new.self c.in-Ok.lines.line
     c.hand_over.ensures.says c.in-Ok.ensures.line in
     let standing = subst (λ taker. g.S.Serve.stands_for taker.server start)
@@ -92,7 +92,7 @@ returns-in-Err-clause-write g c start stands e =
     let stops = at_output c.in-Err.why _ _ (λ lost. lost.lost.0) e c.in-Err.ensures.err in
     let taken = stops.has_read.takes c.in-Ok.lines from [] starts in
     let far =
-    answered_so_far g.W.Write.contents g.S.Serve.answer_of g.S.Serve.after start
+    answered_so_far g.W.Write.contents g.S.Serve.plenty g.S.Serve.answer_of g.S.Serve.after start
     c.requires.enough
     (g.S.Serve.stands_for c.read_text.new.taker.taker.server) from c.read_text.new.output
     stops.bytes (taken.0 start standing) in
@@ -113,7 +113,7 @@ pub returns-in-Ok-finish-clause-ok : goal.returns-in-Ok-finish-clause-ok
 returns-in-Ok-finish-clause-ok g c start stands =
     let from = c.begin-2.new.self in
     let starts =
-    progress_starts g.W.Write.contents g.S.Serve.answer_of g.S.Serve.after
+    progress_starts g.W.Write.contents g.S.Serve.plenty g.S.Serve.answer_of g.S.Serve.after
     (g.S.Serve.stands_for c.in-Ok.lines.taker.server) from c.hand_over.new.self c.in-Ok.lines.line
     c.hand_over.ensures.says c.in-Ok.ensures.line in
     let standing = subst (λ taker. g.S.Serve.stands_for taker.server start)
@@ -127,7 +127,7 @@ returns-in-Ok-finish-clause-ok g c start stands =
     let taken = ends.1 c.in-Ok.lines from stops.bytes
     (stops.has_read.takes c.in-Ok.lines from [] starts) in
     let far =
-    answered_to_end g.W.Write.contents g.S.Serve.answer_of g.S.Serve.after start
+    answered_to_end g.W.Write.contents g.S.Serve.plenty g.S.Serve.answer_of g.S.Serve.after start
     c.requires.enough
     (g.S.Serve.stands_for c.finish.new.self.taker.server) from c.finish.new.output stops.bytes
     (taken.0 start standing) in
@@ -149,7 +149,7 @@ pub returns-clause-write : goal.returns-clause-write
 returns-clause-write g c start stands e =
     let from = c.begin-2.new.self in
     let starts =
-    progress_starts g.W.Write.contents g.S.Serve.answer_of g.S.Serve.after
+    progress_starts g.W.Write.contents g.S.Serve.plenty g.S.Serve.answer_of g.S.Serve.after
     (g.S.Serve.stands_for c.in-Ok.lines.taker.server) from c.hand_over.new.self c.in-Ok.lines.line
     c.hand_over.ensures.says c.in-Ok.ensures.line in
     let standing = subst (λ taker. g.S.Serve.stands_for taker.server start)
@@ -163,7 +163,7 @@ returns-clause-write g c start stands e =
     let taken = ends.1 c.in-Ok.lines from stops.bytes
     (stops.has_read.takes c.in-Ok.lines from [] starts) in
     let far =
-    answered_to_end g.W.Write.contents g.S.Serve.answer_of g.S.Serve.after start
+    answered_to_end g.W.Write.contents g.S.Serve.plenty g.S.Serve.answer_of g.S.Serve.after start
     c.requires.enough
     (g.S.Serve.stands_for c.finish.new.self.taker.server) from c.finish.new.output stops.bytes
     (taken.0 start standing) in
