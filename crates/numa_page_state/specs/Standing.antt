@@ -110,6 +110,10 @@ pub record LiesAs (beside : PageState) (lying : Lying) : Type 0 where
   pub last : LastAs beside.last lying.last
   pub arrived : ArrivedAs beside.arrived lying.arrived
 
+-- pages lie where these spots say
+abbrev pub LieThere : PageState → (ℕ → Spot) → Type 0
+LieThere beside spots = (page : ℕ) → spot_at beside.placed page ≡ spots page
+
 -- ---- moves
 
 -- pages moved from one set of nodes to another

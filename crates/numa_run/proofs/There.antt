@@ -1,8 +1,9 @@
 -- The listing of the pages that are there, line by line.
 use Rattle.std.proofs.Common.{◌≡◌, ℕ, zero, suc, ◌+◌, ◌<◌, ◌^◌, ◌==◌, Option, List, []}
 use Rattle.std.proofs.Common.{◌∷◌, ◌++◌, codes, decimal, refl, sym, ap, ◌∙◌, arith}
-use Rattle.std.proofs.Common.{append_assoc, subst, ◌≤◌}
-use Rattle.std.specs.Prelude.{if◌then◌else◌}
+use Rattle.std.proofs.Common.{append_assoc, subst, ◌≤◌, Bor}
+use Rattle.std.specs.Option.{option_copied}
+use Rattle.std.specs.Prelude.{MatchOption, None, Some, if◌then◌else◌}
 use Rattle.numa_mode.specs.Policy.{PolicyRecord}
 use Rattle.numa_ranges.specs.Runs.{AreApart, AreMaximal, end_of}
 use Rattle.numa_ranges.specs.declared.run.Run.{Run}
@@ -19,7 +20,11 @@ use Rattle.numa_ranges.proofs.Apart.{apart-top}
 use Rattle.std.specs.List.{flat_map, range_with_len}
 use Rattle.numa_maps.specs.Residents.{Kept}
 use Rattle.numa_placed.specs.Shifts.{sum_below}
+use Rattle.numa_page_state.specs.Lying.{Lying}
+use Rattle.numa_page_state.specs.Standing.{LieThere, Lies}
+use Rattle.numa_page_state.specs.declared.state.PageState.{PageState}
 use Rattle.numa_placed.specs.declared.spot.Spot.{Spot}
+use Rattle.numa_placed.specs.declared.spot.Spot.TheVariants.{Nowhere}
 use Rattle.numa_run.proofs.Listed.{joined-singles}
 use Rattle.numa_run.specs.Ranges.{ranges_of}
 use Rattle.numa_run.specs.Listings.{there_line, there_lines, there_listing}
@@ -116,3 +121,13 @@ there-same space history task kept spots stands apart maximal =
     let policies : policy_in space task ≡ resolved_policy space.machine history task = λ i page.
     policy-same space history task page stands i in
     λ i. there_lines (policies i) kept spots (sym ranges i)
+
+-- what is kept lies where the state says
+pub lie-there : (held : Option (Bor PageState)) (pages : Option PageState) (lying : Lying)
+    → option_copied held ≡ pages → Lies pages lying
+    → MatchOption held ((page : ℕ) → lying.spots page ≡ Nowhere)
+    (λ kept. LieThere kept.now lying.spots)
+lie-there None pages lying same lies = λ page.
+    ap (λ (l : Lying). l.spots page) (subst (λ (p : Option PageState). Lies p lying) (sym same) lies)
+lie-there (Some kept) pages lying same lies =
+    (subst (λ (p : Option PageState). Lies p lying) (sym same) lies).spots

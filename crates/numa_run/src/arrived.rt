@@ -12,7 +12,7 @@ use numa_script::tell::{say_each_count, say_placed_words};
 use std::io::Write;
 
 /// Writes what first touches did, at a version: `v4: placed 3 exhausted 0 N0=2 N1=1`.
-pub(crate) fn say_arrived<W: Write>(output: &mut Watched<W>, version: u64, done: &Arrived)
+pub fn say_arrived<W: Write>(output: &mut Watched<W>, version: u64, done: &Arrived)
     ensures { Said W.contents output.old output.new
         (arrival_line version (arrival_in done.now)) }
 {
@@ -43,7 +43,7 @@ fn say_each_room<W: Write>(output: &mut Watched<W>, rooms: &Rooms)
 }
 
 /// Writes how many more pages nodes take, as a line: `room N0=2 N1=0`.
-pub(crate) fn say_rooms<W: Write>(output: &mut Watched<W>, rooms: &Rooms)
+pub fn say_rooms<W: Write>(output: &mut Watched<W>, rooms: &Rooms)
     ensures { Said W.contents output.old output.new (rooms_line (room_of rooms.now)) }
 {
     output.say(b"room");

@@ -22,7 +22,7 @@ use numa_script::{BoundPages, MoveWords, Reply, WordError};
 use std::alloc::Global;
 
 /// The command of an `mbind`, given without the words behind its policy.
-fn bound_command(
+pub fn bound_command(
     rules: Rules,
     start: u64,
     length: u64,
@@ -46,7 +46,7 @@ fn bound_command(
 }
 
 /// By whose faults the words have pages find their nodes.
-fn toucher_of(words: &MoveWords) -> Toucher
+pub fn toucher_of(words: &MoveWords) -> Toucher
     ensures { result ≡ toucher_of words.now }
 {
     Toucher {

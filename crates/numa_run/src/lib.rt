@@ -1,14 +1,14 @@
 //! Running scripts: from a line to its reply or its answer.
 #![tactic(auto)]
 
-mod arrived;
-mod binding;
+pub mod arrived;
+pub mod binding;
 mod build;
 pub mod judging;
-mod listing;
-mod moved;
+pub mod listing;
+pub mod moved;
 mod obeying;
-mod paging;
+pub mod paging;
 pub mod questions;
 mod running;
 mod script;

@@ -1,10 +1,11 @@
 //! `maps`, where pages were stated to lie somewhere.
-ghost use Rattle.std.specs.Prelude.{◌≡◌, ◌+◌, ◌<◌, ◌≤◌, ◌^◌, ℕ, slice_index};
+ghost use Rattle.std.specs.Prelude.{◌≡◌, ◌+◌, ◌<◌, ◌≤◌, ◌^◌, ℕ, MatchOption, slice_index};
 ghost use Rattle.numa_lines.specs.Written.{Said};
 ghost use Rattle.numa_placed.specs.Shifts.{sum_below};
 ghost use Rattle.numa_run.specs.Listings.{stated_in, there_line, there_lines};
-ghost use Rattle.numa_page_state.specs.Lying.{Lying};
-ghost use Rattle.numa_page_state.specs.Standing.{Lies};
+ghost use Rattle.numa_page_state.specs.Standing.{LieThere};
+ghost use Rattle.numa_placed.specs.declared.spot.Spot.{Spot};
+ghost use Rattle.numa_placed.specs.declared.spot.Spot.TheVariants.{Nowhere};
 ghost use Rattle.numa_ranges.specs.Runs.{end_of};
 ghost use Rattle.numa_space.specs.Standing.{policy_in};
 
@@ -16,10 +17,11 @@ use numa_space::{RangeRecord, Space};
 use std::io::Write;
 
 /// The number of stated pages of a range on each node.
-fn stated_in(pages: &Option<PageState>, range: &Run<RangeRecord>) -> [u64; 256]
+fn stated_in(pages: Option<&PageState>, range: &Run<RangeRecord>) -> [u64; 256]
     requires { end_of range.now ≤ 2 ^ 35 }
-    ensures counts { (lying : Lying) → Lies pages.now lying → (node : ℕ) → node < 256
-        → slice_index result node ≡ stated_in lying.spots range.now node }
+    ensures counts { (spots : ℕ → Spot) → MatchOption pages.entry ((page : ℕ) → spots page ≡ Nowhere)
+        (λ kept. LieThere kept.now spots) → (node : ℕ) → node < 256
+        → slice_index result node ≡ stated_in spots range.now node }
     ensures few { (node : ℕ) → node < 256 → slice_index result node ≤ 2 ^ 35 }
 {
     match pages {
@@ -46,14 +48,14 @@ fn say_range<W: Write>(
     space: &Space,
     task: u32,
     resident: &Resident,
-    pages: &Option<PageState>,
+    pages: Option<&PageState>,
     range: &Run<RangeRecord>,
     output: &mut Watched<W>,
 )
     requires { end_of range.now ≤ 2 ^ 35 }
-    ensures { (lying : Lying) → Lies pages.now lying → Said W.contents output.old output.new
-        (there_line (policy_in space.now task range.now.first) resident.now lying.spots
-        range.now) }
+    ensures { (spots : ℕ → Spot) → MatchOption pages.entry ((page : ℕ) → spots page ≡ Nowhere)
+        (λ kept. LieThere kept.now spots) → Said W.contents output.old output.new
+        (there_line (policy_in space.now task range.now.first) resident.now spots range.now) }
 {
     let stated = stated_in(pages, range);
     let held = resident.count_in(range);
@@ -65,15 +67,16 @@ fn say_range<W: Write>(
 }
 
 /// Writes a line for each range of the space, in ascending order.
-pub(crate) fn say_there<W: Write>(
+pub fn say_there<W: Write>(
     space: &Space,
     task: u32,
     resident: &Resident,
-    pages: &Option<PageState>,
+    pages: Option<&PageState>,
     output: &mut Watched<W>,
 )
-    ensures { (lying : Lying) → Lies pages.now lying → Said W.contents output.old output.new
-        (there_lines (policy_in space.now task) resident.now lying.spots space.now.ranges) }
+    ensures { (spots : ℕ → Spot) → MatchOption pages.entry ((page : ℕ) → spots page ≡ Nowhere)
+        (λ kept. LieThere kept.now spots) → Said W.contents output.old output.new
+        (there_lines (policy_in space.now task) resident.now spots space.now.ranges) }
 {
     for range in space.range_iter() {
         say_range(space, task, resident, pages, &range, output);

@@ -82,7 +82,7 @@ fn say_counted_at<W: Write>(output: &mut Watched<W>, version: u64, moved: u64, l
 }
 
 /// Writes what a move of pages by their nodes did, at a version.
-pub(crate) fn say_told<W: Write>(output: &mut Watched<W>, version: u64, last: &Moved)
+pub fn say_told<W: Write>(output: &mut Watched<W>, version: u64, last: &Moved)
     ensures { Said W.contents output.old output.new
         (last_line version (OfNodes (told_in last.now))) }
 {
@@ -102,7 +102,7 @@ fn say_departed<W: Write>(output: &mut Watched<W>, version: u64, last: &Departur
 }
 
 /// Writes what the last move did, at a version: `v4: moved 5 left 0 N2->N3=5`.
-pub(crate) fn say_last<W: Write>(output: &mut Watched<W>, version: u64, last: &Last)
+pub fn say_last<W: Write>(output: &mut Watched<W>, version: u64, last: &Last)
     ensures { (done : LastMove) → LastAs last.now done
         → Said W.contents output.old output.new (last_line version done) }
 {

@@ -19,7 +19,7 @@ use numa_space::Space;
 use std::alloc::Global;
 
 /// The reply to a line, or why it is refused.
-fn page_reply(told: Reply, done: Result<(), PlacedRefusal>) -> Reply
+pub fn page_reply(told: Reply, done: Result<(), PlacedRefusal>) -> Reply
     ensures { result ≡ page_reply told done }
 {
     match done {
@@ -59,7 +59,7 @@ fn touch_reply(done: Result<(), PlacedRefusal>) -> Option<Reply>
 }
 
 /// The reply to a line about pages for which there is no memory.
-fn lack_reply(line: &PageLine) -> Reply
+pub fn lack_reply(line: &PageLine) -> Reply
     ensures { result ≡ lack_reply line.now }
 {
     match line {
@@ -70,7 +70,7 @@ fn lack_reply(line: &PageLine) -> Reply
 
 /// Carries out a line that changes where pages lie, or how they move. What `populate` did is no
 /// reply.
-fn change(
+pub fn change(
     kept: &mut PageState,
     space: &Space,
     resident: &Resident,

@@ -259,7 +259,7 @@ impl Running {
         let space = self.core.space();
         // Tells the proof that the ranges are in ascending order and maximal.
         let _ = space.range_iter();
-        say_there(space, task, &self.resident, &self.pages, output);
+        say_there(space, task, &self.resident, self.pages.as_ref(), output);
     }
 
     /// Writes what the last move did.

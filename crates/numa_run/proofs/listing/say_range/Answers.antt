@@ -21,12 +21,12 @@ add-both-requires-clause-held g c node small =
     )
 
 pub returns : goal.returns
-returns g c = λ lying lies.
+returns g c = λ spots lies.
     let sums = sum-same 256 (slice_index c.stated_in-stated.result)
-    (stated_in lying.spots c.args.range.now)
-    (λ node small. c.stated_in-stated.ensures.counts lying lies node small) in
+    (stated_in spots c.args.range.now)
+    (λ node small. c.stated_in-stated.ensures.counts spots lies node small) in
     let count : c.count_in-held.result + c.total-more.result
-    ≡ count_in c.args.resident.now lying.spots c.args.range.now =
+    ≡ count_in c.args.resident.now spots c.args.range.now =
     omega (arith, c.count_in-held.ensures.count, c.total-more.ensures.sum, sums) in
     said_same g.W.Write.contents c.args.output.now c.say_counted.new.output _ _
     (ap (λ policy. counted_line policy c.args.range.now.first
@@ -34,12 +34,12 @@ returns g c = λ lying lies.
     c.policy_at-policy.ensures.policy
     ∙ line-same (policy_in c.args.space.now c.args.task c.args.range.now.first)
     c.args.range.now.first (c.count_in-held.result + c.total-more.result)
-    (count_in c.args.resident.now lying.spots c.args.range.now)
+    (count_in c.args.resident.now spots c.args.range.now)
     (λ node. slice_index c.add-both.result node)
-    (pages_in c.args.resident.now lying.spots c.args.range.now) count
+    (pages_in c.args.resident.now spots c.args.range.now) count
     (λ node small. omega (
       arith,
       c.add-both.ensures node small,
       c.pages_by_node-by_node.ensures node small,
-      c.stated_in-stated.ensures.counts lying lies node small,
+      c.stated_in-stated.ensures.counts spots lies node small,
     ))) c.say_counted.ensures

@@ -2,7 +2,7 @@ use Rattle.std.proofs.Common.{◌∙◌, ap, sym, subst}
 use Rattle.numa_lines.proofs.Adding.{said_same}
 use Rattle.numa_maps.specs.Residents.{Kept}
 use Rattle.numa_space.specs.Standing.{SpaceState, StandsFor}
-use Rattle.numa_run.proofs.There.{there-same}
+use Rattle.numa_run.proofs.There.{lie-there, there-same}
 use Rattle.numa_run.specs.Listings.{there_listing}
 use Rattle.numa_run.specs.States.{process_on}
 use Rattle.numa_run.proofs.running.Running.list.Goals as goal
@@ -21,4 +21,5 @@ returns g c =
     ∙ ap (λ (k : Kept). there_listing (process_on c.args.self.now.core.space.machine
     (record state { resident = k })) state.lying.spots c.args.task) stands.resident in
     said_same g.W.Write.contents c.args.output.now c.say_there.new.output _ _ text
-    (c.say_there.ensures state.lying stands.lies)
+    (c.say_there.ensures state.lying.spots (lie-there c.as_ref.result c.args.self.now.pages state.lying
+    c.as_ref.ensures.value stands.lies))
