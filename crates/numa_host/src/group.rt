@@ -33,7 +33,7 @@ pub(crate) fn narrowed(mems: &Option<NodeMask>, above: NodeMask) -> NodeMask
 }
 
 /// The effective nodes of a group (`cpuset.mems.effective`).
-pub(crate) fn effective(memory: NodeMask, groups: &[ControlGroup], name: u32) -> NodeMask
+pub fn effective(memory: NodeMask, groups: &[ControlGroup], name: u32) -> NodeMask
     ensures { result ≡ effective_mems memory groups.now name }
 {
     let Some((group, older)) = groups.split_first() else {

@@ -1,6 +1,7 @@
 pub mod Answered
 pub mod Asking
 pub mod Begun
+pub mod Emptied
 pub mod Follows
 pub mod Fronts
 pub mod HeldPages

@@ -16,6 +16,7 @@ pub mod forgetting;
 mod frames;
 pub mod last;
 pub mod laws;
+pub mod lending;
 pub mod sending;
 mod shift;
 pub mod state;

@@ -101,7 +101,7 @@ pub(crate) fn rooms_of(rooms: &Option<Rooms>) -> Rooms
 }
 
 /// The rooms, with one more said.
-fn limited(rooms: &Option<Rooms>, node: u8, pages: u64) -> Rooms
+pub(crate) fn limited(rooms: &Option<Rooms>, node: u8, pages: u64) -> Rooms
     ensures { (room : Option (ℕ → ℕ)) → HaveRoom rooms.now room
         → AreRooms result (λ other. if other == node then pages else rooms_of room other) }
 {
@@ -396,7 +396,7 @@ impl PageState {
     }
 
     /// Pages follow the allowed nodes, if they are to; where memory lacks, they stay.
-    pub(crate) fn follow(&mut self, old: &NodeMask, new: &NodeMask, resident: Option<&Resident>)
+    pub fn follow(&mut self, old: &NodeMask, new: &NodeMask, resident: Option<&Resident>)
         ensures { (lying : Lying) (kept : Kept) → LiesAs self.old lying → MatchOption resident.entry
             (kept ≡ []) (λ held. held.now ≡ kept)
             → (refused : Bool) × LiesAs self.new (followed refused old.now new.now kept lying) }

@@ -1,0 +1,4 @@
+pub mod Alone
+pub mod Places
+mod Rows
+pub mod Walked

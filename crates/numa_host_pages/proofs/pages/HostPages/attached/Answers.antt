@@ -1,0 +1,51 @@
+use Rattle.std.proofs.Common.{◌≤◌, Bool, List, None, sym, subst, refl, arith, ◌∙◌}
+use Rattle.std.specs.Prelude.{vec_capacity}
+use Rattle.std.specs.Vec.{with_items}
+use Rattle.numa_page_state.specs.Standing.{HaveRoom}
+use Rattle.numa_host_pages.specs.Homes.{Home, home_followed, other_homes, pages_in, with_pages}
+use Rattle.numa_host_pages.specs.Standing.{AreHomes, IsHome}
+use Rattle.numa_host_pages.specs.declared.member.Member.{Member}
+use Rattle.numa_host_pages.proofs.Places.{homes-length, others-after}
+use Rattle.numa_host_pages.proofs.Places.{pages-length, put-items}
+use Rattle.numa_host_pages.proofs.pages.HostPages.attached.Goals as goal
+
+pub returns : goal.returns
+returns c = λ at lies small.
+    let process = c.args.process in
+    let had : List Home = with_pages process None at.homes in
+    let taken = c.take_pages-pages.ensures at.homes
+    (subst (λ (ms : List Member). AreHomes ms at.homes) (sym c.deref_mut.ensures.value)
+    lies.homes) in
+    let there = put-items c.args.self.now.members c.take_pages-pages.new.members had taken.1
+    (pages-length process None at.homes
+    ∙ sym (homes-length c.args.self.now.members.items at.homes lies.homes)) in
+    let others = others-after (with_items c.args.self.now.members
+    c.take_pages-pages.new.members).items at.homes process None there in
+    let left = subst (λ (ms : List Member). AreHomes ms (other_homes process at.homes))
+    (sym c.remove.ensures.items) others in
+    let home : Home =
+    record {
+      id = process;
+      group = c.args.group;
+      allowed = c.args.old.now;
+      lying = pages_in process at.homes;
+    } in
+    let done = subst (λ (f : Bool). (lack : Bool)
+    × IsHome c.follow_home.new.member (home_followed lack f c.args.nodes.now home at.room).0
+    × HaveRoom c.follow_home.new.rooms (home_followed lack f c.args.nodes.now home at.room).1)
+    lies.follows (c.follow_home.ensures home at.room (record {
+      id = refl;
+      group = refl;
+      allowed = refl;
+      pages = taken.0;
+    }) lies.room) in
+    let places : 4096 ≤ vec_capacity c.remove.new.members =
+    subst (λ n. 4096 ≤ n) (sym c.remove.ensures.room) lies.places in (
+      done.0,
+      record {
+        room = done.2;
+        follows = lies.follows;
+        homes = c.add.ensures.added (other_homes process at.homes) _ left done.1 small places;
+        places = omega (arith, places, c.add.ensures.room);
+      },
+    )
