@@ -31,7 +31,7 @@ pub struct Process {
 }
 
 /// The process of a number.
-pub(crate) fn find(processes: &[Process], id: u32) -> Option<&Process>
+pub fn find(processes: &[Process], id: u32) -> Option<&Process>
     ensures { MatchOption result (find (λ (p : Process). id == p.id) processes.now ≡ None)
         (λ found. find (λ (p : Process). id == p.id) processes.now ≡ Some found.now) }
 {

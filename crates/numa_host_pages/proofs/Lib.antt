@@ -1,4 +1,7 @@
 pub mod Alone
+pub mod Arrived
+pub mod Known
+pub mod Obeyed
 pub mod Places
 mod Rows
 pub mod Walked

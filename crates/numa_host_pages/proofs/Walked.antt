@@ -8,7 +8,7 @@ use Rattle.numa_page_state.specs.Lying.{Lying}
 use Rattle.numa_page_state.specs.Standing.{HaveRoom, LiesAs}
 use Rattle.numa_page_state.specs.declared.state.PageState.{PageState}
 use Rattle.numa_placed.specs.declared.rooms.Rooms.{Rooms}
-use Rattle.numa_host_pages.specs.Homes.{FollowEach, Home, HostLying, Room, group_followed}
+use Rattle.numa_host_pages.specs.Homes.{FollowEach, Home, HostLying, Room, followed_each, group_followed}
 use Rattle.numa_host_pages.specs.Homes.{home_followed, homes_followed, lent}
 use Rattle.numa_host_pages.specs.Standing.{AreHomes, IsHome, Sits}
 use Rattle.numa_host_pages.specs.TopDown.{below_in}
@@ -103,6 +103,20 @@ group-joined first now rest news had left rooms follows group nodes (home ∷ ot
     let told = go others (home_followed done.0 follows nodes home room).1 are.1 done.2 in
     let is : eqb home.group group ≡ true = rw (← are.0.group) its in
     (first_then done.0 told.0, rw is (done.1, told.1), rw is told.2)
+
+-- whether memory lacked, by the place of a group and of a process
+abbrev group_then : (ℕ → Bool) → (ℕ → ℕ → Bool) → ℕ → ℕ → Bool
+group_then first rest zero = first
+group_then first rest (suc k) = rest k
+
+-- where each group is told in turn, memory lacked somewhere or nowhere
+pub each-lacks : (nodes : ℕ → ℕ) (groups : List ℕ) (at after : HostLying)
+    → FollowEach nodes groups at after
+    → (lacks : ℕ → ℕ → Bool) × (after ≡ followed_each lacks nodes groups at)
+each-lacks nodes [] at after told = (λ k j. false, told)
+each-lacks nodes (group ∷ groups) at after told =
+    let rest = each-lacks nodes groups (group_followed told.0 group (nodes group) at) after told.1
+    in (group_then told.0 rest.0, rest.1)
 
 -- ---- groups below one
 

@@ -1,3 +1,4 @@
 pub mod Homes
+pub mod Obeying
 pub mod Standing
 pub mod TopDown

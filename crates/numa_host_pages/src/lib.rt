@@ -11,6 +11,8 @@
 mod following;
 pub mod laws;
 mod member;
+pub mod obeying;
 mod pages;
 
+pub use obeying::obey;
 pub use pages::HostPages;
