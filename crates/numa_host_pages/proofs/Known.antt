@@ -1,6 +1,7 @@
 -- What a host knows of a process.
 use Rattle.std.proofs.Common.{◌≡◌, ◌≢◌, ◌<◌, ◌≤◌, ℕ, ◌+◌, Bool, true, false, List, [], ◌∷◌, Option}
-use Rattle.std.proofs.Common.{Some, None, All, AllPairs, map, filter, length, eqb, refl, sym, ap, ◌∙◌}
+use Rattle.std.proofs.Common.{Some, None, All, AllPairs, map, filter, length, eqb, refl, sym, ap}
+use Rattle.std.proofs.Common.{◌∙◌}
 use Rattle.std.proofs.Common.{arith, inl, inr, subst, suc, is_some, MatchOption, unwrap_or, get_or}
 use Rattle.std.specs.List.{find}
 use Rattle.std.specs.Option.{option_map_or}

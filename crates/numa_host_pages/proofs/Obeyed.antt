@@ -1,6 +1,7 @@
 -- What commands of a host do to the pages of its processes.
 use Rattle.std.proofs.Common.{◌≡◌, ◌≢◌, ◌<◌, ◌≤◌, ℕ, ◌+◌, Bool, true, false, not, List, [], ◌∷◌}
-use Rattle.std.proofs.Common.{◌++◌, Option, Some, None, Result, Ok, Err, map, filter, length, eqb, leb, refl}
+use Rattle.std.proofs.Common.{◌++◌, Option, Some, None, Result, Ok, Err, map, filter, length, eqb}
+use Rattle.std.proofs.Common.{leb, refl}
 use Rattle.std.proofs.Common.{sym, ap, ◌∙◌, arith, inl, inr, subst, suc, length-append, is_some}
 use Rattle.std.proofs.Common.{AllPairs, get_or, unwrap_or, zero}
 use Rattle.std.proofs.lemmas.Bool.{both_ways, cases_Bool, cases_lt, le-leb, eqb-true, eq-eqb}
@@ -11,7 +12,8 @@ use Rattle.numa_host.specs.Causes.{cause_of, host_refusal_of, when}
 use Rattle.numa_host.specs.Groups.{effective_mems, groups_of}
 use Rattle.numa_host.specs.Processes.{Member as Process, group_in, is_there, members_of, nodes_of}
 use Rattle.numa_host.specs.Processes.{moved_member}
-use Rattle.numa_host.specs.Standing.{HostState, HostStandsFor, HasHostHistory, IsHostAccepted, IsHostApplied}
+use Rattle.numa_host.specs.Standing.{HostState, HostStandsFor, HasHostHistory, IsHostAccepted}
+use Rattle.numa_host.specs.Standing.{IsHostApplied}
 use Rattle.numa_host.specs.Standing.{IsHostSound, member_of}
 use Rattle.numa_host.specs.declared.process.Process.{Process as Kept}
 use Rattle.numa_host.proofs.Nested.{first-none, when-none}
@@ -19,19 +21,22 @@ use Rattle.numa_requests.specs.declared.host_command.HostCommand.{HostCommand}
 use Rattle.numa_requests.specs.declared.host_command.HostCommand.TheVariants as command
 use Rattle.numa_requests.specs.declared.host_refusal.HostRefusal.{HostRefusal}
 use Rattle.numa_requests.specs.declared.host_refusal.HostRefusal.TheVariants as cause
-use Rattle.numa_host_pages.specs.Homes.{Home, HostLying, home_followed, other_homes, pages_in, with_born, with_ended}
+use Rattle.numa_host_pages.specs.Homes.{Home, HostLying, home_followed, other_homes, pages_in}
+use Rattle.numa_host_pages.specs.Homes.{with_born, with_ended}
 use Rattle.numa_host_pages.specs.Homes.{with_attached}
 use Rattle.numa_host_pages.specs.Obeying.{pages_after}
 use Rattle.numa_host_pages.specs.Standing.{AreOf, AreSame, HostLies, Obeys, arrival_of, count_of}
 use Rattle.numa_host_pages.specs.TopDown.{arrivals_of}
 use Rattle.numa_host_pages.specs.declared.pages.HostPages.{HostPages}
-use Rattle.numa_host_pages.proofs.Arrived.{both-parts, each-arrivals, has, home-arrival, other, other-arrivals, same-joined}
+use Rattle.numa_host_pages.proofs.Arrived.{both-parts, each-arrivals, has, home-arrival, other}
+use Rattle.numa_host_pages.proofs.Arrived.{other-arrivals, same-joined}
 use Rattle.numa_host_pages.proofs.Arrived.{moved-length, same-moved, same-without}
 
 -- ---- refused, and accepted
 
 pub refused : (old : HostState) (pages : HostPages) (said : HostCommand) (why : HostRefusal)
-    (new : HostState) → IsHostApplied old said (Err why) new → Obeys old pages said (Err why) new pages
+    (new : HostState) → IsHostApplied old said (Err why) new
+    → Obeys old pages said (Err why) new pages
 refused old pages said why new applied = record {
   applied = applied;
   lies = λ history at stands lies are. (λ group process. false, lies, tt);
@@ -264,7 +269,8 @@ born-are at history process group nodes said are arrives joins = record {
       ∙ ap (λ (ms : List Process). ms ++ (process, group) ∷ []) are.order ∙ sym arrives;
   same = subst (λ (ms : List Process). AreSame ms (members_of (said ∷ history))) (sym arrives)
       (subst (λ (ms : List Process). AreSame (arrivals_of history ++ (process, group) ∷ []) ms)
-      (sym joins) (same-joined (arrivals_of history) (members_of history) (process, group) are.same));
+      (sym joins) (same-joined (arrivals_of history) (members_of history) (process, group)
+      are.same));
 }
 
 -- ---- one less

@@ -1,6 +1,7 @@
 -- Pages that follow, one process after the other.
 use Rattle.std.proofs.Common.{◌≡◌, ℕ, Bool, true, false, Box, Option, Some, None, List, []}
-use Rattle.std.proofs.Common.{◌∷◌, ◌++◌, ◌∙◌, ap, subst, refl, length, arith, reverse, eqb, zero, suc}
+use Rattle.std.proofs.Common.{◌∷◌, ◌++◌, ◌∙◌, ap, subst, refl, length, arith, reverse, eqb, zero}
+use Rattle.std.proofs.Common.{suc}
 use Rattle.std.proofs.lemmas.List.{reverse-append}
 use Rattle.std.specs.Global.{Global}
 use Rattle.numa_host.specs.declared.group.ControlGroup.{ControlGroup}
@@ -8,7 +9,8 @@ use Rattle.numa_page_state.specs.Lying.{Lying}
 use Rattle.numa_page_state.specs.Standing.{HaveRoom, LiesAs}
 use Rattle.numa_page_state.specs.declared.state.PageState.{PageState}
 use Rattle.numa_placed.specs.declared.rooms.Rooms.{Rooms}
-use Rattle.numa_host_pages.specs.Homes.{FollowEach, Home, HostLying, Room, followed_each, group_followed}
+use Rattle.numa_host_pages.specs.Homes.{FollowEach, Home, HostLying, Room, followed_each}
+use Rattle.numa_host_pages.specs.Homes.{group_followed}
 use Rattle.numa_host_pages.specs.Homes.{home_followed, homes_followed, lent}
 use Rattle.numa_host_pages.specs.Standing.{AreHomes, IsHome, Sits}
 use Rattle.numa_host_pages.specs.TopDown.{below_in}

@@ -154,8 +154,8 @@ group_followed lacks group nodes at = record {
   homes = (homes_followed lacks at.follows group nodes at.homes at.room).0;
 }
 
--- groups one after the other, each with the nodes that it allows; `lacks` says it of each place among
--- the groups
+-- groups one after the other, each with the nodes that it allows; `lacks` says it of each place
+-- among the groups
 abbrev pub followed_each : (ℕ → ℕ → Bool) → (ℕ → ℕ) → List ℕ → HostLying → HostLying
 followed_each lacks nodes [] at = at
 followed_each lacks nodes (group ∷ groups) at = followed_each (λ k. lacks (suc k)) nodes groups

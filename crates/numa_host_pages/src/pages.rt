@@ -1,5 +1,6 @@
 //! Where the pages of a host's processes lie.
-ghost use Rattle.std.specs.Prelude.{◌≡◌, ◌<◌, ℕ, Bool, IfOk, MatchOption, None, OnErr, Some, length};
+ghost use Rattle.std.specs.Prelude.{◌≡◌, ◌<◌, ℕ, Bool, IfOk, MatchOption, None, OnErr, Some};
+ghost use Rattle.std.specs.Prelude.{length};
 ghost use Rattle.numa_host.specs.Groups.{effective_mems};
 ghost use Rattle.numa_placed.specs.Shifts.{AreRooms};
 ghost use Rattle.numa_page_state.specs.Lying.{Lying, nothing};

@@ -47,11 +47,13 @@ module _ {Lack State W : Type 0} (contents : W → Option (List ℕ)) (plenty : 
         count = length-append so_far.flags (flag ∷ []) ∙ ap (λ n. n + 1) so_far.count
             ∙ sym (length-append lines (line ∷ []));
         says = subst (Said contents from then)
-            (sym (answers_more plenty answer_of after so_far.flags flag start lines line so_far.count))
+            (sym (answers_more plenty answer_of after so_far.flags flag start lines line
+            so_far.count))
             (said_both contents from now then told (answer_of flag state line) so_far.says
             served.2);
         reached = subst later
-            (sym (state_more plenty answer_of after so_far.flags flag start lines line so_far.count))
+            (sym (state_more plenty answer_of after so_far.flags flag start lines line
+            so_far.count))
             served.1;
       }
 
@@ -72,7 +74,8 @@ pub progress_starts : {Lack State W : Type 0} (contents : W → Option (List ℕ
     (answer_of : Lack → State → List ℕ → List ℕ) (after : Lack → State → List ℕ → State)
     (stands : State → Type 0) (from now : Watched W) (line : List ℕ)
     → SaidNothing contents from now → line ≡ []
-    → ((start : State) → stands start → Progress contents plenty answer_of after start stands from now
+    → ((start : State) → stands start
+    → Progress contents plenty answer_of after start stands from now
     (map given_part (ended_lines []))) × (line ≡ given_part (open_line []))
 progress_starts contents plenty answer_of after stands from now line still empty = (
   λ start ready.

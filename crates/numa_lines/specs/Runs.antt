@@ -12,7 +12,8 @@ use Rattle.numa_lines.specs.declared.watched.Watched.{Watched}
 abbrev pub most_reads : ℕ
 most_reads = 4294967295
 
-module _ {Lack State R W : Type 0} (remaining : R → Option (List ℕ)) (contents : W → Option (List ℕ))
+module _ {Lack State R W : Type 0} (remaining : R → Option (List ℕ))
+    (contents : W → Option (List ℕ))
     (answer_of : Lack → State → List ℕ → List ℕ) (after : Lack → State → List ℕ → State)
     (start : State)
     (input input_then : Watched R) (output output_then : Watched W) where

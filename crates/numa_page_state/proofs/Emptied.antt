@@ -21,7 +21,8 @@ no-pages : ArePages (replicate 256 0) (stated_on (λ page. Nowhere))
 no-pages node small = get_or-replicate {A = ℕ} 256 node 0 0 small ∙ sym (none-stated node)
 
 pub emptied : (state : PageState) (rooms left : Rooms) (lay : List ℕ) (lying : Lying)
-    → state.rooms ≡ Some rooms → LiesAs state lying → ArePages lay (stated_on (spot_at state.placed))
+    → state.rooms ≡ Some rooms → LiesAs state lying
+    → ArePages lay (stated_on (spot_at state.placed))
     → ((room : ℕ → ℕ) (old new : ℕ → Spot) → AreRooms rooms room → ArePages lay (stated_on old)
     → ArePages (replicate 256 0) (stated_on new) → AreRooms left (rooms_between room old new))
     → HaveRoom (Some left) (with_spots (λ page. Nowhere) lying).room

@@ -128,6 +128,7 @@ pub lie-there : (held : Option (Bor PageState)) (pages : Option PageState) (lyin
     → MatchOption held ((page : ℕ) → lying.spots page ≡ Nowhere)
     (λ kept. LieThere kept.now lying.spots)
 lie-there None pages lying same lies = λ page.
-    ap (λ (l : Lying). l.spots page) (subst (λ (p : Option PageState). Lies p lying) (sym same) lies)
+    ap (λ (l : Lying). l.spots page)
+    (subst (λ (p : Option PageState). Lies p lying) (sym same) lies)
 lie-there (Some kept) pages lying same lies =
     (subst (λ (p : Option PageState). Lies p lying) (sym same) lies).spots

@@ -19,8 +19,9 @@ use std::io::Write;
 /// The number of stated pages of a range on each node.
 fn stated_in(pages: Option<&PageState>, range: &Run<RangeRecord>) -> [u64; 256]
     requires { end_of range.now ≤ 2 ^ 35 }
-    ensures counts { (spots : ℕ → Spot) → MatchOption pages.entry ((page : ℕ) → spots page ≡ Nowhere)
-        (λ kept. LieThere kept.now spots) → (node : ℕ) → node < 256
+    ensures counts { (spots : ℕ → Spot) → MatchOption pages.entry
+        ((page : ℕ) → spots page ≡ Nowhere) (λ kept. LieThere kept.now spots)
+        → (node : ℕ) → node < 256
         → slice_index result node ≡ stated_in spots range.now node }
     ensures few { (node : ℕ) → node < 256 → slice_index result node ≤ 2 ^ 35 }
 {

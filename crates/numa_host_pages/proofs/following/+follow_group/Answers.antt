@@ -21,4 +21,5 @@ returns t c = λ homes room are have.
     c.follow_group-2.new.members c.args.rooms.now c.follow_home.new.rooms
     c.follow_group-2.new.rooms c.args.follows c.args.group c.args.nodes.now homes room
     (rw (← c.in-Some.ensures.cases.0) are) have
-    (eq-eqb c.in-Some.first.now.group c.args.group c.if-first-group.false) c.follow_home.ensures c.follow_group-2.ensures
+    (eq-eqb c.in-Some.first.now.group c.args.group c.if-first-group.false) c.follow_home.ensures
+    c.follow_group-2.ensures

@@ -9,10 +9,10 @@ returns-clause-takes g c =
     λ first begun lines h start stands_first.
     let stands = g.S.Serve.stands_for c.args.self.now.server in
     subst
-    (Progress g.W.Write.contents g.S.Serve.plenty g.S.Serve.answer_of g.S.Serve.after start stands begun
-    c.hand_over.new.self) (sym (append-nil lines))
-    (progress_handed g.W.Write.contents g.S.Serve.plenty g.S.Serve.answer_of g.S.Serve.after start stands
-    begun c.args.output.now c.hand_over.new.self lines c.hand_over.ensures.says
+    (Progress g.W.Write.contents g.S.Serve.plenty g.S.Serve.answer_of g.S.Serve.after start stands
+    begun c.hand_over.new.self) (sym (append-nil lines))
+    (progress_handed g.W.Write.contents g.S.Serve.plenty g.S.Serve.answer_of g.S.Serve.after start
+    stands begun c.args.output.now c.hand_over.new.self lines c.hand_over.ensures.says
     (h start stands_first))
 
 pub returns-clause-handed : goal.returns-clause-handed

@@ -21,5 +21,5 @@ returns g c =
     ∙ ap (λ (k : Kept). there_listing (process_on c.args.self.now.core.space.machine
     (record state { resident = k })) state.lying.spots c.args.task) stands.resident in
     said_same g.W.Write.contents c.args.output.now c.say_there.new.output _ _ text
-    (c.say_there.ensures state.lying.spots (lie-there c.as_ref.result c.args.self.now.pages state.lying
-    c.as_ref.ensures.value stands.lies))
+    (c.say_there.ensures state.lying.spots (lie-there c.as_ref.result c.args.self.now.pages
+    state.lying c.as_ref.ensures.value stands.lies))
