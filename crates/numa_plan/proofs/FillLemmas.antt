@@ -1,20 +1,22 @@
 -- First nodes of a span's lists, run by run.
 use Rattle.std.proofs.Common.{◌≡◌, ℕ, ◌+◌, ◌-◌, ◌<◌, ◌≤◌, ◌^◌, Bool, eqb, Option, Some, List, ◌++◌}
 use Rattle.std.proofs.Common.{take, drop, length, length-append, length-drop, get_or, sym, ap, ◌∙◌}
-use Rattle.std.proofs.Common.{arith, inl, inr}
+use Rattle.std.proofs.Common.{None, arith, inl, inr, unwrap_or}
 use Rattle.std.specs.Option.{option_map}
 use Rattle.std.proofs.lemmas.Bool.{cases_lt}
-use Rattle.std.proofs.lemmas.List.{get_or_append_left, get_or-append_right, get_or-take}
-use Rattle.std.proofs.lemmas.List.{length-take, length-take-le}
+use Rattle.std.proofs.lemmas.List.{get_or_append_left, get_or-append_right, get_or-drop}
+use Rattle.std.proofs.lemmas.List.{get_or-take, length-take, length-take-le}
 use borrow.Rule.Slice.PartMut.{put_mid}
 use Rattle.numa_ranges.specs.Counts.{count_pages}
+use Rattle.numa_ranges.specs.Runs.{AreApart, page_at}
 use Rattle.numa_ranges.specs.declared.run.Run.{Run}
 use Rattle.numa_ranges.proofs.Counted.{count-split}
 use Rattle.numa_plan.proofs.CountLemmas.{shift, count-most}
-use Rattle.numa_plan.proofs.Searching.{is_mapped}
+use Rattle.numa_plan.proofs.Searching.{high_none, is_mapped}
 use Rattle.numa_plan.specs.Found.{IsAt, IsMapped}
 use Rattle.numa_plan.specs.Rows.{RuleData, first_of, row_of}
 use Rattle.numa_plan.specs.Meaning.{PlanData, planned_first, rule_for, is_number, CountsFirsts}
+use Rattle.numa_plan.specs.Meaning.{IsNear, first_or}
 use Rattle.numa_plan.specs.declared.runs.Found.{Found}
 
 -- what a write to a part leaves
@@ -35,14 +37,21 @@ get_or-put_mid_mid a n xs ys i d le ge lt =
     get_or-append_right (take a xs) (ys ++ drop n (drop a xs)) a i d (length-take-le a xs le) ge
     ∙ get_or_append_left ys (drop n (drop a xs)) d (i - a) (omega arith)
 
+-- the first node of a page with this index, whose run has this rule
+first-here : (plan : PlanData) (task cpu page index : ℕ) (number : Option ℕ) (rule : RuleData)
+    → page_at plan.runs page ≡ Some (index, number) → rule ≡ rule_for plan task number
+    → planned_first plan task page cpu ≡ Some (first_of rule cpu index)
+first-here plan task cpu page index number rule at is =
+    ap (λ o. option_map (λ (nodes : List ℕ). get_or nodes 0 0)
+    (option_map (λ at. row_of (rule_for plan task at.1) cpu at.0) o)) at
+    ∙ ap (λ (r : RuleData). Some (first_of r cpu index)) (sym is)
+
 -- the first node of a page that a run has
 first-at : (plan : PlanData) (task cpu page k : ℕ) (found : Found) (rule : RuleData)
     → k < found.left → IsAt plan.runs page found → rule ≡ rule_for plan task found.rule
     → planned_first plan task (page + k) cpu ≡ Some (first_of rule cpu (found.index + k))
 first-at plan task cpu page k found rule short at is =
-    ap (λ o. option_map (λ (nodes : List ℕ). get_or nodes 0 0)
-    (option_map (λ at. row_of (rule_for plan task at.1) cpu at.0) o)) (at.each k short)
-    ∙ ap (λ (r : RuleData). Some (first_of r cpu (found.index + k))) (sym is)
+    first-here plan task cpu (page + k) (found.index + k) found.rule rule (at.each k short) is
 
 pub filled_more : (plan : PlanData) (task cpu first done count : ℕ) (out ys : List ℕ)
     (found : Found) (rule : RuleData)
@@ -67,6 +76,92 @@ filled_more plan task cpu first done count out ys found rule within long short a
           (sym (get_or-put_mid_mid done (done + count - done) out ys k 0 (omega arith) late
           (omega arith)))
     ]
+
+-- the same for pages of an array
+pub marked_more : (plan : PlanData) (task cpu mark done count : ℕ) (pages out ys : List ℕ)
+    → length out ≡ length pages → done + length ys ≡ length out → count ≤ length ys
+    → ((k : ℕ) → k < done → get_or out k 0 ≡ first_or mark plan task (get_or pages k 0) cpu)
+    → ((k : ℕ) → k < count → get_or ys k 0
+    ≡ first_or mark plan task (get_or (take (length pages - done) (drop done pages)) k 0) cpu)
+    → (k : ℕ) → k < done + count → get_or (put_mid done (length out - done) out ys) k 0
+    ≡ first_or mark plan task (get_or pages k 0) cpu
+marked_more plan task cpu mark done count pages out ys same long within before here k lt =
+    elim (cases_lt k done) [
+      | inl early ↦
+          get_or-put_mid_below done (length out - done) out ys k 0 early (omega arith)
+          ∙ before k early
+      | inr late ↦
+          let place : done + (k - done) ≡ k = omega arith in
+          let is : get_or (take (length pages - done) (drop done pages)) (k - done) 0
+          ≡ get_or pages k 0 =
+          get_or-take (length pages - done) (drop done pages) (k - done) 0 (omega arith)
+          ∙ get_or-drop done pages (k - done) 0
+          ∙ ap (λ (at : ℕ). get_or pages at 0) place in
+          get_or-put_mid_mid done (length out - done) out ys k 0 (omega arith) late (omega arith)
+          ∙ here (k - done) (omega arith)
+          ∙ ap (λ (at : ℕ). first_or mark plan task at cpu) is
+    ]
+
+-- pages of a run that go on by one
+pub marked_here : (plan : PlanData) (task cpu mark count far page : ℕ) (pages ys : List ℕ)
+    (found : Found) (rule : RuleData)
+    → far + count ≤ found.left → IsNear plan task page found rule
+    → ((k : ℕ) → k < count → get_or pages k 0 ≡ page + far + k)
+    → ((k : ℕ) → k < count → get_or ys k 0 ≡ first_of rule cpu (found.index + far + k))
+    → (k : ℕ) → k < count → get_or ys k 0 ≡ first_or mark plan task (get_or pages k 0) cpu
+marked_here plan task cpu mark count far page pages ys found rule within near row here k lt =
+    let q : ℕ = far + k in
+    let there : page + far + k ≡ page + q = omega arith in
+    let turn : found.index + far + k ≡ found.index + q = omega arith in
+    let is : get_or pages k 0 ≡ page + q = row k lt ∙ there in
+    here k lt
+    ∙ ap (λ (index : ℕ). first_of rule cpu index) turn
+    ∙ sym
+    (ap (λ o. unwrap_or o mark)
+    (ap (λ (at : ℕ). planned_first plan task at cpu) is
+    ∙ first-here plan task cpu (page + q) (found.index + q) found.rule rule
+    (near.each q (omega arith)) (near.serves (omega arith))))
+
+-- a page that no run has is marked
+first-mark : (plan : PlanData) (task cpu mark page : ℕ) → page_at plan.runs page ≡ None
+    → first_or mark plan task page cpu ≡ mark
+first-mark plan task cpu mark page none =
+    ap (λ o. unwrap_or (option_map (λ (nodes : List ℕ). get_or nodes 0 0)
+    (option_map (λ at. row_of (rule_for plan task at.1) cpu at.0) o)) mark) none
+
+-- the same for a span, whose other pages lie higher than any that is mapped
+pub marked_rest : (plan : PlanData) (task cpu mark first done : ℕ) (out ys : List ℕ)
+    → AreApart 0 plan.runs → done ≤ length out → length ys ≡ length out - done
+    → (done < length out → 2 ^ 35 ≤ first + done)
+    → ((k : ℕ) → k < done → get_or out k 0 ≡ first_or mark plan task (first + k) cpu)
+    → ((k : ℕ) → k < length ys → get_or ys k 0 ≡ mark) → (k : ℕ) → k < length out
+    → get_or (put_mid done (length out - done) out ys) k 0
+    ≡ first_or mark plan task (first + k) cpu
+marked_rest plan task cpu mark first done out ys apart within long high before marks k lt =
+    elim (cases_lt k done) [
+      | inl early ↦
+          get_or-put_mid_below done (length out - done) out ys k 0 early (omega arith)
+          ∙ before k early
+      | inr late ↦
+          let top : 2 ^ 35 ≤ first + k = omega (arith, high (omega arith)) in
+          get_or-put_mid_mid done (length out - done) out ys k 0 (omega arith) late (omega arith)
+          ∙ marks (k - done) (omega arith)
+          ∙ sym
+          (first-mark plan task cpu mark (first + k)
+          (high_none 0 plan.runs (first + k) apart top))
+    ]
+
+-- pages of a hole that go on by one
+pub marked_none : (plan : PlanData) (task cpu mark count hole page : ℕ) (pages ys : List ℕ)
+    → count ≤ hole → ((q : ℕ) → q < hole → page_at plan.runs (page + q) ≡ None)
+    → ((k : ℕ) → k < count → get_or pages k 0 ≡ page + k)
+    → ((k : ℕ) → k < count → get_or ys k 0 ≡ mark) → (k : ℕ) → k < count
+    → get_or ys k 0 ≡ first_or mark plan task (get_or pages k 0) cpu
+marked_none plan task cpu mark count hole page pages ys within none row here k lt =
+    here k lt
+    ∙ sym
+    (ap (λ (at : ℕ). first_or mark plan task at cpu) (row k lt)
+    ∙ first-mark plan task cpu mark (page + k) (none k (omega arith)))
 
 pub counted_more : (plan : PlanData) (task cpu first page count : ℕ) (old new : List ℕ)
     (found : Found) (rule : RuleData)

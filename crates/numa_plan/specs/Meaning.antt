@@ -1,5 +1,6 @@
 -- What the data of a plan mean.
-use Rattle.std.specs.Prelude.{◌≡◌, ℕ, ◌<◌, ◌≤◌, ◌==◌, Bool, false, Option, Some, None, is_some}
+use Rattle.std.specs.Prelude.{◌≡◌, ℕ, ◌+◌, ◌^◌, ◌<◌, ◌≤◌, ◌==◌, Bool, false, Option, Some, None}
+use Rattle.std.specs.Prelude.{is_some}
 use Rattle.std.specs.Prelude.{List, slice_index, unwrap_or, option_and_then, nat_le, if◌then◌else◌}
 use Rattle.std.specs.Ordering.{nat_cmp}
 use Rattle.std.specs.BTreeMap.{is_at}
@@ -11,8 +12,9 @@ use Rattle.numa_ranges.specs.declared.run.Run.{Run}
 use Rattle.numa_machine.specs.declared.refusal.PlaceRefusal.{PlaceRefusal}
 use Rattle.numa_machine.specs.declared.refusal.PlaceRefusal.TheVariants.{BadCpu, Unmapped}
 use Rattle.numa_plan.specs.Found.{HasHole}
-use Rattle.numa_plan.specs.Rows.{RuleData, row_of}
+use Rattle.numa_plan.specs.Rows.{RuleData, row_of, HasRows}
 use Rattle.numa_plan.specs.Slots.{rule_in}
+use Rattle.numa_plan.specs.declared.runs.Found.{Found}
 use Rattle.numa_plan.specs.declared.slots.Slot.{Slot}
 
 -- the number of nodes; runs in rising order, each with the number of its rule or none; policies and
@@ -54,6 +56,10 @@ abbrev pub planned_first : PlanData → ℕ → ℕ → ℕ → Option ℕ
 planned_first plan task page cpu =
     option_map (λ nodes. slice_index nodes 0) (planned_list plan task page cpu)
 
+-- the first node of that list, or a mark where no run has the page
+abbrev pub first_or : ℕ → PlanData → ℕ → ℕ → ℕ → ℕ
+first_or unmapped plan task page cpu = unwrap_or (planned_first plan task page cpu) unmapped
+
 -- whether a number is this one
 abbrev pub is_number : ℕ → Option ℕ → Bool
 is_number number None = false
@@ -73,6 +79,16 @@ CountsFirsts plan task first pages cpu counts = (node : ℕ) → node < 256 → 
 abbrev pub place_refusal : PlanData → ℕ → ℕ → Option PlaceRefusal
 place_refusal plan page cpu = if nat_le plan.nodes cpu then Some BadCpu
     else if is_some (page_at plan.runs page) then None else Some Unmapped
+
+-- what is kept of the run that was found last: so many pages from this one on have the indexes from
+-- this one on, and the rule is theirs
+pub record IsNear (plan : PlanData) (task page : ℕ) (found : Found) (rule : RuleData) : Type 0 where
+  pub few : found.index + found.left ≤ 2 ^ 36
+  pub low : page + found.left ≤ 2 ^ 35
+  pub each : (q : ℕ) → q < found.left → page_at plan.runs (page + q)
+      ≡ Some (found.index + q, found.rule)
+  pub serves : 0 < found.left → rule ≡ rule_for plan task found.rule
+  pub rows : HasRows plan.nodes rule
 
 -- a refusal of the pages from `first` on: the faulting node is none of the plan's, or else a page
 -- isn't mapped

@@ -7,6 +7,7 @@ ghost use Rattle.numa_plan.specs.Found.{IsPartOf};
 
 use crate::guess::interpolated_place;
 use crate::runs::Found;
+use crate::spread::Spread;
 use crate::steps::Steps;
 use numa_ranges::Run;
 use std::marker::Model;
@@ -62,6 +63,24 @@ impl<'a> RunInPlace<'a> {
         }
     }
 
+    /// The distance in pages from a page to the first page of the run, behind it.
+    #[inline(always)]
+    pub(crate) fn far_before(&self, page: u64, steps: &mut Steps) -> u64
+        requires { page < self.now.first }
+        ensures { page + result ≡ self.now.first }
+    {
+        self.first(steps) - page
+    }
+
+    /// Whether the run has the page at this distance from its first page.
+    #[inline(always)]
+    pub(crate) fn has(&self, far: u64) -> bool
+        ensures within { result ≡ true → far < self.now.pages }
+        ensures past { result ≡ false → self.now.pages ≤ far }
+    {
+        far < self.run.pages
+    }
+
     /// A guess at the place of the run that has a page: this run is at place 0, and `end` at place
     /// `last`. Only speed depends on it.
     #[inline(always)]
@@ -77,6 +96,30 @@ impl<'a> RunInPlace<'a> {
         let low = self.first(steps);
         let top = end.first(steps);
         interpolated_place(page, low, top, last)
+    }
+
+    /// The spread from this run, at place 0, to `end` at place `last`.
+    pub(crate) fn spread_to(&self, end: &RunInPlace<'_>, last: usize, steps: &mut Steps) -> Spread {
+        let from = self.first(steps);
+        let to = end.first(steps);
+        Spread::whole(last, from, to)
+    }
+
+    /// The spread after a look at this run, which is at a place and doesn't have the page.
+    #[inline(always)]
+    pub(crate) fn narrow(
+        &self,
+        spread: Spread,
+        place: usize,
+        page: u64,
+        steps: &mut Steps,
+    ) -> Spread {
+        let first = self.first(steps);
+        if page < first {
+            spread.below(place, first)
+        } else {
+            spread.above(place, first)
+        }
     }
 
     /// A copy of the run, which counts as a comparison.

@@ -11,6 +11,7 @@ ghost use Rattle.numa_plan.specs.Meaning.{number_for, planned_first, CountsFirst
 
 mod build;
 mod edit;
+mod many;
 mod read;
 mod uncounted;
 

@@ -37,7 +37,7 @@ pub(crate) struct Walk<'a> {
 
 /// The middle of the places where a search goes on: at most half of them are on each side.
 #[inline(always)]
-fn middle_of(low: usize, high: usize) -> usize
+pub(crate) fn middle_of(low: usize, high: usize) -> usize
     requires { low < high }
     ensures low { low ≤ result }
     ensures high { result < high }
@@ -191,7 +191,7 @@ impl PlanRuns {
 
     /// Has a walk hold the run at a place.
     #[inline(always)]
-    fn hold<'a>(&'a self, place: usize, walk: &mut Walk<'a>)
+    pub(crate) fn hold<'a>(&'a self, place: usize, walk: &mut Walk<'a>)
         requires place { place < length self.now }
         requires part { IsChunkOf self.now walk.old.part }
         ensures part { IsChunkOf self.now walk.new.part }
@@ -264,7 +264,12 @@ impl PlanRuns {
     /// What the run at a place says of the page at a distance from its first page. The walk then
     /// holds that run.
     #[inline]
-    fn found_on<'a>(&'a self, place: usize, far: u64, walk: &mut Walk<'a>) -> Option<Found>
+    pub(crate) fn found_on<'a>(
+        &'a self,
+        place: usize,
+        far: u64,
+        walk: &mut Walk<'a>,
+    ) -> Option<Found>
         requires apart { AreApart 0 self.now }
         requires place { place < length self.now }
         requires part { IsChunkOf self.now walk.old.part }

@@ -2,19 +2,20 @@
 //! go. Of a plan's calls none that promises a bound makes one of them: `choice`,
 //! `choice_by_interpolation`, `number_at` and `window` search with the counter of their caller.
 ghost use Rattle.std.specs.Prelude.{◌≡◌, ◌≤◌, ◌<◌, ◌∷◌, ◌++◌, length, slice_get, Some, IfOk, IfErr};
-ghost use Rattle.std.specs.Prelude.{OnErr};
+ghost use Rattle.std.specs.Prelude.{OnErr, ℕ, ◌+◌, None};
 ghost use Rattle.std.specs.Bool.{OnTrue, OnFalse};
 ghost use Rattle.std.specs.List.{slice_range, splice};
-ghost use Rattle.numa_ranges.specs.Runs.{AreApart};
+ghost use Rattle.numa_ranges.specs.Runs.{AreApart, page_at};
 ghost use Rattle.numa_ranges.specs.Windows.{IsWindow};
 ghost use Rattle.numa_rows.specs.Searches.{IsChunkOf};
 ghost use Rattle.numa_plan.specs.Counted.{more_runs};
-ghost use Rattle.numa_plan.specs.Found.{IsFound, IsMapped, HasHole};
+ghost use Rattle.numa_plan.specs.Found.{IsAt, IsFound, IsMapped, HasHole};
 ghost use Rattle.numa_plan.specs.Meaning.{place_refusal, planned_list};
 
 use crate::plan::Plan;
 use crate::runs::{Beside, Found, PlanRuns};
 use crate::search::{Seen, Walk};
+use crate::spread::Spread;
 use crate::steps::Steps;
 use numa_machine::{NoMemory, PlaceRefusal};
 use numa_ranges::Run;
@@ -79,6 +80,30 @@ pub(super) fn found_next<'a>(runs: &'a PlanRuns, page: u64, walk: &mut Walk<'a>)
     ensures found { IsFound runs.now page result }
 {
     runs.find_next(page, walk, &mut Steps::new())
+}
+
+/// `PlanRuns::spread`.
+#[inline(always)]
+pub(super) fn spread_of(runs: &PlanRuns) -> Spread {
+    runs.spread(&mut Steps::new())
+}
+
+/// `PlanRuns::tell`.
+#[inline(always)]
+pub(super) fn told<'a>(
+    runs: &'a PlanRuns,
+    page: u64,
+    spread: Spread,
+    walk: &mut Walk<'a>,
+) -> Result<Found, u64>
+    requires part { IsChunkOf runs.now walk.old.part }
+    ensures part { IsChunkOf runs.now walk.new.part }
+    ensures found { IfOk result (λ found. IsAt runs.now page found) }
+    ensures some { IfErr result (λ count. 0 < count) }
+    ensures hole { IfErr result (λ count. (q : ℕ) → q < count
+        → page_at runs.now (page + q) ≡ None) }
+{
+    runs.tell(page, spread, walk, &mut Steps::new())
 }
 
 /// `PlanRuns::find_near`.

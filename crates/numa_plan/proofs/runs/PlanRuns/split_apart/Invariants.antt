@@ -1,0 +1,13 @@
+use Rattle.std.proofs.Common.{◌-◌}
+use Rattle.numa_rows.specs.Searches.{IsChunkOf}
+use Rattle.numa_plan.proofs.Searching.{IsNarrowed}
+use Rattle.numa_plan.proofs.runs.PlanRuns.split_apart.Given as goal
+
+abbrev pub invariant-loop-low : goal.invariant-loop-low
+invariant-loop-low l = record {
+  place : IsNarrowed l.self l.page l.low l.high l.far;
+  part : IsChunkOf l.self l.walk.part;
+}
+
+abbrev pub decreases-loop-low : goal.decreases-loop-low
+decreases-loop-low l = l.high - l.low
