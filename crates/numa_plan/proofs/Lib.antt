@@ -9,4 +9,5 @@ pub mod RuleLemmas
 pub mod Searching
 pub mod SlotLemmas
 pub mod TaskPlaces
+pub mod TurnLemmas
 pub mod UseLemmas

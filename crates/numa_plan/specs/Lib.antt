@@ -9,3 +9,4 @@ pub mod Slots
 pub mod Sound
 pub mod Tally
 pub mod TaskTable
+pub mod Turns

@@ -8,7 +8,8 @@
 //! [`Plan::choice`] lends the list of a page. [`Plan::fill`] and [`Plan::counts`] handle a whole
 //! span, run by run: the first node of each page's list, and the number of pages for which each
 //! node is the first. [`Plan::fill_marked`] and [`Plan::nodes_of`] do so for a span with holes and
-//! for pages in whatever order, with a mark for those that no run has. None of the five allocates.
+//! for pages in whatever order, with a mark for those that no run has. [`Plan::turns_at`] says of a
+//! run after how many of its pages their lists come again. None of the six allocates.
 //!
 //! `specs/Meaning.antt` defines the meaning of a plan's data, `specs/Rows.antt` a rule's rows, and
 //! `specs/Building.antt` the effects of the building calls.
@@ -30,7 +31,7 @@ mod tally;
 mod task_numbers;
 mod tell;
 
-pub use plan::{ListAnswer, Plan};
+pub use plan::{ListAnswer, PageTurns, Plan};
 pub use rule::Rule;
 pub use shared_rule::SharedRule;
 pub use steps::Steps;

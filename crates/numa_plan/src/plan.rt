@@ -13,9 +13,11 @@ mod build;
 mod edit;
 mod many;
 mod read;
+mod turns;
 mod uncounted;
 
 use crate::numbers::Numbers;
+pub use crate::plan::turns::PageTurns;
 use crate::plan::uncounted::{covers, found_next, walk_from, walk_on};
 use crate::rule::Rule;
 use crate::runs::{Found, PlanRuns};

@@ -5,6 +5,7 @@ ghost use Rattle.numa_ranges.specs.Counts.{count_pages};
 ghost use Rattle.numa_plan.specs.Tally.{Adds, HasRoom};
 ghost use Rattle.numa_plan.specs.Rows.{row_number, row_of, first_of, HasRow};
 ghost use Rattle.numa_plan.specs.Rows.{Faulting, Fixed, InTurns};
+ghost use Rattle.numa_plan.specs.Turns.{cycle_of};
 
 use crate::rows::{first_cycle, row_at};
 use crate::tally::{Tally, add_turns};
@@ -139,6 +140,17 @@ impl Rule {
                 let turn = (index % cycle.len() as u64) as usize;
                 row_at(rows, *width, usize::from(cycle[turn]))
             }
+        }
+    }
+
+    /// The number of indexes after which the rows come again: the length of the cycle, or 1.
+    pub(crate) fn cycle_len(&self) -> u64
+        ensures { result ≡ cycle_of self.now }
+    {
+        match &self.body {
+            Body::Turns { cycle, .. } => cycle.len() as u64,
+            Body::Faulting { .. } => 1,
+            Body::Fixed { .. } => 1,
         }
     }
 
