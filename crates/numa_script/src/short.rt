@@ -5,14 +5,11 @@ ghost use Rattle.std.specs.Prelude.{◌≡◌, ◌+◌, ◌≤◌, ◌++◌, [],
 use itoa::write_digits;
 use std::marker::Model;
 
-/// The most bytes of a short text.
-const ROOM: usize = 256;
-
 /// Writes the digits of a number so that they end at a place, and returns where they start.
 #[inline(always)]
-fn write_number(number: u64, bytes: &mut [u8; ROOM], end: usize) -> usize
+fn write_number(number: u64, bytes: &mut [u8], end: usize) -> usize
     requires room { length (decimal number) ≤ end }
-    requires within { end ≤ 256 }
+    requires within { end ≤ length bytes.old }
     ensures start { result + length (decimal number) ≡ end }
     ensures written { drop result bytes.new ≡ decimal number ++ drop end bytes.old }
 {
@@ -23,27 +20,28 @@ fn write_number(number: u64, bytes: &mut [u8; ROOM], end: usize) -> usize
     write_digits(number, bytes, end)
 }
 
-/// A short text as far as it is written: its last part.
+/// A text of at most `ROOM` bytes as far as it is written: its last part. All its room is zeroed
+/// first, so a small one costs less.
 #[derive(Drop)]
-pub(crate) struct ShortText {
+pub(crate) struct ShortText<const ROOM: usize> {
     bytes: [u8; ROOM],
     start: usize,
 }
 
-impl Model for ShortText {
-    ghost use Rattle.std.specs.Prelude.{ℕ, List, ◌≤◌, drop};
+impl<const ROOM: usize> Model for ShortText<ROOM> {
+    ghost use Rattle.std.specs.Prelude.{◌≡◌, ℕ, List, ◌≤◌, drop, length};
 
     ghost Value = { List ℕ };
 
     ghost view = { λ t. drop t.start t.bytes };
 
-    ghost invariant = { λ t. t.start ≤ 256 };
+    ghost invariant = { λ t. (t.start ≤ ROOM) × (length t.bytes ≡ ROOM) };
 }
 
-impl ShortText {
+impl<const ROOM: usize> ShortText<ROOM> {
     /// The empty text.
     #[inline(always)]
-    pub(crate) fn new() -> ShortText
+    pub(crate) fn new() -> ShortText<ROOM>
         ensures { result ≡ [] }
     {
         ShortText {
@@ -57,24 +55,26 @@ impl ShortText {
     pub(crate) fn bytes(&self) -> &[u8]
         ensures { result.now ≡ self.now }
     {
-        &self.bytes[self.start..]
+        let all = &self.bytes[..];
+        &all[self.start..]
     }
 
     /// Puts a part before the text.
     #[inline(always)]
     pub(crate) fn put(&mut self, part: &[u8])
-        requires { length part.now + length self.old ≤ 256 }
+        requires { length part.now + length self.old ≤ ROOM }
         ensures { self.new ≡ part.now ++ self.old }
     {
         let start = self.start - part.len();
-        self.bytes[start..self.start].copy_from_slice(part);
+        let all = &mut self.bytes[..];
+        all[start..self.start].copy_from_slice(part);
         self.start = start;
     }
 
     /// Puts a number before the text.
     #[inline(always)]
     pub(crate) fn put_number(&mut self, number: u64)
-        requires { length self.old + 20 ≤ 256 }
+        requires { length self.old + 20 ≤ ROOM }
         ensures text { self.new ≡ decimal number ++ self.old }
         ensures short { length self.new ≤ length self.old + 20 }
     {
@@ -84,7 +84,7 @@ impl ShortText {
     /// Puts the number of a node before the text.
     #[inline(always)]
     pub(crate) fn put_node(&mut self, node: u8)
-        requires { length self.old + 3 ≤ 256 }
+        requires { length self.old + 3 ≤ ROOM }
         ensures text { self.new ≡ decimal node ++ self.old }
         ensures short { length self.new ≤ length self.old + 3 }
     {

@@ -14,7 +14,7 @@ ghost use Rattle.numa_script.specs.Replies.{is_wider};
 ghost use Rattle.numa_script.specs.Texts.{refused_text, text_of, win_answer, word_text};
 
 use crate::names::{Named, host_errno_name, host_refusal_name, move_cause, placed_cause};
-use crate::nodes::{FEW, say_each_node, say_few};
+use crate::nodes::{FEW, MORE, say_each_node, say_few, say_more};
 use crate::policy::WordError;
 use crate::reply::{Reply, Win};
 use crate::short::ShortText;
@@ -46,7 +46,7 @@ fn say_count<W: Write>(output: &mut Watched<W>, text: &[u8], count: u64)
     requires { length text.now ≤ 16 }
     ensures { Said W.contents output.old output.new (text.now ++ decimal count ++ codes "\n") }
 {
-    let mut line = ShortText::new();
+    let mut line = ShortText::<96>::new();
     line.put(b"\n");
     line.put_number(count);
     line.put(text);
@@ -115,8 +115,8 @@ fn say_cause<W: Write>(output: &mut Watched<W>, cause: CoreRefusal)
 
 /// Puts a frame before a text: its node, and its number on that node.
 #[inline(always)]
-fn put_frame(text: &mut ShortText, node: u8, number: u16)
-    requires { length text.old ≤ 64 }
+fn put_frame(text: &mut ShortText<96>, node: u8, number: u16)
+    requires { length text.old ≤ 60 }
     ensures text { text.new ≡ frame_text node number ++ text.old }
     ensures short { length text.new ≤ length text.old + 36 }
 {
@@ -130,7 +130,7 @@ fn put_frame(text: &mut ShortText, node: u8, number: u16)
 fn say_win<W: Write>(output: &mut Watched<W>, win: &Win)
     ensures { Said W.contents output.old output.new (win_answer win.now) }
 {
-    let mut line = ShortText::new();
+    let mut line = ShortText::<96>::new();
     line.put(b"\n");
     line.put_number(u64::from(win.rank));
     line.put(b" rank ");
@@ -147,7 +147,7 @@ fn say_frame<W: Write>(output: &mut Watched<W>, word: &[u8], frame: Frame)
     ensures { Said W.contents output.old output.new
         (word.now ++ frame_text frame.node frame.number ++ codes "\n") }
 {
-    let mut line = ShortText::new();
+    let mut line = ShortText::<96>::new();
     line.put(b"\n");
     put_frame(&mut line, frame.node, frame.number);
     line.put(word);
@@ -168,6 +168,10 @@ pub fn say_nodes<W: Write>(output: &mut Watched<W>, version: u64, nodes: &[u8])
 {
     if nodes.len() <= FEW {
         say_few(output, version, nodes);
+        return;
+    }
+    if nodes.len() <= MORE {
+        say_more(output, version, nodes);
         return;
     }
     say_version(output, version);

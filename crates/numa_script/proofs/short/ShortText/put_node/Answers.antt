@@ -5,7 +5,7 @@ use Rattle.std.proofs.lemmas.Fmt.{length-decimal-le}
 use Rattle.numa_script.proofs.short.ShortText.put_node.Goals as goal
 
 pub write_number-self-inside-requires : goal.write_number-self-inside-requires
-write_number-self-inside-requires c =
+write_number-self-inside-requires g c =
     let long : length (decimal c.from.result) ≤ 3 =
     length-decimal-le 3 c.from.result (omega arith)
     (omega (arith, c.from.ensures, c.ranges.node.fits))
@@ -13,12 +13,19 @@ write_number-self-inside-requires c =
     let same : length (drop c.self.inside.start c.self.inside.bytes) ≡ length c.args.self.now =
     ap length c.self.view_is in
     record {
-      room = omega (arith, long, same, length-drop c.self.inside.start c.self.inside.bytes);
-      within = omega arith;
+      room = omega (
+        arith,
+        long,
+        same,
+        length-drop c.self.inside.start c.self.inside.bytes,
+        c.self.invariant.0,
+        c.self.invariant.1,
+      );
+      within = omega (arith, c.self.invariant.0, c.self.invariant.1);
     }
 
 pub returns-clause-short : goal.returns-clause-short
-returns-clause-short c =
+returns-clause-short g c =
     let long : length (decimal c.from.result) ≤ 3 =
     length-decimal-le 3 c.from.result (omega arith)
     (omega (arith, c.from.ensures, c.ranges.node.fits))
