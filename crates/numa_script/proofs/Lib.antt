@@ -7,8 +7,10 @@ pub mod Gaps
 pub mod Malformations
 pub mod Misfits
 pub mod Numerals
+pub mod Listed
 pub mod PlainForms
 pub mod Seeing
+pub mod ShortLists
 pub mod Spaces
 pub mod Worked
 pub mod WorkedCauses

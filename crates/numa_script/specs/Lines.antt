@@ -315,6 +315,7 @@ is_common keyword.Place = true
 is_common keyword.Span = true
 is_common keyword.Counts = true
 is_common keyword.Mbind = true
+is_common keyword.Task = true
 is_common keyword.Touch = true
 is_common keyword.Release = true
 is_common _ = false

@@ -1,16 +1,17 @@
 //! Lines of commands that have a policy or a list of nodes.
 ghost use Rattle.std.specs.Prelude.{◌≡◌, Err, is_some, unwrap_or};
+ghost use Rattle.numa_requests.specs.declared.command.Command.TheVariants.{SetTask};
 ghost use Rattle.numa_script.specs.Lines.{bind_line, bound_line, empty_bind, mbind_line};
-ghost use Rattle.numa_script.specs.Lines.{mems_line, task_line};
+ghost use Rattle.numa_script.specs.Lines.{mems_line, task_line, with_policy};
 
 use crate::line::Line;
 use crate::number::{number, small};
 use crate::page_line::{BoundPages, pages_said};
-use crate::policy::{WordError, read_policy, waits_for_pages};
+use crate::policy::{WordError, read_nodes, read_policy, waits_for_pages};
 use crate::reading::two_words;
 use crate::words::Words;
 use bitflags::Flags;
-use numa_mask::{NodeMask, read_list};
+use numa_mask::NodeMask;
 use numa_mode::{Mode, PolicyFlags, PolicySpec};
 use numa_requests::Command;
 
@@ -38,39 +39,44 @@ fn faulty_bind<'a>(start: u64, length: u64, fault: WordError) -> Line<'a>
     Line::Command(Err(fault))
 }
 
-/// An `mbind` of these words, with nothing behind its policy.
+/// Writes an `mbind` of these words, with nothing behind its policy, where it goes.
 #[inline(always)]
-fn plain_bind<'a>(start: u64, length: u64, policy: Result<PolicySpec, WordError>) -> Line<'a>
-    ensures { result ≡ bind_line start length policy }
+fn tell_plain(start: u64, length: u64, policy: &Result<PolicySpec, WordError>, said: &mut Line)
+    ensures { said.new ≡ bind_line start length policy.now }
 {
     match policy {
-        Ok(spec) => Line::Command(Ok(Command::Mbind {
-            start,
-            length,
-            spec,
-        })),
-        Err(fault) => faulty_bind(start, length, fault),
+        Ok(spec) => {
+            *said = Line::Command(Ok(Command::Mbind {
+                start,
+                length,
+                spec: *spec,
+            }));
+        }
+        Err(fault) => *said = faulty_bind(start, length, *fault),
     }
 }
 
-/// An `mbind` of these words.
+/// Writes an `mbind` of these words where it goes.
 #[inline(always)]
-fn bound<'a>(
+fn tell_bound(
     pages: Option<BoundPages>,
     start: u64,
     length: u64,
-    policy: Result<PolicySpec, WordError>,
-) -> Line<'a>
-    ensures { result ≡ bound_line pages start length policy }
+    policy: &Result<PolicySpec, WordError>,
+    said: &mut Line,
+)
+    ensures { said.new ≡ bound_line pages start length policy.now }
 {
     match pages {
-        None => plain_bind(start, length, policy),
-        Some(pages) => Line::Bind {
-            start,
-            length,
-            policy,
-            pages,
-        },
+        None => tell_plain(start, length, policy, said),
+        Some(pages) => {
+            *said = Line::Bind {
+                start,
+                length,
+                policy: *policy,
+                pages,
+            };
+        }
     }
 }
 
@@ -86,27 +92,38 @@ pub(crate) fn mbind(mut words: Words, said: &mut Line) -> Option<()>
     let start = number(start)?;
     let length = number(length)?;
     let pages = pages_said(words)?;
-    *said = bound(pages, start, length, read_policy(policy));
+    tell_bound(pages, start, length, &read_policy(policy), said);
     Some(())
 }
 
+/// Writes a command for a task's policy where it goes.
+#[inline(always)]
+fn tell_task(task: u32, policy: &Result<PolicySpec, WordError>, said: &mut Line)
+    ensures { said.new ≡ with_policy (SetTask task) policy.now }
+{
+    match policy {
+        Ok(spec) => *said = Line::Command(Ok(Command::SetTask { task, spec: *spec })),
+        Err(fault) => *said = Line::Command(Err(*fault)),
+    }
+}
+
 /// `task TASK POLICY`
-pub(crate) fn task(words: Words) -> Option<Line>
-    ensures { result ≡ task_line words.entry }
+#[inline(never)]
+pub(crate) fn task(words: Words, said: &mut Line) -> Option<()>
+    ensures said { said.new ≡ unwrap_or (task_line words.entry) said.old }
+    ensures is { is_some result ≡ is_some (task_line words.entry) }
 {
     let (task, policy) = two_words(words)?;
     let task = small(task)?;
-    match read_policy(policy) {
-        Ok(spec) => Some(Line::Command(Ok(Command::SetTask { task, spec }))),
-        Err(fault) => Some(Line::Command(Err(fault))),
-    }
+    tell_task(task, &read_policy(policy), said);
+    Some(())
 }
 
 /// `mems LIST`
 pub(crate) fn mems(words: Words) -> Option<Line>
     ensures { result ≡ mems_line words.entry }
 {
-    match read_list(words.only()?) {
+    match read_nodes(words.only()?) {
         Ok(mask) => Some(Line::Command(Ok(Command::SetMems { mask }))),
         Err(fault) => Some(Line::Command(Err(WordError::List(fault)))),
     }

@@ -154,7 +154,7 @@ impl Keyword {
 /// Whether a word is this name, which is as long: letter by letter, so that the compiler has the
 /// letters of the name.
 #[inline(always)]
-fn is(word: &[u8], name: &[u8]) -> bool
+pub(crate) fn is(word: &[u8], name: &[u8]) -> bool
     requires { length word.now ≡ length name.now }
     ensures { result ≡ bytes_eq word.now name.now }
 {

@@ -297,7 +297,6 @@ fn rare_line(keyword: Keyword, words: Words) -> Option<Line>
             length,
             node,
         })),
-        Keyword::Task => task(words),
         Keyword::Inherit => command_line(two(words).map(|(task, from)| Inherit { task, from })),
         Keyword::Weight => command_line(two(words).map(|(node, weight)| SetWeight {
             node,
@@ -353,6 +352,7 @@ fn tell_line<'a>(keyword: Keyword, words: Words<'a>, said: &mut Line<'a>) -> Opt
         Keyword::Span => span(words, said),
         Keyword::Counts => counts(words, said),
         Keyword::Mbind => mbind(words, said),
+        Keyword::Task => task(words, said),
         Keyword::Touch => tell_work(touch(words), said),
         Keyword::Release => tell_work(release(words), said),
         _ => tell_rare(keyword, words, said),

@@ -1,10 +1,12 @@
 //! Policy words: NAME, then optionally `=static`, `=relative` and `:LIST`, in this order.
-ghost use Rattle.std.specs.Prelude.{◌≡◌, ◌==◌, ℕ, true, Ok};
+ghost use Rattle.std.specs.Prelude.{◌≡◌, ◌==◌, ◌++◌, ◌∷◌, [], ℕ, true, Ok, Some, IfSome};
+ghost use Rattle.numa_mask.specs.Lists.{list_of};
 ghost use Rattle.numa_mode.specs.Flags.{has_static, has_relative};
 ghost use Rattle.numa_script.specs.Policies.{mode_of, form_with, form_of, form_of_two};
 ghost use Rattle.numa_script.specs.Policies.{form_of_three, plain_form, policy_from, policy_of};
 ghost use Rattle.numa_script.specs.Policies.{waits_for_pages};
 
+use crate::keyword::is;
 use crate::table::meaning;
 use bitflags::Flags;
 use numa_mask::parts::first_place;
@@ -160,6 +162,98 @@ fn policy(
     }
 }
 
+/// The nodes from one digit to another, both included.
+#[inline(always)]
+fn between(first: u8, last: u8) -> Option<NodeMask>
+    ensures span { IfSome result (λ set. list_of (first ∷ 45 ∷ last ∷ []) ≡ Ok set) }
+    ensures one { IfSome result (λ set. first ≡ last → list_of (first ∷ []) ≡ Ok set) }
+{
+    if first < b'0' || last < first || b'9' < last {
+        return None;
+    }
+    let up_to_last = u64::MAX >> (63 - (last - b'0'));
+    let from_first = u64::MAX << (first - b'0');
+    Some(NodeMask::from_words([up_to_last & from_first, 0, 0, 0]))
+}
+
+/// The nodes of a list that is one digit, or two around a dash.
+#[inline(always)]
+fn short_list(list: &[u8]) -> Option<NodeMask>
+    ensures { IfSome result (λ set. list_of list.now ≡ Ok set) }
+{
+    let size = list.len();
+    if size == 1 {
+        return between(list[0], list[0]);
+    }
+    if size != 3 || list[1] != b'-' {
+        return None;
+    }
+    between(list[0], list[2])
+}
+
+/// The nodes of a list. Most are short, and needn't be cut.
+#[inline(always)]
+pub(crate) fn read_nodes(list: &[u8]) -> Result<NodeMask, ListFault>
+    ensures { result ≡ list_of list.now }
+{
+    match short_list(list) {
+        Some(set) => Ok(set),
+        None => read_list(list),
+    }
+}
+
+/// The text behind a front, if a word begins with it.
+#[inline(always)]
+fn behind<'a>(word: &'a [u8], front: &[u8]) -> Option<&'a [u8]>
+    ensures { IfSome result (λ rest. word.now ≡ front.now ++ rest.now) }
+{
+    let size = front.len();
+    if word.len() < size {
+        return None;
+    }
+    if is(&word[..size], front) {
+        return Some(&word[size..]);
+    }
+    None
+}
+
+/// The mode and the list of a word that begins with a mode's name and a colon. Most do, and neither
+/// is sought.
+#[inline(always)]
+fn listed(word: &[u8]) -> Option<(Mode, &[u8])>
+    ensures { IfSome result (λ it. policy_of word.now
+        ≡ policy_from (Some (plain_form it.0)) (list_of it.1.now)) }
+{
+    if let Some(list) = behind(word, b"prefer:") {
+        return Some((Mode::Preferred, list));
+    }
+    if let Some(list) = behind(word, b"bind:") {
+        return Some((Mode::Bind, list));
+    }
+    if let Some(list) = behind(word, b"interleave:") {
+        return Some((Mode::Interleave, list));
+    }
+    if let Some(list) = behind(word, b"weighted:") {
+        return Some((Mode::WeightedInterleave, list));
+    }
+    if let Some(list) = behind(word, b"many:") {
+        return Some((Mode::PreferredMany, list));
+    }
+    None
+}
+
+/// The policy of a word that is cut at its first colon.
+#[inline(never)]
+#[tactic(auto, unfolding(crate::specs::Policies::policy_of))]
+fn read_cut(word: &[u8]) -> Result<PolicySpec, WordError>
+    ensures { result ≡ policy_of word.now }
+{
+    match first_place(word, b':') {
+        None => policy(read_form(word), Ok(NodeMask::empty())),
+        Some(colon) => policy(read_form(&word[..colon]), read_list(&word[colon + 1..])),
+    }
+}
+
 /// Reads a policy word, such as `bind=static:0,2-3`: a mode's name, flags, and after the first
 /// colon a list of nodes. Without a colon there are no nodes.
 ///
@@ -167,13 +261,12 @@ fn policy(
 /// The first that applies: `Policy(UnknownMode)`, the part before the colon isn't a mode's name
 /// with flags; `List`, what is wrong with the list; `Policy`, as [`PolicySpec::new`] refuses the
 /// mode, the flags and the nodes.
-#[tactic(auto, unfolding(crate::specs::Policies::policy_of))]
 pub fn read_policy(word: &[u8]) -> Result<PolicySpec, WordError>
     ensures { result ≡ policy_of word.now }
 {
-    match first_place(word, b':') {
-        None => policy(read_form(word), Ok(NodeMask::empty())),
-        Some(colon) => policy(read_form(&word[..colon]), read_list(&word[colon + 1..])),
+    match listed(word) {
+        Some((mode, list)) => policy(Some(plain_form(mode)), read_nodes(list)),
+        None => read_cut(word),
     }
 }
 
