@@ -1,5 +1,5 @@
 -- A policy word that begins with a mode's name and a colon is cut there.
-use Rattle.std.specs.Prelude.{◌≡◌, ◌==◌, ◌++◌, ◌+◌, ℕ, List, codes, Some, None, position, length}
+use Rattle.std.specs.Prelude.{◌≡◌, ◌==◌, ◌++◌, ℕ, List, codes, Some, None, position, length}
 use Rattle.std.specs.Prelude.{nat_le, Bool, true, cond, Option}
 use Rattle.std.proofs.Common.{◌∙◌, ap, arith, ◌≤◌, refl, length-append}
 use Rattle.std.proofs.lemmas.Bool.Decides.{nat_tests}

@@ -1,7 +1,7 @@
 -- Lists of nodes that are a digit, or two around a dash.
 use Rattle.std.specs.Prelude.{◌≡◌, ◌==◌, ◌&&◌, ◌+◌, ◌-◌, ◌*◌, ◌/◌, ◌%◌, ◌<◌, ◌≤◌, ◌^◌, ℕ, suc}
-use Rattle.std.specs.Prelude.{Bool, true, false, List, [], ◌∷◌, Result, Ok, Err, refl, bit_and}
-use Rattle.std.proofs.Common.{◌∙◌, ap, sym, subst, arith, inl, inr, zero}
+use Rattle.std.specs.Prelude.{Bool, true, false, [], ◌∷◌, Result, Ok, Err, refl, bit_and}
+use Rattle.std.proofs.Common.{◌∙◌, ap, sym, arith, inl, inr, zero}
 use Rattle.std.proofs.lemmas.Bool.{cases_lt}
 use Rattle.std.proofs.lemmas.Bool.Decides.{nat_tests}
 use Rattle.numa_mask.specs.Lists.{digit_of, ends_of, item_of, list_of, numeral_of}

@@ -1,4 +1,4 @@
-use Rattle.std.proofs.Common.{◌≡◌, ◌-◌, ℕ, ap, ◌∙◌, sym, arith, Ok}
+use Rattle.std.proofs.Common.{◌-◌, ℕ, ap, ◌∙◌, sym, arith, Ok}
 use Rattle.numa_script.proofs.ShortLists.{span_listed, digit_listed, few}
 use Rattle.numa_script.proofs.policy.between.Goals as goal
 
