@@ -483,6 +483,7 @@ uint32_t np_answer_errno(uint32_t code, uint32_t *number);
 }
 #endif
 
+#include "numaplan_plans.h"
 #include "numaplan_pools.h"
 #include "numaplan_reports.h"
 #include "numaplan_hosts.h"

@@ -5,7 +5,7 @@ and what it has to be. Not proved."""
 from __future__ import annotations
 
 import os
-from ctypes import Array, c_uint8
+from ctypes import Array, c_uint8, c_uint64
 from operator import index
 from reprlib import repr as shown
 from typing import TYPE_CHECKING, Any, Iterable, Mapping, SupportsIndex, Union
@@ -173,6 +173,21 @@ def ensure(name: str, value: object, kind: type, word: str) -> None:
     """Something has to be an object of a class, which a word names."""
     if not isinstance(value, kind):
         raise _wrong(name, value, f"it has to be a {word}")
+
+
+def u64s_to_read(name: str, values: Numbers) -> "tuple[Array[c_uint64], int]":
+    """The place of numbers of 64 bits, and how many there are: those of a buffer that can be written
+    without a copy."""
+    try:
+        view = memoryview(values)  # type: ignore[arg-type]
+    except TypeError:
+        view = memoryview(b"")
+    if view.ndim == 1 and view.format in ("Q", "L", "<Q", "=Q") and view.itemsize == 8 and len(view):
+        if view.c_contiguous and not view.readonly:
+            return (c_uint64 * len(view)).from_buffer(view), len(view)
+        return (c_uint64 * len(view)).from_buffer_copy(view.tobytes()), len(view)
+    numbers = u64s(name, values)
+    return (c_uint64 * max(len(numbers), 1))(*numbers), len(numbers)
 
 
 def bytes_to_write(name: str, buffer: Buffer) -> "tuple[Array[c_uint8], int]":

@@ -179,6 +179,8 @@ _SIGNATURES = {
     "plan_version": [_HANDLE, POINTER(_U64)],
     "plan_choice": [_HANDLE, _U32, _U64, _U32, *_ROOM],
     "plan_fill": [_HANDLE, _U32, _U32, _U64, POINTER(c_uint8), c_size_t],
+    "plan_fill_marked": [_HANDLE, _U32, _U32, _U64, POINTER(c_uint8), c_size_t, c_uint8],
+    "plan_nodes": [_HANDLE, _U32, _U32, c_void_p, c_size_t, POINTER(c_uint8), c_size_t, c_uint8],
     "plan_counts": [_HANDLE, _U32, _U32, _U64, _U64, POINTER(_U64 * 256)],
     "seat_open": [_HANDLE, _TEXT, c_size_t, POINTER(_U32), c_size_t, _TEXT, c_size_t],
     "seat_split": [_HANDLE, _HANDLE],

@@ -2,12 +2,12 @@
 
 from __future__ import annotations
 
-from ctypes import byref, c_size_t, c_uint8, c_uint32, c_uint64, memmove
-from typing import TYPE_CHECKING, Any, Iterator, overload
+from ctypes import byref, c_size_t, c_uint8, c_uint64, memmove
+from typing import TYPE_CHECKING, Any, overload
 
-from ._calls import call, untyped
-from ._causes import refusal
-from ._judged import Numbers, bytes_to_write, u32, u64, u64s
+from ._calls import call
+from ._causes import Unmapped
+from ._judged import Numbers, bytes_to_write, u8, u32, u64, u64s_to_read
 from ._library import LIBRARY, Handle
 from ._owners import Owner
 
@@ -73,43 +73,53 @@ class Plan(Owner):
         return list(found[:count.value])
 
     @overload
-    def choice_many(self, task: int, pages: Numbers, cpu: int,
-                    nodes: None = None) -> bytearray: ...
+    def choice_many(self, task: int, pages: Numbers, cpu: int, nodes: None = None,
+                    unmapped: "int | None" = None) -> bytearray: ...
 
     @overload
-    def choice_many(self, task: int, pages: Numbers, cpu: int, nodes: AnyBuffer) -> AnyBuffer: ...
+    def choice_many(self, task: int, pages: Numbers, cpu: int, nodes: AnyBuffer,
+                    unmapped: "int | None" = None) -> AnyBuffer: ...
 
-    def choice_many(self, task: int, pages: Numbers, cpu: int,
-                    nodes: "Buffer | None" = None) -> Buffer:
+    def choice_many(self, task: int, pages: Numbers, cpu: int, nodes: "Buffer | None" = None,
+                    unmapped: "int | None" = None) -> Buffer:
         """The first node of the list of each of these pages (numbers, in any order), a byte each:
         in a new bytearray, or in the buffer that is handed in (a bytearray, a memoryview, an
-        array('B'), numpy's of uint8), which has as many unsigned bytes as there are pages. Raises
-        BadCpu, Unmapped; then the buffer is as it was."""
-        numbers = u64s("pages", pages)
-        found = (c_uint8 * max(len(numbers), 1))()
-        fill, touch = untyped("plan_fill"), (c_uint32(u32("task", task)), c_uint32(u32("cpu", cpu)))
-        kept = self._at
-        for begin, count in _runs(numbers):
-            first = c_uint64(numbers[begin] if count else 0)
-            code = fill(kept, *touch, first, byref(found, begin), c_size_t(count))
-            if code:
-                raise refusal(code)
-        into: Buffer = bytearray(len(numbers)) if nodes is None else nodes
+        array('B'), numpy's of uint8), which has as many unsigned bytes as there are pages. An array
+        of 64-bit numbers (numpy's of uint64) is taken without a copy. A page that isn't mapped has
+        the mark `unmapped`, as 255; without a mark it raises Unmapped, and the buffer is as it was.
+        Raises BadCpu."""
+        numbers, count = u64s_to_read("pages", pages)
+        into: Buffer = bytearray(count) if nodes is None else nodes
         place, room = bytes_to_write("nodes", into)
-        if room != len(numbers):
-            wanted = f"{len(numbers)} page{'s' * (len(numbers) != 1)}"
+        if room != count:
+            wanted = f"{count} page{'s' * (count != 1)}"
             raise ValueError(f"nodes has {room} bytes for {wanted}")
-        memmove(place, found, room)
+        asked = u32("task", task), u32("cpu", cpu), byref(numbers), count
+        if unmapped is not None:
+            self._call("plan_nodes", *asked, place, count, u8("unmapped", unmapped))
+            return into
+        found = (c_uint8 * max(count, 1))()
+        self._call("plan_nodes", *asked, found, count, 255)
+        if 255 in memoryview(found).cast("B")[:count].tobytes():
+            other = (c_uint8 * count)()
+            self._call("plan_nodes", *asked, other, count, 254)
+            if bytes(other) != bytes(found):
+                raise Unmapped
+        memmove(place, found, count)
         return into
 
-    def fill(self, task: int, cpu: int, first: int, nodes: Buffer) -> None:
+    def fill(self, task: int, cpu: int, first: int, nodes: Buffer,
+             unmapped: "int | None" = None) -> None:
         """Writes the first node of each page's list into a bytearray, a memoryview, an array('B')
         or another buffer of unsigned bytes that can be written, without a copy: of as many pages
-        from number `first` on as it has bytes. Another buffer is a TypeError. Raises BadCpu,
-        Unmapped."""
+        from number `first` on as it has bytes. Another buffer is a TypeError. A page that isn't
+        mapped has the mark `unmapped`, as 255; without a mark it raises Unmapped. Raises BadCpu."""
         place, count = bytes_to_write("nodes", nodes)
-        self._call("plan_fill", u32("task", task), u32("cpu", cpu), u64("first", first), place,
-              count)
+        asked = u32("task", task), u32("cpu", cpu), u64("first", first), place, count
+        if unmapped is None:
+            self._call("plan_fill", *asked)
+        else:
+            self._call("plan_fill_marked", *asked, u8("unmapped", unmapped))
 
     def counts(self, task: int, cpu: int, first: int, pages: int) -> dict[int, int]:
         """How many of so many pages from number `first` on have each node first, for each node that
@@ -119,13 +129,3 @@ class Plan(Owner):
               u64("pages", pages), byref(counts))
         return {node: count for node, count in enumerate(counts) if count}
 
-
-def _runs(numbers: list[int]) -> Iterator[tuple[int, int]]:
-    """The runs of numbers that go on by one: where each begins, and how many they are; of none, one
-    without any, so that a call judges the rest."""
-    begin = 0
-    for end in range(1, len(numbers)):
-        if numbers[end] != numbers[end - 1] + 1:
-            yield begin, end - begin
-            begin = end
-    yield begin, len(numbers) - begin

@@ -33,6 +33,7 @@ static void closed(void) {
     np_plan plan = {0};
     uint64_t a = 7, b = 8;
     uint8_t nodes[2] = {9, 9};
+    const uint64_t pages[2] = {16, 17};
     np_core_close(&core);
     np_plan_close(&plan);
     WANT(np_core_map(&core, 0x10000, 4096, 0), NP_CLOSED);
@@ -43,7 +44,10 @@ static void closed(void) {
     WANT(np_core_compile(&core, &plan), NP_CLOSED);
     WANT(np_core_plan(&core, &plan), NP_CLOSED);
     WANT(np_plan_fill(&plan, 1, 0, 16, nodes, 2), NP_CLOSED);
+    WANT(np_plan_fill_marked(&plan, 1, 0, 16, nodes, 2, 255), NP_CLOSED);
+    WANT(np_plan_nodes(&plan, 1, 0, pages, 2, nodes, 2, 255), NP_CLOSED);
     WANT(nodes[0], 9);
+    WANT(nodes[1], 9);
     WANT(memcmp(&core, &zero, sizeof core) == 0, 1);
 }
 
@@ -140,6 +144,33 @@ static void *fill_many(void *handle) {
     return NULL;
 }
 
+/* Pages 16 to 19 in turns, 20 on node 1, 21 on the CPU's node, the others marked: of a span that
+ * begins and ends among others, one that reaches past the highest number, and in no order. */
+static void marks(const np_plan *plan) {
+    static const uint64_t pages[9] = {21, 16, 17, 18, 30, 20, 16, UINT64_MAX, (uint64_t)1 << 35};
+    static const uint8_t span[8] = {200, 0, 1, 0, 1, 1, 1, 200};
+    static const uint8_t each[9] = {1, 0, 1, 0, 200, 1, 0, 200, 200};
+    static const uint8_t kept[9] = {9, 9, 9, 9, 9, 9, 9, 9, 9}, none[4] = {7, 7, 7, 7};
+    uint8_t nodes[9];
+    memcpy(nodes, kept, 9);
+    WANT(np_plan_fill_marked(plan, 1, 2, 15, nodes, 8, 200), NP_BAD_CPU);
+    WANT(np_plan_fill_marked(plan, 1, 2, 15, nodes, 0, 200), NP_BAD_CPU);
+    WANT(np_plan_nodes(plan, 1, 1, pages, 9, nodes, 8, 200), NP_NO_ROOM);
+    WANT(np_plan_nodes(plan, 1, 1, pages, 8, nodes, 9, 200), NP_NO_ROOM);
+    WANT(np_plan_nodes(plan, 1, 2, pages, 9, nodes, 8, 200), NP_NO_ROOM);
+    WANT(np_plan_nodes(plan, 1, 2, pages, 9, nodes, 9, 200), NP_BAD_CPU);
+    WANT(np_plan_nodes(plan, 1, 2, pages, 0, nodes, 0, 200), NP_BAD_CPU);
+    WANT(np_plan_nodes(plan, 1, 1, pages, 0, nodes, 0, 200), NP_OK);
+    WANT(memcmp(nodes, kept, 9), 0);
+    WANT(np_plan_fill_marked(plan, 1, 1, 15, nodes, 8, 200), NP_OK);
+    WANT(memcmp(nodes, span, 8), 0);
+    WANT(nodes[8], 9);
+    WANT(np_plan_fill_marked(plan, 1, 1, UINT64_MAX - 1, nodes, 4, 7), NP_OK);
+    WANT(memcmp(nodes, none, 4), 0);
+    WANT(np_plan_nodes(plan, 1, 1, pages, 9, nodes, 9, 200), NP_OK);
+    WANT(memcmp(nodes, each, 9), 0);
+}
+
 /* A plan, which outlives its core, and in two threads. */
 static void plans(void) {
     np_core core = {0};
@@ -175,6 +206,7 @@ static void plans(void) {
     WANT(counts.pages[1], 4);
     WANT(counts.pages[2], 0);
     WANT(np_plan_counts(&plan, 1, 1, 16, 7, &counts), NP_UNMAPPED);
+    marks(&plan);
     WANT(np_plan_share(&plan, &other), NP_OK);
     WANT(np_plan_share(&plan, &other), NP_OPEN);
     WANT(pthread_create(&thread, NULL, fill_many, &other), 0);

@@ -38,6 +38,14 @@ fn main() -> Result<(), Refused> {
     core.mbind(0x20000, 0x1000, "bind:1")?;
     assert_eq!((plan.version(), plan.choice(1, 32, 0)?), (3, vec![0, 1]));
     core.mbind(0x20000, 0x1000, "default")?;
+    // pages 17 and 18 in turns, the others on the CPU's node, those that aren't mapped marked
+    let (mut span, mut each) = ([9; 6], [9; 4]);
+    plan.fill_marked(1, 0, 15, &mut span, 255)?;
+    plan.nodes(1, 0, &[33, 17, 5, 16], &mut each, 255)?;
+    assert_eq!((span, each), ([255, 0, 1, 0, 0, 255], [0, 1, 255, 0]));
+    assert_eq!(plan.nodes(1, 0, &[33, 17, 5], &mut each, 255), Err(Refused::NO_ROOM));
+    assert_eq!(plan.nodes(1, 2, &[33], &mut each[..1], 255), Err(Refused::BAD_CPU));
+    assert_eq!((plan.fill_marked(1, 2, 15, &mut span, 9), each[0]), (Err(Refused::BAD_CPU), 0));
     let placed = [core.touch(0, 1, 17, 0)?, core.touch(1, 1, 18, 0)?];
     assert_eq!(core.maps(1, &placed)?, LISTED);
     assert_eq!(core.maps(1, &[placed[0], placed[0]]), Err(Refused(38)));

@@ -70,10 +70,10 @@ CALLS = [
     (maps_of, {"version": 64, "page": 64, "task": 32, "rank": 32, "frame": 16, "node": 8}),
     (lambda task=0, page=16, cpu=0: plan.choice(task, page, cpu),
      {"task": 32, "page": 64, "cpu": 32}),
-    (lambda task=0, cpu=0, first=16: plan.fill(task, cpu, first, bytearray(1)),
-     {"task": 32, "cpu": 32, "first": 64}),
-    (lambda task=0, page=16, cpu=0: plan.choice_many(task, [page], cpu),
-     {"task": 32, "cpu": 32}),
+    (lambda task=0, cpu=0, first=16, unmapped=0: plan.fill(task, cpu, first, bytearray(1), unmapped),
+     {"task": 32, "cpu": 32, "first": 64, "unmapped": 8}),
+    (lambda task=0, cpu=0, unmapped=0: plan.choice_many(task, [16], cpu, None, unmapped),
+     {"task": 32, "cpu": 32, "unmapped": 8}),
     (lambda task=0, cpu=0, first=16, pages=1: plan.counts(task, cpu, first, pages),
      {"task": 32, "cpu": 32, "first": 64, "pages": 64}),
     (lambda node=0, number=0: seat.give(node, number), {"node": 8, "number": 16}),
@@ -100,7 +100,7 @@ def judge(call, name, bits):
              ("ValueError", f"{name} is {value}; it has to be from 0 to {(1 << bits) - 1}"),
              f"{name} of {bits} bits")
     for value in (1.0, "1", None):
-        if not (name in ("offset", "a number of memory") and value is None):
+        if not (name in ("offset", "a number of memory", "unmapped") and value is None):
             want(raised(lambda: call(value)),
                  ("TypeError", f"{name} is {value!r}; it has to be a whole number"), f"{name} as {value!r}")
     want(raised(lambda: call((1 << bits) - 1)), None, f"the highest {name}")
@@ -194,6 +194,34 @@ with core.compile() as bound:
         except cause:
             pass
     want((bytes(kept), bound.choice_many(9, iter(()), 1)), (b"##", bytearray()), "refused pages, and none")
+    # those that aren't mapped are marked, of pages in any order and of a span
+    for pages in ([18, 20, 16], (18, 20, 16), iter([18, 20, 16]), array("Q", [18, 20, 16]),
+                  memoryview(array("Q", [18, 20, 16])).toreadonly()):
+        want(bound.choice_many(9, pages, 1, unmapped=255), bytearray(b"\0\xff\1"), "marked pages")
+    want(bound.choice_many(9, [20, 2**64 - 1], 1, kept, unmapped=7), bytearray(b"\7\7"), "no page")
+    want(bound.choice_many(9, (), 1, unmapped=7), bytearray(), "none to mark")
+    span = bytearray(b"######")
+    bound.fill(9, 1, 15, span, unmapped=200)
+    want(bytes(span), b"\xc8\1\1\0\1\xc8", "a span with marks")
+    for call in (lambda: bound.fill(9, 2, 15, span, unmapped=7),
+                 lambda: bound.choice_many(9, [20], 2, unmapped=7)):
+        try:
+            call()
+            wrong.append("marks for a node that isn't there")
+        except numaplan.BadCpu:
+            pass
+# a node 255 is told from a page that isn't mapped
+with Core([8] * 256, [[10 if one == other else 20 for other in range(256)] for one in range(256)]) as last:
+    last.map(0x10000, 0x2000)
+    last.set_task(9, "bind:255")
+    with last.compile() as made:
+        want(made.choice_many(9, [17, 16], 0), bytearray(b"\xff\xff"), "node 255")
+        want(made.choice_many(9, [17, 18], 0, unmapped=0), bytearray(b"\xff\0"), "node 255 and a mark")
+        try:
+            made.choice_many(9, [17, 18], 0)
+            wrong.append("a page that isn't mapped is on node 255")
+        except numaplan.Unmapped:
+            pass
 FAULTY = [
     (array("q", [7, 7]), "nodes has items of the format 'q'"),
     (array("b", b"##"), "nodes has items of the format 'b'"),

@@ -9,7 +9,8 @@
 enum { THREADS = 4, ROUNDS = 5000, FIRST = 16, PAGES = 64 };
 
 /* What one thread found, before the others began. */
-static uint8_t lists[PAGES][2], firsts[PAGES];
+static uint8_t lists[PAGES][2], firsts[PAGES], marked[PAGES + 2];
+static uint64_t backwards[PAGES + 2]; /* the pages of `marked`, from the last to the first */
 static np_counts counted;
 static uint64_t commands;
 
@@ -22,7 +23,7 @@ struct worker {
 
 /* Whether the plan answers each question as it did at first. */
 static int is_same(const np_plan *plan, unsigned round) {
-    uint8_t nodes[PAGES];
+    uint8_t nodes[PAGES + 2];
     size_t count = 0;
     uint64_t version = 0;
     np_counts counts;
@@ -32,6 +33,14 @@ static int is_same(const np_plan *plan, unsigned round) {
         return 0;
     if (np_plan_fill(plan, 1, 0, FIRST, nodes, PAGES) || memcmp(nodes, firsts, PAGES) != 0)
         return 0;
+    if (np_plan_fill_marked(plan, 1, 0, FIRST - 1, nodes, PAGES + 2, 255) ||
+        memcmp(nodes, marked, PAGES + 2) != 0)
+        return 0;
+    if (np_plan_nodes(plan, 1, 0, backwards, PAGES + 2, nodes, PAGES + 2, 255))
+        return 0;
+    for (int k = 0; k < PAGES + 2; k++)
+        if (nodes[PAGES + 1 - k] != marked[k])
+            return 0;
     if (np_plan_counts(plan, 1, 0, FIRST, PAGES, &counts) ||
         memcmp(&counts, &counted, sizeof counts) != 0)
         return 0;
@@ -66,6 +75,10 @@ static int make(np_plan *plan) {
                 np_plan_counts(plan, 1, 0, FIRST, PAGES, &counted);
     for (int page = 0; page < PAGES && !wrong; page++)
         wrong = np_plan_choice(plan, 1, FIRST + page, 0, lists[page], 2, &count) != NP_OK;
+    memset(marked, 255, sizeof marked);
+    memcpy(marked + 1, firsts, PAGES);
+    for (int k = 0; k < PAGES + 2; k++)
+        backwards[k] = (uint64_t)(FIRST + PAGES - k);
     np_core_close(&core);
     return wrong;
 }

@@ -6,7 +6,7 @@ ghost use Rattle.numaplan_c.specs.Border.{AnswersKeeping, Gives, IsPlanBy, Makes
 ghost use Rattle.numaplan_c.specs.Border.{Read, is_done};
 ghost use Rattle.numaplan_handles.specs.Handles.{core_in, plan_in, plan_seen};
 ghost use Rattle.numaplan_handles.specs.Steps.{Compiles, Publishes};
-ghost use Rattle.numaplan_handles.specs.Plans.{Chooses, Fills, Counts};
+ghost use Rattle.numaplan_handles.specs.Plans.{Chooses, Counts, Fills, FillsMarked, Marks};
 ghost use Rattle.numaplan_handles.specs.declared.plan_view.ChoiceRefusal.{ChoiceRefusal};
 ghost use Rattle.numa_machine.specs.declared.refusal.PlaceRefusal.{PlaceRefusal};
 ghost use Rattle.numaplan_c.specs.Codes.{place_code};
@@ -186,6 +186,40 @@ pub extern "C" fn np_plan_fill(
         × Fills (plan_seen plan.now) task first cpu answer nodes.old nodes.new) }
 {
     if_open!(plan.fill(task, first, cpu, nodes), answer => fill_code(answer))
+}
+
+/// Writes the first node of each page's list for a span, or a mark.
+#[unsafe(no_mangle)]
+pub extern "C" fn np_plan_fill_marked(
+    plan: &PlanView,
+    task: u32,
+    cpu: u32,
+    first: u64,
+    nodes: &mut [u8],
+    unmapped: u8,
+) -> u32
+    ensures { Read (plan_seen plan.now) result (nodes.new ≡ nodes.old)
+        (λ kept. (answer : Result (Unit {0}) PlaceRefusal) × (result ≡ fill_code answer)
+        × FillsMarked (plan_seen plan.now) task first cpu unmapped answer nodes.old nodes.new) }
+{
+    if_open!(plan.fill_marked(task, first, cpu, unmapped, nodes), answer => fill_code(answer))
+}
+
+/// Writes the first node of the list of each of some pages, or a mark.
+#[unsafe(no_mangle)]
+pub extern "C" fn np_plan_nodes(
+    plan: &PlanView,
+    task: u32,
+    cpu: u32,
+    pages: &[u64],
+    nodes: &mut [u8],
+    unmapped: u8,
+) -> u32
+    ensures { Read (plan_seen plan.now) result (nodes.new ≡ nodes.old)
+        (λ kept. (answer : Result ℕ ChoiceRefusal) × (result ≡ choice_code answer)
+        × Marks (plan_seen plan.now) task pages.now cpu unmapped answer nodes.old nodes.new) }
+{
+    if_open!(plan.nodes_of(task, pages, cpu, unmapped, nodes), answer => choice_code(answer))
 }
 
 /// Counts, for each node, the pages of a span whose list begins with it.

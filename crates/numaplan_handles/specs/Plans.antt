@@ -1,10 +1,11 @@
 -- What a handle of a plan keeps, and what it answers.
-use Rattle.std.specs.Prelude.{◌≡◌, ◌+◌, ◌<◌, ℕ, List, length, take, drop}
+use Rattle.std.specs.Prelude.{◌≡◌, ◌≢◌, ◌+◌, ◌<◌, ◌≤◌, ℕ, List, length, take, drop}
 use Rattle.std.specs.Prelude.{Option, Some, None, Result, Ok, Err, EachIndex, slice_index}
 use Rattle.numa_plan.specs.Found.{IsMapped}
 use Rattle.numa_plan.specs.Meaning.{PlanData, planned_list, planned_first, place_refusal}
-use Rattle.numa_plan.specs.Meaning.{CountsFirsts, RefusesSpan}
+use Rattle.numa_plan.specs.Meaning.{CountsFirsts, RefusesSpan, first_or}
 use Rattle.numa_machine.specs.declared.refusal.PlaceRefusal.{PlaceRefusal}
+use Rattle.numa_machine.specs.declared.refusal.PlaceRefusal.TheVariants.{BadCpu}
 use Rattle.numaplan_handles.specs.declared.plan_view.ChoiceRefusal.{ChoiceRefusal}
 use Rattle.numaplan_handles.specs.declared.plan_view.ChoiceRefusal.TheVariants as refused
 
@@ -37,6 +38,28 @@ Fills (Some plan) task first cpu (Ok done) old new = (cpu < plan.nodes)
     × EachIndex new (λ k. planned_first plan task (first + k) cpu ≡ Some (slice_index new k))
 Fills (Some plan) task first cpu (Err cause) old new =
     RefusesSpan plan first (length old) cpu cause × (new ≡ old)
+
+-- the same with a mark for each page that isn't mapped
+abbrev pub FillsMarked : Option PlanData → ℕ → ℕ → ℕ → ℕ → Result (Unit {0}) PlaceRefusal → List ℕ
+    → List ℕ → Type 0
+FillsMarked None task first cpu mark answer old new = Unit {0}
+FillsMarked (Some plan) task first cpu mark (Ok done) old new = (cpu < plan.nodes)
+    × EachIndex new (λ k. slice_index new k ≡ first_or mark plan task (first + k) cpu)
+FillsMarked (Some plan) task first cpu mark (Err cause) old new = (cause ≡ BadCpu)
+    × (plan.nodes ≤ cpu) × (new ≡ old)
+
+-- and of pages in whatever order: at each one's place its first node, or the mark where it isn't
+-- mapped; there are as many places as pages, or nothing is told
+abbrev pub Marks : Option PlanData → ℕ → List ℕ → ℕ → ℕ → Result ℕ ChoiceRefusal → List ℕ → List ℕ
+    → Type 0
+Marks None task pages cpu mark answer old new = Unit {0}
+Marks (Some plan) task pages cpu mark (Ok count) old new = (count ≡ length pages)
+    × (length old ≡ count) × (cpu < plan.nodes) × EachIndex new (λ k.
+    slice_index new k ≡ first_or mark plan task (slice_index pages k) cpu)
+Marks (Some plan) task pages cpu mark (Err (refused.TooShort count)) old new =
+    (count ≡ length pages) × (length old ≢ count) × (new ≡ old)
+Marks (Some plan) task pages cpu mark (Err (refused.Place cause)) old new =
+    (length old ≡ length pages) × (cause ≡ BadCpu) × (plan.nodes ≤ cpu) × (new ≡ old)
 
 -- and of how many pages have each node first
 abbrev pub Counts : Option PlanData → ℕ → ℕ → ℕ → ℕ → Result (List ℕ) PlaceRefusal → Type 0

@@ -2,7 +2,7 @@
 ghost use Rattle.std.specs.Prelude.{◌≡◌, Some, None, IfSome, MatchOption, true};
 ghost use Rattle.numaplan_handles.specs.Calls.{IsShared, Reads};
 ghost use Rattle.numaplan_handles.specs.Kinds.{plan_of, is_plan};
-ghost use Rattle.numaplan_handles.specs.Plans.{IsListOf, Chooses, Fills, Counts};
+ghost use Rattle.numaplan_handles.specs.Plans.{Chooses, Counts, Fills, FillsMarked, Marks};
 
 use crate::kept::Kept;
 use crate::plan_handle::PlanHandle;
@@ -49,6 +49,25 @@ fn choose(plan: &Plan, asked: Request, nodes: &mut [u8]) -> Result<usize, Choice
         Err(refusal) => return Err(ChoiceRefusal::Place(refusal)),
     };
     copy_items(list, nodes).map_err(ChoiceRefusal::TooShort)
+}
+
+/// Writes the first node of the list of each of these pages, or the mark, for a task on a CPU.
+fn mark(
+    plan: &Plan,
+    by: (u32, u32),
+    pages: &[u64],
+    unmapped: u8,
+    nodes: &mut [u8],
+) -> Result<usize, ChoiceRefusal>
+    ensures { Marks (Some plan.now) by.0 pages.now by.1 unmapped result nodes.old nodes.new }
+{
+    if pages.len() != nodes.len() {
+        return Err(ChoiceRefusal::TooShort(pages.len()));
+    }
+    match plan.nodes_of(by.0, pages, by.1, unmapped, nodes) {
+        Ok(()) => Ok(pages.len()),
+        Err(refusal) => Err(ChoiceRefusal::Place(refusal)),
+    }
 }
 
 impl PlanView {
@@ -123,6 +142,48 @@ impl PlanView {
     {
         let plan = self.plan()?;
         Some(plan.fill(task, first, cpu, nodes))
+    }
+
+    /// The same, with the mark `unmapped` for pages that aren't mapped. `None` if the handle is
+    /// closed.
+    ///
+    /// # Errors
+    /// As [`Plan::fill_marked`].
+    pub fn fill_marked(
+        &self,
+        task: u32,
+        first: u64,
+        cpu: u32,
+        unmapped: u8,
+        nodes: &mut [u8],
+    ) -> Option<Result<(), PlaceRefusal>>
+        ensures fills { Reads (λ answer. FillsMarked (plan_seen self.now) task first cpu unmapped
+            answer nodes.old nodes.new) (plan_seen self.now) result }
+        ensures closed { plan_seen self.now ≡ None → nodes.new ≡ nodes.old }
+    {
+        let plan = self.plan()?;
+        Some(plan.fill_marked(task, first, cpu, unmapped, nodes))
+    }
+
+    /// Writes the first node of the list of each of these pages, and the mark `unmapped` for those
+    /// that aren't mapped; returns how many they are. `None` if the handle is closed.
+    ///
+    /// # Errors
+    /// `TooShort`: there aren't as many places as pages; else as [`Plan::nodes_of`].
+    pub fn nodes_of(
+        &self,
+        task: u32,
+        pages: &[u64],
+        cpu: u32,
+        unmapped: u8,
+        nodes: &mut [u8],
+    ) -> Option<Result<usize, ChoiceRefusal>>
+        ensures told { Reads (λ answer. Marks (plan_seen self.now) task pages.now cpu unmapped
+            answer nodes.old nodes.new) (plan_seen self.now) result }
+        ensures closed { plan_seen self.now ≡ None → nodes.new ≡ nodes.old }
+    {
+        let plan = self.plan()?;
+        Some(mark(plan, (task, cpu), pages, unmapped, nodes))
     }
 
     /// Counts, for each node, the pages of a span whose list begins with it. `None` if the handle

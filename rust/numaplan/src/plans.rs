@@ -73,6 +73,44 @@ impl Plan {
         })
     }
 
+    /// The same, with the mark `unmapped` for each page that isn't mapped.
+    ///
+    /// # Errors
+    /// `BAD_CPU`; then nothing was written.
+    pub fn fill_marked(
+        &self,
+        task: u32,
+        cpu: u32,
+        first: u64,
+        out: &mut [u8],
+        unmapped: u8,
+    ) -> Result<(), Refused> {
+        let (nodes, pages) = (out.as_mut_ptr(), out.len());
+        done(unsafe {
+            raw::np_plan_fill_marked(&self.0, task, cpu, first, nodes, pages, unmapped)
+        })
+    }
+
+    /// Writes the first node of the list of each of these pages, in whatever order they are, and the
+    /// mark `unmapped` for those that aren't mapped.
+    ///
+    /// # Errors
+    /// `NO_ROOM` where there aren't as many places as pages, `BAD_CPU`.
+    pub fn nodes(
+        &self,
+        task: u32,
+        cpu: u32,
+        pages: &[u64],
+        out: &mut [u8],
+        unmapped: u8,
+    ) -> Result<(), Refused> {
+        let (first, count) = (pages.as_ptr(), pages.len());
+        let (nodes, places) = (out.as_mut_ptr(), out.len());
+        done(unsafe {
+            raw::np_plan_nodes(&self.0, task, cpu, first, count, nodes, places, unmapped)
+        })
+    }
+
     /// How many pages of a span have each node first.
     ///
     /// # Errors

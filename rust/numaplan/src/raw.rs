@@ -248,6 +248,8 @@ extern "C" {
     pub(crate) fn np_plan_version(plan: &Handle, version: &mut u64) -> u32;
     pub(crate) fn np_plan_choice(plan: &Handle, task: u32, page: u64, cpu: u32, nodes: *mut u8, room: usize, count: &mut usize) -> u32;
     pub(crate) fn np_plan_fill(plan: &Handle, task: u32, cpu: u32, first: u64, nodes: *mut u8, pages: usize) -> u32;
+    pub(crate) fn np_plan_fill_marked(plan: &Handle, task: u32, cpu: u32, first: u64, nodes: *mut u8, pages: usize, unmapped: u8) -> u32;
+    pub(crate) fn np_plan_nodes(plan: &Handle, task: u32, cpu: u32, pages: *const u64, count: usize, nodes: *mut u8, places: usize, unmapped: u8) -> u32;
     pub(crate) fn np_plan_counts(plan: &Handle, task: u32, cpu: u32, first: u64, pages: u64, counts: &mut Counts) -> u32;
     pub(crate) fn np_seat_open(seat: &mut Handle, memory: *const u8, memory_length: usize, frames: *const u32, nodes: usize, distances: *const u8, distances_count: usize) -> u32;
     pub(crate) fn np_seat_split(seat: &mut Handle, other: &mut Handle) -> u32;
