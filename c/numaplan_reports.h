@@ -7,11 +7,11 @@
  * script, and lines to add to it, as texts: messages call the script `-`, the lines `--then`, a
  * trace `trace` and a text of lines `at` `at`.
  *
- * Pages that are there. np_predict_at and np_moves_at go by the pages that a script of one process
- * leaves (at, populate, moves), and then by lines `at START LENGTH NODE` of a further text `at`, in
- * a host by lines `in P at ..` of both; other lines of that text are passed over. The other calls
- * are about first touches, and judge lines `at` as np_script_run does; np_explain says too where
- * the lines of a script put its page.
+ * Pages that are there. np_predict_at, np_explain_at and np_moves_at go by the pages that a script
+ * of one process leaves (at, populate, moves), and then by lines `at START LENGTH NODE` of a further
+ * text `at`, in a host by lines `in P at ..` of both; other lines of that text are passed over. The
+ * other calls are about first touches, and judge lines `at` as np_script_run does; np_explain says
+ * too where the lines of a script put its page.
  *
  * Rooms. The answer stands at the start of `text`, and the messages after it. `report` gets how
  * many bytes each has. NP_NO_ROOM where both together are longer than the room: then `report` gives
@@ -170,6 +170,13 @@ uint32_t np_predict_at(const uint8_t *script, size_t length, const uint8_t *line
                        size_t lines_length, const uint8_t *at, size_t at_length,
                        const np_question *asked, const np_free *free_pages, size_t free_count,
                        uint8_t *text, size_t room, np_report *report);
+
+/* As np_explain, with its answers, but the page lies where lines `at` of this text say, too, of a
+ * host lines `in P at ..` of the script, the lines and this text (numaplan explain --at). */
+uint32_t np_explain_at(const uint8_t *script, size_t length, const uint8_t *lines,
+                       size_t lines_length, const uint8_t *at, size_t at_length,
+                       const np_question *asked, uint64_t page, uint8_t *text, size_t room,
+                       np_report *report);
 
 /* What becomes of pages that are there, line by line (numaplan moves --then): a line `mems`,
  * `migrate`, `cgroup-mems` or `attach` each, of which the last may end with a line feed. `at` has

@@ -12,7 +12,7 @@ _numaplan() {
         run:--rules | check:--rules | expect:--rules | predict:--rules | diff:--rules | moves:--rules | explain:--rules | replay:--rules | shell:--rules) words='document linux' ;;
         check:--process | predict:--task | predict:--node | predict:--process | predict:--largest | predict:--free | diff:--task | diff:--node | diff:--then | diff:--process | diff:--largest | moves:--task | moves:--node | moves:--then | moves:--free | moves:--process | moves:--largest | explain:--task | explain:--node | explain:--pages | explain:--process | replay:--process | replay:--largest | shell:--process | storm:--workers) : ;;
         expect:--format) words='text json tap' ;;
-        predict:--at | diff:--at | moves:--at | replay:--trace) files=yes ;;
+        predict:--at | diff:--at | moves:--at | explain:--at | replay:--trace) files=yes ;;
         predict:--format) words='text json csv svg html' ;;
         diff:--format) words='text json svg html' ;;
         moves:--format) words='text json svg' ;;
@@ -26,7 +26,7 @@ _numaplan() {
                 predict) words='--task --node --at --process --format --largest --free --lenient --rules --help' files=yes ;;
                 diff) words='--task --node --then --at --process --format --largest --lenient --rules --help' files=yes ;;
                 moves) words='--at --task --node --then --free --process --format --largest --lenient --rules --help' files=yes ;;
-                explain) words='--task --node --pages --process --format --lenient --rules --help' files=yes ;;
+                explain) words='--task --node --at --pages --process --format --lenient --rules --help' files=yes ;;
                 replay) words='--trace --process --format --largest --lenient --rules --help' files=yes ;;
                 shell) words='--process --rules --help' files=yes ;;
                 storm) words='--workers --help' ;;

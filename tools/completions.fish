@@ -74,6 +74,7 @@ complete -c numaplan -n '__numaplan_has moves' -l rules -x -a 'document linux' -
 complete -c numaplan -n '__numaplan_has moves' -s h -l help -d 'Print help'
 complete -c numaplan -n '__numaplan_has explain' -l task -x -d 'The task that touches the pages; it may be left out where scripts name one task or none'
 complete -c numaplan -n '__numaplan_has explain' -l node -x -d 'The node of the CPU on which the task runs, or all: each node with CPUs in turn'
+complete -c numaplan -n '__numaplan_has explain' -l at -r -F -d 'A file with further lines at START LENGTH NODE; - is standard input'
 complete -c numaplan -n '__numaplan_has explain' -l pages -x -d 'Explains N pages, from that of ADDRESS on, by stretches with one rule'
 complete -c numaplan -n '__numaplan_has explain' -l process -x -d 'Asks about process P of a host only; without it, or with all, about each process'
 complete -c numaplan -n '__numaplan_has explain' -l format -x -a 'text json' -d 'How the answer is written'

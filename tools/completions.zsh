@@ -96,6 +96,7 @@ _numaplan() {
             _arguments \
                 '(--task)--task[The task that touches the pages; it may be left out where scripts name one task or none]:T: ' \
                 '(--node)--node[The node of the CPU on which the task runs, or all\: each node with CPUs in turn]:N: ' \
+                '(--at)--at[A file with further lines at START LENGTH NODE; - is standard input]:FILE:_files' \
                 '(--pages)--pages[Explains N pages, from that of ADDRESS on, by stretches with one rule]:N: ' \
                 '(--process)--process[Asks about process P of a host only; without it, or with all, about each process]:P: ' \
                 '(--format)--format[How the answer is written]:FORMAT:(text json)' \

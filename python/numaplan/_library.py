@@ -199,6 +199,7 @@ _SIGNATURES = {
     "check": [_TEXT, c_size_t, _ASKED, *_TOLD],
     "predict": [_TEXT, c_size_t, _TEXT, c_size_t, _ASKED, c_void_p, c_size_t, *_TOLD],
     "predict_at": [*_THREE_TEXTS, _ASKED, c_void_p, c_size_t, *_TOLD],
+    "explain_at": [*_THREE_TEXTS, _ASKED, _U64, *_TOLD],
     "moves_at": [*_THREE_TEXTS, _ASKED, c_void_p, c_size_t, *_TOLD],
     "moves_touched": [_TEXT, c_size_t, _TEXT, c_size_t, _ASKED, c_void_p, c_size_t, *_TOLD],
     "diff": [_TEXT, c_size_t, _TEXT, c_size_t, _ASKED, *_TOLD],

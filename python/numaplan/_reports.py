@@ -126,15 +126,20 @@ def diff(script: Text, lines: Iterable[str], *, task: int = 1, node: int = 0, fo
 
 
 def explain(script: Text, page: int, lines: Iterable[str] = (), *, task: int = 1, node: int = 0,
-            format: str = "text", rules: str = "document") -> Report:
+            format: str = "text", rules: str = "document", at: "Text | None" = None) -> Report:
     """Why the page of a number (address / 4096) would go where it goes, and of one that is there where
-    it lies and how it would come there, as `numaplan explain` prints it. Raises NoMachine, BadCpu or
-    Unmapped."""
+    it lies and how it would come there, as `numaplan explain` prints it. With `at`, the name of a file
+    or a text as bytes, it lies where lines `at START LENGTH NODE` of that say, too, of a host lines
+    `in P at ..` of it and of the script. Raises NoMachine, BadCpu or Unmapped."""
     name, text = read(script)
     asked = AskedReport(u32("task", task), u32("node", node), rules_number(rules),
                         format_number(format))
-    return _asked("explain", [text, joined(lines)], asked, u64("page", page),
-                  names={"-": name})
+    if at is None:
+        return _asked("explain", [text, joined(lines)], asked, u64("page", page),
+                      names={"-": name})
+    at_name, stated = read(at, "at")
+    return _asked("explain_at", [text, joined(lines), stated], asked, u64("page", page),
+                  names={"-": name, "at": at_name})
 
 
 def replay(script: Text, trace: Text, lines: Iterable[str] = (), *, format: str = "json",

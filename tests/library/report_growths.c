@@ -79,15 +79,16 @@ static uint32_t call(int which) {
     case 9: return np_core_diff_text(&core, &other, &asked, ROOM);
     case 10: return np_core_explain_text(&core, &asked, 0x11, ROOM);
     case 11: return np_core_replay_text(&core, TEXT(TRACE), &asked, ROOM);
-    case 12: return np_core_predict(&core, 1, 1, &told.counts);
-    case 13: return np_core_fill(&core, 1, 1, &told.counts);
-    case 14: return np_core_explain(&core, 1, 0x11, 1, &told.explanation);
-    case 15: return np_core_diff(&core, &other, 1, 1, told.moves, 16, &told.count);
-    case 16: return np_core_replay(&core, trace, 3, told.routes, 16, &told.count);
+    case 12: return np_explain_at(TEXT(HOST), TEXT(LINES), TEXT(AT), &asked, 0x11, ROOM);
+    case 13: return np_core_predict(&core, 1, 1, &told.counts);
+    case 14: return np_core_fill(&core, 1, 1, &told.counts);
+    case 15: return np_core_explain(&core, 1, 0x11, 1, &told.explanation);
+    case 16: return np_core_diff(&core, &other, 1, 1, told.moves, 16, &told.count);
+    case 17: return np_core_replay(&core, trace, 3, told.routes, 16, &told.count);
     default: return NP_UNKNOWN;
     }
 }
-enum { CALLS = 17, WORDS = 12, FORMATS = 5 };
+enum { CALLS = 18, WORDS = 13, FORMATS = 5 };
 
 /* A core whose plan isn't made yet, and a copy with a command more. */
 static bool opens(void) {

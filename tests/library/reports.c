@@ -106,6 +106,17 @@ static void there(void) {
                  ""),
          1);
     forget();
+    /* the second page, by the text, and the first, by a line behind the script's */
+    WANT(np_explain_at(TEXT(THERE), TEXT(""), TEXT(AT), &asked, 0x11, room, sizeof room, &told), NP_OK);
+    WANT(memcmp(room, "page 0x11000 is resident on node 1\n", 35), 0);
+    forget();
+    WANT(np_explain_at(TEXT(THERE), TEXT("at 0x10000 0x1000 0"), TEXT(""), &asked, 0x10, room,
+                       sizeof room, &told),
+         NP_OK);
+    WANT(memcmp(room, "page 0x10000 is resident on node 0\n", 35), 0);
+    WANT(np_explain_at(TEXT(THERE), TEXT(""), TEXT(AT), &asked, 0x14, room, sizeof room, &told),
+         NP_UNMAPPED);
+    forget();
     WANT(np_moves_at(TEXT(THERE), TEXT("migrate 1 0\nmems 0\n"), TEXT(AT), &asked, &two, 1, room,
                   sizeof room, &told),
          NP_OK);
@@ -185,6 +196,8 @@ static void causes(void) {
     WANT(np_replay(TEXT(HOST), TEXT(""), TEXT(""), &other, room, sizeof room, &told), NP_BAD_FORMAT);
     WANT(np_diff(TEXT(HOST), TEXT(""), &other, room, sizeof room, &told), NP_BAD_FORMAT);
     WANT(np_explain(TEXT(HOST), TEXT(""), &other, 0, room, sizeof room, &told), NP_BAD_FORMAT);
+    WANT(np_explain_at(TEXT(HOST), TEXT(""), TEXT(""), &other, 0, room, sizeof room, &told),
+         NP_BAD_FORMAT);
     WANT(np_moves_at(TEXT(HOST), TEXT(""), TEXT(""), &other, none, 0, room, sizeof room, &told),
          NP_BAD_FORMAT);
     WANT(np_predict_at(TEXT(HOST), TEXT(""), TEXT(""), &other, none, 0, room, sizeof room, &told),

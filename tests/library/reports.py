@@ -96,6 +96,10 @@ def pages_there(script, rules, by):
         same(f"predict --at {script} {form}",
              program("predict", by, *TOUCH, "--free=0=2", f"--at={AT}", f"--format={form}", script),
              library(numaplan.predict, script, free={0: 2}, format=form, rules=rules, at=AT))
+    for form, page in ((form, page) for form in ("text", "json") for page in PAGES):
+        same(f"explain --at {script} {page} {form}",
+             program("explain", by, *TOUCH, f"--at={AT}", f"--format={form}", hex(page * 4096), script),
+             library(numaplan.explain, script, page, format=form, rules=rules, at=AT))
     then = [f"--then={line}" for line in MOVES]
     for form in ("text", "json", "svg"):
         same(f"moves --at {script} {form}",

@@ -131,6 +131,7 @@ def try_lines(call, tell):
 # Words that ask about pages that are there, and those that pass over lines `at`.
 THERE = [["predict", "--task", "1", "--node", "0", "--at", "/dev/null"],
          ["diff", "--task", "1", "--node", "0", "--at", "/dev/null", "--then", "mems 0"],
+         ["explain", "--task", "1", "--node", "0", "--at", "/dev/null", "0x30000"],
          ["moves", "--then", "mems 0"]]
 ELSEWHERE = [["predict", "--task", "1", "--node", "0"], ["explain", "--task", "1", "--node", "0", "0x30000"],
              ["diff", "--task", "1", "--node", "0", "--then", "mems 0"]]

@@ -6,11 +6,12 @@ use Rattle.std.specs.Prelude.{IfOk, option_and_then}
 use Rattle.std.specs.Str.{bytes_eq}
 use Rattle.std.proofs.lemmas.Slice.Eq.{bytes_eq-Decides}
 use Rattle.clap.specs.Words.{Row, subcommand_of}
+use Rattle.numa_sheets.specs.declared.asked.AddressAsked.{AddressAsked}
 use Rattle.numa_sheets.specs.declared.asked.FreePages.{FreePages}
 use Rattle.numa_sheets.specs.declared.asked.TouchAsked.{TouchAsked}
 use Rattle.numa_sheets.specs.declared.format.Format.{Format}
 use Rattle.numa_command_line.specs.Asked.{Answers, ask_by, asking_name, can_ask, doing_name}
-use Rattle.numa_command_line.specs.Asked.{predict_by}
+use Rattle.numa_command_line.specs.Asked.{explain_by, predict_by}
 use Rattle.numa_command_line.specs.Asked.{job_named, name_of, rows_behind, scripts_asked}
 use Rattle.numa_command_line.specs.Asked.{word_named, work_asked}
 use Rattle.numa_command_line.specs.Jobs.{Asking, Doing, Doings, Text, ask, diff, doings_of, explain}
@@ -75,14 +76,6 @@ asked_name (Some t) lenient (Some what) named doing names e =
     ap doing_name (sym (given_ask (can_ask t what) (ask t what lenient) doing e))
     ∙ names what refl
 
-mapped_name : {X : Type 0} (make : X → Asking) (named : Text)
-    → ((x : X) → asking_name (make x) ≡ named)
-    → (from : Option X) (what : Asking) → option_map make from ≡ Some what
-    → asking_name what ≡ named
-mapped_name make named names None what e = cc
-mapped_name make named names (Some x) what e = ap asking_name (sym (some_is (make x) what e))
-    ∙ names x
-
 -- a question that some test refuses
 given_is : (refused : Bool) (asking what : Asking) → cond refused None (Some asking) ≡ Some what
     → asking ≡ what
@@ -94,6 +87,14 @@ free_name : (at : List Text) (format : Format) (from : Option (List FreePages)) 
 free_name at format None what e = cc
 free_name at format (Some free) what e =
     ap asking_name (sym (given_is _ (predict at format free) what e))
+
+page_name : (at : List Text) (pages : Option ℕ) (format : Format) (from : Option AddressAsked)
+    (what : Asking)
+    → option_and_then (explain_by at pages format) from ≡ Some what
+    → asking_name what ≡ codes "explain"
+page_name at pages format None what e = cc
+page_name at pages format (Some address) what e =
+    ap asking_name (sym (given_is _ (explain at address pages format) what e))
 
 moves_name : (make : List FreePages → Doing)
     → ((free : List FreePages) → doing_name (make free) ≡ codes "moves")
@@ -118,8 +119,8 @@ work_name word.Diff rows doing e =
 work_name word.Moves rows doing e = moves_name _ (λ free. refl) (frees_in rows) doing e
 work_name word.Explain rows doing e =
     asked_name (touch_in rows) (is_on (codes "lenient") rows) _ (codes "explain") doing
-    (mapped_name (λ address. explain address (small_at (codes "pages") rows) (format_in rows))
-    (codes "explain") (λ address. refl) (address_in rows)) e
+    (page_name (texts_at (codes "at") rows) (small_at (codes "pages") rows) (format_in rows)
+    (address_in rows)) e
 work_name word.Replay rows doing e = ap doing_name (sym (some_is _ doing e))
 work_name word.Shell rows doing e = ap doing_name (sym (some_is _ doing e))
 

@@ -1,13 +1,15 @@
 -- What a command line asks for, by its words alone.
-use Rattle.std.specs.Prelude.{◌≡◌, ◌≢◌, ◌⊎◌, ◌&&◌, ⊤, Bool, true, false, List, []}
+use Rattle.std.specs.Prelude.{◌≡◌, ◌≢◌, ◌⊎◌, ◌&&◌, ⊤, ℕ, Bool, true, false, List, []}
 use Rattle.std.specs.Prelude.{Option, Some}
 use Rattle.std.specs.Prelude.{None, Result, MatchResult, length, nat_lt}
-use Rattle.std.specs.Prelude.{codes, option_and_then, option_map, slice_get, if◌then◌else◌}
+use Rattle.std.specs.Prelude.{codes, is_some, option_and_then, option_map, slice_get}
+use Rattle.std.specs.Prelude.{if◌then◌else◌}
 use Rattle.std.specs.Str.{bytes_eq}
 use Rattle.clap.specs.Words.{App, IsAmong, Row, fault_of, kind_of, subcommand_of}
 use Rattle.clap.specs.declared.error.Error.{Error}
 use Rattle.clap.specs.declared.error.kind.ErrorKind.{ErrorKind}
 use Rattle.clap.specs.declared.error.kind.ErrorKind.TheVariants as kind
+use Rattle.numa_sheets.specs.declared.asked.AddressAsked.{AddressAsked}
 use Rattle.numa_sheets.specs.declared.asked.FreePages.{FreePages}
 use Rattle.numa_sheets.specs.declared.format.Format.{Format}
 use Rattle.numa_sheets.specs.declared.format.Format.TheVariants.{Svg, Html}
@@ -51,7 +53,7 @@ is_plain other = false
 abbrev pub is_plainly_asked : Asking → Bool
 is_plainly_asked (predict at format free) = is_plain format
 is_plainly_asked (diff at lines format) = is_plain format
-is_plainly_asked (explain address pages format) = is_plain format
+is_plainly_asked (explain at address pages format) = is_plain format
 
 -- what is asked of each node is told as text or JSON
 abbrev pub can_ask_on : CpuAsked → Asking → Bool
@@ -89,6 +91,11 @@ abbrev pub diff_by : List Text → List Text → Format → Option Asking
 diff_by at lines format =
     if nat_lt 0 (length at) && is_drawn format then None else Some (diff at lines format)
 
+-- an explanation, of one page where a file states where pages lie that are there
+abbrev pub explain_by : List Text → Option ℕ → Format → AddressAsked → Option Asking
+explain_by at pages format address =
+    if nat_lt 0 (length at) && is_some pages then None else Some (explain at address pages format)
+
 -- what a word asks to be done with scripts, by what the parse found of its arguments
 abbrev pub work_asked : Subcommand → List Row → Option Doing
 work_asked word.Run rows = Some (run (is_on (codes "echo") rows) (format_in rows))
@@ -102,8 +109,8 @@ work_asked word.Diff rows = asked_in rows
 work_asked word.Moves rows = option_map (λ free. moves (texts_at (codes "at") rows)
     (texts_at (codes "then") rows) (one_touch_in rows) free (format_in rows)
     (is_on (codes "lenient") rows)) (frees_in rows)
-work_asked word.Explain rows = asked_in rows (option_map
-    (λ address. explain address (small_at (codes "pages") rows) (format_in rows))
+work_asked word.Explain rows = asked_in rows (option_and_then (explain_by
+    (texts_at (codes "at") rows) (small_at (codes "pages") rows) (format_in rows))
     (address_in rows))
 work_asked word.Replay rows = Some (replay (texts_at (codes "trace") rows) (format_in rows)
     (is_on (codes "lenient") rows))
@@ -139,7 +146,7 @@ doings_asked program words = doings_found words (subcommand_of program words)
 abbrev pub asking_name : Asking → Text
 asking_name (predict at format free) = codes "predict"
 asking_name (diff at lines format) = codes "diff"
-asking_name (explain address pages format) = codes "explain"
+asking_name (explain at address pages format) = codes "explain"
 
 abbrev pub doing_name : Doing → Text
 doing_name (run echo format) = codes "run"

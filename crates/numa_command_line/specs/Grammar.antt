@@ -91,7 +91,7 @@ moves_arguments formats =
 
 abbrev pub explain_arguments : Names → List Rule
 explain_arguments formats =
-    task ∷ node ∷ number (codes "pages") ∷ process ∷ format formats ∷ lenient
+    task ∷ node ∷ option (codes "at") ∷ number (codes "pages") ∷ process ∷ format formats ∷ lenient
     ∷ needed true (bare (codes "ADDRESS")) ∷ files ∷ []
 
 abbrev pub replay_arguments : Names → List Rule

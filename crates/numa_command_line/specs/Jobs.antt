@@ -30,7 +30,7 @@ Text = List ℕ
 pub data Asking : Type 0 where
   predict : List Text → Format → List FreePages → Asking
   diff : List Text → List Text → Format → Asking
-  explain : AddressAsked → Option ℕ → Format → Asking
+  explain : List Text → AddressAsked → Option ℕ → Format → Asking
 
 -- with the rules that count where the scripts say nothing of them
 pub data Doing : Type 0 where
@@ -50,7 +50,8 @@ abbrev pub question_of : PageQuestion → Asking
 question_of (Predict at format free) = predict (map string_bytes at.items) format free.items
 question_of (Diff at lines format) =
     diff (map string_bytes at.items) (map string_bytes lines.items) format
-question_of (Explain address pages format) = explain address pages format
+question_of (Explain at address pages format) =
+    explain (map string_bytes at.items) address pages format
 
 abbrev pub work_of : ScriptJob → Doing
 work_of (Run echo format) = run echo format

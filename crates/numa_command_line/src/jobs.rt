@@ -23,8 +23,9 @@ pub enum PageQuestion {
         format: Format,
     },
     /// Why the page of this address goes where it goes; with `pages`, by which rules the pages go
-    /// from it on, as many as that.
+    /// from it on, as many as that. With a file `at`, the page lies where that says, too.
     Explain {
+        at: Vec<String>,
         address: AddressAsked,
         pages: Option<u32>,
         format: Format,

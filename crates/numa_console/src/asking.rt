@@ -48,10 +48,11 @@ impl<'a> Asking<'a> {
                 (at.as_slice(), Question::Diff(lines.as_slice()), *format)
             }
             PageQuestion::Explain {
+                at,
                 address,
                 pages,
                 format,
-            } => (&[], Question::Explain(*address, *pages), *format),
+            } => (at.as_slice(), Question::Explain(*address, *pages), *format),
         };
         Asking {
             at,

@@ -4,7 +4,7 @@
 //!
 //! numa_questions and numa_what_if answer the same about a space, without scripts. Where pages lie
 //! that are there state lines of scripts, or of further texts ([`play_there`]): [`moves`] tells
-//! what becomes of them, and in [`predict_at`] they stay.
+//! what becomes of them, in [`predict_at`] they stay, and [`explain_at`] says where one lies.
 #![tactic(auto)]
 
 mod asking;
@@ -17,7 +17,7 @@ mod there;
 
 pub use asking::{predict, prediction_there};
 pub use differing::{diff, play_added};
-pub use explaining::{explain, explanation};
+pub use explaining::{ExplainAsked, explain, explain_at, explanation, places_in};
 pub use moving::{Answer, Playing, moves_of};
 pub use placing::{PlacedAsked, moves, predict_at};
 pub use replaying::replay;

@@ -6,7 +6,7 @@ use crate::asking::{Question, free_by_node, question_of};
 use crate::reports::{NpFree, NpQuestion, NpReport, made, tell_made, touch_of};
 use numa_sheets::FreePages;
 use numa_words::PlacedAsked;
-use numaplan_reports::{Origin, Report, moves, predict_at};
+use numaplan_reports::{Origin, Report, explain_at, moves, predict_at};
 use std::alloc::Global;
 
 /// A question about pages that are there, and the free pages of nodes.
@@ -75,6 +75,46 @@ pub extern "C" fn np_predict_at(
         text,
         report,
     )
+}
+
+/// Why a page would go where it goes, and how it came where it lies.
+fn explained(
+    alloc: Global,
+    asked: Result<Question<'_>, u32>,
+    at: &[u8],
+    page: u64,
+) -> Result<Report, u32>
+    requires { IfErr asked (λ code. is_untold code ≡ true) }
+    ensures { IfErr result (λ code. is_untold code ≡ true) }
+{
+    let Question {
+        script,
+        touch,
+        format,
+    } = match asked {
+        Ok(asked) => asked,
+        Err(code) => return Err(code),
+    };
+    made(explain_at(alloc, script, at, touch, page, format))
+}
+
+/// Writes why a page would go where it goes after a script and its lines, and how it came where it
+/// lies by them and by the lines of a further text.
+#[unsafe(no_mangle)]
+pub extern "C" fn np_explain_at(
+    alloc: Global,
+    script: &[u8],
+    lines: &[u8],
+    at: &[u8],
+    asked: &NpQuestion,
+    page: u64,
+    text: &mut [u8],
+    report: &mut NpReport,
+) -> u32
+    ensures { Reported result text.old text.new report.old report.new }
+{
+    let asked = question_of(script, lines, asked);
+    tell_made(explained(alloc, asked, at, page), text, report)
 }
 
 /// What becomes of pages by the lines of a question.

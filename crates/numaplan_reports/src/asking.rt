@@ -7,6 +7,7 @@ use numa_questions::AskedPages;
 use numa_sheets::{Format, FreePages, Touch, Written};
 use numa_subjects::{Ended, Halt, Twin};
 use numa_traces::ReplayError;
+use numa_words::ExplainAsked;
 use std::alloc::{AllocError, Global};
 
 /// The report of a word of the program, which appends its answer and the messages about lines to
@@ -80,6 +81,16 @@ pub fn diff(
     report
 }
 
+/// An explanation of one page that is asked for.
+pub(crate) fn explain_asked(touch: Touch, page: u64, format: Format) -> ExplainAsked {
+    let pages = AskedPages { page, pages: None };
+    ExplainAsked {
+        touch,
+        pages,
+        format,
+    }
+}
+
 /// Why a page would go where it goes after a script, as [`numa_words::explain`] writes it.
 ///
 /// # Errors
@@ -92,9 +103,9 @@ pub fn explain(
     format: Format,
 ) -> Result<Report, AllocError> {
     let scripts = scripts_of(alloc, script)?;
-    let pages = AskedPages { page, pages: None };
+    let asked = explain_asked(asked, page, format);
     report_by!(alloc, answer, told => {
-        numa_words::explain(alloc, scripts, asked, pages, format, &mut answer, &mut told)
+        numa_words::explain(alloc, scripts, asked, &mut answer, &mut told)
     })
 }
 

@@ -1,5 +1,6 @@
 //! The words of the program about pages that are there, over texts in memory.
 
+use crate::asking::explain_asked;
 use crate::lines::lines_of;
 use crate::report::{Report, report_of};
 use crate::sources::{ScriptText, first_of, named, scripts_of};
@@ -39,6 +40,28 @@ pub fn predict_at(
     let mut answer = Vec::new(alloc);
     let mut told = Vec::new(alloc);
     let ended = numa_words::predict_at(alloc, scripts, at, asked, &mut answer, &mut told, &mut ());
+    report_of(answer, told, ended)
+}
+
+/// Why a page would go where it goes after a script, and how it came where it lies by the script,
+/// the lines behind it and lines `at` of the text `at`, as [`numa_words::explain_at`] writes it.
+/// Messages call that text `at`.
+///
+/// # Errors
+/// `AllocError`: out of memory.
+pub fn explain_at(
+    alloc: Global,
+    script: ScriptText<'_>,
+    at: &[u8],
+    touch: Touch,
+    page: u64,
+    format: Format,
+) -> Result<Report, AllocError> {
+    let (scripts, at) = with_at(alloc, scripts_of(alloc, script)?, at)?;
+    let asked = explain_asked(touch, page, format);
+    let mut answer = Vec::new(alloc);
+    let mut told = Vec::new(alloc);
+    let ended = numa_words::explain_at(alloc, scripts, at, asked, &mut answer, &mut told);
     report_of(answer, told, ended)
 }
 

@@ -269,6 +269,36 @@ impl<'a> Question<'a> {
         })
     }
 
+    /// The same, but the page lies where lines `at START LENGTH NODE` of this text say, too, of a host
+    /// lines `in P at ..` of the script, the lines and this text: `numaplan explain --at`.
+    ///
+    /// ```
+    /// use numaplan::{Format, Question};
+    ///
+    /// let host = "machine 2 0-1 0 flat\nmap 0x10000 0x4000 0x10\n"; // (of task 1 on node 0)
+    /// let report = Question::of(host).explain_at("at 0x10000 0x1000 1\n", 0x10, Format::Text)?;
+    /// assert_eq!(report.text.lines().next(), Some("page 0x10000 is resident on node 1"));
+    /// # Ok::<(), numaplan::Unanswered>(())
+    /// ```
+    pub fn explain_at(&self, at: &str, page: u64, format: Format) -> Result<Report, Unanswered> {
+        let asked = self.asked(format);
+        told(|text, report| unsafe {
+            raw::np_explain_at(
+                self.script.as_ptr(),
+                self.script.len(),
+                self.lines.as_ptr(),
+                self.lines.len(),
+                at.as_ptr(),
+                at.len(),
+                &asked,
+                page,
+                text.as_mut_ptr(),
+                text.len(),
+                report,
+            )
+        })
+    }
+
     /// What a trace of accesses, `TASK ADDRESS CPU [COUNT]` a line, meets where no page is placed:
     /// `numaplan replay`.
     pub fn replay(&self, trace: &str, format: Format) -> Result<Report, Unanswered> {

@@ -5,14 +5,14 @@ use numa_host_script::HostScript;
 use numa_lines::RunFault;
 use numa_moves::{AtLines, Origin, PassOver, RefusedAt};
 use numa_placed::Placed;
-use numa_play::{Findings, page_meant, subject_of, touches};
+use numa_play::{Findings, page_meant, page_place, subject_of, touches};
 use numa_questions::AskedPages;
 use numa_sheets::{AddressAsked, Format, FreePages, Touch, Watch};
-use numa_subjects::{Halt, differ};
+use numa_subjects::{Halt, PagePlace, differ};
 use numa_what_if::{DiffAsked, StatesBefore, difference_since, states_of};
 use numa_words::{
-    Answer, LineFaults, Played, Playing, Reading, explanation, moves_of, play_added,
-    prediction_there, stated_in,
+    Answer, ExplainAsked, LineFaults, Played, Playing, Reading, explanation, moves_of, places_in,
+    play_added, prediction_there, stated_in,
 };
 use std::alloc::Global;
 use std::io::Write;
@@ -293,21 +293,25 @@ fn difference<T: Write, P: Watch>(
     answer
 }
 
-/// Why pages go where they go, and by which rules, if that matters.
-fn reasons<T: Write>(
+/// Why pages go where they go, and by which rules, if that matters, where the first lies so.
+fn reasons_beside<T: Write>(
     alloc: Global,
     findings: &Findings<T>,
+    there: &[Option<PagePlace>],
     meant: Meant<'_>,
-    address: AddressAsked,
-    pages: Option<u32>,
+    pages: AskedPages,
 ) -> Result<Answer, Halt> {
     let (script, process) = (findings.script(), meant.process);
-    let page = page_meant(script, process, address)?;
-    let asked = AskedPages { page, pages };
     let (other, format) = (findings.other(), meant.asking.format);
     let mut texts = Vec::new(alloc);
     for touch in meant.touches {
-        let text = explanation(alloc, script, other, process, *touch, asked, format)?;
+        let touch = *touch;
+        let asked = ExplainAsked {
+            touch,
+            pages,
+            format,
+        };
+        let text = explanation(alloc, script, other, process, asked, there)?;
         add(&mut texts, text)?;
     }
     let text = meant.whole(alloc, texts)?;
@@ -315,6 +319,44 @@ fn reasons<T: Write>(
         text,
         is_other: false,
     })
+}
+
+/// The same, where it is told which lines of a file that states where pages lie are refused.
+fn reasons_there<T: Write>(
+    alloc: Global,
+    findings: &Findings<T>,
+    meant: Meant<'_>,
+    pages: AskedPages,
+    faults: &mut LineFaults,
+) -> Result<Answer, Halt> {
+    let (script, stated, process) = (findings.script(), meant.stated, meant.process);
+    let mut refused = Vec::new(alloc);
+    let there = places_in(alloc, script, stated, process, pages.page, &mut refused);
+    faults.tell_refused(stated, refused.as_slice());
+    drop(refused);
+    let there = there?;
+    let answer = reasons_beside(alloc, findings, there.as_slice(), meant, pages);
+    drop(there);
+    answer
+}
+
+/// Why pages go where they go; with a file that states where pages lie, the page lies there.
+fn reasons<T: Write>(
+    alloc: Global,
+    findings: &Findings<T>,
+    meant: Meant<'_>,
+    address: AddressAsked,
+    pages: Option<u32>,
+    faults: &mut LineFaults,
+) -> Result<Answer, Halt> {
+    let script = findings.script();
+    let page = page_meant(script, meant.process, address)?;
+    let pages = AskedPages { page, pages };
+    if !meant.asking.at.is_empty() {
+        return reasons_there(alloc, findings, meant, pages, faults);
+    }
+    let there = [page_place(script, page)];
+    reasons_beside(alloc, findings, &there, meant, pages)
 }
 
 /// What becomes of pages that are there.
@@ -351,7 +393,9 @@ fn answer_of<T: Write, P: Watch>(
     match meant.asking.question {
         Question::Predict(free) => prediction(alloc, findings, meant, free, faults, watch),
         Question::Diff(lines) => difference(alloc, findings, meant, lines, faults, watch),
-        Question::Explain(address, pages) => reasons(alloc, findings, meant, address, pages),
+        Question::Explain(address, pages) => {
+            reasons(alloc, findings, meant, address, pages, faults)
+        }
         Question::Moves(lines, free) => moves(alloc, findings, meant, lines, free, faults),
     }
 }
