@@ -2,5 +2,6 @@ pub mod Clipped
 pub mod Counted
 pub mod Lists
 pub mod PageMoves
+pub mod Stated
 pub mod Telling
 pub mod Touched

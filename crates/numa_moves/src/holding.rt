@@ -1,5 +1,5 @@
 //! Where the pages of processes lie, and what becomes of them.
-ghost use Rattle.std.specs.Prelude.{◌≡◌, ◌<◌, ◌^◌, ℕ, IfOk, OnOk};
+ghost use Rattle.std.specs.Prelude.{◌≡◌, ◌<◌, ◌^◌, ◌++◌, ◌∷◌, ℕ, List, [], IfOk, OnOk, map};
 ghost use Rattle.numa_page_state.specs.Lying.{Lying};
 ghost use Rattle.numa_page_state.specs.Outcomes.{rooms_of};
 ghost use Rattle.numa_page_state.specs.Standing.{LiesAs};
@@ -8,6 +8,10 @@ ghost use Rattle.numa_moves.specs.Moving.{AreCounted, AreLeft, Follows, IsStep, 
 ghost use Rattle.numa_moves.specs.Moving.{migrates_to};
 ghost use Rattle.numa_moves.specs.Moving.{moves_of, shares_behind, shift_by};
 ghost use Rattle.numa_moves.specs.Shares.{pages_on};
+ghost use Rattle.numa_moves.specs.Stating.{IsLeft, IsStated, Told, held_by, held_in, limited_by};
+ghost use Rattle.numa_moves.specs.Stating.{processes_in, rooms_left, shares_at, stated_by};
+ghost use Rattle.numa_moves.specs.Stating.{told_of};
+ghost use Rattle.numa_moves.specs.declared.at_lines.AtLine.{AtLine};
 ghost use Rattle.numa_moves.specs.declared.holding.Holding.{Holding};
 
 use crate::at_lines::AtLine;
@@ -82,7 +86,13 @@ fn stated(
     lines: &[AtLine],
     refused: &mut Vec<RefusedAt>,
     rooms: &mut Rooms,
-) -> Result<Vec<Share>, AllocError> {
+) -> Result<Vec<Share>, AllocError>
+    ensures shares { (at : Lying) → IsLeft member.entry.scene at
+        → IfOk result (λ shares. shares.items ≡ shares_at member.entry.space.now
+        (stated_by member.entry.scene lines.now at (told_of member.entry))) }
+    ensures rooms { (at : Lying) → IsLeft member.entry.scene at → OnOk result
+        (AreRooms rooms.new (rooms_left member.entry.scene lines.now at (told_of member.entry))) }
+{
     let pages = pages_of(alloc, member, lines, refused)?;
     *rooms = rooms_in(&pages);
     let shares = stated_shares(alloc, member.space, pages.placed());
@@ -97,13 +107,50 @@ fn shares_by(
     origin: Origin<'_>,
     refused: &mut Vec<RefusedAt>,
     rooms: &mut Rooms,
-) -> Result<Vec<Share>, ReportError> {
+) -> Result<Vec<Share>, ReportError>
+    ensures shares { (at : Lying) (lines : List AtLine) → IsLeft member.entry.scene at
+        → IsStated origin.entry lines
+        → IfOk result (λ shares. shares.items ≡ shares_at member.entry.space.now
+        (stated_by member.entry.scene lines at (told_of member.entry))) }
+    ensures rooms { (at : Lying) (lines : List AtLine) → IsLeft member.entry.scene at
+        → IsStated origin.entry lines → OnOk result
+        (AreRooms rooms.new (rooms_left member.entry.scene lines at (told_of member.entry))) }
+{
     match origin {
         Origin::Touched(touch) => touched(alloc, member.space, touch),
         Origin::Stated(lines) => match stated(alloc, member, lines, refused, rooms) {
             Ok(shares) => Ok(shares),
             Err(_) => Err(ReportError::Memory),
         },
+    }
+}
+
+/// Appends what a process holds. The rooms are those that it leaves, where lines state that.
+fn add_one(
+    alloc: Global,
+    member: Member<'_>,
+    origin: Origin<'_>,
+    refused: &mut Vec<RefusedAt>,
+    rooms: &mut Rooms,
+    holdings: &mut Vec<Holding>,
+) -> Result<(), ReportError>
+    ensures held { (at : Lying) (lines : List AtLine) → IsLeft member.entry.scene at
+        → IsStated origin.entry lines → OnOk result (map held_in holdings.new.items
+        ≡ map held_in holdings.old.items
+        ++ held_by member.entry.scene lines at (told_of member.entry) ∷ []) }
+    ensures rooms { (at : Lying) (lines : List AtLine) → IsLeft member.entry.scene at
+        → IsStated origin.entry lines → OnOk result
+        (AreRooms rooms.new (rooms_left member.entry.scene lines at (told_of member.entry))) }
+{
+    let shares = shares_by(alloc, member, origin, refused, rooms)?;
+    let holding = Holding {
+        process: member.process,
+        allowed: member.space.allowed(),
+        shares,
+    };
+    match holdings.push(holding) {
+        Ok(()) => Ok(()),
+        Err(_) => Err(ReportError::Memory),
     }
 }
 
@@ -116,24 +163,22 @@ fn add_all(
     refused: &mut Vec<RefusedAt>,
     rooms: &mut Rooms,
     holdings: &mut Vec<Holding>,
-) -> Result<(), ReportError> {
+) -> Result<(), ReportError>
+    ensures held { (at : Lying) (lines : List AtLine) → IsLeft scene.entry at
+        → IsStated origin.entry lines → OnOk result (map held_in holdings.new.items
+        ≡ map held_in holdings.old.items
+        ++ map (held_by scene.entry lines at) (processes_in scene.entry)) }
+    ensures rooms { (at : Lying) (lines : List AtLine) (told : Told) → IsLeft scene.entry at
+        → IsStated origin.entry lines → processes_in scene.entry ≡ told ∷ []
+        → OnOk result (AreRooms rooms.new (rooms_left scene.entry lines at told)) }
+{
     if let Origin::Stated(lines) = origin {
         if note_lacking(scene, lines, refused).is_err() {
             return Err(ReportError::Memory);
         }
     }
     for place in 0..scene.members() {
-        if let Some(member) = scene.member(place) {
-            let shares = shares_by(alloc, member, origin, refused, rooms)?;
-            let holding = Holding {
-                process: member.process,
-                allowed: member.space.allowed(),
-                shares,
-            };
-            if let Err(_) = holdings.push(holding) {
-                return Err(ReportError::Memory);
-            }
-        }
+        add_one(alloc, scene.member(place), origin, refused, rooms, holdings)?;
     }
     Ok(())
 }
@@ -252,7 +297,10 @@ pub struct Holdings {
 }
 
 /// Says that named nodes take so many more pages.
-fn limit_all(rooms: &mut Rooms, free: &[FreePages]) {
+fn limit_all(rooms: &mut Rooms, free: &[FreePages])
+    ensures { (room : ℕ → ℕ) → AreRooms rooms.old room
+        → AreRooms rooms.new (limited_by free.now room) }
+{
     for one in free {
         rooms.limit(one.node, one.pages);
     }
@@ -272,7 +320,16 @@ impl Holdings {
         origin: Origin<'_>,
         free: &[FreePages],
         refused: &mut Vec<RefusedAt>,
-    ) -> Result<Holdings, ReportError> {
+    ) -> Result<Holdings, ReportError>
+        ensures held { (at : Lying) (lines : List AtLine) → IsLeft scene.entry at
+            → IsStated origin.entry lines → IfOk result (λ holdings.
+            map held_in holdings.list.items
+            ≡ map (held_by scene.entry lines at) (processes_in scene.entry)) }
+        ensures rooms { (at : Lying) (lines : List AtLine) (told : Told) → IsLeft scene.entry at
+            → IsStated origin.entry lines → processes_in scene.entry ≡ told ∷ []
+            → IfOk result (λ holdings. AreRooms holdings.rooms
+            (limited_by free.now (rooms_left scene.entry lines at told))) }
+    {
         let mut list = Vec::new(alloc);
         let mut rooms = Rooms::endless();
         match add_all(alloc, scene, origin, refused, &mut rooms, &mut list) {
@@ -343,7 +400,9 @@ impl Holdings {
     }
 
     /// How many more pages each node takes.
-    pub fn rooms(&self) -> &Rooms {
+    pub fn rooms(&self) -> &Rooms
+        ensures { result.now ≡ self.now.rooms }
+    {
         &self.rooms
     }
 

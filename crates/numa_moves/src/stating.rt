@@ -1,5 +1,12 @@
 //! Where pages lie, as lines state it.
+ghost use Rattle.std.specs.Prelude.{◌≡◌, ◌<◌, ℕ, IfOk, OnOk, MatchOption, Some, length};
+ghost use Rattle.std.specs.Prelude.{slice_get};
+ghost use Rattle.numa_page_state.specs.Lying.{Lying, ground_in, nothing};
+ghost use Rattle.numa_page_state.specs.Standing.{LiesAs};
+ghost use Rattle.numa_placed.specs.Spots.{spot_at};
 ghost use Rattle.numa_moves.specs.Moving.{Allows};
+ghost use Rattle.numa_moves.specs.Stating.{IsLeft, is_of, line_heeded, line_stated};
+ghost use Rattle.numa_moves.specs.Stating.{lines_stated, processes_in, stated_by, told_of};
 
 use crate::at_lines::{AtLine, LinePlace};
 use numa_host::Host;
@@ -40,7 +47,9 @@ pub(crate) struct Member<'a> {
 
 impl<'a> Scene<'a> {
     /// How many processes are told of.
-    pub(crate) fn members(&self) -> usize {
+    pub(crate) fn members(&self) -> usize
+        ensures { result ≡ length (processes_in self.now) }
+    {
         match self {
             Scene::Own(..) | Scene::One(..) => 1,
             Scene::Each(host) => host.processes().len(),
@@ -48,20 +57,32 @@ impl<'a> Scene<'a> {
     }
 
     /// One of the processes, in the order in which they were made.
-    pub(crate) fn member(&self, place: usize) -> Option<Member<'a>> {
-        let (process, space) = match self {
-            Scene::Own(space, _) => (0, *space),
-            Scene::One(process, space) => (*process, *space),
+    pub(crate) fn member(&self, place: usize) -> Member<'a>
+        requires { place < length (processes_in self.now) }
+        ensures told { slice_get (processes_in self.now) place ≡ Some (told_of result) }
+        ensures scene { result.scene ≡ self.now }
+    {
+        let scene = *self;
+        match scene {
+            Scene::Own(space, _) => Member {
+                scene,
+                process: 0,
+                space,
+            },
+            Scene::One(process, space) => Member {
+                scene,
+                process,
+                space,
+            },
             Scene::Each(host) => {
-                let process = host.processes().get(place)?;
-                (process.id, &process.space)
+                let process = &host.processes()[place];
+                Member {
+                    scene,
+                    process: process.id,
+                    space: &process.space,
+                }
             }
-        };
-        Some(Member {
-            scene: *self,
-            process,
-            space,
-        })
+        }
     }
 }
 
@@ -95,11 +116,16 @@ impl Scene<'_> {
 
 impl Scene<'_> {
     /// Whether a line states where pages of this process lie.
-    fn is_of(&self, process: u32, line: &AtLine) -> bool {
+    fn is_of(&self, process: u32, line: &AtLine) -> bool
+        ensures { result ≡ is_of self.now process line.now.process }
+    {
         match self {
             Scene::Own(..) => line.process.is_none(),
             Scene::One(own, _) => line.process.unwrap_or(*own) == *own,
-            Scene::Each(_) => line.process == Some(process),
+            Scene::Each(_) => match line.process {
+                Some(named) => named == process,
+                None => false,
+            },
         }
     }
 
@@ -157,7 +183,10 @@ fn state_line(
     resident: &Resident,
     line: &AtLine,
     refused: &mut Vec<RefusedAt>,
-) -> Result<(), AllocError> {
+) -> Result<(), AllocError>
+    ensures { (at : Lying) → LiesAs pages.old at → OnOk result (LiesAs pages.new
+        (line_stated (ground_in space.now resident.now) line.now at)) }
+{
     match pages.at(space, resident, line.start, line.length, line.node) {
         Ok(()) => Ok(()),
         Err(PlacedRefusal::NoMemory) => Err(AllocError),
@@ -171,6 +200,24 @@ fn state_line(
     }
 }
 
+/// Heeds a line, if it states where pages of a process lie.
+fn heed_line(
+    pages: &mut PageState,
+    member: Member<'_>,
+    resident: &Resident,
+    line: &AtLine,
+    refused: &mut Vec<RefusedAt>,
+) -> Result<(), AllocError>
+    ensures { (at : Lying) → LiesAs pages.old at → OnOk result (LiesAs pages.new
+        (line_heeded member.entry.scene member.entry.process
+        (ground_in member.entry.space.now resident.now) line.now at)) }
+{
+    if member.scene.is_of(member.process, line) {
+        return state_line(pages, member.space, resident, line, refused);
+    }
+    Ok(())
+}
+
 /// States where the pages of a process lie, by its lines.
 fn state_lines(
     pages: &mut PageState,
@@ -178,26 +225,38 @@ fn state_lines(
     resident: &Resident,
     lines: &[AtLine],
     refused: &mut Vec<RefusedAt>,
-) -> Result<(), AllocError> {
+) -> Result<(), AllocError>
+    ensures { (at : Lying) → LiesAs pages.old at → OnOk result (LiesAs pages.new
+        (lines_stated member.entry.scene member.entry.process
+        (ground_in member.entry.space.now resident.now) lines.now at)) }
+{
     for line in lines {
-        if member.scene.is_of(member.process, line) {
-            state_line(pages, member.space, resident, line, refused)?;
-        }
+        heed_line(pages, member, resident, line, refused)?;
     }
     Ok(())
 }
 
+impl<'a> Scene<'a> {
+    /// Where the script of one process has left its pages.
+    fn left(&self) -> Option<&'a PageState>
+        ensures { (at : Lying) → IsLeft self.now at
+            → MatchOption result (at ≡ nothing) (λ pages. LiesAs pages.now at) }
+    {
+        match self {
+            Scene::Own(_, there) => there.pages,
+            Scene::One(..) | Scene::Each(_) => None,
+        }
+    }
+}
+
 /// Where pages of a process lie before its lines are heeded.
-fn pages_before(alloc: Global, member: Member<'_>) -> Result<PageState, AllocError> {
-    let pages = match member.scene {
-        Scene::Own(
-            _,
-            There {
-                pages: Some(pages),
-                ..
-            },
-        ) => pages.copy(),
-        _ => PageState::new(alloc),
+fn pages_before(alloc: Global, member: Member<'_>) -> Result<PageState, AllocError>
+    ensures { (at : Lying) → IsLeft member.entry.scene at
+        → IfOk result (λ pages. LiesAs pages at) }
+{
+    let pages = match member.scene.left() {
+        Some(pages) => pages.copy(),
+        None => PageState::new(alloc),
     };
     match pages {
         Ok(pages) => Ok(pages),
@@ -212,7 +271,10 @@ fn heed_lines(
     member: Member<'_>,
     lines: &[AtLine],
     refused: &mut Vec<RefusedAt>,
-) -> Result<(), AllocError> {
+) -> Result<(), AllocError>
+    ensures { (at : Lying) → LiesAs pages.old at → OnOk result (LiesAs pages.new
+        (stated_by member.entry.scene lines.now at (told_of member.entry))) }
+{
     if let Scene::Own(_, there) = member.scene {
         return state_lines(pages, member, there.resident, lines, refused);
     }
@@ -228,7 +290,10 @@ pub(crate) fn pages_of(
     member: Member<'_>,
     lines: &[AtLine],
     refused: &mut Vec<RefusedAt>,
-) -> Result<PageState, AllocError> {
+) -> Result<PageState, AllocError>
+    ensures { (at : Lying) → IsLeft member.entry.scene at → IfOk result (λ pages. LiesAs pages
+        (stated_by member.entry.scene lines.now at (told_of member.entry))) }
+{
     let mut pages = pages_before(alloc, member)?;
     match heed_lines(alloc, &mut pages, member, lines, refused) {
         Ok(()) => Ok(pages),
@@ -245,7 +310,11 @@ fn placed_of(
     member: Member<'_>,
     lines: &[AtLine],
     refused: &mut Vec<RefusedAt>,
-) -> Result<Placed, AllocError> {
+) -> Result<Placed, AllocError>
+    ensures { (at : Lying) → IsLeft member.entry.scene at → IfOk result (λ placed. (page : ℕ)
+        → spot_at placed page
+        ≡ (stated_by member.entry.scene lines.now at (told_of member.entry)).spots page) }
+{
     let pages = pages_of(alloc, member, lines, refused)?;
     let placed = pages.placed().copy();
     drop(pages);
@@ -288,10 +357,8 @@ pub fn add_stated(
         return Err(fault);
     }
     for place in 0..scene.members() {
-        if let Some(member) = scene.member(place) {
-            let placed = placed_of(alloc, member, lines, refused)?;
-            all.push(placed)?;
-        }
+        let placed = placed_of(alloc, scene.member(place), lines, refused)?;
+        all.push(placed)?;
     }
     Ok(())
 }
