@@ -1,4 +1,5 @@
 //! Noticing that a script which is run holds answers: then people mean `expect`.
+use memchr::{memchr, memchr_iter};
 use std::alloc::{AllocError, Global};
 use std::io;
 use std::io::Read;
@@ -79,15 +80,46 @@ impl<S> Noticing<'_, S> {
         }
     }
 
-    /// Looks at the next bytes, if they are among the first.
-    fn look(&mut self, bytes: &[u8]) {
+    /// Looks at bytes in which no mark ends: all but the last line are counted alone.
+    fn pass(&mut self, bytes: &[u8]) {
+        let mut begin = 0usize;
+        for end in memchr_iter(b'\n', bytes) {
+            self.line = self.line.saturating_add(1);
+            begin = end.saturating_add(1);
+        }
+        if begin > 0 {
+            (self.matched, self.is_comment, self.is_begin) = (1, false, true);
+        }
+        for byte in bytes.get(begin..).unwrap_or(&[]) {
+            self.look_at(*byte);
+        }
+    }
+
+    /// Looks at each of the bytes, until an answer is noted.
+    fn look_at_each(&mut self, bytes: &[u8]) {
         for byte in bytes {
             if self.bytes >= HEAD {
                 return;
             }
-            self.bytes = self.bytes.saturating_add(1);
             self.look_at(*byte);
         }
+    }
+
+    /// Whether a mark may end within the bytes.
+    fn may_end_in(&self, bytes: &[u8]) -> bool {
+        self.matched > 2 || memchr(b'>', bytes).is_some()
+    }
+
+    /// Looks at the next bytes, as far as they are among the first.
+    fn look(&mut self, bytes: &[u8]) {
+        let left = HEAD.saturating_sub(self.bytes) as usize;
+        let first = bytes.get(..left).unwrap_or(bytes);
+        if self.may_end_in(first) {
+            self.look_at_each(first);
+        } else {
+            self.pass(first);
+        }
+        self.bytes = self.bytes.saturating_add(first.len() as u64);
     }
 }
 
