@@ -40,7 +40,7 @@ prove_chain() {
 }
 
 # How many runs go beside the chain's: three, if each finds 4 GB of memory.
-runs_beside() { awk '/^MemAvailable/ { n = int($2 / 4e6) } END { print n < 1 ? 1 : n > 3 ? 3 : n }' /proc/meminfo; }
+runs_beside() { awk '/^MemAvailable/ { n = int($2 / 4e6) } END { print (n < 1 ? 1 : n > 3 ? 3 : n) }' /proc/meminfo; }
 
 # Proves what can be once a crate of the chain is, a line of $groups each, while that file is there.
 # The runs go side by side, and a later one waits where it needs what an earlier one proves.
