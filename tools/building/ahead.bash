@@ -3,8 +3,9 @@
 # rt gives a proof the processors that no other waits for, and so one to each crate of the chain while
 # others are there. Where it keeps what passes, beside the kit and each crate as soon as it is proved,
 # each crate of the chain has a run of its own, which gives it two jobs on four processors; beside
-# that, in other runs and with less of the processors' time, are proved the crates that can be by
-# then. The whole run begins when the chain is proved, and takes what all have kept. Not proved.
+# that, in other runs, are proved the crates that can be by then, those for which less waits with
+# less of the processors' time. The whole run begins when the chain is proved, and takes what all
+# have kept. Not proved.
 
 # Whether the kit's rt keeps what passes, in a folder of that name (rattle-kit-13b's doesn't).
 keeps_proofs() {
@@ -43,17 +44,19 @@ prove_chain() {
 runs_beside() { awk '/^MemAvailable/ { n = int($2 / 4e6) } END { print (n < 1 ? 1 : n > 3 ? 3 : n) }' /proc/meminfo; }
 
 # Proves what can be once a crate of the chain is, a line of $groups each, while that file is there.
-# The runs go side by side, and a later one waits where it needs what an earlier one proves.
+# The runs go side by side, and a later one waits where it needs what an earlier one proves. What
+# less waits for takes less of the processors' time.
 prove_beside() {
-    local proved=$1 name others most
+    local proved=$1 name nice others most
     most=$(runs_beside)
-    while read -r name others; do
+    while read -r name nice others; do
         until [ "$name" = - ] || grep -qsx "$name" "$proved"; do
             [ -e "$proved" ] || break 2
             sleep 1
         done
+        [ -n "$others" ] || continue
         while (($(jobs -rp | wc -l) >= most)); do wait -n; done
-        [ -z "$others" ] || RT_JOBS=$(($(nproc) - 2)) ci_of $others &
+        (renice -n "$nice" -p "$BASHPID" >/dev/null && RT_JOBS=$(($(nproc) - 2)) ci_of $others) &
     done <<<"$groups"
     wait
 }
@@ -63,8 +66,8 @@ prove_all() {
     local groups chain proved status
     if goes_ahead && groups=$(python3 -B "$building/chain.py") && proved=$(mktemp); then
         trap 'rm -f "$proved"; end_below "$BASHPID"; exit 130' INT TERM HUP
-        mapfile -t chain < <(cut -d ' ' -f 1 <<<"$groups" | grep -vx -e -)
-        (renice -n 10 -p "$BASHPID" >/dev/null && prove_beside "$proved") &
+        mapfile -t chain < <(cut -d ' ' -f 1 <<<"$groups" | grep -vx -e - | uniq)
+        prove_beside "$proved" &
         prove_chain "$proved" "${chain[@]}"
         rm "$proved"
     fi

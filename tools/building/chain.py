@@ -1,7 +1,8 @@
 #!/usr/bin/env python3
 """chain.py [FOLDER]: of the repository in a folder, the crates whose proofs wait for one another
-longest, by an estimate: a line each, the lowest first, with the other crates that can be proved once
-it is. The first line is of none: `-`, and the crates that stand on none of these. Not proved."""
+longest, by an estimate: the lowest first, two lines each, `CRATE NICE OTHERS..`, of the other crates
+that can be proved once it is: with 0 those that nearly as much waits for, with 10 the rest. The
+first two lines are of none: `-`, and the crates that stand on none of these. Not proved."""
 
 import os
 import sys
@@ -29,17 +30,30 @@ def all_below(crates):
     return found
 
 
-def longest_chain(crates, cost):
-    """The crates of the dearest chain, the lowest first."""
+def ways_of(crates, cost):
+    """By crate the cost of the dearest way from it up to a crate on which none stands."""
     above = {name: [it for it in crates if name in crates[it]] for name in crates}
     ways = {}
     for name in reversed(all_below(crates)):
         ways[name] = cost[name] + max((ways[it] for it in above[name]), default=0)
+    return ways
+
+
+def longest_chain(crates, ways):
+    """The crates of the dearest way, the lowest first."""
     chain, ready = [], list(crates)
     while ready:
         chain.append(max(ready, key=ways.get))
-        ready = above[chain[-1]]
+        ready = [it for it in crates if chain[-1] in crates[it]]
     return chain
+
+
+def urgent_ones(crates, cost, ways):
+    """The crates on a way, from the lowest to the highest, at most a tenth cheaper than the dearest."""
+    before = {}
+    for name in all_below(crates):
+        before[name] = max((before[low] + cost[low] for low in crates[name]), default=0)
+    return {name for name in crates if before[name] + ways[name] >= max(ways.values()) * 9 // 10}
 
 
 def groups_of(crates, chain):
@@ -72,6 +86,9 @@ def lines_of(folder):
 if __name__ == "__main__":
     top = sys.argv[1] if sys.argv[1:] else "."
     crates = read_crates(f"{top}/crates.txt")
-    chain = longest_chain(crates, costs_of(crates, top))
-    for name, others in groups_of(crates, chain).items():
-        print(name or "-", *others)
+    cost = costs_of(crates, top)
+    ways = ways_of(crates, cost)
+    urgent = urgent_ones(crates, cost, ways)
+    for name, others in groups_of(crates, longest_chain(crates, ways)).items():
+        print(name or "-", 0, *[it for it in others if it in urgent])
+        print(name or "-", 10, *[it for it in others if it not in urgent])
