@@ -1,9 +1,12 @@
 -- Pages that keep frames, counted one after the other.
 use Rattle.std.proofs.Common.{◌≡◌, ℕ, ◌+◌, ◌==◌, not, cond, Bool, true, false, [], ◌∷◌}
-use Rattle.std.proofs.Common.{refl, ap, arith}
+use Rattle.std.proofs.Common.{refl, ap, arith, subst, sym, Option, Some, None}
+use Rattle.std.specs.Prelude.{MatchResult, Result}
 use Rattle.std.proofs.lemmas.List.Sums.{sum_by-cons}
+use Rattle.numa_requests.specs.declared.page_refusal.MoveRefusal.{MoveRefusal}
 use Rattle.numa_requests.specs.declared.placement.Placement.{Placement}
 use Rattle.numa_maps.specs.Residents.{Kept}
+use Rattle.numa_placed.specs.Shifts.{first_of}
 use Rattle.numa_placed.specs.Spots.{pages_if}
 use Rattle.numa_placed.specs.declared.moved.Moved.{Moved}
 use Rattle.numa_page_state.specs.Lying.{Told, held_left, with_held}
@@ -69,3 +72,18 @@ tells-held moved told resident kept held same counts tells = record {
   from = tells.from;
   to = tells.to;
 }
+
+-- ---- a page in a frame
+
+-- what stands against any page there stands against it; where nothing does, it stays
+pub held-then : (one other : Option MoveRefusal) (result : Result (Unit {0}) MoveRefusal)
+    → one ≡ None → MatchResult result (λ done. other ≡ None) (λ refusal. other ≡ Some refusal)
+    → MatchResult result (λ done. first_of one other ≡ None)
+    (λ refusal. first_of one other ≡ Some refusal)
+held-then one other result none is =
+    subst (λ (c : Option MoveRefusal). MatchResult result (λ done. first_of c other ≡ None)
+    (λ refusal. first_of c other ≡ Some refusal)) (sym none) is
+
+pub held-barred : (one other : Option MoveRefusal) (refusal : MoveRefusal) → one ≡ Some refusal
+    → first_of one other ≡ Some refusal
+held-barred one other refusal is = ap (λ (c : Option MoveRefusal). first_of c other) is

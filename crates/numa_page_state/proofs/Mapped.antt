@@ -25,14 +25,14 @@ use Rattle.numa_requests.specs.declared.page_refusal.PlacedRefusal.{PlacedRefusa
 use Rattle.numa_requests.specs.declared.page_refusal.PlacedRefusal.TheVariants as cause
 use Rattle.numa_requests.specs.declared.placement.Placement.{Placement}
 use Rattle.numa_placed.specs.declared.spot.Spot.{Spot}
-use Rattle.numa_placed.specs.declared.spot.Spot.TheVariants.{Nowhere, Stated, Held}
+use Rattle.numa_placed.specs.declared.spot.Spot.TheVariants.{Nowhere, Stated}
 use Rattle.numa_page_state.specs.Lying.{AreMapped, Ground, IsMapped, Lying, Process, motion}
 use Rattle.numa_page_state.specs.Lying.{with_held, with_motion, with_spots}
 use Rattle.numa_page_state.specs.Outcomes.{Done, at_cause, at_outcome, at_spots, done_with}
 use Rattle.numa_page_state.specs.Outcomes.{follow_unless, followed_where, forgotten}
-use Rattle.numa_page_state.specs.Outcomes.{held_move_unless, lack_in, move_cause_by, move_outcome}
-use Rattle.numa_page_state.specs.Outcomes.{move_unless, move_where, moved_outcome, rooms_of}
-use Rattle.numa_page_state.specs.Outcomes.{shift_of as shift_told, unless_refused}
+use Rattle.numa_page_state.specs.Outcomes.{held_cause, held_move_unless, lack_in, move_cause_by}
+use Rattle.numa_page_state.specs.Outcomes.{move_outcome, move_unless, move_where, moved_outcome}
+use Rattle.numa_page_state.specs.Outcomes.{rooms_of, shift_of as shift_told, unless_refused}
 use Rattle.numa_page_state.specs.Sending.{asked_of, goals_in, sent_spots}
 use Rattle.numa_page_state.specs.Touching.{populate_outcome, touch_cause, touched_by, with_touched}
 use Rattle.numa_page_state.specs.declared.sending.Rebinding.{Rebinding}
@@ -81,13 +81,11 @@ there : (kept : Kept) (page : ℕ) (spot : Spot) → is_placed spot ≡ true
     → is_absent kept page spot ≡ false
 there kept page Nowhere t = absurd (both_ways false refl t)
 there kept page (Stated node) t = refl
-there kept page (Held node) t = refl
 
 in-frame : (kept : Kept) (page : ℕ) (spot : Spot) → is_some (placed_at kept page) ≡ true
     → is_absent kept page spot ≡ false
 in-frame kept page Nowhere t = ap not t
 in-frame kept page (Stated node) t = refl
-in-frame kept page (Held node) t = refl
 
 goes-there : (kept : Kept) (first pages page node : ℕ) (goal : Option ℕ) (spot : Spot)
     → in_pages first pages page ≡ true → spot ≡ Nowhere → placed_at kept page ≡ None
@@ -149,15 +147,11 @@ if-mapped false mapped one other there here = here
 
 stated-mapped : (mapped : Bool) (node : ℕ) (spot : Spot) → mapped ≡ true → IsMapped mapped spot
     → IsMapped mapped (stated_spot node spot)
-stated-mapped mapped node Nowhere t is = t
-stated-mapped mapped node (Stated other) t is = t
-stated-mapped mapped node (Held other) t is = absurd is
+stated-mapped mapped node spot t is = t
 
 forgotten-mapped : (mapped : Bool) (spot : Spot) → IsMapped mapped spot
     → IsMapped mapped (forgotten_spot spot)
-forgotten-mapped mapped Nowhere is = tt
-forgotten-mapped mapped (Stated node) is = tt
-forgotten-mapped mapped (Held node) is = absurd is
+forgotten-mapped mapped spot is = tt
 
 sent-mapped : (mapped : Bool) (goal : Option ℕ) (spot : Spot) → mapped ≡ true
     → IsMapped mapped spot → IsMapped mapped (sent_spot goal spot)
@@ -257,7 +251,6 @@ lies-mapped : (mapped : Bool) (node : ℕ) (spot : Spot) → spot_cause node spo
 lies-mapped mapped node Nowhere free is =
     let odd : true ≡ false = ap is_some free in absurd (both_ways true odd refl)
 lies-mapped mapped node (Stated from) free is = is
-lies-mapped mapped node (Held from) free is = absurd is
 
 moved-mapped : (first : Option MoveRefusal) (mapped : ℕ → Bool) (page node : ℕ) (at : Lying)
     → AreMapped mapped at.spots → (first ≡ None → mapped page ≡ true)
@@ -280,8 +273,7 @@ where-mapped : (placement : Option Placement) (refused : Bool) (basis : Ground) 
     (at : Lying) → AreMapped basis.mapped at.spots
     → AreMapped basis.mapped (move_where placement refused basis page node at).1.spots
 where-mapped (Some placement) refused basis page node at are =
-    held-mapped (move_cause basis.machine basis.allowed node (basis.mapped page)
-    (Held placement.node)) basis.mapped at are
+    held-mapped (held_cause basis page node placement.node) basis.mapped at are
 where-mapped None refused basis page node at are =
     moved-mapped (move_cause_by refused basis page node at) basis.mapped page node at are
     (λ none.
@@ -305,14 +297,12 @@ gone-mapped : (go : ℕ → ℕ) (mapped : Bool) (spot : Spot) → IsMapped mapp
     → IsMapped mapped (moved_spot go spot)
 gone-mapped go mapped Nowhere is = tt
 gone-mapped go mapped (Stated node) is = is
-gone-mapped go mapped (Held node) is = absurd is
 
 shifted-mapped : (go gone below : ℕ → ℕ) (mapped : Bool) (spot : Spot) → IsMapped mapped spot
     → IsMapped mapped (shifted_spot go gone below spot)
 shifted-mapped go gone below mapped Nowhere is = tt
 shifted-mapped go gone below mapped (Stated node) is =
     if-mapped (nat_lt (below node) (gone node)) mapped (Stated (go node)) (Stated node) (λ t. is) is
-shifted-mapped go gone below mapped (Held node) is = absurd is
 
 pub motion-mapped : (mapped : ℕ → Bool) (room : Option (ℕ → ℕ)) (spots : ℕ → Spot) (old new : ℕ)
     → AreMapped mapped spots → AreMapped mapped (motion room spots old new).spots
@@ -348,7 +338,6 @@ astray-mapped : (mapped : Bool) (list : ℕ) (spot : Spot) → is_astray list sp
     → IsMapped mapped spot → mapped ≡ true
 astray-mapped mapped list Nowhere t is = absurd (both_ways false refl t)
 astray-mapped mapped list (Stated node) t is = is
-astray-mapped mapped list (Held node) t is = absurd is
 
 pub sent-are : (process : Process) (said : Rebinding) (toucher : Toucher) (mapped : ℕ → Bool)
     (at : Lying) → AreMapped mapped at.spots
@@ -364,11 +353,7 @@ sent-are process said toucher mapped at are =
 
 away-mapped : (within mapped : Bool) (spot : Spot) → IsMapped mapped spot
     → IsMapped (not within && mapped) (if within then forgotten_spot spot else spot)
-away-mapped true mapped spot is = forgotten-away spot is where
-  forgotten-away : (spot : Spot) → IsMapped mapped spot → IsMapped false (forgotten_spot spot)
-  forgotten-away Nowhere is = tt
-  forgotten-away (Stated node) is = tt
-  forgotten-away (Held node) is = absurd is
+away-mapped true mapped spot is = tt
 away-mapped false mapped spot is = is
 
 pub forgotten-are : (mapped : ℕ → Bool) (start bytes : ℕ) (spots : ℕ → Spot)

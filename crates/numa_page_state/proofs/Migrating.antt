@@ -7,7 +7,7 @@ use Rattle.numa_placed.proofs.Shared.{count-le}
 use Rattle.numa_placed.specs.Shifts.{is_stated, room_of}
 use Rattle.std.specs.Prelude.{Result, Ok, Err, IfErr, IfOk, OnErr, OnOk}
 use Rattle.numa_ranges.specs.declared.run.Run.{Run}
-use Rattle.numa_placed.specs.Moves.{IsMove, goes, goes_from, is_left, moved_node, moved_spot}
+use Rattle.numa_placed.specs.Moves.{IsMove, goes, goes_from, moved_node, moved_spot}
 use Rattle.numa_placed.specs.Refusals.{IsRefusal, first_of}
 use Rattle.numa_placed.specs.Shifts.{AreRooms, IsShift, shift_of, shifted, stated_on, stay_on}
 use Rattle.numa_placed.specs.Shifts.{sum_below}
@@ -47,17 +47,12 @@ stay-le go count gone each node =
 where-le : (test : Spot → Bool) (spots : ℕ → Spot) → pages_where test spots ≤ 34359738368
 where-le test spots = count-le (λ page. test (spots page)) 0 (2 ^ 35)
 
-few-free : (go : ℕ → ℕ) (spots : ℕ → Spot) (left : ℕ)
-    → left ≡ pages_where (is_left go) spots → left < 2 ^ 62
-few-free go spots left is = omega (arith, is, where-le (is_left go) spots)
-
 few-filling : (go gone : ℕ → ℕ) (spots : ℕ → Spot) (left : ℕ)
-    → left ≡ pages_where (is_left go) spots + sum_below 256 (stay_on go (stated_on spots) gone)
-    → left < 2 ^ 62
+    → left ≡ sum_below 256 (stay_on go (stated_on spots) gone) → left < 2 ^ 62
 few-filling go gone spots left is =
     let stay = sum-le 256 (stay_on go (stated_on spots) gone)
     (stay-le go (stated_on spots) gone (λ node. where-le (is_stated node) spots)) in
-    omega (arith, is, where-le (is_left go) spots, stay)
+    omega (arith, is, stay)
 
 module _ (old new : List (Run Spot)) (from to : ℕ) (first : Option PlacedRefusal) where
   -- ---- no node fills
@@ -73,12 +68,12 @@ module _ (old new : List (Run Spot)) (from to : ℕ) (first : Option PlacedRefus
         room = tt;
         told = record {
           moved = is.tally.moved ∙ ap (pages_where (goes go)) alike;
-          left = is.tally.left ∙ ap (pages_where (is_left go)) alike;
+          left = is.tally.left;
           from = λ node small. is.tally.from node small
               ∙ ap (pages_where (goes_from go node)) alike;
           to = is.tally.to;
         };
-        few = few-free go (spot_at old) moved.left is.tally.left;
+        few = omega (arith, is.tally.left);
       }
 
   pub migrates-freely : (result : Result Moved PlacedRefusal)

@@ -1,5 +1,5 @@
 -- Worked rows: what is told of moves.
-use Rattle.std.proofs.Common.{◌≡◌, ℕ, ◌==◌, false, true, Some, [], ◌∷◌, refl}
+use Rattle.std.proofs.Common.{◌≡◌, ℕ, ◌==◌, false, true, Some, None, [], ◌∷◌, refl}
 use Rattle.std.specs.Prelude.{if◌then◌else◌, Err}
 use Rattle.numa_mode.specs.declared.modes.Mode.TheVariants as mode
 use Rattle.numa_mode.specs.declared.modes.NodeFlag.TheVariants as flag
@@ -9,7 +9,7 @@ use Rattle.numa_placed.specs.Astray.{is_astray}
 use Rattle.numa_placed.specs.Binds.{Asked}
 use Rattle.numa_placed.specs.declared.spot.Spot.TheVariants.{Stated}
 use Rattle.numa_page_state.specs.Lying.{held_left, nothing, still}
-use Rattle.numa_page_state.specs.Outcomes.{held_move_unless, told_of}
+use Rattle.numa_page_state.specs.Outcomes.{frame_cause, held_move_unless, told_of}
 use Rattle.numa_page_state.specs.Sending.{had_to_go, tells_left}
 
 -- two pages keep frames of nodes 1 and 2: where node 1 goes to node 0, the first is left
@@ -37,6 +37,12 @@ told-still-row = refl
 -- a page in a frame of another node stays
 no-room-row : (held_move_unless (Some move.NoRoom) nothing).0 ≡ Err move.NoRoom
 no-room-row = refl
+
+frame-row : frame_cause 0 1 ≡ Some move.NoRoom
+frame-row = refl
+
+frame-there-row : frame_cause 1 1 ≡ None
+frame-there-row = refl
 
 -- ---- mbind .. move
 

@@ -11,13 +11,13 @@ use Rattle.numa_space.specs.Policies.{allowed_nodes}
 use Rattle.numa_space.specs.Lists.{node_list}
 use Rattle.numa_space.specs.Standing.{SpaceState, place_refusal_of}
 use Rattle.numa_requests.specs.declared.command.Command.{Command}
-use Rattle.numa_placed.specs.Moves.{goes, goes_from, is_left, moved_node, moved_spot}
+use Rattle.numa_placed.specs.Moves.{goes, goes_from, moved_node, moved_spot}
 use Rattle.numa_placed.specs.Binds.{list_unless, nodes_in}
 use Rattle.numa_placed.specs.Shifts.{rooms_between, shift_of, shifted, stated_on, stay_on}
 use Rattle.numa_placed.specs.Shifts.{sum_below}
 use Rattle.numa_placed.specs.Spots.{pages_where}
 use Rattle.numa_placed.specs.declared.spot.Spot.{Spot}
-use Rattle.numa_placed.specs.declared.spot.Spot.TheVariants.{Nowhere, Stated, Held}
+use Rattle.numa_placed.specs.declared.spot.Spot.TheVariants.{Nowhere, Stated}
 
 -- ---- the process
 
@@ -141,11 +141,10 @@ with_spots spots at = record at {
   room = option_map (λ room. rooms_between room at.spots spots) at.room;
 }
 
--- a page that lies somewhere without a frame is mapped, and none of these spots is in a frame
+-- a page that lies somewhere without a frame is mapped
 abbrev pub IsMapped : Bool → Spot → Type 0
 IsMapped mapped Nowhere = Unit {0}
 IsMapped mapped (Stated node) = mapped ≡ true
-IsMapped mapped (Held node) = ⊥
 
 abbrev pub AreMapped : (ℕ → Bool) → (ℕ → Spot) → Type 0
 AreMapped mapped spots = (page : ℕ) → IsMapped (mapped page) (spots page)
@@ -165,7 +164,7 @@ free_motion spots old new = record {
   room = None;
   told = record {
     moved = pages_where (goes (moved_node old new)) spots;
-    left = pages_where (is_left (moved_node old new)) spots;
+    left = 0;
     from = λ node. pages_where (goes_from (moved_node old new) node) spots;
     to = moved_node old new;
   };
@@ -178,7 +177,7 @@ filling_motion spots room old new = record {
   room = Some (shift_of spots old new room).room;
   told = record {
     moved = sum_below 256 (shift_of spots old new room).gone;
-    left = pages_where (is_left (moved_node old new)) spots + sum_below 256
+    left = sum_below 256
         (stay_on (moved_node old new) (stated_on spots) (shift_of spots old new room).gone);
     from = (shift_of spots old new room).gone;
     to = moved_node old new;

@@ -19,7 +19,7 @@ use Rattle.numa_requests.specs.declared.page_refusal.MoveRefusal.TheVariants as 
 use Rattle.numa_requests.specs.declared.page_refusal.PlacedRefusal.{PlacedRefusal}
 use Rattle.numa_requests.specs.declared.page_refusal.PlacedRefusal.TheVariants as cause
 use Rattle.numa_placed.specs.declared.spot.Spot.{Spot}
-use Rattle.numa_placed.specs.declared.spot.Spot.TheVariants.{Nowhere, Stated, Held}
+use Rattle.numa_placed.specs.declared.spot.Spot.TheVariants.{Nowhere, Stated}
 use Rattle.numa_page_state.specs.declared.shift.Shift.{Shift}
 use Rattle.numa_page_state.specs.Lying.{Ground, Lying, Motion, OfNodes, Told, motion, still}
 use Rattle.numa_page_state.specs.Lying.{with_held, with_motion, with_spots}
@@ -160,7 +160,6 @@ told_of node (Stated from) = if from == node then still
       from = λ other. if other == from then 1 else 0;
       to = λ other. node;
     }
-told_of node (Held from) = still
 
 abbrev pub move_unless : Option MoveRefusal → ℕ → ℕ → Lying → Done (Unit {0}) MoveRefusal
 move_unless (Some why) page node at = (Err why, at)
@@ -169,6 +168,17 @@ move_unless None page node at = done_with (record at {
   room = room_moved_in at.room node (at.spots page);
   last = OfNodes (told_of node (at.spots page));
 })
+
+-- why a page in a frame of a node can't be on another
+abbrev pub frame_cause : ℕ → ℕ → Option MoveRefusal
+frame_cause node from = if from == node then None else Some move.NoRoom
+
+-- why a page that keeps a frame of a node may not move: what stands against any page that lies on
+-- the node, or else that it stays in its frame
+abbrev pub held_cause : Ground → ℕ → ℕ → ℕ → Option MoveRefusal
+held_cause basis page node from = first_move
+    (move_cause basis.machine basis.allowed node (basis.mapped page) (Stated from))
+    (frame_cause node from)
 
 -- a page that keeps a frame stays there
 abbrev pub held_move_unless : Option MoveRefusal → Lying → Done (Unit {0}) MoveRefusal
@@ -179,8 +189,8 @@ abbrev pub move_where : Option Placement → Bool → Ground → ℕ → ℕ →
     → Done (Unit {0}) MoveRefusal
 move_where None refused basis page node at =
     move_unless (move_cause_by refused basis page node at) page node at
-move_where (Some placement) refused basis page node at = held_move_unless
-    (move_cause basis.machine basis.allowed node (basis.mapped page) (Held placement.node)) at
+move_where (Some placement) refused basis page node at =
+    held_move_unless (held_cause basis page node placement.node) at
 
 abbrev pub move_outcome : Bool → Ground → ℕ → ℕ → Lying → Done (Unit {0}) MoveRefusal
 move_outcome refused basis address node at = move_where

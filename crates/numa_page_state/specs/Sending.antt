@@ -16,7 +16,7 @@ use Rattle.numa_placed.specs.Astray.{is_astray}
 use Rattle.numa_placed.specs.Binds.{room_before, span_below, strays}
 use Rattle.numa_placed.specs.Spots.{is_on}
 use Rattle.numa_placed.specs.declared.spot.Spot.{Spot}
-use Rattle.numa_placed.specs.declared.spot.Spot.TheVariants.{Held}
+use Rattle.numa_placed.specs.declared.spot.Spot.TheVariants.{Stated}
 use Rattle.numa_page_state.specs.Lying.{Lying, OfPages, Process, Sent, lists_of}
 use Rattle.numa_page_state.specs.Outcomes.{rooms_of}
 use Rattle.numa_page_state.specs.declared.sending.Rebinding.{Rebinding}
@@ -76,10 +76,15 @@ rooms_sent asked spots (Some room) = Some (room_before asked spots room (2 ^ 35)
 
 -- ---- what is told
 
+-- whether a page in a frame of a node finds no room, or has another node to go to
+abbrev pub is_held : Option ℕ → ℕ → Bool
+is_held None node = true
+is_held (Some goal) node = not (node == goal)
+
 -- whether a page that keeps a frame of a node is one of the span, and had to go
 abbrev pub had_to_go : Asked → (ℕ → Option ℕ) → ℕ → ℕ → Bool
 had_to_go asked goal page node =
-    strays asked page (Held node) && is_kept (goal page) (Held node)
+    strays asked page (Stated node) && is_held (goal page) node
 
 -- how many such pages there are: they stay
 abbrev pub held_kept : Kept → Asked → (ℕ → Option ℕ) → ℕ

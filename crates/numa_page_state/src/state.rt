@@ -4,13 +4,13 @@ ghost use Rattle.std.specs.Prelude.{if◌then◌else◌, is_some, true, false, [
 ghost use Rattle.std.specs.Prelude.{MatchOption, OnErr};
 ghost use Rattle.numa_mask.specs.NodeSet.{both};
 ghost use Rattle.numa_maps.specs.Residents.{Kept};
-ghost use Rattle.numa_placed.specs.Refusals.{migrate_cause, move_cause};
+ghost use Rattle.numa_placed.specs.Refusals.{migrate_cause};
 ghost use Rattle.numa_ranges.specs.Runs.{page_at};
 ghost use Rattle.numa_placed.specs.Shifts.{AreRooms};
 ghost use Rattle.numa_placed.specs.Spots.{is_placed, spot_at};
 ghost use Rattle.numa_page_state.specs.Lying.{Lying, ground_in, nothing, still};
 ghost use Rattle.numa_page_state.specs.Outcomes.{along_outcome, at_outcome, followed};
-ghost use Rattle.numa_page_state.specs.Outcomes.{held_move_unless};
+ghost use Rattle.numa_page_state.specs.Outcomes.{held_cause, held_move_unless};
 ghost use Rattle.numa_page_state.specs.Outcomes.{migrate_outcome, move_cause_by, move_outcome};
 ghost use Rattle.numa_page_state.specs.Outcomes.{move_unless, room_outcome, rooms_of, told_of};
 ghost use Rattle.numa_page_state.specs.Standing.{DoesAs, HaveRoom, IsLastShift, LastAs};
@@ -18,13 +18,13 @@ ghost use Rattle.numa_page_state.specs.Standing.{Lies, LiesAs};
 ghost use Rattle.numa_page_state.specs.Standing.{Migrates, MovesPage, States, TellsOf};
 
 use crate::arrived::{Arrived, untouched};
-use crate::frames::with_held;
+use crate::frames::{judge_held, with_held};
 use crate::last::{Last, keep};
 use crate::shift::Shift;
 use numa_machine::NoMemory;
 use numa_maps::Resident;
 use numa_mask::NodeMask;
-use numa_placed::{Moved, Placed, Rooms, Spot, judge_move, lacks_node};
+use numa_placed::{Moved, Placed, Rooms, Spot, lacks_node};
 use numa_requests::{MoveRefusal, PAGE_BYTES, PlacedRefusal};
 use numa_space::Space;
 use std::alloc::Global;
@@ -75,7 +75,6 @@ fn told_at(node: u8, spot: Spot) -> Moved
 {
     match spot {
         Spot::Nowhere => still(),
-        Spot::Held(_) => still(),
         Spot::Stated(from) => told_from(node, from),
     }
 }
@@ -301,11 +300,10 @@ impl PageState {
     /// A page that keeps a frame stays there, and has moved if its node is the one asked for.
     fn stay(&mut self, space: &Space, page: u64, node: u32, from: u8) -> Result<(), MoveRefusal>
         ensures does { DoesAs self.old result self.new (Err MoveRefusal.NoMemory) (λ refused at.
-            held_move_unless (move_cause space.now.machine space.now.allowed node
-            (is_some (page_at space.now.ranges page)) (Spot.Held from)) at) }
+            held_move_unless (held_cause (ground_in space.now []) page node from) at) }
         ensures unchanged { OnErr result (self.new ≡ self.old) }
     {
-        judge_move(space, page, node, Spot::Held(from))?;
+        judge_held(space, page, node, from)?;
         keep(&mut self.last, Last::Nodes(still()));
         Ok(())
     }

@@ -3,11 +3,10 @@
 ghost use Rattle.std.specs.Prelude.{◌≡◌, ◌+◌, ◌<◌, ◌≤◌, ◌^◌, ◌&&◌, ℕ, OnOk, IfOk};
 ghost use Rattle.std.specs.Prelude.{if◌then◌else◌, nat_lt, not};
 ghost use Rattle.numa_mask.specs.NodeSet.{has};
-ghost use Rattle.numa_placed.specs.Binds.{goals, is_kept, room_before};
+ghost use Rattle.numa_placed.specs.Binds.{goals, room_before};
 ghost use Rattle.numa_placed.specs.Shifts.{AreRooms};
 ghost use Rattle.numa_placed.specs.Spots.{pages_if, spot_at};
-ghost use Rattle.numa_placed.specs.declared.spot.Spot.TheVariants.{Held};
-ghost use Rattle.numa_page_state.specs.Sending.{had_to_go, held_kept};
+ghost use Rattle.numa_page_state.specs.Sending.{had_to_go, held_kept, is_held};
 ghost use Rattle.numa_page_state.specs.Standing.{IsFront, asked_for};
 ghost use Rattle.numa_ranges.specs.Runs.{in_pages};
 ghost use Rattle.numa_space.specs.History.{page_count, page_of};
@@ -28,8 +27,8 @@ pub(crate) struct Front {
 }
 
 /// Whether a page that keeps a frame of a node finds no room, or has another node to go to.
-fn is_kept(goal: Option<u8>, node: u8) -> bool
-    ensures { result ≡ is_kept goal (Held node) }
+fn is_held(goal: Option<u8>, node: u8) -> bool
+    ensures { result ≡ is_held goal node }
 {
     match goal {
         Some(other) => node != other,
@@ -153,7 +152,7 @@ fn one_kept(
     };
     let goal = node_with_room(space, page, toucher.task, toucher.cpu, &rooms);
     *front = Front { page, rooms };
-    Ok(one_if(is_kept(goal, node)))
+    Ok(one_if(is_held(goal, node)))
 }
 
 /// How many pages that keep a frame had to go.

@@ -22,7 +22,7 @@ use Rattle.numa_requests.specs.declared.page_refusal.MoveRefusal.{MoveRefusal}
 use Rattle.numa_placed.specs.Wholes.{AreWhole, IsChanged, IsEdit, IsKept}
 use Rattle.numa_requests.specs.declared.page_refusal.PlacedRefusal.{PlacedRefusal}
 use Rattle.numa_placed.specs.declared.spot.Spot.{Spot}
-use Rattle.numa_placed.specs.declared.spot.Spot.TheVariants.{Nowhere, Stated, Held}
+use Rattle.numa_placed.specs.declared.spot.Spot.TheVariants.{Nowhere, Stated}
 use Rattle.numa_placed.proofs.Counting.{count-span, count-changed}
 use Rattle.numa_placed.proofs.Filtered.{length-placed, run_count-placed}
 use Rattle.numa_placed.proofs.Tests.{same_spot-exact, same_spot-refl}
@@ -109,12 +109,10 @@ module _ (old new : ℕ → Spot) (go : ℕ → ℕ) (gone : (page : ℕ) → ne
         ≡ changed_page (moved_spot go) (placed_page (λ p. spot) page)
     placed-moved page Nowhere = refl
     placed-moved page (Stated node) = refl
-    placed-moved page (Held node) = refl
 
     still-placed : (spot : Spot) → is_placed (moved_spot go spot) ≡ is_placed spot
     still-placed Nowhere = refl
     still-placed (Stated node) = refl
-    still-placed (Held node) = refl
 
     pub pages-kept : pages_where is_placed new ≡ pages_where is_placed old
     pages-kept =

@@ -17,7 +17,7 @@ use Rattle.numa_placed.specs.Shifts.{stated_on, stay_on}
 use Rattle.numa_placed.specs.Spots.{changed_spots, pages_if, spot_at, spot_in}
 use Rattle.numa_placed.specs.Standing.{AreOnNodes, IsCut, is_split, target_from}
 use Rattle.numa_placed.specs.declared.spot.Spot.{Spot}
-use Rattle.numa_placed.specs.declared.spot.Spot.TheVariants.{Nowhere, Stated, Held}
+use Rattle.numa_placed.specs.declared.spot.Spot.TheVariants.{Nowhere, Stated}
 use Rattle.numa_placed.proofs.Filtered.{page_at-far}
 use Rattle.numa_placed.proofs.Shared.{count-more}
 use Rattle.numa_placed.proofs.ShiftRows.{same-target}
@@ -28,13 +28,11 @@ use Rattle.numa_placed.proofs.Sources.{same-split}
 -- a changed page, if its node is one of all nodes
 abbrev pub checked_spot : (ℕ → ℕ) → Spot → Spot
 checked_spot go Nowhere = Nowhere
-checked_spot go (Held node) = Held node
 checked_spot go (Stated node) = if nat_lt node 256 then Stated (go node) else Nowhere
 
 pub moved-checked : (go : ℕ → ℕ) (spot made : Spot) → made ≡ moved_spot go spot
     → ((node : ℕ) → spot ≡ Stated node → node < 256) → made ≡ checked_spot go spot
 moved-checked go Nowhere made is within = is
-moved-checked go (Held node) made is within = is
 moved-checked go (Stated node) made is within =
     is ∙ rw (lt-ltb node 256 (within node refl)) refl
 
@@ -90,7 +88,6 @@ module _ (go gone : ℕ → ℕ) (spots : ℕ → Spot) (nodes : AreOnNodes spot
   goes-as : (page : ℕ) (spot : Spot) → spots page ≡ spot
       → shifted_spot go gone (stated_below spots page) spot ≡ moved_spot go spot
   goes-as page Nowhere is = refl
-  goes-as page (Held node) is = refl
   goes-as page (Stated node) is =
       elim (cases_eq (go node) node) [
         | inl same ↦ same-target go gone (stated_below spots page) node same ∙ ap Stated (sym same)
@@ -165,7 +162,6 @@ module _ (go gone : ℕ → ℕ) (spots : ℕ → Spot) (cut : ℕ)
       → moved_spot (λ node. if nat_lt page cut then below node else behind node) spot
       ≡ shifted_spot go gone (stated_below spots page) spot
   goes-where page Nowhere is = refl
-  goes-where page (Held node) is = refl
   goes-where page (Stated node) is =
       elim (cases_Bool (is_split (stated_on spots) gone node)) [
         | inl t ↦ goes-split page node is t
@@ -175,7 +171,6 @@ module _ (go gone : ℕ → ℕ) (spots : ℕ → Spot) (cut : ℕ)
   stays-far : (page : ℕ) (spot : Spot) → spots page ≡ spot → 2 ^ 35 ≤ page
       → spot ≡ shifted_spot go gone (stated_below spots page) spot
   stays-far page Nowhere is far = refl
-  stays-far page (Held node) is far = refl
   stays-far page (Stated node) is far = absurd (omega (arith, near page node is, far))
 
   -- the pages below the cut were sent as far as any of their node go, the others where all go

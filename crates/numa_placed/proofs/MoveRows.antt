@@ -6,12 +6,12 @@ use Rattle.std.specs.Option.{option_map_or}
 use Rattle.numa_mask.specs.NodeSet.{set_of, members}
 use Rattle.numa_machine.specs.Machine.{Hardware}
 use Rattle.numa_space.proofs.Rows.{flat}
-use Rattle.numa_placed.specs.Moves.{moved_node, moved_spot, goes, is_left, goes_from}
+use Rattle.numa_placed.specs.Moves.{moved_node, moved_spot, goes, goes_from}
 use Rattle.numa_placed.specs.Refusals.{state_cause, migrate_cause, move_cause}
 use Rattle.numa_requests.specs.PageErrors.{move_errno_of}
 use Rattle.numa_placed.specs.Spots.{changed_spots, stated_spots, forgotten_spot}
 use Rattle.numa_placed.specs.declared.spot.Spot.{Spot}
-use Rattle.numa_placed.specs.declared.spot.Spot.TheVariants.{Nowhere, Stated, Held}
+use Rattle.numa_placed.specs.declared.spot.Spot.TheVariants.{Nowhere, Stated}
 use Rattle.numa_requests.specs.declared.page_refusal.PlacedRefusal.TheVariants.{Unaligned}
 use Rattle.numa_requests.specs.declared.page_refusal.PlacedRefusal.TheVariants.{OutOfSpace}
 use Rattle.numa_requests.specs.declared.page_refusal.PlacedRefusal.TheVariants.{NoSuchNode}
@@ -67,9 +67,6 @@ page-moves : moved_spot away (Stated 1) ≡ Stated 2
 unfolding members away
 page-moves = refl
 
-page-in_a_frame_stays : moved_spot away (Held 1) ≡ Held 1
-page-in_a_frame_stays = refl
-
 page-counts : goes away (Stated 1) ≡ true
 unfolding members away
 page-counts = refl
@@ -79,33 +76,24 @@ page-counts_once : map (λ node. goes_from away node (Stated 1)) (0 ∷ 1 ∷ 2 
 unfolding members away
 page-counts_once = refl
 
-page-in_a_frame_is_left : is_left away (Held 1) ≡ true
-unfolding members away
-page-in_a_frame_is_left = refl
-
--- one in a frame of the node to which it would go isn't
-page-there_is_not_left : is_left away (Held 2) ≡ false
-unfolding members away
-page-there_is_not_left = refl
-
 -- ---- stating and forgetting
 
--- pages 4 to 7, of which 5 is in a frame of node 1 and 6 isn't mapped
+-- pages 4 to 7, of which 5 lies on node 1 and 7 on node 2, and 6 isn't mapped
 spots : ℕ → Spot
-spots page = if page == 5 then Held 1 else if page == 7 then Stated 2 else Nowhere
+spots page = if page == 5 then Stated 1 else if page == 7 then Stated 2 else Nowhere
 
 mapped : ℕ → Bool
 mapped page = not (page == 6)
 
 stated-passes_over : map (stated_spots mapped 4 3 0 spots) (range_with_len 3 5)
-    ≡ Nowhere ∷ Stated 0 ∷ Held 1 ∷ Nowhere ∷ Stated 2 ∷ []
+    ≡ Nowhere ∷ Stated 0 ∷ Stated 0 ∷ Nowhere ∷ Stated 2 ∷ []
 unfolding spots mapped
 stated-passes_over = refl
 
-forgotten-but_frames : map (changed_spots 4 4 forgotten_spot spots) (range_with_len 4 4)
-    ≡ Nowhere ∷ Held 1 ∷ Nowhere ∷ Nowhere ∷ []
+forgotten-in_the_span : map (changed_spots 4 2 forgotten_spot spots) (range_with_len 4 4)
+    ≡ Nowhere ∷ Nowhere ∷ Nowhere ∷ Stated 2 ∷ []
 unfolding spots
-forgotten-but_frames = refl
+forgotten-in_the_span = refl
 
 no-pages : map (stated_spots mapped 7 0 0 spots) (7 ∷ []) ≡ Stated 2 ∷ []
 unfolding spots mapped
@@ -161,14 +149,6 @@ move-not_mapped = refl
 move-not_there : moved_to 4 1 3 ≡ 2
 unfolding moved_to gap mapped spots
 move-not_there = refl
-
-move-in_a_frame : moved_to 5 0 3 ≡ 12
-unfolding moved_to gap mapped spots
-move-in_a_frame = refl
-
-move-in_a_frame_there : moved_to 5 1 3 ≡ 0
-unfolding moved_to gap mapped spots
-move-in_a_frame_there = refl
 
 move-accepted : moved_to 7 1 3 ≡ 0
 unfolding moved_to gap mapped spots

@@ -10,7 +10,7 @@ use Rattle.numa_placed.specs.Binds.{room_sent, sent_spot, strays}
 use Rattle.numa_placed.specs.Shifts.{endless, is_stated, less_room, more_room, room_between}
 use Rattle.numa_placed.specs.Spots.{pages_if}
 use Rattle.numa_placed.specs.declared.spot.Spot.{Spot}
-use Rattle.numa_placed.specs.declared.spot.Spot.TheVariants.{Nowhere, Stated, Held}
+use Rattle.numa_placed.specs.declared.spot.Spot.TheVariants.{Nowhere, Stated}
 use Rattle.numa_placed.proofs.Binding.{before-next, before-none}
 use Rattle.numa_placed.proofs.Shared.{count-le, count-more}
 
@@ -19,7 +19,6 @@ use Rattle.numa_placed.proofs.Shared.{count-le, count-more}
 after-endless : (room : ℕ → ℕ) → ((n : ℕ) → room n ≡ endless) → (goal : Option ℕ) (spot : Spot)
     (node : ℕ) → room_sent room goal spot node ≡ endless
 after-endless room are None spot node = are node
-after-endless room are (Some to) (Held from) node = are node
 after-endless room are (Some to) Nowhere node = elim (cases_Bool (node == to)) [
   | inl t ↦ rw (t, are node) refl
   | inr e ↦ rw e (are node)
@@ -135,7 +134,6 @@ module _ (room : ℕ → ℕ) (node : ℕ) (few : room node < endless) where
       ≡ room node + pages_if (is_stated node spot) 1
   sent-paced None some spot = refl
   sent-paced (Some to) some Nowhere = came to some ∙ omega arith
-  sent-paced (Some to) some (Held from) = refl
   sent-paced (Some to) some (Stated from) = elim (cases_Bool (from == to)) [
     | inl t ↦ rw t (ap (λ (n : ℕ). room node + pages_if (n == node) 1)
         (sym (eqb-true from to t)))

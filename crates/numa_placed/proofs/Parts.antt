@@ -17,7 +17,7 @@ use Rattle.numa_maps.specs.Residents.{Kept, placed_at}
 use Rattle.numa_placed.specs.Spots.{changed_spots, forgotten_spot, part_pages, pages_if}
 use Rattle.numa_placed.specs.Spots.{pages_within, passed_over, spot_at}
 use Rattle.numa_placed.specs.declared.spot.Spot.{Spot}
-use Rattle.numa_placed.specs.declared.spot.Spot.TheVariants.{Nowhere, Stated, Held}
+use Rattle.numa_placed.specs.declared.spot.Spot.TheVariants.{Nowhere}
 use Rattle.numa_placed.proofs.Shared.{IsShared, count-shared, count-unshared}
 use Rattle.numa_placed.proofs.Summed.{count-run}
 
@@ -149,11 +149,6 @@ parts-over test first end from before rest run steps apart behind =
 
 -- ---- pages that keep a frame
 
-forgotten-twice : (spot : Spot) → forgotten_spot (forgotten_spot spot) ≡ forgotten_spot spot
-forgotten-twice Nowhere = refl
-forgotten-twice (Stated node) = refl
-forgotten-twice (Held node) = refl
-
 at-itself : (page : ℕ) → is_at (nat_cmp page) page ≡ true
 at-itself page = grind (arith, common_steps)
 
@@ -190,7 +185,7 @@ passed-step first pages before rest at old new steps says page =
         let one : in_pages at.0 1 page ≡ true = ap (in_pages at.0 1) is ∙ one-here at.0 in
         rw (← is) (elim (cases_Bool (in_pages first pages page)) [
           | inl t ↦ elim (cases_Bool (is_some (placed_at rest page))) [
-            | inl u ↦ rw (t, u, at-itself page, one-here page) (forgotten-twice (old page))
+            | inl u ↦ rw (t, u, at-itself page) refl
             | inr u ↦ rw (t, u, at-itself page, one-here page) refl
           ]
           | inr e ↦ rw e refl

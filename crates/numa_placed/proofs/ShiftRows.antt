@@ -9,14 +9,13 @@ use Rattle.numa_placed.specs.Shifts.{shift_of, shifted, shifted_spot, source_fro
 use Rattle.numa_placed.specs.Shifts.{stated_below}
 use Rattle.numa_placed.specs.Spots.{is_placed, pages_where}
 use Rattle.numa_placed.specs.declared.spot.Spot.{Spot}
-use Rattle.numa_placed.specs.declared.spot.Spot.TheVariants.{Nowhere, Stated, Held}
+use Rattle.numa_placed.specs.declared.spot.Spot.TheVariants.{Nowhere, Stated}
 use Rattle.numa_placed.proofs.MovedNodes.{stays}
 use Rattle.numa_placed.proofs.Shared.{count-same}
 
 placed-shifted : (go gone below : ℕ → ℕ) (spot : Spot)
     → is_placed (shifted_spot go gone below spot) ≡ is_placed spot
 placed-shifted go gone below Nowhere = refl
-placed-shifted go gone below (Held node) = refl
 placed-shifted go gone below (Stated node) =
     elim (cases_Bool (nat_lt (below node) (gone node))) [
       | inl t ↦ rw t refl

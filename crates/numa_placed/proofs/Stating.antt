@@ -10,13 +10,10 @@ use Rattle.numa_ranges.specs.declared.run.Run.{Run}
 use Rattle.numa_ranges.proofs.Apart.{apart-top}
 use Rattle.numa_placed.specs.Spots.{changed_spots, stated_spot, stated_spots}
 use Rattle.numa_placed.specs.declared.spot.Spot.{Spot}
-use Rattle.numa_placed.specs.declared.spot.Spot.TheVariants.{Nowhere, Stated, Held}
 
 stated-twice : (node : ℕ) (spot : Spot) → stated_spot node (stated_spot node spot)
     ≡ stated_spot node spot
-stated-twice node Nowhere = refl
-stated-twice node (Stated other) = refl
-stated-twice node (Held other) = refl
+stated-twice node spot = refl
 
 -- the pages of a span, where all are mapped
 pub stated-all : (is_mapped : ℕ → Bool) (first pages node : ℕ) (spots : ℕ → Spot)

@@ -12,7 +12,7 @@ use Rattle.numa_space.specs.Refusals.{PageMap}
 use Rattle.numa_space.specs.Same.{same_record}
 use Rattle.numa_placed.specs.Refusals.{first_of, span_cause}
 use Rattle.numa_placed.specs.declared.spot.Spot.{Spot}
-use Rattle.numa_placed.specs.declared.spot.Spot.TheVariants.{Nowhere, Stated, Held}
+use Rattle.numa_placed.specs.declared.spot.Spot.TheVariants.{Nowhere, Stated}
 use Rattle.numa_requests.specs.declared.page_refusal.PlacedRefusal.{PlacedRefusal}
 use Rattle.numa_requests.specs.declared.page_refusal.PlacedRefusal.TheVariants.{Astray, Unaligned}
 
@@ -20,7 +20,6 @@ use Rattle.numa_requests.specs.declared.page_refusal.PlacedRefusal.TheVariants.{
 abbrev pub is_astray : ℕ → Spot → Bool
 is_astray list Nowhere = false
 is_astray list (Stated node) = not (has list node)
-is_astray list (Held node) = not (has list node)
 
 -- whether some of the n pages from `first` on does
 abbrev pub astray_cause : (ℕ → Spot) → ℕ → ℕ → ℕ → Option PlacedRefusal

@@ -16,7 +16,7 @@ use Rattle.numa_placed.specs.Spots.{stated_spot}
 use Rattle.numa_placed.specs.declared.bound.Bound.{Bound}
 use Rattle.numa_placed.specs.declared.rooms.Rooms.{Rooms}
 use Rattle.numa_placed.specs.declared.spot.Spot.{Spot}
-use Rattle.numa_placed.specs.declared.spot.Spot.TheVariants.{Nowhere, Stated, Held}
+use Rattle.numa_placed.specs.declared.spot.Spot.TheVariants.{Nowhere, Stated}
 use Rattle.numa_placed.specs.declared.wants.Wants.{Wants}
 use Rattle.numa_placed.specs.declared.wants.Wants.TheVariants.{Astray, Absent}
 
@@ -64,7 +64,6 @@ asked_of space start bytes = asked_in space (page_of start) (page_count bytes)
 abbrev pub is_absent : Kept → ℕ → Spot → Bool
 is_absent kept page Nowhere = not (is_some (placed_at kept page))
 is_absent kept page (Stated node) = false
-is_absent kept page (Held node) = false
 
 -- those of so many pages from one on that a task touches first, by pages and by bytes
 abbrev pub touched_in : SpaceState → Kept → ℕ → ℕ → ℕ → ℕ → Asked
@@ -119,14 +118,11 @@ abbrev pub is_sent : Option ℕ → Spot → Bool
 is_sent None spot = false
 is_sent (Some node) Nowhere = true
 is_sent (Some node) (Stated from) = not (from == node)
-is_sent (Some node) (Held from) = false
 
--- whether it finds no room, or has another node to go to, and stays
+-- whether it finds no room, and stays
 abbrev pub is_kept : Option ℕ → Spot → Bool
 is_kept None spot = true
-is_kept (Some node) Nowhere = false
-is_kept (Some node) (Stated from) = false
-is_kept (Some node) (Held from) = not (from == node)
+is_kept (Some node) spot = false
 
 -- ---- page by page
 

@@ -5,7 +5,7 @@ use Rattle.std.specs.Prelude.{slice_index, if◌then◌else◌}
 use Rattle.numa_mask.specs.NodeSet.{has, weight_of, node_after}
 use Rattle.numa_placed.specs.Spots.{pages_where}
 use Rattle.numa_placed.specs.declared.spot.Spot.{Spot}
-use Rattle.numa_placed.specs.declared.spot.Spot.TheVariants.{Nowhere, Stated, Held}
+use Rattle.numa_placed.specs.declared.spot.Spot.TheVariants.{Nowhere, Stated}
 use Rattle.numa_placed.specs.declared.moved.Moved.{Moved}
 
 -- the node to which pages of a node go when they leave the one set for the other. Where the two
@@ -16,38 +16,29 @@ abbrev pub moved_node : ℕ → ℕ → ℕ → ℕ
 moved_node old new node = if not (weight_of old == weight_of new) && has new node then node
     else node_after old new node
 
--- a page once the pages of each node went to another; one in a frame stays there
+-- a page once the pages of each node went to another
 abbrev pub moved_spot : (ℕ → ℕ) → Spot → Spot
 moved_spot go Nowhere = Nowhere
 moved_spot go (Stated node) = Stated (go node)
-moved_spot go (Held node) = Held node
 
 -- whether a page goes to another node
 abbrev pub goes : (ℕ → ℕ) → Spot → Bool
 goes go Nowhere = false
 goes go (Stated node) = not (go node == node)
-goes go (Held node) = false
-
--- whether a page has a node to go to, and stays
-abbrev pub is_left : (ℕ → ℕ) → Spot → Bool
-is_left go Nowhere = false
-is_left go (Stated node) = false
-is_left go (Held node) = not (go node == node)
 
 -- whether a page goes from this node to another
 abbrev pub goes_from : (ℕ → ℕ) → ℕ → Spot → Bool
 goes_from go from Nowhere = false
 goes_from go from (Stated node) = (node == from) && not (go node == node)
-goes_from go from (Held node) = false
 
 -- a list has the node to which each goes
 abbrev pub AreTargets : List ℕ → (ℕ → ℕ) → Type 0
 AreTargets targets go = (node : ℕ) → node < 256 → slice_index targets node ≡ go node
 
--- how many pages went, from where and to where, and how many stayed that had a node to go to
+-- how many pages went, from where and to where; none stayed that had a node to go to
 pub record IsTally (spots : ℕ → Spot) (go : ℕ → ℕ) (tally : Moved) : Type 0 where
   pub moved : tally.moved ≡ pages_where (goes go) spots
-  pub left : tally.left ≡ pages_where (is_left go) spots
+  pub left : tally.left ≡ 0
   pub from : (node : ℕ) → node < 256
       → slice_index tally.from node ≡ pages_where (goes_from go node) spots
   pub to : AreTargets tally.to go

@@ -8,7 +8,7 @@ use Rattle.numa_ranges.specs.Maps.{any_page}
 use Rattle.numa_space.specs.History.{page_of, page_count}
 use Rattle.numa_placed.specs.Spots.{too_many}
 use Rattle.numa_placed.specs.declared.spot.Spot.{Spot}
-use Rattle.numa_placed.specs.declared.spot.Spot.TheVariants.{Nowhere, Stated, Held}
+use Rattle.numa_placed.specs.declared.spot.Spot.TheVariants.{Nowhere, Stated}
 use Rattle.numa_requests.specs.declared.page_refusal.PlacedRefusal.{PlacedRefusal}
 use Rattle.numa_requests.specs.declared.page_refusal.PlacedRefusal.TheVariants.{Unaligned}
 use Rattle.numa_requests.specs.declared.page_refusal.PlacedRefusal.TheVariants.{OutOfSpace}
@@ -60,11 +60,10 @@ populate_cause machine mapped start bytes cpu = first_of (span_cause start bytes
 abbrev pub migrate_cause : ℕ → ℕ → Option PlacedRefusal
 migrate_cause allowed to = if both to allowed == 0 then Some NodesNotAllowed else None
 
--- why a page that lies here may not move to a node: one in a frame of another node stays there
+-- why a page that lies here may not move to a node: one that is nowhere can't
 abbrev pub spot_cause : ℕ → Spot → Option MoveRefusal
 spot_cause node Nowhere = Some move.NotPlaced
 spot_cause node (Stated from) = None
-spot_cause node (Held from) = if from == node then None else Some move.NoRoom
 
 -- why a page that lies here, and is mapped or isn't, may not move to a node
 abbrev pub move_cause : Hardware → ℕ → ℕ → Bool → Spot → Option MoveRefusal

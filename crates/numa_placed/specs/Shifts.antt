@@ -6,14 +6,14 @@ use Rattle.std.specs.Prelude.{not, nat_lt, min, List, slice_index, Option, Some,
 use Rattle.std.specs.Prelude.{if◌then◌else◌}
 use Rattle.numa_mask.specs.NodeSet.{has}
 use Rattle.numa_ranges.specs.Counts.{count_pages}
-use Rattle.numa_placed.specs.Moves.{AreTargets, is_left, moved_node}
-use Rattle.numa_placed.specs.Spots.{pages_where, too_many}
+use Rattle.numa_placed.specs.Moves.{AreTargets, moved_node}
+use Rattle.numa_placed.specs.Spots.{is_on, pages_where, too_many}
 use Rattle.numa_placed.specs.declared.moved.Moved.{Moved}
 use Rattle.numa_placed.specs.declared.rooms.Rooms.{Rooms}
 use Rattle.numa_requests.specs.declared.page_refusal.MoveRefusal.{MoveRefusal}
 use Rattle.numa_requests.specs.declared.page_refusal.MoveRefusal.TheVariants.{NoRoom}
 use Rattle.numa_placed.specs.declared.spot.Spot.{Spot}
-use Rattle.numa_placed.specs.declared.spot.Spot.TheVariants.{Nowhere, Stated, Held}
+use Rattle.numa_placed.specs.declared.spot.Spot.TheVariants.{Nowhere, Stated}
 
 -- ---- rooms
 
@@ -103,9 +103,7 @@ steps (suc n) go count going = if going.full then going
 -- ---- pages
 
 abbrev pub is_stated : ℕ → Spot → Bool
-is_stated node Nowhere = false
-is_stated node (Stated other) = other == node
-is_stated node (Held other) = false
+is_stated = is_on
 
 -- how many pages are stated to lie on a node
 abbrev pub stated_on : (ℕ → Spot) → ℕ → ℕ
@@ -120,7 +118,6 @@ abbrev pub shifted_spot : (ℕ → ℕ) → (ℕ → ℕ) → (ℕ → ℕ) → 
 shifted_spot go gone below Nowhere = Nowhere
 shifted_spot go gone below (Stated node) =
     if nat_lt (below node) (gone node) then Stated (go node) else Stated node
-shifted_spot go gone below (Held node) = Held node
 
 -- the lowest pages of each node went
 abbrev pub shifted_spots : (ℕ → ℕ) → (ℕ → ℕ) → (ℕ → Spot) → ℕ → Spot
@@ -157,8 +154,7 @@ ArePages list pages = (node : ℕ) → node < 256 → slice_index list node ≡ 
 pub record IsShiftTally (spots : ℕ → Spot) (old new : ℕ) (gone : ℕ → ℕ) (told : Moved) :
     Type 0 where
   pub moved : told.moved ≡ sum_below 256 gone
-  pub left : told.left ≡ pages_where (is_left (moved_node old new)) spots
-      + sum_below 256 (stay_on (moved_node old new) (stated_on spots) gone)
+  pub left : told.left ≡ sum_below 256 (stay_on (moved_node old new) (stated_on spots) gone)
   pub from : ArePages told.from gone
   pub to : AreTargets told.to (moved_node old new)
 
@@ -195,13 +191,11 @@ abbrev pub room_cause : (ℕ → ℕ) → ℕ → Spot → Option MoveRefusal
 room_cause room node Nowhere = if room node == 0 then Some NoRoom else None
 room_cause room node (Stated from) =
     if not (from == node) && room node == 0 then Some NoRoom else None
-room_cause room node (Held from) = None
 
 -- a page that goes there finds room
 abbrev pub HasRoom : (ℕ → ℕ) → ℕ → Spot → Type 0
 HasRoom room node Nowhere = 0 < room node
 HasRoom room node (Stated from) = (from == node) ≡ false → 0 < room node
-HasRoom room node (Held from) = Unit {0}
 
 abbrev pub first_of : Option MoveRefusal → Option MoveRefusal → Option MoveRefusal
 first_of None other = other
@@ -213,4 +207,3 @@ room_moved room node Nowhere other =
     if other == node then less_room (room other) 1 else room other
 room_moved room node (Stated from) other =
     if from == node then room other else room_after room from node 1 other
-room_moved room node (Held from) other = room other

@@ -7,7 +7,7 @@ use Rattle.numa_ranges.specs.Runs.{end_of, in_pages, page_at}
 use Rattle.numa_ranges.specs.Counts.{count_pages, range_count}
 use Rattle.numa_ranges.specs.declared.run.Run.{Run}
 use Rattle.numa_placed.specs.declared.spot.Spot.{Spot}
-use Rattle.numa_placed.specs.declared.spot.Spot.TheVariants.{Nowhere, Stated, Held}
+use Rattle.numa_placed.specs.declared.spot.Spot.TheVariants.{Nowhere, Stated}
 use Rattle.numa_placed.specs.declared.change.Change.{Change}
 use Rattle.numa_placed.specs.declared.change.Change.TheVariants.{State, Forget}
 
@@ -17,30 +17,23 @@ use Rattle.numa_placed.specs.declared.change.Change.TheVariants.{State, Forget}
 abbrev pub node_of : Spot → Option ℕ
 node_of Nowhere = None
 node_of (Stated node) = Some node
-node_of (Held node) = Some node
 
 abbrev pub is_placed : Spot → Bool
 is_placed Nowhere = false
 is_placed (Stated node) = true
-is_placed (Held node) = true
 
 abbrev pub same_spot : Spot → Spot → Bool
 same_spot Nowhere Nowhere = true
 same_spot (Stated a) (Stated b) = a == b
-same_spot (Held a) (Held b) = a == b
 same_spot _ _ = false
 
--- a page that is stated to lie on a node; one in a frame stays there
+-- a page that is stated to lie on a node
 abbrev pub stated_spot : ℕ → Spot → Spot
-stated_spot node Nowhere = Stated node
-stated_spot node (Stated other) = Stated node
-stated_spot node (Held other) = Held other
+stated_spot node spot = Stated node
 
--- a page of which nothing is stated any more; one in a frame stays there
+-- a page of which nothing is stated any more
 abbrev pub forgotten_spot : Spot → Spot
-forgotten_spot Nowhere = Nowhere
-forgotten_spot (Stated node) = Nowhere
-forgotten_spot (Held node) = Held node
+forgotten_spot spot = Nowhere
 
 -- what a change makes of a page
 abbrev pub changed_spot : Change → Spot → Spot
@@ -102,7 +95,6 @@ too_many spots = nat_lt most_runs (run_count spots)
 abbrev pub is_on : ℕ → Spot → Bool
 is_on node Nowhere = false
 is_on node (Stated other) = other == node
-is_on node (Held other) = other == node
 
 -- a number of pages, where they pass
 abbrev pub pages_if : Bool → ℕ → ℕ

@@ -16,7 +16,6 @@ pub(crate) fn is_astray(spot: Spot, list: &NodeMask) -> bool
     match spot {
         Spot::Nowhere => false,
         Spot::Stated(node) => !list.has(node),
-        Spot::Held(node) => !list.has(node),
     }
 }
 

@@ -85,11 +85,6 @@ fn count_sent(told: &mut Bound, spot: Spot, goal: Option<u8>)
                 told.moved += 1;
             }
         }
-        Spot::Held(from) => {
-            if from != node {
-                told.left += 1;
-            }
-        }
     }
 }
 

@@ -5,6 +5,6 @@
 pub struct Bound {
     /// The number of pages that went to another node, or to a first one.
     pub moved: u64,
-    /// The number of pages that had another node to go to, or found none with room, and stayed.
+    /// The number of pages that found no node with room, and stayed.
     pub left: u64,
 }

@@ -2,13 +2,14 @@
 ghost use Rattle.std.specs.Prelude.{◌≡◌, ◌+◌, ◌-◌, ◌<◌, ◌≤◌, ◌^◌, ℕ, true, OnOk, OnErr, IfOk};
 ghost use Rattle.std.specs.Prelude.{◌*◌, IfErr, IfNone, IfSome, false, slice_index};
 ghost use Rattle.numa_ranges.specs.Runs.{in_pages};
-ghost use Rattle.numa_placed.specs.Moves.{AreTargets, IsTally, moved_node, moved_spot};
+ghost use Rattle.numa_placed.specs.Moves.{AreTargets, moved_node, moved_spot};
 ghost use Rattle.numa_placed.specs.Refusals.{IsLack};
 ghost use Rattle.numa_placed.specs.Shifts.{ArePages, AreRooms, IsShift, IsShiftTally, is_stated};
 ghost use Rattle.numa_placed.specs.Shifts.{shift_of, shifted, stated_on, stay_on, sum_below};
 ghost use Rattle.numa_placed.specs.Spots.{changed_spots, pages_if, spot_at};
 ghost use Rattle.numa_placed.specs.Standing.{GoesAs, IsAlone, IsCut, is_split, target_from};
 ghost use Rattle.numa_placed.specs.Wholes.{AreWhole, IsKept};
+ghost use Rattle.numa_placed.specs.declared.spot.Spot.{Spot};
 ghost use Rattle.numa_placed.specs.declared.spot.Spot.TheVariants.{Stated};
 
 use crate::course::course_of;
@@ -17,7 +18,6 @@ use crate::moved::Moved;
 use crate::rooms::Rooms;
 use crate::shift::send_all;
 use crate::spot::Spot;
-use crate::tally::tally;
 use crate::targets::{gone, targets};
 use numa_machine::NoMemory;
 use numa_mask::NodeMask;
@@ -242,7 +242,6 @@ fn stay(targets: &[u8; 256], counts: &[u64; 256], gone: &[u64; 256]) -> u64
 
 /// What is told of a move in which so many pages of each node went.
 fn tell(
-    map: &RangeMap<Spot>,
     targets: [u8; 256],
     counts: &[u64; 256],
     gone: &[u64; 256],
@@ -250,18 +249,16 @@ fn tell(
     _new: &NodeMask,
 ) -> Moved
     requires targets { AreTargets targets (moved_node _old.now _new.now) }
-    requires counts { ArePages counts.now (stated_on (spot_at map.now.runs)) }
     requires few { (node : ℕ) → node < 256 → slice_index counts.now node ≤ 2 ^ 35 }
     requires fewer { (node : ℕ) → node < 256 → slice_index gone.now node ≤ 2 ^ 35 }
-    ensures { (pages : ℕ → ℕ) → ArePages gone.now pages
-        → IsShiftTally (spot_at map.now.runs) _old.now _new.now pages result }
+    ensures { (spots : ℕ → Spot) (pages : ℕ → ℕ) → ArePages counts.now (stated_on spots)
+        → ArePages gone.now pages → IsShiftTally spots _old.now _new.now pages result }
 {
-    let frames = tally(map, targets, _old, _new).left;
     let moved = sum(gone);
-    let stay = stay(&targets, counts, gone);
+    let left = stay(&targets, counts, gone);
     Moved {
         moved,
-        left: frames + stay,
+        left,
         from: *gone,
         to: targets,
     }
@@ -289,7 +286,7 @@ pub(crate) fn fill(
     let targets = targets(old, new);
     let counts = stated_counts(map);
     let course = course_of(&targets, &counts, old, rooms);
-    let told = tell(map, targets, &counts, &course.gone, old, new);
+    let told = tell(targets, &counts, &course.gone, old, new);
     if stay(&targets, &counts, &course.gone) == 0 {
         send_all(map, &targets);
         *rooms = course.rooms;

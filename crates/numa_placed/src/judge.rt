@@ -72,13 +72,6 @@ fn judge_spot(node: u32, spot: Spot) -> Result<(), MoveRefusal>
     match spot {
         Spot::Nowhere => Err(MoveRefusal::NotPlaced),
         Spot::Stated(_) => Ok(()),
-        Spot::Held(from) => {
-            if u32::from(from) == node {
-                Ok(())
-            } else {
-                Err(MoveRefusal::NoRoom)
-            }
-        }
     }
 }
 
@@ -128,7 +121,6 @@ pub(crate) fn judge_room(rooms: &Rooms, node: u8, spot: Spot) -> Result<(), Move
             }
             Err(MoveRefusal::NoRoom)
         }
-        Spot::Held(_) => Ok(()),
     }
 }
 

@@ -2,8 +2,8 @@
 //! people move them.
 //!
 //! A space says where a page would be put when it is first touched. [`Placed`] keeps where pages
-//! lie that were put somewhere: each page below 2^35 lies nowhere, on a node, as was stated, or in
-//! a frame of a node that a touch took ([`Spot`]).
+//! lie that were put somewhere: each page below 2^35 lies nowhere or on a node ([`Spot`]). Pages
+//! that keep frames are kept beside it ([`Resident`](numa_maps::Resident)), and lie nowhere here.
 //!
 //! **Moves.** Pages that leave one set of nodes for another go as Linux moves them when the nodes
 //! of a control group change, or by migrate_pages(2): if both sets have as many nodes, the pages of
@@ -17,9 +17,6 @@
 //!
 //! **First touches.** A task that touches the pages of a span puts each that is nowhere on the first
 //! node of its node list that has room, the lowest page first. (`populate`)
-//!
-//! **Frames.** A page in a frame stays there in every move, and is counted as left; stating or
-//! forgetting the pages of a span skips it.
 //!
 //! **Runs.** A run is a maximal run of pages that lie alike, and there may be 1,048,576 of them.
 //! `follow` and `migrate` never make more, and take no memory.

@@ -1,6 +1,6 @@
 //! What a move did.
 
-/// What a move of pages did. A node never fills, so only pages in frames are left.
+/// What a move of pages did. Pages are left only where a node fills.
 #[derive(Clone, Copy, PartialEq, Eq, Drop)]
 pub struct Moved {
     /// The number of pages that went to another node.

@@ -144,8 +144,8 @@ impl Placed {
         counts_within(&self.map, first, pages)
     }
 
-    /// States that the mapped pages of a span lie on a node. Pages in frames stay there. Start and
-    /// length are in bytes, as those of a command to a space.
+    /// States that the mapped pages of a span lie on a node. Start and length are in bytes, as those
+    /// of a command to a space.
     ///
     /// # Errors
     /// The first of these that applies; nothing has changed: `Unaligned`, `OutOfSpace`,
@@ -179,8 +179,7 @@ impl Placed {
     }
 
     /// States it, as `state` does, but of no page that keeps a frame: of such pages of the span
-    /// nothing is stated afterwards. Pages that keep frames are kept in a record of their own here,
-    /// and not by `hold`.
+    /// nothing is stated afterwards.
     ///
     /// # Errors
     /// As those of `state`; nothing has changed.
@@ -212,8 +211,7 @@ impl Placed {
         state_others(&mut self.map, space, said, resident)
     }
 
-    /// Takes away what was stated of the pages of a span, as is done when they are unmapped. Pages
-    /// in frames stay there.
+    /// Takes away what was stated of the pages of a span, as is done when they are unmapped.
     ///
     /// # Errors
     /// The first of these that applies; nothing has changed: `Unaligned`, `OutOfSpace`,

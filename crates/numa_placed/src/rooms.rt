@@ -164,7 +164,6 @@ impl Rooms {
                 }
                 self.pass(from, node, 1);
             }
-            Spot::Held(_) => {}
         }
     }
 }

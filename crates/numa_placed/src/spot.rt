@@ -11,8 +11,6 @@ pub enum Spot {
     Nowhere,
     /// On this node, as was stated, until it is stated to lie elsewhere, moved or forgotten.
     Stated(u8),
-    /// In a frame of this node, which a touch took, until the frame is released.
-    Held(u8),
 }
 
 impl Spot {
@@ -23,7 +21,6 @@ impl Spot {
         match self {
             Spot::Nowhere => None,
             Spot::Stated(node) => Some(node),
-            Spot::Held(node) => Some(node),
         }
     }
 }
@@ -38,7 +35,6 @@ impl Exact for Spot {
         match *self {
             Spot::Nowhere => 255,
             Spot::Stated(node) => u64::from(node),
-            Spot::Held(node) => u64::from(node ^ 128),
         }
     }
 }

@@ -1,7 +1,6 @@
 //! Counting pages.
 ghost use Rattle.std.specs.Prelude.{◌≡◌, ◌+◌, ◌<◌, ◌≤◌, ◌^◌, ℕ, slice_index};
-ghost use Rattle.numa_placed.specs.Moves.{moved_node, goes, is_left, goes_from, AreTargets};
-ghost use Rattle.numa_placed.specs.Moves.{IsTally};
+ghost use Rattle.numa_placed.specs.Moves.{moved_node, goes, goes_from, AreTargets, IsTally};
 ghost use Rattle.numa_placed.specs.Spots.{spot_at, is_on, pages_if, pages_within};
 ghost use Rattle.numa_placed.specs.Spots.{part_pages};
 ghost use Rattle.numa_ranges.specs.Runs.{end_of};
@@ -37,13 +36,11 @@ pub(crate) fn tally(
 fn add_run(tally: &mut Moved, run: &Run<Spot>, _old: &NodeMask, _new: &NodeMask)
     requires targets { AreTargets tally.old.to (moved_node _old.now _new.now) }
     requires moved { tally.old.moved + run.now.pages < 2 ^ 64 }
-    requires left { tally.old.left + run.now.pages < 2 ^ 64 }
     requires from { (node : ℕ) → node < 256
         → slice_index tally.old.from node + run.now.pages < 2 ^ 64 }
     ensures moved { tally.new.moved ≡ tally.old.moved
         + pages_if (goes (moved_node _old.now _new.now) run.now.value) run.now.pages }
-    ensures left { tally.new.left ≡ tally.old.left
-        + pages_if (is_left (moved_node _old.now _new.now) run.now.value) run.now.pages }
+    ensures left { tally.new.left ≡ tally.old.left }
     ensures from { (node : ℕ) → node < 256 → slice_index tally.new.from node
         ≡ slice_index tally.old.from node
         + pages_if (goes_from (moved_node _old.now _new.now) node run.now.value) run.now.pages }
@@ -55,11 +52,6 @@ fn add_run(tally: &mut Moved, run: &Run<Spot>, _old: &NodeMask, _new: &NodeMask)
             if tally.to[node as usize] != node {
                 tally.moved += run.pages;
                 tally.from[node as usize] += run.pages;
-            }
-        }
-        Spot::Held(node) => {
-            if tally.to[node as usize] != node {
-                tally.left += run.pages;
             }
         }
     }

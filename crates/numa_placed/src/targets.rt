@@ -59,6 +59,5 @@ pub(crate) fn gone(spot: Spot, targets: &[u8; 256]) -> Spot
     match spot {
         Spot::Nowhere => Spot::Nowhere,
         Spot::Stated(node) => Spot::Stated(targets[node as usize]),
-        Spot::Held(node) => Spot::Held(node),
     }
 }

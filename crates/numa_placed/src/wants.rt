@@ -24,7 +24,6 @@ fn is_absent(page: u64, spot: Spot, resident: &Resident) -> bool
     match spot {
         Spot::Nowhere => resident.at(page).is_none(),
         Spot::Stated(_) => false,
-        Spot::Held(_) => false,
     }
 }
 
@@ -61,7 +60,6 @@ impl<'a> Wants<'a> {
         match spot {
             Spot::Nowhere => Some(resident),
             Spot::Stated(_) => None,
-            Spot::Held(_) => None,
         }
     }
 }

@@ -3,9 +3,9 @@ use Rattle.std.specs.Prelude.{◌&&◌, not}
 use Rattle.numa_mask.specs.NodeSet.{has}
 use Rattle.numa_ranges.specs.Runs.{in_pages}
 use Rattle.numa_space.specs.History.{page_of, page_count}
-use Rattle.numa_placed.specs.Binds.{goals, is_kept, room_before}
+use Rattle.numa_placed.specs.Binds.{goals, room_before}
 use Rattle.numa_placed.specs.Spots.{spot_at}
-use Rattle.numa_placed.specs.declared.spot.Spot.TheVariants.{Held}
+use Rattle.numa_page_state.specs.Sending.{is_held}
 use Rattle.numa_page_state.specs.Standing.{IsFront, asked_for}
 use Rattle.numa_page_state.specs.declared.staying.Front.{Front}
 use Rattle.numa_page_state.proofs.Fronts.{front-here, one-so}
@@ -32,10 +32,10 @@ returns-clause-one c = λ room are is.
     let strayed : (in_pages (page_of c.args.said.now.start) (page_count c.args.said.now.length)
     c.args.page && not (has c.args.said.now.spec.mask c.args.node)) ≡ true =
     sym c.strays.ensures ∙ c.if-not-strays.false in
-    let kept : c.is_kept.result ≡ is_kept (goals asked (spot_at c.args.placed.now) room c.args.page)
-    (Held c.args.node) =
-    c.is_kept.ensures ∙ ap (λ (o : Option ℕ). is_kept o (Held c.args.node))
+    let kept : c.is_held.result ≡ is_held (goals asked (spot_at c.args.placed.now) room c.args.page)
+    c.args.node =
+    c.is_held.ensures ∙ ap (λ (o : Option ℕ). is_held o c.args.node)
     (c.node_with_room-goal.ensures.first
     (room_before asked (spot_at c.args.placed.now) room c.args.page)
     (c.in-Ok.ensures room from.rooms)) in
-    one-so c.one_if.result c.is_kept.result _ _ strayed kept c.one_if.ensures.one
+    one-so c.one_if.result c.is_held.result _ _ strayed kept c.one_if.ensures.one

@@ -49,7 +49,8 @@ returns-then-stay-eq0-clause-moved c room rooms =
           (λ p n. stated-near c.args.map.now.runs p n c.iter.ensures.rising) none page);
       few = few-kept c.send_all.new.map c.send_all.new.map.runs refl c.send_all.ensures.kept;
       room = goes.room;
-      tally = c.tell-told.ensures gone goes.gone;
+      tally = c.tell-told.ensures spots gone c.stated_counts-counts.ensures.pages
+          goes.gone;
     }
 
 pub cut_page-cut-requires : goal.cut_page-cut-requires
@@ -99,7 +100,8 @@ returns-in-Ok-put-clause-moved c room rooms =
       pages = λ page. c.in-Ok-put.ensures.edit.ok page ∙ sent page;
       few = ap too_many put ∙ c.in-Ok-put.ensures.edit.few;
       room = goes.room;
-      tally = c.tell-told.ensures gone goes.gone;
+      tally = c.tell-told.ensures spots gone c.stated_counts-counts.ensures.pages
+          goes.gone;
     }
 
 pub returns-in-Err-clause-lack : goal.returns-in-Err-clause-lack

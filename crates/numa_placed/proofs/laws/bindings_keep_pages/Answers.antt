@@ -4,7 +4,7 @@ use Rattle.std.proofs.lemmas.Bool.{cases_Bool}
 use Rattle.numa_placed.specs.Binds.{Asked, bound_spots, goals, sent_spot, strays}
 use Rattle.numa_placed.specs.Spots.{is_placed}
 use Rattle.numa_placed.specs.declared.spot.Spot.{Spot}
-use Rattle.numa_placed.specs.declared.spot.Spot.TheVariants.{Nowhere, Stated, Held}
+use Rattle.numa_placed.specs.declared.spot.Spot.TheVariants.{Nowhere, Stated}
 use Rattle.numa_placed.proofs.Paced.{goals-endless}
 use Rattle.numa_placed.proofs.Sending.{not_wanted}
 use Rattle.numa_placed.proofs.Shared.{count-same}
@@ -15,15 +15,12 @@ use Rattle.numa_placed.proofs.laws.bindings_keep_pages.Goals as goal
 sent-placed : (goal : Option ℕ) (spot : Spot) → is_placed spot ≡ true
     → is_placed (sent_spot goal spot) ≡ true
 sent-placed None spot placed = placed
-sent-placed (Some node) Nowhere placed = refl
-sent-placed (Some node) (Stated from) placed = refl
-sent-placed (Some node) (Held from) placed = refl
+sent-placed (Some node) spot placed = refl
 
 strays-placed : (asked : Asked) (page : ℕ) (spot : Spot) → asked.wants page Nowhere ≡ false
     → strays asked page spot ≡ true → is_placed spot ≡ true
 strays-placed asked page Nowhere none t = let e = not_wanted asked page Nowhere none in cc
 strays-placed asked page (Stated from) none t = refl
-strays-placed asked page (Held from) none t = refl
 
 as-placed : (asked : Asked) (page : ℕ) (goal : Option ℕ) (spot : Spot)
     → asked.wants page Nowhere ≡ false

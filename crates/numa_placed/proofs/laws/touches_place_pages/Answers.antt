@@ -10,7 +10,7 @@ use Rattle.numa_placed.specs.Binds.{nodes_in, room_before, sent_spot, strays}
 use Rattle.numa_placed.specs.Binds.{touched_in}
 use Rattle.numa_placed.specs.Spots.{is_placed}
 use Rattle.numa_placed.specs.declared.spot.Spot.{Spot}
-use Rattle.numa_placed.specs.declared.spot.Spot.TheVariants.{Nowhere, Stated, Held}
+use Rattle.numa_placed.specs.declared.spot.Spot.TheVariants.{Nowhere, Stated}
 use Rattle.numa_placed.proofs.Paced.{goals-endless}
 use Rattle.numa_placed.proofs.Sending.{not_wanted}
 use Rattle.numa_placed.proofs.laws.touches_place_pages.Goals as goal
@@ -34,7 +34,6 @@ there : (kept : Kept) (page : ℕ) (spot : Spot) → is_placed spot ≡ true
     → is_absent kept page spot ≡ false
 there kept page Nowhere is = absurd (cc)
 there kept page (Stated node) is = refl
-there kept page (Held node) is = refl
 
 pub returns-clause-stays : goal.returns-clause-stays
 returns-clause-stays c space kept first pages task cpu page spots room is =

@@ -1,7 +1,7 @@
 use Rattle.std.proofs.Common.{◌≡◌, ℕ, ◌≤◌, ◌^◌, ◌∙◌, Bool, true, List, get_or, ap, arith}
 use Rattle.std.proofs.Common.{refl}
 use Rattle.std.proofs.lemmas.Simd.{get_or-replicate}
-use Rattle.numa_placed.specs.Moves.{goes, goes_from, is_left, moved_node}
+use Rattle.numa_placed.specs.Moves.{goes, goes_from, moved_node}
 use Rattle.numa_placed.specs.declared.spot.Spot.{Spot}
 use Rattle.numa_placed.proofs.Summed.{run_pages, run_pages-le, pages-counted}
 use Rattle.numa_placed.proofs.tally.tally.Goals as goal
@@ -18,7 +18,7 @@ loop-run-init c =
     ) in
     record {
       moved = omega (arith, ap (run_pages (goes go)) all);
-      left = omega (arith, ap (run_pages (is_left go)) all);
+      left = refl;
       from = λ node small. omega (
         arith,
         get_or-replicate {A = ℕ} 256 node 0 0 small,
@@ -40,12 +40,7 @@ loop-run-preserved c =
         c.loop-run.invariant.moved,
         ap (run_pages (goes go)) steps,
       );
-      left = omega (
-        arith,
-        c.add_run.ensures.left,
-        c.loop-run.invariant.left,
-        ap (run_pages (is_left go)) steps,
-      );
+      left = c.add_run.ensures.left ∙ c.loop-run.invariant.left;
       from = λ node small. omega (
         arith,
         c.add_run.ensures.from node small,
@@ -65,17 +60,6 @@ add_run-requires-clause-moved c =
       arith,
       c.loop-run.invariant.moved,
       c.loop-run.invariant.few (goes go),
-      c.loop-run.invariant.ahead,
-      ap (run_pages (λ spot. true)) c.in-Some.ensures.steps,
-    )
-
-pub add_run-requires-clause-left : goal.add_run-requires-clause-left
-add_run-requires-clause-left c =
-    let go = moved_node c.args._old.now c.args._new.now in
-    omega (
-      arith,
-      c.loop-run.invariant.left,
-      c.loop-run.invariant.few (is_left go),
       c.loop-run.invariant.ahead,
       ap (run_pages (λ spot. true)) c.in-Some.ensures.steps,
     )
@@ -103,12 +87,7 @@ returns c =
         ap (run_pages (goes go)) over,
         pages-counted (goes go) refl c.args.map.now.runs rising,
       );
-      left = omega (
-        arith,
-        c.loop-run.invariant.left,
-        ap (run_pages (is_left go)) over,
-        pages-counted (is_left go) refl c.args.map.now.runs rising,
-      );
+      left = c.loop-run.invariant.left;
       from = λ node small. omega (
         arith,
         c.loop-run.invariant.from node small,

@@ -1,6 +1,6 @@
 -- What is told so far, and the runs that are left, make up what is to be told of all runs.
 use Rattle.std.proofs.Common.{◌≡◌, ℕ, ◌+◌, ◌<◌, ◌≤◌, ◌^◌, Bool, true, get_or}
-use Rattle.numa_placed.specs.Moves.{AreTargets, goes, goes_from, is_left, moved_node}
+use Rattle.numa_placed.specs.Moves.{AreTargets, goes, goes_from, moved_node}
 use Rattle.numa_placed.specs.declared.spot.Spot.{Spot}
 use Rattle.numa_placed.proofs.Summed.{run_pages}
 use Rattle.numa_placed.proofs.tally.tally.Given as goal
@@ -9,8 +9,7 @@ abbrev pub invariant-loop-run : goal.invariant-loop-run
 invariant-loop-run l = record {
   moved : l.tally.moved + run_pages (goes (moved_node l._old l._new)) l.run-iterator
       ≡ run_pages (goes (moved_node l._old l._new)) l.map.runs;
-  left : l.tally.left + run_pages (is_left (moved_node l._old l._new)) l.run-iterator
-      ≡ run_pages (is_left (moved_node l._old l._new)) l.map.runs;
+  left : l.tally.left ≡ 0;
   from : (node : ℕ) → node < 256 → get_or l.tally.from node 0
       + run_pages (goes_from (moved_node l._old l._new) node) l.run-iterator
       ≡ run_pages (goes_from (moved_node l._old l._new) node) l.map.runs;

@@ -8,7 +8,7 @@ use Rattle.numa_placed.specs.Binds.{sent_spot}
 use Rattle.numa_placed.specs.Shifts.{endless, less_room}
 use Rattle.numa_placed.specs.Spots.{is_on, node_of}
 use Rattle.numa_placed.specs.declared.spot.Spot.{Spot}
-use Rattle.numa_placed.specs.declared.spot.Spot.TheVariants.{Nowhere, Stated, Held}
+use Rattle.numa_placed.specs.declared.spot.Spot.TheVariants.{Nowhere, Stated}
 use Rattle.numa_ranges.specs.Counts.{count_pages}
 use Rattle.numa_ranges.specs.Runs.{in_pages}
 use Rattle.numa_ranges.proofs.Apart.{in_pages-true}
@@ -105,9 +105,6 @@ step-alike page free room Nowhere list few are =
 step-alike page free room (Stated node) list few are =
     let within = in_pages-true 0 (2 ^ 35) page (omega arith) few in
     rw within (λ other. later page (get_or free other 0) (room other) (are other))
-step-alike page free room (Held node) list few are =
-    let within = in_pages-true 0 (2 ^ 35) page (omega arith) few in
-    rw within (λ other. later page (get_or free other 0) (room other) (are other))
 
 -- ---- all pages
 
@@ -178,8 +175,6 @@ past-at-most page room Nowhere list node few =
     (sent-at-most room (first_with_room room list) node)
 past-at-most page room (Stated at) list node few =
     rw (in_pages-true 0 (2 ^ 35) page (omega arith) few) (omega arith)
-past-at-most page room (Held at) list node few =
-    rw (in_pages-true 0 (2 ^ 35) page (omega arith) few) (omega arith)
 
 module _ (nodes : ℕ → List ℕ) (spots : ℕ → Spot) (free : List ℕ) (node : ℕ) where
   at-most : (page : ℕ) → page ≤ 2 ^ 35 → rooms nodes spots free page node ≤ slice_index free node
@@ -247,8 +242,6 @@ page-counted page free room Nowhere list node few are =
     let some = took-some free list node in
     rw (within, sym same) (omega (arith, on, less, some))
 page-counted page free room (Stated at) list node few are =
-    rw (in_pages-true 0 (2 ^ 35) page (omega arith) few) refl
-page-counted page free room (Held at) list node few are =
     rw (in_pages-true 0 (2 ^ 35) page (omega arith) few) refl
 
 -- no page makes a node have more free ones
