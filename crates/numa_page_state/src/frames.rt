@@ -74,12 +74,7 @@ fn judge_frame(node: u32, from: u8) -> Result<(), MoveRefusal>
 }
 
 /// Refuses to move a page that keeps a frame of a node, unless that is the node where it is to go.
-pub(crate) fn judge_held(
-    space: &Space,
-    page: u64,
-    node: u32,
-    from: u8,
-) -> Result<(), MoveRefusal>
+pub(crate) fn judge_held(space: &Space, page: u64, node: u32, from: u8) -> Result<(), MoveRefusal>
     ensures { MatchResult result
         (λ done. held_cause (ground_in space.now []) page node from ≡ None)
         (λ refusal. held_cause (ground_in space.now []) page node from ≡ Some refusal) }
