@@ -39,7 +39,7 @@ from ._cores import Core, Explanation, Placement, Policy, Prediction, Range
 from ._hosts import Group, Host, Process
 from ._library import LIBRARY
 from ._pages import Arrived, Bound, Moved, PageRun, Pages
-from ._plans import Plan
+from ._plans import Plan, PlanRun
 from ._scripts import Script
 from ._seats import Frame, Seat
 from ._values import effective, nodes, nodes_text, policy_text, rebind
@@ -47,8 +47,8 @@ from ._values import effective, nodes, nodes_text, policy_text, rebind
 __version__ = "0.10.0"
 __all__ = [
     "Answer", "Arrived", "Bound", "Core", "Explanation", "Frame", "Group", "Host", "Move", "Moved",
-    "PageRun", "Pages", "Placement", "Plan", "Policy", "Prediction", "Process", "Question", "Range",
-    "Report", "Route", "Script", "Seat",
+    "PageRun", "Pages", "Placement", "Plan", "PlanRun", "Policy", "Prediction", "Process",
+    "Question", "Range", "Report", "Route", "Script", "Seat",
     "check", "columns", "diff", "effective", "explain", "moves", "nodes", "nodes_text",
     "policy_text", "predict", "progress", "rebind", "replay", "sweep", "write_table",
     "AllTaken", "AnswerLost", "Astray", "BadAccess", "BadCpu", "BadDistance", "BadFormat",
@@ -70,7 +70,7 @@ __all__ = [
 ]
 # (as users name them, also where they are pickled)
 for _one in (Arrived, Bound, Core, Explanation, Frame, Group, Host, Move, Moved, PageRun, Pages,
-             Placement, Plan, Policy, Prediction, Process, Range, Route, Script, Seat):
+             Placement, Plan, PlanRun, Policy, Prediction, Process, Range, Route, Script, Seat):
     _one.__module__ = __name__
 
 if TYPE_CHECKING:

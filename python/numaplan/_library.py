@@ -61,6 +61,12 @@ class PagesInRow(ctypes.Structure):
     _fields_ = [("first", c_uint64), ("pages", c_uint64), ("node", c_uint8)]
 
 
+class PagesInTurns(ctypes.Structure):
+    """np_plan_run."""
+
+    _fields_ = [(name, c_uint64) for name in ("first", "pages", "cycle")]
+
+
 class ToldMoves(ctypes.Structure):
     """np_moves."""
 
@@ -181,6 +187,7 @@ _SIGNATURES = {
     "plan_fill": [_HANDLE, _U32, _U32, _U64, POINTER(c_uint8), c_size_t],
     "plan_fill_marked": [_HANDLE, _U32, _U32, _U64, POINTER(c_uint8), c_size_t, c_uint8],
     "plan_nodes": [_HANDLE, _U32, _U32, c_void_p, c_size_t, POINTER(c_uint8), c_size_t, c_uint8],
+    "plan_runs": [_HANDLE, _U32, POINTER(PagesInTurns), c_size_t, POINTER(c_size_t)],
     "plan_counts": [_HANDLE, _U32, _U32, _U64, _U64, POINTER(_U64 * 256)],
     "seat_open": [_HANDLE, _TEXT, c_size_t, POINTER(_U32), c_size_t, _TEXT, c_size_t],
     "seat_split": [_HANDLE, _HANDLE],

@@ -3,16 +3,25 @@
 from __future__ import annotations
 
 from ctypes import byref, c_size_t, c_uint8, c_uint64, memmove
-from typing import TYPE_CHECKING, Any, overload
+from typing import TYPE_CHECKING, Any, NamedTuple, overload
 
 from ._calls import call
-from ._causes import Unmapped
+from ._causes import NoRoom, Unmapped
 from ._judged import Numbers, bytes_to_write, u8, u32, u64, u64s_to_read
-from ._library import LIBRARY, Handle
+from ._library import LIBRARY, Handle, PagesInTurns
 from ._owners import Owner
 
 if TYPE_CHECKING:
     from ._buffers import AnyBuffer, Buffer
+
+
+class PlanRun(NamedTuple):
+    """Mapped pages in a row: the number of the first (address / 4096), how many they are, and the nodes
+    that their lists begin with, in turns: that of page first + k with nodes[k % len(nodes)]."""
+
+    first: int
+    pages: int
+    nodes: bytes
 
 
 class _Kept(Handle):
@@ -120,6 +129,27 @@ class Plan(Owner):
             self._call("plan_fill", *asked)
         else:
             self._call("plan_fill_marked", *asked, u8("unmapped", unmapped))
+
+    def runs(self, task: int, cpu: int) -> list[PlanRun]:
+        """The runs of mapped pages, in order of address, with the nodes that their lists begin with, for
+        a CPU of node `cpu`; pages between them aren't mapped. Raises BadCpu."""
+        who = u32("task", task), u32("cpu", cpu)
+        self.counts(*who, 0, 0)  # (judges the node, also where there are no runs)
+        count, room = c_size_t(), 64
+        while True:
+            found = (PagesInTurns * room)()
+            try:
+                self._call("plan_runs", who[0], found, room, byref(count))
+                break
+            except NoRoom:
+                room = count.value
+        return [PlanRun(run.first, run.pages, self._firsts(who, run.first, run.cycle))
+                for run in found[:count.value]]
+
+    def _firsts(self, who: "tuple[int, int]", first: int, pages: int) -> bytes:
+        nodes = (c_uint8 * pages)()
+        self._call("plan_fill", *who, first, nodes, pages)
+        return bytes(nodes)
 
     def counts(self, task: int, cpu: int, first: int, pages: int) -> dict[int, int]:
         """How many of so many pages from number `first` on have each node first, for each node that

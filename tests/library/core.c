@@ -34,6 +34,8 @@ static void closed(void) {
     uint64_t a = 7, b = 8;
     uint8_t nodes[2] = {9, 9};
     const uint64_t pages[2] = {16, 17};
+    np_plan_run run = {7, 7, 7};
+    size_t count = 5;
     np_core_close(&core);
     np_plan_close(&plan);
     WANT(np_core_map(&core, 0x10000, 4096, 0), NP_CLOSED);
@@ -46,6 +48,9 @@ static void closed(void) {
     WANT(np_plan_fill(&plan, 1, 0, 16, nodes, 2), NP_CLOSED);
     WANT(np_plan_fill_marked(&plan, 1, 0, 16, nodes, 2, 255), NP_CLOSED);
     WANT(np_plan_nodes(&plan, 1, 0, pages, 2, nodes, 2, 255), NP_CLOSED);
+    WANT(np_plan_runs(&plan, 1, &run, 1, &count), NP_CLOSED);
+    WANT(run.first, 7);
+    WANT(count, 5);
     WANT(nodes[0], 9);
     WANT(nodes[1], 9);
     WANT(memcmp(&core, &zero, sizeof core) == 0, 1);
@@ -171,6 +176,20 @@ static void marks(const np_plan *plan) {
     WANT(memcmp(nodes, each, 9), 0);
 }
 
+/* Its runs: pages 16 to 19 in turns of two, page 20, and page 21. */
+static void turns(const np_plan *plan) {
+    static const np_plan_run wanted[4] = {{16, 4, 2}, {20, 1, 1}, {21, 1, 1}, {9, 9, 9}};
+    np_plan_run runs[4] = {{9, 9, 9}, {9, 9, 9}, {9, 9, 9}, {9, 9, 9}};
+    size_t count = 0;
+    WANT(np_plan_runs(plan, 1, runs, 2, &count), NP_NO_ROOM);
+    WANT(count, 3);
+    WANT(runs[0].first, 9);
+    count = 0;
+    WANT(np_plan_runs(plan, 1, runs, 4, &count), NP_OK);
+    WANT(count, 3);
+    WANT(memcmp(runs, wanted, sizeof runs), 0);
+}
+
 /* A plan, which outlives its core, and in two threads. */
 static void plans(void) {
     np_core core = {0};
@@ -207,6 +226,7 @@ static void plans(void) {
     WANT(counts.pages[2], 0);
     WANT(np_plan_counts(&plan, 1, 1, 16, 7, &counts), NP_UNMAPPED);
     marks(&plan);
+    turns(&plan);
     WANT(np_plan_share(&plan, &other), NP_OK);
     WANT(np_plan_share(&plan, &other), NP_OPEN);
     WANT(pthread_create(&thread, NULL, fill_many, &other), 0);

@@ -1,6 +1,6 @@
 //! Copies, ranges, listings and the steps of a worker by the Rust wrapper: the values of cores.c. Not
 //! proved.
-use numaplan::{Core, Range, Refused};
+use numaplan::{Core, PlanRun, Range, Refused};
 
 const LISTED: &str = "00010000 default\n\
     00011000 interleave:0-1 anon=2 N0=1 N1=1 kernelpagesize_kB=4\n\
@@ -43,6 +43,10 @@ fn main() -> Result<(), Refused> {
     plan.fill_marked(1, 0, 15, &mut span, 255)?;
     plan.nodes(1, 0, &[33, 17, 5, 16], &mut each, 255)?;
     assert_eq!((span, each), ([255, 0, 1, 0, 0, 255], [0, 1, 255, 0]));
+    let run = |first, pages, nodes: &[u8]| PlanRun { first, pages, nodes: nodes.to_vec() };
+    let runs = [run(16, 1, &[1]), run(17, 2, &[1, 0]), run(19, 1, &[1]), run(32, 2, &[1])];
+    assert_eq!(plan.runs(1, 1)?, runs);
+    assert_eq!(plan.runs(1, 2), Err(Refused::BAD_CPU));
     assert_eq!(plan.nodes(1, 0, &[33, 17, 5], &mut each, 255), Err(Refused::NO_ROOM));
     assert_eq!(plan.nodes(1, 2, &[33], &mut each[..1], 255), Err(Refused::BAD_CPU));
     assert_eq!((plan.fill_marked(1, 2, 15, &mut span, 9), each[0]), (Err(Refused::BAD_CPU), 0));

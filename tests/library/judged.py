@@ -74,6 +74,7 @@ CALLS = [
      {"task": 32, "cpu": 32, "first": 64, "unmapped": 8}),
     (lambda task=0, cpu=0, unmapped=0: plan.choice_many(task, [16], cpu, None, unmapped),
      {"task": 32, "cpu": 32, "unmapped": 8}),
+    (lambda task=0, cpu=0: plan.runs(task, cpu), {"task": 32, "cpu": 32}),
     (lambda task=0, cpu=0, first=16, pages=1: plan.counts(task, cpu, first, pages),
      {"task": 32, "cpu": 32, "first": 64, "pages": 64}),
     (lambda node=0, number=0: seat.give(node, number), {"node": 8, "number": 16}),
@@ -203,7 +204,8 @@ with core.compile() as bound:
     span = bytearray(b"######")
     bound.fill(9, 1, 15, span, unmapped=200)
     want(bytes(span), b"\xc8\1\1\0\1\xc8", "a span with marks")
-    for call in (lambda: bound.fill(9, 2, 15, span, unmapped=7),
+    want(bound.runs(9, 1), [(16, 2, b"\1"), (18, 1, b"\0"), (19, 1, b"\1")], "runs")
+    for call in (lambda: bound.runs(9, 2), lambda: bound.fill(9, 2, 15, span, unmapped=7),
                  lambda: bound.choice_many(9, [20], 2, unmapped=7)):
         try:
             call()

@@ -27,6 +27,7 @@ static int is_same(const np_plan *plan, unsigned round) {
     size_t count = 0;
     uint64_t version = 0;
     np_counts counts;
+    np_plan_run runs[3];
     unsigned page = round % PAGES;
     if (np_plan_choice(plan, 1, FIRST + page, 0, nodes, 2, &count) || count != 2 ||
         memcmp(nodes, lists[page], 2) != 0)
@@ -43,6 +44,10 @@ static int is_same(const np_plan *plan, unsigned round) {
             return 0;
     if (np_plan_counts(plan, 1, 0, FIRST, PAGES, &counts) ||
         memcmp(&counts, &counted, sizeof counts) != 0)
+        return 0;
+    if (np_plan_runs(plan, 1, runs, 3, &count) || count != 2 ||
+        memcmp(runs, (np_plan_run[]){{FIRST, PAGES / 2, 2}, {FIRST + PAGES / 2, PAGES / 2, 1}},
+               2 * sizeof *runs) != 0)
         return 0;
     return np_plan_choice(plan, 1, FIRST + PAGES, 0, nodes, 2, &count) == NP_UNMAPPED &&
            np_plan_version(plan, &version) == NP_OK && version == commands;

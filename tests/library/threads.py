@@ -126,6 +126,7 @@ def of_plan(thread, each):
     want(plan.choice_many(1, [17, 9, 16], 0, unmapped=7), bytearray([1, 7, 0]), "marked pages")
     plan.fill(1, 0, 15, nodes, unmapped=255)
     want(nodes, bytearray([255]) + filled[:15], "a marked fill")
+    want(plan.runs(1, 0)[:1], [(16, 16, b"\0\1")], "runs")
     want(plan.share().counts(1, 0, 16, 16), {0: 8, 1: 8}, "counts")
 
 

@@ -6,16 +6,19 @@ ghost use Rattle.numaplan_c.specs.Border.{AnswersKeeping, Gives, IsPlanBy, Makes
 ghost use Rattle.numaplan_c.specs.Border.{Read, is_done};
 ghost use Rattle.numaplan_handles.specs.Handles.{core_in, plan_in, plan_seen};
 ghost use Rattle.numaplan_handles.specs.Steps.{Compiles, Publishes};
-ghost use Rattle.numaplan_handles.specs.Plans.{Chooses, Counts, Fills, FillsMarked, Marks};
+ghost use Rattle.numaplan_handles.specs.Plans.{Chooses, Counts, Fills, FillsMarked};
+ghost use Rattle.numaplan_handles.specs.Plans.{ListsTurns, Marks};
 ghost use Rattle.numaplan_handles.specs.declared.plan_view.ChoiceRefusal.{ChoiceRefusal};
 ghost use Rattle.numa_machine.specs.declared.refusal.PlaceRefusal.{PlaceRefusal};
 ghost use Rattle.numaplan_c.specs.Codes.{place_code};
+ghost use Rattle.numaplan_c.specs.Texts.{copy_code, length_copied};
 ghost use Rattle.numaplan_c.specs.Questions.{choice_code, fill_code, AreTold};
 
 use crate::codes::{Code, place_code};
 use crate::keeping::{ensure_closed, if_open, memory_code, open_from, tell_if_open};
+use crate::texts::{copy_code, length_copied};
 use numa_machine::{NoMemory, PlaceRefusal};
-use numa_plan::Plan;
+use numa_plan::{PageTurns, Plan};
 use numaplan_handles::{ChoiceRefusal, CoreHandle, PlanHandle, PlanView};
 use std::alloc::Global;
 
@@ -220,6 +223,25 @@ pub extern "C" fn np_plan_nodes(
         × Marks (plan_seen plan.now) task pages.now cpu unmapped answer nodes.old nodes.new) }
 {
     if_open!(plan.nodes_of(task, pages, cpu, unmapped, nodes), answer => choice_code(answer))
+}
+
+/// Lists the runs of a plan, and after how many of its pages the lists of each come again.
+#[unsafe(no_mangle)]
+pub extern "C" fn np_plan_runs(
+    plan: &PlanView,
+    task: u32,
+    room: &mut [PageTurns],
+    count: &mut usize,
+) -> u32
+    ensures { Read (plan_seen plan.now) result ((room.new ≡ room.old) × (count.new ≡ count.old))
+        (λ kept. (told : Result ℕ ℕ) × (result ≡ copy_code told)
+        × (count.new ≡ length_copied told)
+        × ListsTurns (plan_seen plan.now) task told room.old room.new) }
+{
+    if_open!(plan.runs(task, room), told => {
+        *count = length_copied(told);
+        copy_code(told)
+    })
 }
 
 /// Counts, for each node, the pages of a span whose list begins with it.

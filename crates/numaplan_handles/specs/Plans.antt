@@ -1,9 +1,12 @@
 -- What a handle of a plan keeps, and what it answers.
 use Rattle.std.specs.Prelude.{◌≡◌, ◌≢◌, ◌+◌, ◌<◌, ◌≤◌, ℕ, List, length, take, drop}
-use Rattle.std.specs.Prelude.{Option, Some, None, Result, Ok, Err, EachIndex, slice_index}
+use Rattle.std.specs.Prelude.{Option, Some, None, Result, Ok, Err, EachIndex, slice_get}
+use Rattle.std.specs.Prelude.{slice_index}
 use Rattle.numa_plan.specs.Found.{IsMapped}
 use Rattle.numa_plan.specs.Meaning.{PlanData, planned_list, planned_first, place_refusal}
 use Rattle.numa_plan.specs.Meaning.{CountsFirsts, RefusesSpan, first_or}
+use Rattle.numa_plan.specs.Turns.{TellsTurns}
+use Rattle.numa_plan.specs.declared.plan.turns.PageTurns.{PageTurns}
 use Rattle.numa_machine.specs.declared.refusal.PlaceRefusal.{PlaceRefusal}
 use Rattle.numa_machine.specs.declared.refusal.PlaceRefusal.TheVariants.{BadCpu}
 use Rattle.numaplan_handles.specs.declared.plan_view.ChoiceRefusal.{ChoiceRefusal}
@@ -60,6 +63,17 @@ Marks (Some plan) task pages cpu mark (Err (refused.TooShort count)) old new =
     (count ≡ length pages) × (length old ≢ count) × (new ≡ old)
 Marks (Some plan) task pages cpu mark (Err (refused.Place cause)) old new =
     (length old ≡ length pages) × (cause ≡ BadCpu) × (plan.nodes ≤ cpu) × (new ≡ old)
+
+-- what is said of its runs: of each at its place in the room for them, whose other places stay; or
+-- how many they are, where there is no room
+abbrev pub ListsTurns : Option PlanData → ℕ → Result ℕ ℕ → List PageTurns → List PageTurns → Type 0
+ListsTurns None task answer old new = Unit {0}
+ListsTurns (Some plan) task (Ok count) old new = (count ≡ length plan.runs) × (count ≤ length old)
+    × ((place : ℕ) → place < count → TellsTurns plan task (slice_get plan.runs place)
+    (slice_get new place))
+    × ((place : ℕ) → count ≤ place → slice_get new place ≡ slice_get old place)
+ListsTurns (Some plan) task (Err count) old new = (count ≡ length plan.runs) × (length old < count)
+    × (new ≡ old)
 
 -- and of how many pages have each node first
 abbrev pub Counts : Option PlanData → ℕ → ℕ → ℕ → ℕ → Result (List ℕ) PlaceRefusal → Type 0

@@ -2,14 +2,15 @@
 ghost use Rattle.std.specs.Prelude.{◌≡◌, Some, None, IfSome, MatchOption, true};
 ghost use Rattle.numaplan_handles.specs.Calls.{IsShared, Reads};
 ghost use Rattle.numaplan_handles.specs.Kinds.{plan_of, is_plan};
-ghost use Rattle.numaplan_handles.specs.Plans.{Chooses, Counts, Fills, FillsMarked, Marks};
+ghost use Rattle.numaplan_handles.specs.Plans.{Chooses, Counts, Fills, FillsMarked};
+ghost use Rattle.numaplan_handles.specs.Plans.{ListsTurns, Marks};
 
 use crate::kept::Kept;
 use crate::plan_handle::PlanHandle;
 use crate::room::copy_items;
 use crate::view::View;
 use numa_machine::PlaceRefusal;
-use numa_plan::Plan;
+use numa_plan::{PageTurns, Plan};
 use numa_requests::Request;
 use std::alloc::{AllocError, Global};
 
@@ -68,6 +69,24 @@ fn mark(
         Ok(()) => Ok(pages.len()),
         Err(refusal) => Err(ChoiceRefusal::Place(refusal)),
     }
+}
+
+/// Writes what is said of each run of a plan at the start of `room`, for a task; returns how many
+/// runs there are.
+fn list_turns(plan: &Plan, task: u32, room: &mut [PageTurns]) -> Result<usize, usize>
+    ensures { ListsTurns (Some plan.now) task result room.old room.new }
+{
+    let count = plan.run_count();
+    if room.len() < count {
+        return Err(count);
+    }
+    for place in 0..count {
+        let Some(turns) = plan.turns_at(task, place) else {
+            unreachable!()
+        };
+        room[place] = turns;
+    }
+    Ok(count)
 }
 
 impl PlanView {
@@ -186,6 +205,20 @@ impl PlanView {
         Some(mark(plan, (task, cpu), pages, unmapped, nodes))
     }
 
+    /// Writes what is said of each run of the plan at the start of `room`, in ascending order;
+    /// returns how many there are. `None` if the handle is closed.
+    ///
+    /// # Errors
+    /// In the `Some`, how many there are: there is less room. Then nothing was written.
+    pub fn runs(&self, task: u32, room: &mut [PageTurns]) -> Option<Result<usize, usize>>
+        ensures told { Reads (λ answer. ListsTurns (plan_seen self.now) task answer room.old
+            room.new) (plan_seen self.now) result }
+        ensures closed { plan_seen self.now ≡ None → room.new ≡ room.old }
+    {
+        let plan = self.plan()?;
+        Some(list_turns(plan, task, room))
+    }
+
     /// Counts, for each node, the pages of a span whose list begins with it. `None` if the handle
     /// is closed.
     ///
@@ -198,7 +231,8 @@ impl PlanView {
         pages: u64,
         cpu: u32,
     ) -> Option<Result<[u64; 256], PlaceRefusal>>
-        ensures { Reads (Counts (plan_seen self.now) task first pages cpu) (plan_seen self.now) result }
+        ensures { Reads (Counts (plan_seen self.now) task first pages cpu)
+            (plan_seen self.now) result }
     {
         let plan = self.plan()?;
         Some(plan.counts(task, first, pages, cpu))

@@ -41,7 +41,7 @@ pub use explanations::{Explanation, OrderRule, Scope};
 pub use hosts::{Group, Host, Processes};
 pub use options::{Options, Orders, Rules};
 pub use pages::{Arrived, Bound, Flow, Moved, Pages};
-pub use plans::Plan;
+pub use plans::{Plan, PlanRun};
 pub use raw::{Access, Frame, Move, PageRun, Placement, Process};
 pub use reports::{Format, Question, Report, Unanswered};
 pub use scripts::Script;

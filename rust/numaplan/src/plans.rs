@@ -1,8 +1,17 @@
 //! Plans. Each call of the library is as `calls` says.
 
 use crate::calls::done;
-use crate::raw::{self, Counts, Handle};
+use crate::raw::{self, Counts, Handle, ToldRun};
 use crate::Refused;
+
+/// Mapped pages in a row: the number of the first, how many they are, and the nodes that their lists
+/// begin with, in turns: that of page `first + k` with `nodes[k % nodes.len()]`.
+#[derive(Clone, Debug, PartialEq, Eq)]
+pub struct PlanRun {
+    pub first: u64,
+    pub pages: u64,
+    pub nodes: Vec<u8>,
+}
 
 /// A plan, which never changes: the list of nodes of each page. Threads ask it at once, by `&Plan`,
 /// an `Arc<Plan>`, or each by its own (`try_clone`).
@@ -109,6 +118,30 @@ impl Plan {
         done(unsafe {
             raw::np_plan_nodes(&self.0, task, cpu, first, count, nodes, places, unmapped)
         })
+    }
+
+    /// The runs of mapped pages, in order of address, with the nodes that their lists begin with; pages
+    /// between them aren't mapped.
+    ///
+    /// # Errors
+    /// `BAD_CPU`.
+    pub fn runs(&self, task: u32, cpu: u32) -> Result<Vec<PlanRun>, Refused> {
+        self.counts(task, cpu, 0, 0)?; // (judges the CPU, also where there are no runs)
+        let (mut told, mut count) = (vec![ToldRun::default(); 64], 0);
+        loop {
+            let (at, room) = (told.as_mut_ptr(), told.len());
+            match done(unsafe { raw::np_plan_runs(&self.0, task, at, room, &mut count) }) {
+                Err(Refused::NO_ROOM) => told.resize(count, ToldRun::default()),
+                answer => break answer?,
+            }
+        }
+        let whole = |run: &ToldRun| -> Result<PlanRun, Refused> {
+            let mut nodes = vec![0; usize::try_from(run.cycle).unwrap_or(usize::MAX)];
+            self.fill(task, cpu, run.first, &mut nodes)?;
+            let (first, pages) = (run.first, run.pages);
+            Ok(PlanRun { first, pages, nodes })
+        };
+        told[..count].iter().map(whole).collect()
     }
 
     /// How many pages of a span have each node first.

@@ -118,6 +118,14 @@ pub struct PageRun {
 }
 
 #[repr(C)]
+#[derive(Clone, Copy, Default)]
+pub(crate) struct ToldRun {
+    pub first: u64,
+    pub pages: u64,
+    pub cycle: u64,
+}
+
+#[repr(C)]
 pub(crate) struct ToldArrived {
     pub placed: u64,
     pub exhausted: u64,
@@ -212,6 +220,7 @@ const _: () = assert!(size_of::<ToldReport>() == 24 && size_of::<ToldExplanation
 
 const _: () = assert!(size_of::<ToldGroup>() == 48 && size_of::<Process>() == 8);
 const _: () = assert!(size_of::<PageRun>() == 24 && size_of::<ToldMoves>() == 2320);
+const _: () = assert!(size_of::<ToldRun>() == 24);
 const _: () = assert!(size_of::<ToldBound>() == 24 && size_of::<ToldArrived>() == 2064);
 
 #[rustfmt::skip]
@@ -250,6 +259,7 @@ extern "C" {
     pub(crate) fn np_plan_fill(plan: &Handle, task: u32, cpu: u32, first: u64, nodes: *mut u8, pages: usize) -> u32;
     pub(crate) fn np_plan_fill_marked(plan: &Handle, task: u32, cpu: u32, first: u64, nodes: *mut u8, pages: usize, unmapped: u8) -> u32;
     pub(crate) fn np_plan_nodes(plan: &Handle, task: u32, cpu: u32, pages: *const u64, count: usize, nodes: *mut u8, places: usize, unmapped: u8) -> u32;
+    pub(crate) fn np_plan_runs(plan: &Handle, task: u32, runs: *mut ToldRun, room: usize, count: &mut usize) -> u32;
     pub(crate) fn np_plan_counts(plan: &Handle, task: u32, cpu: u32, first: u64, pages: u64, counts: &mut Counts) -> u32;
     pub(crate) fn np_seat_open(seat: &mut Handle, memory: *const u8, memory_length: usize, frames: *const u32, nodes: usize, distances: *const u8, distances_count: usize) -> u32;
     pub(crate) fn np_seat_split(seat: &mut Handle, other: &mut Handle) -> u32;
