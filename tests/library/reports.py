@@ -79,7 +79,7 @@ def each_word(script):
             same(f"diff {script} {form}",
                  program("diff", by, *TOUCH, f"--format={form}", *then, script),
                  library(numaplan.diff, script, THEN, format=form, rules=rules))
-        for form, page in ((form, page) for form in ("text", "json") for page in PAGES):
+        for form, page in ((form, page) for form in ("text", "json", "svg") for page in PAGES):
             same(f"explain {script} {page} {form}",
                  program("explain", by, *TOUCH, f"--format={form}", hex(page * 4096), script),
                  library(numaplan.explain, script, page, format=form, rules=rules))

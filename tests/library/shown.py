@@ -125,7 +125,8 @@ with core.copy() as after:
          [(0x10000, 0x14000, "interleave:0-1"), (0x10000, 0x14000, 0), (0x10000, "0-1", 0), (1, 0, 1)],
          "columns of reports of cores")
     pictures = [core.predict_text(1, 0, format="svg").text,
-                core.diff_text(after, 1, 0, format="svg").text, None, None]
+                core.diff_text(after, 1, 0, format="svg").text,
+                core.explain_text(16, format="svg").text, None]
     want([each._repr_svg_() for each in texts], pictures, "pictures")
     begins = '<iframe srcdoc="&lt;!DOCTYPE html&gt;'
     want([(each._repr_html_() or "")[:len(begins)] for each in texts], [begins, begins, "", begins], "pages")

@@ -151,19 +151,25 @@ fn put_touch(text: &mut Written, about: &About<'_>) {
     }
 }
 
-/// Writes an added line, in rows of text.
-fn put_line(text: &mut Written, line: &[u8]) {
-    text.put(b"Added line: ");
+/// Writes a line as rows of text; those behind its first begin with `next`.
+pub(crate) fn put_wrapped(text: &mut Written, line: &[u8], next: &[u8]) {
     let mut column = 0usize;
     for byte in line {
         if column == WIDE {
-            text.put(b"\n            ");
+            text.put(b"\n");
+            text.put(next);
             column = 0;
         }
         text.put_escaped(&[*byte]);
         column = column.saturating_add(1);
     }
     text.put(b"\n");
+}
+
+/// Writes an added line, in rows of text.
+fn put_line(text: &mut Written, line: &[u8]) {
+    text.put(b"Added line: ");
+    put_wrapped(text, line, b"            ");
 }
 
 /// Writes the added lines.

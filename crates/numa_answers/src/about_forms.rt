@@ -16,15 +16,15 @@ const PICTURE_END: &[u8] = b"</svg>\n";
 
 const PAGE_END: &[u8] = b"</body>\n</html>\n";
 
-/// The number of rows of a text.
-fn row_count(rows: &[u8]) -> u64 {
+/// The rows of pixels that rows of text take.
+pub(crate) fn height_of_rows(rows: &[u8]) -> u64 {
     let mut count = 0u64;
     for byte in rows {
         if *byte == b'\n' {
             count = count.saturating_add(1);
         }
     }
-    count
+    count.saturating_mul(ROW).saturating_add(ABOVE)
 }
 
 /// A copy of a text.
@@ -44,10 +44,12 @@ fn behind_head(alloc: Global, picture: &[u8], height: u64) -> Result<&[u8], Allo
     Ok(body)
 }
 
-/// Draws rows of text below a row of pixels.
-fn put_rows(text: &mut Written, rows: &[u8], top: u64) {
+/// Draws rows of text below a row of pixels, as a group of this class.
+pub(crate) fn put_rows(text: &mut Written, class: &[u8], rows: &[u8], top: u64) {
+    text.put(b"<g class=\"");
+    text.put(class);
     text.put_form(
-        b"<g class=\"about\" fill=\"#333333\"><path d=\"M16,$ L904,$\" stroke=\"#333333\"/>\n",
+        b"\" fill=\"#333333\"><path d=\"M16,$ L904,$\" stroke=\"#333333\"/>\n",
         &[top.saturating_add(4), top.saturating_add(4)],
     );
     let mut line = top.saturating_add(ABOVE);
@@ -71,11 +73,11 @@ pub(crate) fn picture_with(
     };
     let height = height_of(picture);
     let body = behind_head(alloc, whole, height)?;
-    let more = row_count(rows).saturating_mul(ROW).saturating_add(ABOVE);
+    let more = height_of_rows(rows).saturating_add(BELOW);
     let mut text = Written::new(alloc);
-    text.begin_picture(height.saturating_add(more).saturating_add(BELOW));
+    text.begin_picture(height.saturating_add(more));
     text.put(body);
-    put_rows(&mut text, rows, height);
+    put_rows(&mut text, b"about", rows, height);
     text.put(PICTURE_END);
     text.take()
 }

@@ -1,4 +1,5 @@
-//! Why a page goes where it goes, as text or JSON.
+//! Why a page goes where it goes, as text, JSON or a picture.
+use crate::reason_picture::picture_of;
 use crate::residence::{Residence, put_comings, put_lies, put_residence};
 use numa_rules::{Explanation, TakeField, Text, give_fields, say_explanation};
 use numa_sheets::{Format, Items, Object};
@@ -95,20 +96,13 @@ pub fn text_of(
     }
 }
 
-/// An explanation as text, or as an object with the lines of the text.
-///
-/// # Errors
-/// `AllocError`: out of memory.
-pub fn shown(
+/// An explanation as an object with the lines of its text.
+fn told(
     alloc: Global,
     said: &Explanation,
     residence: Option<Residence<'_>>,
     text: Vec<u8>,
-    format: Format,
 ) -> Result<Vec<u8>, AllocError> {
-    let Format::Json = format else {
-        return Ok(text);
-    };
     let mut object = Object::new(alloc);
     object.put_text("kind", "explanation");
     put_fields(alloc, &mut object, said, text.as_slice());
@@ -120,5 +114,42 @@ pub fn shown(
     match object.say_line(&mut line) {
         Ok(()) => Ok(line),
         Err(fault) => Err(fault),
+    }
+}
+
+/// The picture of an explanation with its text.
+fn drawn(
+    alloc: Global,
+    space: &Space,
+    said: &Explanation,
+    residence: Option<Residence<'_>>,
+    text: Vec<u8>,
+) -> Result<Vec<u8>, AllocError> {
+    let lies = match residence {
+        Some(residence) => Some(residence.place.node),
+        None => None,
+    };
+    let picture = picture_of(alloc, space, said, lies, text.as_slice());
+    drop(text);
+    picture
+}
+
+/// An explanation as text, as an object with the lines of the text, or as a picture with them. The
+/// space is the one that is explained.
+///
+/// # Errors
+/// `AllocError`: out of memory.
+pub fn shown(
+    alloc: Global,
+    space: &Space,
+    said: &Explanation,
+    residence: Option<Residence<'_>>,
+    text: Vec<u8>,
+    format: Format,
+) -> Result<Vec<u8>, AllocError> {
+    match format {
+        Format::Svg(_) => drawn(alloc, space, said, residence, text),
+        Format::Json => told(alloc, said, residence, text),
+        _ => Ok(text),
     }
 }

@@ -8,7 +8,7 @@ use Rattle.numa_command_line.specs.Asked.{doings_asked}
 use Rattle.numa_sheets.specs.declared.format.Format.TheVariants as format
 use Rattle.numa_script.specs.Numbers.{in_64_bits, number_of, numeral_of}
 use Rattle.numa_command_line.specs.Grammar.{AreChoices, Choices, diff_formats, plain_formats}
-use Rattle.numa_command_line.specs.Grammar.{moves_formats, predict_formats, program, replay_formats}
+use Rattle.numa_command_line.specs.Grammar.{drawn_formats, predict_formats, program, replay_formats}
 use Rattle.numa_command_line.specs.Grammar.{rules_names, test_formats}
 use Rattle.numa_command_line.specs.Jobs.{ask, check, explain, run, scripts, storm}
 use Rattle.numa_command_line.specs.Usage.{Names}
@@ -27,8 +27,8 @@ some_choices = record {
   expect = names_of test_formats;
   predict = names_of predict_formats;
   diff = names_of diff_formats;
-  moves = names_of moves_formats;
-  explain = names_of plain_formats;
+  moves = names_of drawn_formats;
+  explain = names_of drawn_formats;
   replay = names_of replay_formats;
   rules =
       names_of rules_names;

@@ -82,6 +82,11 @@ given_is : (refused : Bool) (asking what : Asking) → cond refused None (Some a
 given_is true asking what e = cc
 given_is false asking what e = some_is asking what e
 
+given_both : (one other : Bool) (asking what : Asking)
+    → cond one None (cond other None (Some asking)) ≡ Some what → asking ≡ what
+given_both true other asking what e = cc
+given_both false other asking what e = given_is other asking what e
+
 free_name : (at : List Text) (format : Format) (from : Option (List FreePages)) (what : Asking)
     → option_and_then (predict_by at format) from ≡ Some what → asking_name what ≡ codes "predict"
 free_name at format None what e = cc
@@ -94,7 +99,7 @@ page_name : (at : List Text) (pages : Option ℕ) (format : Format) (from : Opti
     → asking_name what ≡ codes "explain"
 page_name at pages format None what e = cc
 page_name at pages format (Some address) what e =
-    ap asking_name (sym (given_is _ (explain at address pages format) what e))
+    ap asking_name (sym (given_both _ _ (explain at address pages format) what e))
 
 moves_name : (make : List FreePages → Doing)
     → ((free : List FreePages) → doing_name (make free) ≡ codes "moves")

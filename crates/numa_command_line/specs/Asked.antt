@@ -91,10 +91,12 @@ abbrev pub diff_by : List Text → List Text → Format → Option Asking
 diff_by at lines format =
     if nat_lt 0 (length at) && is_drawn format then None else Some (diff at lines format)
 
--- an explanation, of one page where a file states where pages lie that are there
+-- an explanation, of one page where a file states where pages lie that are there, or as a picture
 abbrev pub explain_by : List Text → Option ℕ → Format → AddressAsked → Option Asking
 explain_by at pages format address =
-    if nat_lt 0 (length at) && is_some pages then None else Some (explain at address pages format)
+    if nat_lt 0 (length at) && is_some pages then None
+    else if is_some pages && is_drawn format then None
+    else Some (explain at address pages format)
 
 -- what a word asks to be done with scripts, by what the parse found of its arguments
 abbrev pub work_asked : Subcommand → List Row → Option Doing

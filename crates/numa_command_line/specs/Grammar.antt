@@ -44,8 +44,8 @@ predict_formats = codes "text" ∷ codes "json" ∷ codes "csv" ∷ codes "svg" 
 abbrev pub diff_formats : List Text
 diff_formats = codes "text" ∷ codes "json" ∷ codes "svg" ∷ codes "html" ∷ []
 
-abbrev pub moves_formats : List Text
-moves_formats = codes "text" ∷ codes "json" ∷ codes "svg" ∷ []
+abbrev pub drawn_formats : List Text
+drawn_formats = codes "text" ∷ codes "json" ∷ codes "svg" ∷ []
 
 abbrev pub replay_formats : List Text
 replay_formats = codes "text" ∷ codes "json" ∷ codes "html" ∷ []
@@ -133,8 +133,8 @@ pub record AreChoices (c : Choices) : Type 0 where
   pub expect : AreNames test_formats c.expect
   pub predict : AreNames predict_formats c.predict
   pub diff : AreNames diff_formats c.diff
-  pub moves : AreNames moves_formats c.moves
-  pub explain : AreNames plain_formats c.explain
+  pub moves : AreNames drawn_formats c.moves
+  pub explain : AreNames drawn_formats c.explain
   pub replay : AreNames replay_formats c.replay
   pub rules : AreNames rules_names c.rules
 

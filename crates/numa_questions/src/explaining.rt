@@ -1,5 +1,6 @@
 //! Why pages of a space, or of each process of a host, go where they go.
-use numa_answers::{PageInterval, Residence, add_answer, shown, stretches_of, text_of};
+use numa_answers::{About, PageInterval, Residence, add_answer, shown, stretches_of, text_of};
+use numa_answers::told_of;
 use numa_host::{Host, Process};
 use numa_lines::RunFault;
 use numa_machine::PlaceRefusal;
@@ -83,7 +84,7 @@ fn reasons_by(
         Some(other) => with_other(text, spaces.space, other, asked, said.page)?,
         None => text,
     };
-    Ok(shown(alloc, said, residence, whole, format)?)
+    Ok(shown(alloc, spaces.space, said, residence, whole, format)?)
 }
 
 /// How a page comes where it lies; nothing if it isn't there.
@@ -216,6 +217,7 @@ fn add_each(
     if answers.processes() == 0 {
         return Err(Halt::Unmapped);
     }
+    answers.end_pictures();
     Ok(answers.take()?)
 }
 
@@ -236,6 +238,20 @@ fn reasons_of_each(
     text
 }
 
+/// An explanation, which says what it is of if it is a picture.
+fn told_reasons(
+    alloc: Global,
+    subject: Subject<'_>,
+    touch: Touch,
+    format: Format,
+    text: Result<Vec<u8>, Halt>,
+) -> Result<Vec<u8>, Halt> {
+    match text {
+        Ok(text) => told_of(alloc, format, &About::of(subject, Some(touch), &[]), text),
+        Err(halt) => Err(halt),
+    }
+}
+
 /// Why pages go where they go, and by which rules, if `other`, the same by the other rules, has
 /// them go elsewhere: of the one space, or of each process that has mapped the page. Of a page that
 /// is there it is said too where it lies, and how it comes there.
@@ -248,17 +264,18 @@ pub fn reasons_of<'a>(
     other: Option<Subject<'a>>,
     asked: ReasonsAsked<'_>,
 ) -> Result<Vec<u8>, Halt> {
-    match subject {
+    let text = match subject {
         Subject::One(space) => {
             let other = space_in(other);
             let place = place_of(asked.there, 0);
             reasons(alloc, ByRules { space, other }, asked, place)
         }
         Subject::Each(host) => reasons_of_each(alloc, host, host_in(other), asked),
-    }
+    };
+    told_reasons(alloc, subject, asked.touch, asked.format, text)
 }
 
-/// Why a page of a space would go where it goes, if it were touched now, as a text.
+/// Why a page of a space would go where it goes, if it were touched now, in a format.
 ///
 /// # Errors
 /// `NoNode`, `Unmapped`, or `Stopped`: out of memory.
@@ -273,5 +290,5 @@ pub fn explain_space(
     let spaces = ByRules { space, other: None };
     let text = reasons_in(alloc, spaces, asked, &said, None, format);
     drop(said);
-    text
+    told_reasons(alloc, Subject::One(space), asked, format, text)
 }

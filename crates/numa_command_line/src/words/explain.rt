@@ -1,8 +1,7 @@
 //! `numaplan explain --task T --node N ADDRESS [FILE]..`: says why a page goes where it goes.
 ghost use Rattle.std.specs.Prelude.{codes, map};
 ghost use Rattle.std.specs.String.{string_bytes};
-ghost use Rattle.numa_command_line.specs.Grammar.{IsReader, explain_arguments};
-ghost use Rattle.numa_command_line.specs.Grammar.{plain_formats};
+ghost use Rattle.numa_command_line.specs.Grammar.{IsReader, drawn_formats, explain_arguments};
 ghost use Rattle.clap.specs.Words.{found_of, rows_of};
 ghost use Rattle.numa_command_line.specs.Asked.{explain_by, work_asked};
 ghost use Rattle.numa_command_line.specs.Jobs.{IsMade, question_of, work_of};
@@ -16,7 +15,7 @@ use crate::words::address::address;
 use crate::words::asked;
 use crate::words::asked::{NODE, TASK};
 use crate::words::at::AT;
-use crate::words::format::{PLAIN, format_in};
+use crate::words::format::{DRAWN_TOO, format_in, is_drawn};
 use crate::words::lenient::LENIENT;
 use crate::words::process::PROCESS;
 use clap::ArgMatches;
@@ -30,6 +29,9 @@ information, try '--help'.\n";
 
 /// The message for pages that are there in a span.
 const NO_SPAN: &str = "error: '--at <FILE>' doesn't go with '--pages <N>'\n";
+
+/// The message for a picture of several pages.
+const NOT_DRAWN: &str = "error: '--pages <N>' doesn't go with '--format svg'\n";
 
 /// The argument `ADDRESS`.
 const ADDRESS: Argument = Argument {
@@ -68,18 +70,20 @@ with a letter, or as eight digits or more of which the first is 0, as answers pr
 Other digits are decimal, or hexadecimal if only that page is mapped; if both pages are, \
 write the one that is meant with 0x.\n\nWith --pages it names, for each stretch of so many \
 pages from there on, the policy that counts and its rule. Of a host it answers for each \
-process that has mapped the page, or with --process for process P alone.\n\nLines that are \
+process that has mapped the page, or with --process for process P alone.\n\n--format svg \
+draws the nodes in order, with their distances, whose turn it is, and a table of which of the \
+machine's nodes are allowed and which the policy has.\n\nLines that are \
 faulty or refused are reported on standard error as by `check`, and skipped. The status is 3 \
 if there are some, unless --lenient is given, and if no machine is ready after the scripts.",
     reads_lines: true,
     arguments: &[
-        TASK, NODE, AT, PAGES, PROCESS, PLAIN, LENIENT, ADDRESS, FILES,
+        TASK, NODE, AT, PAGES, PROCESS, DRAWN_TOO, LENIENT, ADDRESS, FILES,
     ],
 };
 
 /// The subcommand.
 pub fn word() -> &'static SubcommandHelp
-    ensures { IsReader (codes "explain") explain_arguments plain_formats result.now }
+    ensures { IsReader (codes "explain") explain_arguments drawn_formats result.now }
 {
     &WORD
 }
@@ -111,6 +115,10 @@ fn question(
         drop(at);
         return Err(JobFault::usage(alloc, NO_SPAN));
     }
+    if pages.is_some() && is_drawn(format) {
+        drop(at);
+        return Err(JobFault::usage(alloc, NOT_DRAWN));
+    }
     Ok(PageQuestion::Explain {
         at,
         address,
@@ -122,8 +130,8 @@ fn question(
 /// The job of a command line with this subcommand.
 ///
 /// # Errors
-/// `Usage`: the address or the node is invalid, or `--at` doesn't go with `--pages`. `NoMemory`:
-/// out of memory.
+/// `Usage`: the address or the node is invalid, or `--pages` doesn't go with another
+/// option. `NoMemory`: out of memory.
 pub fn work(alloc: Global, matches: &ArgMatches<'_>) -> Result<ScriptJob, JobFault>
     ensures { IsMade work_of (work_asked word.Explain (rows_of (found_of matches.now))) result }
 {

@@ -34,8 +34,8 @@ pub const PREDICTED: Argument = format_option!["json", "csv", "svg", "html"];
 /// The option `--format FORMAT` of `diff`.
 pub const COMPARED: Argument = format_option!["json", "svg", "html"];
 
-/// The option `--format FORMAT` of `moves`.
-pub const MOVED: Argument = format_option!["json", "svg"];
+/// The option `--format FORMAT` of `moves` and `explain`.
+pub const DRAWN_TOO: Argument = format_option!["json", "svg"];
 
 /// The option `--format FORMAT` of `replay`.
 pub const REPLAYED: Argument = format_option!["json", "html"];

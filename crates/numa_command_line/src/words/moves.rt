@@ -1,6 +1,6 @@
 //! `numaplan moves --then LINE [FILE]..`: reports what becomes of pages that are there.
 ghost use Rattle.std.specs.Prelude.{codes};
-ghost use Rattle.numa_command_line.specs.Grammar.{IsReader, moves_arguments, moves_formats};
+ghost use Rattle.numa_command_line.specs.Grammar.{IsReader, drawn_formats, moves_arguments};
 ghost use Rattle.clap.specs.Words.{found_of, rows_of};
 ghost use Rattle.numa_command_line.specs.Asked.{work_asked};
 ghost use Rattle.numa_command_line.specs.Jobs.{IsMade, work_of};
@@ -11,7 +11,7 @@ use crate::jobs::{JobFault, ScriptJob};
 use crate::usage::{Argument, FILES, SubcommandHelp, Takes};
 use crate::words::asked::one_touch_in;
 use crate::words::at::AT;
-use crate::words::format::{LARGEST, MOVED, format_in};
+use crate::words::format::{DRAWN_TOO, LARGEST, format_in};
 use crate::words::free::named;
 use crate::words::lenient::LENIENT;
 use crate::words::process::PROCESS;
@@ -84,13 +84,13 @@ no machine is ready after the scripts. If neither --rules nor a line says whose 
 and a kernel's would give another answer, a line on standard error says so.",
     reads_lines: true,
     arguments: &[
-        AT, TASK, NODE, THEN, FREE, PROCESS, MOVED, LARGEST, LENIENT, FILES,
+        AT, TASK, NODE, THEN, FREE, PROCESS, DRAWN_TOO, LARGEST, LENIENT, FILES,
     ],
 };
 
 /// The subcommand.
 pub fn word() -> &'static SubcommandHelp
-    ensures { IsReader (codes "moves") moves_arguments moves_formats result.now }
+    ensures { IsReader (codes "moves") moves_arguments drawn_formats result.now }
 {
     &WORD
 }

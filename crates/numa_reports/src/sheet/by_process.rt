@@ -7,7 +7,7 @@ use crate::sheet::fields::{PlacedPages, placed_of};
 use crate::sheet::node_moves::NodeMoves;
 use crate::sheet::nodes::{NodePages, list_nodes};
 use crate::sheet::parts::left_on;
-use crate::sheet::sections::{Section, put_moved, put_placed, put_section};
+use crate::sheet::sections::{Section, put_alone, put_moved, put_placed, put_section};
 use crate::sheet::{lines, moved_objects, objects, records};
 use itoa::Buffer;
 use numa_mask::Parts;
@@ -81,10 +81,12 @@ impl ByProcess {
         }
     }
 
-    /// Before the first process. Objects are written one a line; other answers are text.
+    /// Before the first process. Objects are written one a line, and pictures one below the other;
+    /// other answers are text.
     pub fn new(alloc: Global, format: Format) -> ByProcess {
         let format = match format {
             Format::Json => Format::Json,
+            Format::Svg(number) => Format::Svg(number),
             _ => Format::Text,
         };
         ByProcess::behind(format, false, Written::new(alloc))
@@ -253,6 +255,17 @@ impl ByProcess {
                 self.text.put(b"total");
                 put_moves(&mut self.text, counts);
             }
+        }
+    }
+
+    /// Ends pictures of which there is no total; other answers stay as they are.
+    pub fn end_pictures(&mut self) {
+        let Format::Svg(_) = self.format else {
+            return;
+        };
+        match self.text.take() {
+            Ok(sections) => put_alone(&mut self.text, &sections, self.rows),
+            Err(_) => self.text.lack(),
         }
     }
 

@@ -72,6 +72,13 @@ fn put_sections(text: &mut Written, sections: &[u8], end: u64, rows: u64) -> u64
     below
 }
 
+/// Writes a whole picture: the sections alone, which end at a row of pixels.
+pub(crate) fn put_alone(text: &mut Written, sections: &[u8], end: u64) {
+    text.begin_picture(end.saturating_add(MARGIN));
+    text.put(sections);
+    text.put(b"</svg>\n");
+}
+
 /// Writes a whole picture: the sections, and the pages of all processes by node.
 pub(crate) fn put_placed(
     text: &mut Written,
