@@ -58,6 +58,7 @@ _numaplan() {
                 '(--format)--format[How the answer is written]:FORMAT:(text json csv svg html)' \
                 '(--largest)--largest[Shows the N largest ranges by themselves, and the others as a sum; without it 40 in a picture, 400 in a page]:N: ' \
                 '(--free)--free[How many pages are free on these nodes; with K, M, G or T after it a number is in bytes]:NODE=PAGES,..: ' \
+                '(--names)--names[Writes behind ranges the names of their areas\: comments `# name\: NAME`, each before a line map]' \
                 '(--lenient)--lenient[Ends with status 0 even if lines were faulty or refused]' \
                 '(--rules)--rules[Whose rules count, unless a line `rules` of the scripts says otherwise]:RULES:(document linux)' \
                 '(-h --help)-h[Print help]' '(-h --help)--help[Print help]' \
@@ -72,6 +73,7 @@ _numaplan() {
                 '(--process)--process[Asks about process P of a host only; without it, or with all, about each process]:P: ' \
                 '(--format)--format[How the answer is written]:FORMAT:(text json svg html)' \
                 '(--largest)--largest[Shows the N largest ranges by themselves, and the others as a sum; without it 40 in a picture, 400 in a page]:N: ' \
+                '(--names)--names[Writes behind ranges the names of their areas\: comments `# name\: NAME`, each before a line map]' \
                 '(--lenient)--lenient[Ends with status 0 even if lines were faulty or refused]' \
                 '(--rules)--rules[Whose rules count, unless a line `rules` of the scripts says otherwise]:RULES:(document linux)' \
                 '(-h --help)-h[Print help]' '(-h --help)--help[Print help]' \
@@ -87,6 +89,7 @@ _numaplan() {
                 '(--process)--process[Asks about process P of a host only; without it, or with all, about each process]:P: ' \
                 '(--format)--format[How the answer is written]:FORMAT:(text json svg)' \
                 '(--largest)--largest[Shows the N largest ranges by themselves, and the others as a sum; without it 40 in a picture, 400 in a page]:N: ' \
+                '(--names)--names[Writes behind ranges the names of their areas\: comments `# name\: NAME`, each before a line map]' \
                 '(--lenient)--lenient[Ends with status 0 even if lines were faulty or refused]' \
                 '(--rules)--rules[Whose rules count, unless a line `rules` of the scripts says otherwise]:RULES:(document linux)' \
                 '(-h --help)-h[Print help]' '(-h --help)--help[Print help]' \
@@ -99,7 +102,8 @@ _numaplan() {
                 '(--at)--at[A file with further lines at START LENGTH NODE; - is standard input]:FILE:_files' \
                 '(--pages)--pages[Explains N pages, from that of ADDRESS on, by stretches with one rule]:N: ' \
                 '(--process)--process[Asks about process P of a host only; without it, or with all, about each process]:P: ' \
-                '(--format)--format[How the answer is written]:FORMAT:(text json)' \
+                '(--format)--format[How the answer is written]:FORMAT:(text json svg)' \
+                '(--names)--names[Writes behind ranges the names of their areas\: comments `# name\: NAME`, each before a line map]' \
                 '(--lenient)--lenient[Ends with status 0 even if lines were faulty or refused]' \
                 '(--rules)--rules[Whose rules count, unless a line `rules` of the scripts says otherwise]:RULES:(document linux)' \
                 '(-h --help)-h[Print help]' '(-h --help)--help[Print help]' \

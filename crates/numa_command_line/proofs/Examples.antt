@@ -106,7 +106,7 @@ explain_on_each_node : (c : Choices)
     → doings_asked (program c) (codes "numaplan" ∷ codes "explain" ∷ codes "--cpu" ∷ codes "all"
     ∷ codes "0x11000" ∷ codes "a" ∷ [])
     ≡ Some (scripts (codes "a" ∷ []) Document None (ask (record { task = None; cpu = Each })
-    (explain [] (record { value = 69632; hexadecimal = None }) None format.Text) false))
+    (explain [] (record { value = 69632; hexadecimal = None }) None format.Text) false false))
 unfolding clap_on_literals number_of numeral_of in_64_bits
 explain_on_each_node c = refl
 

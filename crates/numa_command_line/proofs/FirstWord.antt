@@ -65,16 +65,16 @@ given_ask : (passes : Bool) (asked : Doing) (doing : Doing) → cond passes (Som
 given_ask true asked doing e = some_is asked doing e
 given_ask false asked doing e = cc
 
-asked_name : (touch : Option TouchAsked) (lenient : Bool) (question : Option Asking) (named : Text)
-    (doing : Doing)
+asked_name : (touch : Option TouchAsked) (lenient names : Bool) (question : Option Asking)
+    (named : Text) (doing : Doing)
     → ((what : Asking) → question ≡ Some what → asking_name what ≡ named)
-    → option_and_then (λ what. option_and_then (ask_by lenient what) touch) question ≡ Some doing
-    → doing_name doing ≡ named
-asked_name touch lenient None named doing names e = cc
-asked_name None lenient (Some what) named doing names e = cc
-asked_name (Some t) lenient (Some what) named doing names e =
-    ap doing_name (sym (given_ask (can_ask t what) (ask t what lenient) doing e))
-    ∙ names what refl
+    → option_and_then (λ what. option_and_then (ask_by lenient names what) touch) question
+    ≡ Some doing → doing_name doing ≡ named
+asked_name touch lenient names None named doing same e = cc
+asked_name None lenient names (Some what) named doing same e = cc
+asked_name (Some t) lenient names (Some what) named doing same e =
+    ap doing_name (sym (given_ask (can_ask t what) (ask t what lenient names) doing e))
+    ∙ same what refl
 
 -- a question that some test refuses
 given_is : (refused : Bool) (asking what : Asking) → cond refused None (Some asking) ≡ Some what
@@ -115,15 +115,18 @@ work_name word.Run rows doing e = ap doing_name (sym (some_is _ doing e))
 work_name word.Check rows doing e = ap doing_name (sym (some_is _ doing e))
 work_name word.Expect rows doing e = ap doing_name (sym (some_is _ doing e))
 work_name word.Predict rows doing e =
-    asked_name (touch_in rows) (is_on (codes "lenient") rows) _ (codes "predict") doing
+    asked_name (touch_in rows) (is_on (codes "lenient") rows) (is_on (codes "names") rows) _
+    (codes "predict") doing
     (free_name (texts_at (codes "at") rows) (format_in rows) (frees_in rows)) e
 work_name word.Diff rows doing e =
-    asked_name (touch_in rows) (is_on (codes "lenient") rows) _ (codes "diff") doing
+    asked_name (touch_in rows) (is_on (codes "lenient") rows) (is_on (codes "names") rows) _
+    (codes "diff") doing
     (λ what is. ap asking_name (sym (given_is _
     (diff (texts_at (codes "at") rows) (texts_at (codes "then") rows) (format_in rows)) what is))) e
 work_name word.Moves rows doing e = moves_name _ (λ free. refl) (frees_in rows) doing e
 work_name word.Explain rows doing e =
-    asked_name (touch_in rows) (is_on (codes "lenient") rows) _ (codes "explain") doing
+    asked_name (touch_in rows) (is_on (codes "lenient") rows) (is_on (codes "names") rows) _
+    (codes "explain") doing
     (page_name (texts_at (codes "at") rows) (small_at (codes "pages") rows) (format_in rows)
     (address_in rows)) e
 work_name word.Replay rows doing e = ap doing_name (sym (some_is _ doing e))

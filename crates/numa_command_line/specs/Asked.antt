@@ -64,12 +64,14 @@ abbrev pub can_ask : TouchAsked → Asking → Bool
 can_ask touch what = can_ask_on touch.cpu what
 
 -- a question of where a task touches pages
-abbrev pub ask_by : Bool → Asking → TouchAsked → Option Doing
-ask_by lenient what touch = if can_ask touch what then Some (ask touch what lenient) else None
+abbrev pub ask_by : Bool → Bool → Asking → TouchAsked → Option Doing
+ask_by lenient names what touch =
+    if can_ask touch what then Some (ask touch what lenient names) else None
 
 abbrev pub asked_in : List Row → Option Asking → Option Doing
 asked_in rows question = option_and_then (λ what. option_and_then
-    (ask_by (is_on (codes "lenient") rows) what) (touch_in rows)) question
+    (ask_by (is_on (codes "lenient") rows) (is_on (codes "names") rows) what) (touch_in rows))
+    question
 
 -- pictures and pages
 abbrev pub is_drawn : Format → Bool
@@ -110,7 +112,7 @@ work_asked word.Diff rows = asked_in rows
     (diff_by (texts_at (codes "at") rows) (texts_at (codes "then") rows) (format_in rows))
 work_asked word.Moves rows = option_map (λ free. moves (texts_at (codes "at") rows)
     (texts_at (codes "then") rows) (one_touch_in rows) free (format_in rows)
-    (is_on (codes "lenient") rows)) (frees_in rows)
+    (is_on (codes "lenient") rows) (is_on (codes "names") rows)) (frees_in rows)
 work_asked word.Explain rows = asked_in rows (option_and_then (explain_by
     (texts_at (codes "at") rows) (small_at (codes "pages") rows) (format_in rows))
     (address_in rows))
@@ -154,8 +156,8 @@ abbrev pub doing_name : Doing → Text
 doing_name (run echo format) = codes "run"
 doing_name (check format) = codes "check"
 doing_name (expect format any_version update) = codes "expect"
-doing_name (ask touch what lenient) = asking_name what
-doing_name (moves at lines touch free format lenient) = codes "moves"
+doing_name (ask touch what lenient names) = asking_name what
+doing_name (moves at lines touch free format lenient names) = codes "moves"
 doing_name (replay trace format lenient) = codes "replay"
 doing_name shell = codes "shell"
 

@@ -14,6 +14,10 @@ files = words (codes "FILE")
 abbrev pub lenient : Rule
 lenient = flag (codes "lenient")
 
+-- whether a text has the names of areas
+abbrev pub names : Rule
+names = flag (codes "names")
+
 abbrev pub task : Rule
 task = number (codes "task")
 
@@ -76,23 +80,23 @@ expect_arguments formats =
 abbrev pub predict_arguments : Names → List Rule
 predict_arguments formats =
     task ∷ node ∷ option (codes "at") ∷ process ∷ format formats ∷ largest
-    ∷ option (codes "free") ∷ lenient ∷ files ∷ []
+    ∷ option (codes "free") ∷ names ∷ lenient ∷ files ∷ []
 
 abbrev pub diff_arguments : Names → List Rule
 diff_arguments formats =
     task ∷ node ∷ needed true (options (codes "then")) ∷ option (codes "at") ∷ process
-    ∷ format formats ∷ largest ∷ lenient ∷ files ∷ []
+    ∷ format formats ∷ largest ∷ names ∷ lenient ∷ files ∷ []
 
 abbrev pub moves_arguments : Names → List Rule
 moves_arguments formats =
     option (codes "at") ∷ task ∷ number_or (codes "node") (codes "cpu")
     ∷ needed true (options (codes "then")) ∷ option (codes "free") ∷ process ∷ format formats
-    ∷ largest ∷ lenient ∷ files ∷ []
+    ∷ largest ∷ names ∷ lenient ∷ files ∷ []
 
 abbrev pub explain_arguments : Names → List Rule
 explain_arguments formats =
-    task ∷ node ∷ option (codes "at") ∷ number (codes "pages") ∷ process ∷ format formats ∷ lenient
-    ∷ needed true (bare (codes "ADDRESS")) ∷ files ∷ []
+    task ∷ node ∷ option (codes "at") ∷ number (codes "pages") ∷ process ∷ format formats ∷ names
+    ∷ lenient ∷ needed true (bare (codes "ADDRESS")) ∷ files ∷ []
 
 abbrev pub replay_arguments : Names → List Rule
 replay_arguments formats =

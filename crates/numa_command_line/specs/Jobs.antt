@@ -37,8 +37,8 @@ pub data Doing : Type 0 where
   run : Bool → Format → Doing
   check : Format → Doing
   expect : Format → Bool → Bool → Doing
-  ask : TouchAsked → Asking → Bool → Doing
-  moves : List Text → List Text → Option TouchAsked → List FreePages → Format → Bool → Doing
+  ask : TouchAsked → Asking → Bool → Bool → Doing
+  moves : List Text → List Text → Option TouchAsked → List FreePages → Format → Bool → Bool → Doing
   replay : List Text → Format → Bool → Doing
   shell : Doing
 
@@ -57,9 +57,10 @@ abbrev pub work_of : ScriptJob → Doing
 work_of (Run echo format) = run echo format
 work_of (Check format) = check format
 work_of (Expect format any_version update) = expect format any_version update
-work_of (Ask asked question lenient) = ask asked (question_of question) lenient
-work_of (Moves at lines asked free format lenient) =
+work_of (Ask asked question lenient names) = ask asked (question_of question) lenient names
+work_of (Moves at lines asked free format lenient names) =
     moves (map string_bytes at.items) (map string_bytes lines.items) asked free.items format lenient
+    names
 work_of (Replay trace format lenient) = replay (map string_bytes trace.items) format lenient
 work_of Shell = shell
 

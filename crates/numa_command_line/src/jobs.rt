@@ -52,11 +52,12 @@ pub enum ScriptJob {
         update: bool,
     },
     /// Answer a question about the state that they lead to. With `lenient`, malformed and refused
-    /// lines are no error.
+    /// lines are no error; with `names`, a text has the names of areas.
     Ask {
         asked: TouchAsked,
         question: PageQuestion,
         lenient: bool,
+        names: bool,
     },
     /// Tell what becomes of pages when these further lines move them. They lie as lines of the
     /// scripts and of the file `at` state, or where the task would touch them.
@@ -67,6 +68,7 @@ pub enum ScriptJob {
         free: Vec<FreePages>,
         format: Format,
         lenient: bool,
+        names: bool,
     },
     /// Replay the trace of the file `trace` after them, leniently.
     Replay {

@@ -10,6 +10,7 @@ pub mod format;
 pub mod free;
 pub mod lenient;
 pub mod moves;
+pub mod names;
 pub mod predict;
 pub mod process;
 pub mod replay;

@@ -1,4 +1,5 @@
 //! What is asked after scripts.
+use numa_beside::Paint;
 use numa_command_line::PageQuestion;
 use numa_sheets::{AddressAsked, CpuAsked, Format, FreePages, TouchAsked};
 use numa_subjects::Twin;
@@ -28,6 +29,10 @@ pub struct Asking<'a> {
     pub format: Format,
     /// Whether malformed and refused lines are no error.
     pub lenient: bool,
+    /// Whether a text has the names of areas.
+    pub names: bool,
+    /// How a terminal shows bars beside a text, if it is written to one.
+    pub paint: Option<Paint>,
     /// Whether standard error shows how far reading and counting are.
     pub tells: bool,
 }
@@ -38,6 +43,8 @@ impl<'a> Asking<'a> {
         touch: TouchAsked,
         question: &'a PageQuestion,
         lenient: bool,
+        names: bool,
+        paint: Option<Paint>,
         tells: bool,
     ) -> Asking<'a> {
         let (at, question, format): (&'a [String], Question<'a>, Format) = match question {
@@ -60,6 +67,8 @@ impl<'a> Asking<'a> {
             question,
             format,
             lenient,
+            names,
+            paint,
             tells,
         }
     }
@@ -96,6 +105,23 @@ impl<'a> Asking<'a> {
         match self.question {
             Question::Diff(lines) | Question::Moves(lines, _) => lines,
             _ => &[],
+        }
+    }
+
+    /// Whether answers are objects of a line each.
+    pub fn is_lines(&self) -> bool {
+        matches!(
+            (self.question, self.format),
+            (Question::Explain(..), Format::Json)
+        )
+    }
+
+    /// How bars are shown beside the answer, if they are: one that counts pages by node as text.
+    pub fn bars(&self) -> Option<Paint> {
+        match (self.question, self.format) {
+            (Question::Predict(_), Format::Text) => self.paint,
+            (Question::Moves(..), Format::Text) => self.paint,
+            _ => None,
         }
     }
 

@@ -1,5 +1,6 @@
 //! Reading scripts and where pages lie that are there, telling what is wrong with lines about such
 //! pages, and writing an answer after them.
+use numa_beside::Areas;
 use numa_host::Host;
 use numa_host_script::HostScript;
 use numa_lines::{RunFault, TakeLine};
@@ -131,11 +132,12 @@ pub struct Reading {
     pub keeps_at: bool,
 }
 
-/// Scripts that are played, and the lines of which some are kept.
+/// Scripts that are played, the lines of which some are kept, and the areas that they name.
 #[derive(Drop)]
 struct Keeping<T> {
     at: AtLines<Findings<T>>,
     keeps_at: bool,
+    areas: Areas,
 }
 
 /// Whether the lines have one behind so many that names no process.
@@ -162,6 +164,9 @@ impl<T: Write> TakeLine<()> for Keeping<T> {
         line: &[u8],
         output: &mut (),
     ) -> Result<(), RunFault> {
+        if self.areas.read(line).is_err() {
+            return Err(RunFault::Memory);
+        }
         if !self.keeps_at {
             return self.at.taker.take(name, place, line, output);
         }
@@ -191,6 +196,8 @@ pub struct Played<T> {
     pub at: AtLines<PassOver>,
     /// Which of them are malformed.
     pub faults: LineFaults,
+    /// The areas that the scripts name, in order.
+    pub areas: Areas,
 }
 
 /// The state before the first line.
@@ -215,17 +222,25 @@ fn begin<T: Write + Drop>(
     Ok(Keeping {
         at: AtLines::new(alloc, findings),
         keeps_at: how.keeps_at,
+        areas: Areas::new(alloc),
     })
 }
 
-/// Scripts that were played, and these lines with what is wrong with them.
-fn played_of<T: Write>(alloc: Global, findings: Findings<T>, at: AtLines<PassOver>) -> Played<T> {
+/// Scripts that were played, these lines with what is wrong with them, and areas with names.
+fn played_of<T: Write>(
+    alloc: Global,
+    findings: Findings<T>,
+    at: AtLines<PassOver>,
+    mut areas: Areas,
+) -> Played<T> {
     let mut faults = LineFaults::new(alloc);
     faults.tell_bad(&at);
+    areas.sort();
     Played {
         findings,
         at,
         faults,
+        areas,
     }
 }
 
@@ -273,10 +288,12 @@ pub fn play_there<S: Read + Drop, A: Read + Drop, T: Write + Drop>(
             return Err(halt);
         }
     };
-    let (findings, at) = read.at.parted();
+    let Keeping { at, areas, .. } = read;
+    let (findings, at) = at.parted();
     match read_by(alloc, texts_at, at) {
-        Ok(at) => Ok(played_of(alloc, findings, at)),
+        Ok(at) => Ok(played_of(alloc, findings, at, areas)),
         Err(why) => {
+            drop(areas);
             drop(findings);
             Err(Halt::Stopped(why))
         }
@@ -314,7 +331,9 @@ impl<T: Write + Drop> Played<T> {
             findings,
             at,
             faults,
+            areas,
         } = self;
+        drop(areas);
         drop(at);
         let mut findings = findings;
         let has_faults = faults.count > 0;

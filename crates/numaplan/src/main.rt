@@ -12,6 +12,7 @@ ghost use Rattle.numa_command_line.specs.Jobs.{CanBeDone};
 mod words;
 
 use numa_answers::Comparison;
+use numa_beside::Paint;
 use numa_command_line::{Job, JobFault, ScriptJob, job, open_all, open_with_typed, open_worked};
 use numa_commands::{check, expect, run, terminal};
 use numa_console::{Asking, Question, tell_fault};
@@ -53,21 +54,51 @@ fn asked_job<R: Env + AllocGlobal>(rt: &R) -> Result<Job, JobFault>
     job(rt.alloc(), words.as_slice())
 }
 
-/// Which of the standard streams are terminals.
+/// Which of the standard streams are terminals, and how that of the output shows bars.
 #[derive(Clone, Copy)]
 struct Terminals {
     output: bool,
     error: bool,
+    paint: Option<Paint>,
 }
 
-/// Works with scripts, or answers a typed one with a prompt. With `tells`, standard error shows how
-/// far reading is.
+/// The value of a variable of the environment; empty if there is none.
+fn variable<R: Env + AllocGlobal>(rt: &R, name: &str) -> String {
+    env::var(rt, name).unwrap_or(String::new(rt.alloc()))
+}
+
+/// Whether a variable of the environment is set, and not empty.
+fn has_variable<R: Env + AllocGlobal>(rt: &R, name: &str) -> bool {
+    !variable(rt, name).is_empty()
+}
+
+/// Whether a variable of the environment has this value.
+fn is_variable<R: Env + AllocGlobal>(rt: &R, name: &str, value: &str) -> bool {
+    variable(rt, name).as_str() == value
+}
+
+/// How a terminal shows bars: in no colours if it has none, or `NO_COLOR` is set.
+fn paint_of<R: Env + AllocGlobal>(rt: &R) -> Paint {
+    if has_variable(rt, "NO_COLOR")
+        || !has_variable(rt, "TERM")
+        || is_variable(rt, "TERM", "dumb")
+    {
+        return Paint::Plain;
+    }
+    if is_variable(rt, "COLORTERM", "truecolor") || is_variable(rt, "COLORTERM", "24bit") {
+        return Paint::True;
+    }
+    Paint::Near
+}
+
+/// Works with scripts, or answers a typed one with a prompt. If standard error is a terminal, it
+/// shows how far reading is.
 fn work_done<R, S>(
     rt: &R,
     scripts: Scripts<S>,
     work: &ScriptJob,
     has_prompt: bool,
-    tells: bool,
+    terminals: Terminals,
 ) -> Result<ExitCode, JobFault>
 where
     R: Clock + Files + Input + Print + Eprint + AllocGlobal,
@@ -77,6 +108,7 @@ where
     if has_prompt {
         return Ok(terminal::answer(rt, scripts, false));
     }
+    let (tells, paint) = (terminals.error, terminals.paint);
     match work {
         ScriptJob::Run { echo, format } => Ok(run::answer(rt, scripts, *echo, *format)),
         ScriptJob::Check { format } => Ok(check::check(rt, scripts, *format)),
@@ -96,8 +128,9 @@ where
             asked,
             question,
             lenient,
+            names,
         } => {
-            let asking = Asking::of_pages(*asked, question, *lenient, tells);
+            let asking = Asking::of_pages(*asked, question, *lenient, *names, paint, tells);
             asked::answer(rt, scripts, asking)
         }
         ScriptJob::Moves {
@@ -107,6 +140,7 @@ where
             free,
             format,
             lenient,
+            names,
         } => {
             let asking = Asking {
                 at: at.as_slice(),
@@ -114,6 +148,8 @@ where
                 question: Question::Moves(lines.as_slice(), free.as_slice()),
                 format: *format,
                 lenient: *lenient,
+                names: *names,
+                paint,
                 tells,
             };
             asked::answer(rt, scripts, asking)
@@ -189,7 +225,7 @@ where
                 rules,
                 process,
             };
-            work_done(rt, scripts, work, has_prompt, terminals.error)
+            work_done(rt, scripts, work, has_prompt, terminals)
         }
         Err(fault) => Err(fault),
     }
@@ -200,9 +236,11 @@ fn main(rt: HostRuntime) -> ExitCode {
         Ok(job) => job,
         Err(fault) => return tell_fault(&rt, fault),
     };
+    let output = rt.stdout().is_terminal();
     let terminals = Terminals {
-        output: rt.stdout().is_terminal(),
+        output,
         error: rt.stderr().is_terminal(),
+        paint: if output { Some(paint_of(&rt)) } else { None },
     };
     let ended = done(&rt, &job, terminals);
     drop(job);

@@ -146,5 +146,6 @@ pub fn work(
         asked,
         question,
         lenient: is_on(matches, "lenient"),
+        names: is_on(matches, "names"),
     })
 }

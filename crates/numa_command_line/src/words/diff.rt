@@ -15,6 +15,7 @@ use crate::words::asked::{NODE, TASK};
 use crate::words::at::AT;
 use crate::words::format::{COMPARED, LARGEST, format_in, is_drawn};
 use crate::words::lenient::LENIENT;
+use crate::words::names::NAMES;
 use crate::words::process::PROCESS;
 use clap::ArgMatches;
 use numa_sheets::Format;
@@ -55,7 +56,7 @@ neither --rules nor a line says whose rules count, and a kernel's would give ano
 a line on standard error says so.",
     reads_lines: true,
     arguments: &[
-        TASK, NODE, THEN, AT, PROCESS, COMPARED, LARGEST, LENIENT, FILES,
+        TASK, NODE, THEN, AT, PROCESS, COMPARED, LARGEST, NAMES, LENIENT, FILES,
     ],
 };
 

@@ -17,6 +17,7 @@ use crate::words::asked::{NODE, TASK};
 use crate::words::at::AT;
 use crate::words::format::{DRAWN_TOO, format_in, is_drawn};
 use crate::words::lenient::LENIENT;
+use crate::words::names::NAMES;
 use crate::words::process::PROCESS;
 use clap::ArgMatches;
 use numa_sheets::{AddressAsked, Format};
@@ -77,7 +78,7 @@ faulty or refused are reported on standard error as by `check`, and skipped. The
 if there are some, unless --lenient is given, and if no machine is ready after the scripts.",
     reads_lines: true,
     arguments: &[
-        TASK, NODE, AT, PAGES, PROCESS, DRAWN_TOO, LENIENT, ADDRESS, FILES,
+        TASK, NODE, AT, PAGES, PROCESS, DRAWN_TOO, NAMES, LENIENT, ADDRESS, FILES,
     ],
 };
 

@@ -14,6 +14,7 @@ use crate::words::at::AT;
 use crate::words::format::{DRAWN_TOO, LARGEST, format_in};
 use crate::words::free::named;
 use crate::words::lenient::LENIENT;
+use crate::words::names::NAMES;
 use crate::words::process::PROCESS;
 use clap::ArgMatches;
 use std::alloc::Global;
@@ -84,7 +85,7 @@ no machine is ready after the scripts. If neither --rules nor a line says whose 
 and a kernel's would give another answer, a line on standard error says so.",
     reads_lines: true,
     arguments: &[
-        AT, TASK, NODE, THEN, FREE, PROCESS, DRAWN_TOO, LARGEST, LENIENT, FILES,
+        AT, TASK, NODE, THEN, FREE, PROCESS, DRAWN_TOO, LARGEST, NAMES, LENIENT, FILES,
     ],
 };
 
@@ -112,5 +113,6 @@ pub fn work(alloc: Global, matches: &ArgMatches<'_>) -> Result<ScriptJob, JobFau
         free,
         format: format_in(matches),
         lenient: is_on(matches, "lenient"),
+        names: is_on(matches, "names"),
     })
 }

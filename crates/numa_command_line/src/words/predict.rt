@@ -17,6 +17,7 @@ use crate::words::at::AT;
 use crate::words::format::{LARGEST, PREDICTED, format_in, is_page};
 use crate::words::free::FREE;
 use crate::words::lenient::LENIENT;
+use crate::words::names::NAMES;
 use crate::words::process::PROCESS;
 use crate::words::{asked, free};
 use clap::ArgMatches;
@@ -50,7 +51,7 @@ nor a line says whose rules count, and a kernel's would give another answer, a l
 standard error says so.",
     reads_lines: true,
     arguments: &[
-        TASK, NODE, AT, PROCESS, PREDICTED, LARGEST, FREE, LENIENT, FILES,
+        TASK, NODE, AT, PROCESS, PREDICTED, LARGEST, FREE, NAMES, LENIENT, FILES,
     ],
 };
 

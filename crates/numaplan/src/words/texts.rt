@@ -1,5 +1,6 @@
 //! The answers to questions about the state that scripts lead to, as texts.
 use crate::words::by_node::{joined, of_nodes};
+use numa_beside::{Areas, barred, named};
 use numa_console::{Asking, Question};
 use numa_host_script::HostScript;
 use numa_lines::RunFault;
@@ -440,6 +441,24 @@ pub fn reading_of(asking: Asking<'_>) -> Reading {
     }
 }
 
+/// An answer as it is shown: with the names of areas, and at a terminal with bars.
+fn shown(
+    alloc: Global,
+    areas: &Areas,
+    process: Option<u32>,
+    asking: Asking<'_>,
+    text: Vec<u8>,
+) -> Result<Vec<u8>, Halt> {
+    if asking.is_lines() {
+        return Ok(text);
+    }
+    let text = named(alloc, areas, process, asking.format, asking.names, text)?;
+    match asking.bars() {
+        Some(paint) => Ok(barred(alloc, paint, text)?),
+        None => Ok(text),
+    }
+}
+
 /// The answer after scripts, as a text. What is wrong with added lines is told, and so is what is
 /// to be remarked on the answer.
 ///
@@ -464,7 +483,10 @@ pub fn text_of<'a, T: Write, P: Watch>(
     let answer = answer_of(alloc, findings, meant, &mut played.faults, watch);
     drop(touches);
     match answer {
-        Ok(answer) => remarked(&mut played.findings, answer),
+        Ok(answer) => {
+            let text = remarked(&mut played.findings, answer)?;
+            shown(alloc, &played.areas, process, asking, text)
+        }
         Err(halt) => Err(halt),
     }
 }

@@ -1,0 +1,150 @@
+"""Names of areas beside the ranges of answers: in text, JSON, pictures and pages. Not proved."""
+
+import json
+import re
+from xml.etree import ElementTree
+
+SVG = "{http://www.w3.org/2000/svg}"
+RANGE = re.compile(r"([0-9a-f]{8,16})(?:-([0-9a-f]{8,16}))?(?= |$)")
+STRETCH = re.compile(r"stretch 0x([0-9a-f]+)-0x([0-9a-f]+):")
+HEADING = re.compile(r"process (\d+)\b")
+# Names of all kinds, as bytes, and what stands for each in text and pictures.
+NAMES = [
+    (b"heap", "heap"), (b"<script>alert('1')</script>", "<script>alert('1')</script>"),
+    (b'"]]>&amp;', '"]]>&amp;'), (b"a\tb\x1b[1m\x07", "a\ufffdb\ufffd[1m\ufffd"),
+    ("\u202efdp.exe".encode(), 3 * "\ufffd" + "fdp.exe"), ("é".encode(), 2 * "\ufffd"),
+    (b"\xff", "\ufffd"), (b"</pre></style><!--", "</pre></style><!--"), (b"heap", "heap"),
+    (b"/usr/lib/a-file-whose-name-is-longer-than-40-bytes.so", "/usr/lib/a-file-whose-name-is-longer-than-40-bytes.so"),
+]
+MACHINE = b"machine 4 0-3 64 flat\n"
+TOUCH = ["--task", "1", "--node", "0"]
+MOVES = ["moves", "--node", "1", "--then", "mems 2"]
+DIFF = ["diff", *TOUCH, "--lenient", "--then", "mbind 0x10000 0x1000 bind:2", "--then",
+        "in 7 mbind 0x10000 0x1000 bind:2"]
+
+
+def script(front=b""):
+    """A script of areas: some have a name, some lie side by side, and a name is given once."""
+    lines, areas, start = [], [], 0x10000
+    for number, (name, _) in enumerate(NAMES):
+        length = 0x1000 * (1 + number % 3) - (8 if number == 2 else 0)
+        lines.append(b"# name: " + name)
+        lines.append(b"# name of nothing")
+        lines.append(front + b"map %d %d %d" % (start, length, start // 4096))
+        lines.append(front + b"mbind %d %d bind:%d" % (start, length, number % 4))
+        areas.append((start, start + -(-length // 4096) * 4096, name))
+        start = areas[-1][1] + 0x1000 * (number % 2)
+    lines.append(front + b"map %d 0x3000 0" % start)  # (without a name)
+    lines.append(b"# name: ")
+    lines.append(front + b"map 0x9000000 0x1000 0")
+    return b"\n".join(lines) + b"\n", areas
+
+
+def shown(name):
+    return dict(NAMES)[name]
+
+
+def names_between(areas, start, end):
+    """The names, each once, of the areas with a page there."""
+    return list(dict.fromkeys(name for first, behind, name in areas if first < end and behind > start))
+
+
+def named_text(text, areas, process=None):
+    """A text with the names; `areas` by process."""
+    lines = []
+    for line in text.splitlines():
+        heading, found, names = HEADING.match(line), RANGE.match(line) or STRETCH.match(line), []
+        process = int(heading[1]) if heading else process
+        if found:
+            start = int(found[1], 16)
+            end = int(found[2], 16) if found[2] else start + 4096
+            names = names_between(areas.get(process, []), start, end)
+        lines.append(line + ("  # " + ", ".join(map(shown, names)) if names else ""))
+    return "\n".join(lines) + "\n"
+
+
+def clipped(name):
+    """A name as a picture has it: of a long one the end."""
+    return name if len(name) <= 40 else ".." + name[-38:]
+
+
+def picture_difference(picture, areas, process=None):
+    """What is wrong with the names in a picture, or None."""
+    count = 0
+    for part in ElementTree.fromstring(picture).iter():
+        heading = HEADING.match(part.text or "") if part.get("class") == "heading" else None
+        process = int(heading[1]) if heading else process
+        if part.get("class") not in ("range", "span"):
+            continue
+        label = part.find(SVG + "text")
+        start, end = (int(it, 16) for it in RANGE.match(label.text).groups())
+        found = [it.text for it in label.iter(SVG + "tspan")]
+        want = ", ".join(clipped(shown(it)) for it in names_between(areas.get(process, []), start, end))
+        if found != ([want] if want else []):
+            return f"{label.text}: {found}, not {want!r}"
+        count += bool(want)
+    return None if count else "no names"
+
+
+def as_json(name):
+    """A name as JSON has it."""
+    try:
+        return name.decode()
+    except UnicodeDecodeError:
+        return name.decode("ascii", "replace")
+
+
+def objects_of(areas):
+    return [{**({} if process is None else {"process": process}), "start": start, "end": end,
+             "name": as_json(name)}
+            for process, some in areas.items() for start, end, name in some]
+
+
+def answers_difference(call, name, areas, words, forms, process=None):
+    """What is wrong with the names in an answer's forms, or None. `process`: that is asked about."""
+    plain, text = call(*words, name)[1], call(*words, "--names", name)[1]
+    if text != named_text(plain, areas, process) or text == plain:
+        return f"{words}: {text!r}, not {named_text(plain, areas, process)!r}"
+    if "svg" in forms:
+        wrong = picture_difference(call(*words, "--format", "svg", name)[1], areas, process)
+        if wrong:
+            return f"{words} --format svg: {wrong}"
+    some = areas if process is None else {process: areas[process]}
+    told = json.loads(call(*words, "--format", "json", name)[1])
+    if told["names"] != objects_of(some):
+        return f"{words} --format json: {told['names']}, not {objects_of(some)}"
+    if "html" in forms:
+        page = call(*words, "--format", "html", name)[1]
+        data = page.split("<script type='application/json' id='data'>")[1].split("</script>")[0]
+        if json.loads(data)["names"] != objects_of(some) or page.count("<script") != 2 or "<!--" in page:
+            return f"{words} --format html: {data[:300]}"
+    return None
+
+
+def try_names(call, tell, folder):
+    """The names of areas of a script, and of a host's processes."""
+    one, host = f"{folder}/named", f"{folder}/named-host"
+    text, areas = script()
+    with open(one, "wb") as file:
+        file.write(MACHINE + text)
+    with open(host, "wb") as file:
+        file.write(MACHINE + b"host\nprocess 1 0\nprocess 7 0\n" + script(b"in 7 ")[0]
+                   + b"# name: stack\nin 1 map 0x10000 0x2000 0\n")
+    of_all = {1: [(0x10000, 0x12000, b"stack")], 7: areas}
+    NAMES.append((b"stack", "stack"))
+    good = True
+    for words, forms in ((["predict", *TOUCH], "svg html"), (DIFF, "svg html"), (MOVES, "svg"),
+                         (["predict", *TOUCH, "--free", "0=1"], "svg html")):
+        wrong = answers_difference(call, one, {None: areas}, words, forms)
+        good &= tell(not wrong, f"names of areas in answers of {words[0]}: {wrong or 'in each form'}")
+        forms = forms if words[0] != "moves" else ""
+        wrong = (answers_difference(call, host, of_all, words, forms)
+                 or answers_difference(call, host, of_all, [*words, "--process", "7"], "svg", 7))
+        good &= tell(not wrong, f"of a host's processes in answers of {words[0]}: {wrong or 'in each form'}")
+    words = ["explain", *TOUCH, "0x10000"]
+    plain, told = call(*words, one)[1], call(*words, "--names", one)[1]
+    good &= tell(told == plain.replace("\n", "  # heap\n", 1), f"explain names an area: {told!r}")
+    words = ["explain", *TOUCH, "--pages", "9", "0x10000"]
+    plain, told = call(*words, one)[1], call(*words, "--names", one)[1]
+    good &= tell(told == named_text(plain, {None: areas}) != plain, f"and of stretches: {told!r}")
+    return good
