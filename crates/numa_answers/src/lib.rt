@@ -17,6 +17,7 @@ mod comparing;
 mod page;
 mod page_head;
 mod page_script;
+mod page_table;
 mod reason_picture;
 mod reason_table;
 mod reasons;

@@ -6,6 +6,7 @@ static HEAD: &str = "\
 <html lang='en'>
 <head>
 <meta charset='utf-8'>
+<meta name='viewport' content='width=device-width, initial-scale=1'>
 <title>numaplan</title>
 <style>
 body { font: 14px sans-serif; margin: 1em 2em; color: #111; background: #fff; }
@@ -25,8 +26,22 @@ tbody tr:hover, tr.chosen { background: #eef4ff; }
 .differs { outline: 3px solid #000; outline-offset: -3px; }
 .bar { display: inline-block; height: 12px; border: 1px solid #333; }
 .mark { display: inline-block; min-width: 20px; text-align: center; border: 1px solid #333; }
+.wide { overflow-x: auto; }
+.tools > * { margin: 0 0.5em 0.3em 0; font: inherit; }
+:focus-visible { outline: 3px solid #002aff; }
 pre { background: #f6f6f6; padding: 8px; max-width: 1184px; white-space: pre-wrap; }
-@media print { button, input { display: none; } th { position: static; } }
+@media (max-width: 600px) {
+  body { margin: 0.5em; font-size: 13px; }
+  td, th { padding: 2px 5px; }
+  .cell { border-right-width: 0; }
+}
+@media print {
+  button, input, select { display: none; }
+  th { position: static; }
+  .wide { overflow: visible; }
+  tr, .strip { break-inside: avoid; }
+  body, .bar, .mark, .cell { print-color-adjust: exact; }
+}
 </style>
 </head>
 <body>

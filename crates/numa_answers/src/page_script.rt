@@ -1,5 +1,6 @@
 //! The page that shows an answer in a browser: the script behind its data.
 
+use crate::page_table::TABLES;
 use numa_sheets::{Written, put_colours};
 
 /// The part behind the data: the script, which needs no network. Before it stand the colours.
@@ -11,7 +12,11 @@ const whole = document.getElementById('page');
 let page = whole;
 let said = document.getElementById('said');
 let mark = '';
+let process;
 const CELLS = 64;
+// A table has a column for each of so many nodes; and by process the views that can be opened.
+const FEW = 16;
+const opened = new Map();
 
 function make(name, parent, text, kind) {
   const made = document.createElement(name);
@@ -31,59 +36,24 @@ function paint(made, node) {
   made.style.color = ink(node);
 }
 
-// A table that sorts by a click on a heading, and shows the rows that hold the filter's text.
-function table(title, heads, rows, chosen) {
-  make('h2', page, title);
-  const filter = make('input', page);
-  filter.placeholder = 'filter';
-  const made = make('table', page);
-  const top = make('tr', make('thead', made));
-  const body = make('tbody', made);
-  let by = -1;
-  let falls = false;
-  const shown = (cell) => (typeof cell === 'object' ? cell.text : String(cell));
-  const key = (cell) => (typeof cell === 'object' ? cell.key : cell);
-  function show() {
-    body.textContent = '';
-    const left = rows.filter((row) => row.cells.some((it) => shown(it).includes(filter.value)));
-    if (by >= 0) {
-      left.sort((a, b) => {
-        const [x, y] = [key(a.cells[by]), key(b.cells[by])];
-        return (x < y ? -1 : x > y ? 1 : 0) * (falls ? -1 : 1);
-      });
-    }
-    for (const row of left.slice(0, 2000)) {
-      const line = make('tr', body);
-      for (const it of row.cells) {
-        const cell = make('td', line, shown(it), typeof it === 'number' ? 'number' : '');
-        if (it && it.bar !== undefined) cell.textContent = '';
-        if (it && it.bar > 0) {
-          const bar = make('span', cell, undefined, 'bar');
-          bar.style.width = it.bar + 'px';
-          paint(bar, it.node);
-        }
-        if (it && it.mark) {
-          cell.textContent = '';
-          paint(make('span', cell, it.text, 'mark'), it.key);
-        }
-      }
-      line.onclick = () => {
-        for (const other of body.children) other.classList.remove('chosen');
-        line.classList.add('chosen');
-        if (chosen) chosen(row.value);
-      };
-    }
-    if (left.length > 2000) make('td', make('tr', body), 'and ' + (left.length - 2000) + ' more');
+// The areas that scripts name, rising, of all processes or of the one of the section.
+const areas = data.names || [];
+let ofProcess = areas;
+const clean = (name) => name.replace(/\\p{C}/gu, '\\ufffd');
+
+// The names of the areas that a range has pages of, each once.
+function namesOf(range, some) {
+  let [low, high] = [0, some.length];
+  while (low < high) {
+    const middle = (low + high) >> 1;
+    if (some[middle].end <= range.start) low = middle + 1;
+    else high = middle;
   }
-  heads.forEach((head, place) => {
-    make('th', top, head).onclick = () => {
-      falls = by === place ? !falls : false;
-      by = place;
-      show();
-    };
-  });
-  filter.oninput = show;
-  show();
+  const found = new Set();
+  for (let k = low; k < some.length && some[k].start < range.end; k += 1) {
+    found.add(clean(some[k].name));
+  }
+  return [...found].join(', ');
 }
 
 // ---- pages
@@ -214,6 +184,7 @@ function cellOf(views, view, strip, from, behind, whole, trail) {
   if (differs(views, from, behind)) cell.classList.add('differs');
   const names = [...shares.keys()].map((it) => (it === undefined ? 'none' : it)).join(', ');
   cell.title = hex(from) + (pages > 1 ? ', ' + pagesText(pages) : '') + ': node ' + names;
+  cell.tabIndex = 0;
   cell.onclick = () => {
     if (pages > 1) strips(views, from, behind, [...trail, whole]);
     else explain(views, from);
@@ -244,21 +215,49 @@ function explain(views, address) {
   views.told.words.textContent = lines.join('\\n');
 }
 
+// The pages of a range by node: a column for each of few nodes, else all in one.
+const countOf = (range, node) => (range.nodes.find((it) => it.node === node) || { pages: 0 }).pages;
+const countCell = (pages) => ({ key: pages, text: pages ? String(pages) : '' });
+const nodeHeads = (nodes) => (nodes.length > FEW ? ['nodes'] : nodes.map((node) => 'N' + node));
+const nodeCells = (range, nodes) => (nodes.length > FEW ? [nodesText(range.nodes, 'pages')]
+  : nodes.map((node) => countCell(countOf(range, node))));
+const nameHeads = () => (areas.length ? ['name'] : []);
+const nameCells = (range) => (areas.length ? [namesOf(range, ofProcess)] : []);
+
+// Shows a range's pages, and has the page's address name it.
+function open(views, range) {
+  strips(views, range.start, range.end, []);
+  const process = views.process === undefined ? '' : views.process + '/';
+  history.replaceState(null, '', '#' + process + hex(range.start));
+}
+
+// Shows the range that the page's address names.
+function follow() {
+  const found = /^#(?:(\\d+)[/])?(0x[0-9a-f]+)$/.exec(location.hash);
+  const views = found && opened.get(found[1]);
+  const range = views && rangeOf(views[0][1], Number(found[2]));
+  if (!range) return;
+  strips(views, range.start, range.end, []);
+  views.told.strips.scrollIntoView();
+}
+
 // The table of a view's ranges, and what the others have.
 function rangesPart(title, view, views) {
+  const nodes = view.prediction.total.nodes.map((it) => it.node);
   const rows = view.ranges.map((it) => ({
     value: it,
+    areas: ofProcess,
     cells: [
       { key: it.start, text: hex(it.start) },
       { key: it.end, text: hex(it.end) },
       it.anon,
       it.policy,
-      nodesText(it.nodes, 'pages'),
+      ...nodeCells(it, nodes),
+      ...nameCells(it),
     ],
   }));
-  table(title, ['start', 'end', 'pages', 'policy', 'nodes'], rows, (it) => {
-    strips(views, it.start, it.end, []);
-  });
+  const heads = ['start', 'end', 'pages', 'policy', ...nodeHeads(nodes), ...nameHeads()];
+  table(title, heads, rows, (it) => open(views, it), nodes);
   const rest = view.others;
   if (rest) {
     make('p', page, 'These are the largest. Others: ' + rest.ranges + ', with '
@@ -289,6 +288,8 @@ function pagesPart(views) {
   views.told = { strips: make('div', page), words: make('pre', page) };
   views.told.strips.id = 'strips' + mark;
   views.told.words.id = 'words' + mark;
+  views.process = process;
+  opened.set(process === undefined ? undefined : String(process), views);
   const first = views[0][1].ranges[0];
   if (first) strips(views, first.start, first.end, []);
 }
@@ -337,7 +338,7 @@ function difference(from) {
   totals('After', after.prediction.total);
   table(
     'Differences',
-    ['start', 'end', 'differs', 'from and to'],
+    ['start', 'end', 'differs', 'from and to', ...nameHeads()],
     spans.map((it) => ({
       value: it,
       cells: [
@@ -345,9 +346,10 @@ function difference(from) {
         { key: it.end, text: hex(it.end) },
         it.differs,
         pairsText(it.differences),
+        ...nameCells(it),
       ],
     })),
-    (it) => strips(views, it.start, it.end, []),
+    (it) => open(views, it),
   );
   if (others) {
     make('p', page, 'These are the largest. Others: ' + others.spans + ', with '
@@ -400,15 +402,27 @@ function replay(from) {
   pagesPart(views);
 }
 
-// A section of a page of several processes, with a link to it at the top.
+// A section of a page of several processes, with a link to it at the top. The first are made at
+// once, and others as one comes to them.
 function section(name, heading, build, from) {
   const link = make('a', links, heading);
   link.href = '#' + name;
-  page = make('section', whole);
-  page.id = name;
-  make('h1', page, heading);
-  said = make('p', page);
-  build(from);
+  const part = make('section', whole);
+  part.id = name;
+  make('h1', part, heading);
+  const words = make('p', part);
+  const made = () => {
+    [page, said, process, mark] = [part, words, from.process, '-' + from.process];
+    ofProcess = areas.filter((area) => area.process === from.process);
+    build(from);
+  };
+  if (document.getElementsByTagName('*').length < 2500) return made();
+  const seer = new IntersectionObserver((seen) => {
+    if (!seen.some((it) => it.isIntersecting)) return;
+    seer.disconnect();
+    made();
+  });
+  seer.observe(part);
 }
 
 const [one, all] = {
@@ -419,13 +433,15 @@ const [one, all] = {
 const links = said;
 if (data.processes) {
   for (const it of data.processes) {
-    mark = '-' + it.process;
-    section('process' + mark, 'process ' + it.process + ', group ' + it.group, one, it);
+    const heading = 'process ' + it.process + ', group ' + it.group;
+    section('process-' + it.process, heading, one, it);
   }
   section('all', 'all processes', all, data);
 } else {
   one(data);
 }
+window.onhashchange = follow;
+follow();
 document.body.dataset.ready = 'yes';
 </script>
 </body>
@@ -437,5 +453,6 @@ pub(crate) fn put_script(text: &mut Written) {
     text.put(b"\n</script>\n<script>\n'use strict';\nconst COLOURS = ");
     put_colours(text);
     text.put(b";");
+    text.put(TABLES.as_bytes());
     text.put(SCRIPT.as_bytes());
 }
