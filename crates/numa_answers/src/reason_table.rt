@@ -66,10 +66,7 @@ impl Row {
 
     /// Writes what the row shows.
     fn put_name(&self, text: &mut Written, name: &[u8]) {
-        text.put_form(
-            b"<text x=\"16\" y=\"$\">",
-            &[self.top.saturating_add(13)],
-        );
+        text.put_form(b"<text x=\"16\" y=\"$\">", &[self.top.saturating_add(13)]);
         text.put(name);
         text.put(b"</text>\n");
     }
@@ -106,7 +103,11 @@ impl Row {
         self.put_name(text, name);
         for node in self.first..self.behind {
             let is_member = set.has((node % 256) as u8);
-            put_rectangle(text, self.cell(node), if is_member { MEMBER } else { OTHER });
+            put_rectangle(
+                text,
+                self.cell(node),
+                if is_member { MEMBER } else { OTHER },
+            );
         }
         text.put(b"\n");
         self.next()
@@ -166,13 +167,7 @@ fn put_sets(text: &mut Written, machine: &Machine, said: &Explanation, row: Row)
 }
 
 /// Draws a part of the table, and returns at which row of pixels it ends.
-fn put_part(
-    text: &mut Written,
-    machine: &Machine,
-    said: &Explanation,
-    from: u32,
-    row: Row,
-) -> u64 {
+fn put_part(text: &mut Written, machine: &Machine, said: &Explanation, from: u32, row: Row) -> u64 {
     let row = row.put_nodes(text);
     let row = put_sets(text, machine, said, row);
     let row = row.put_set(text, b"the task's CPU", &set_of(said.cpu));

@@ -32,7 +32,9 @@ fn digit_of(byte: u8) -> u64 {
 /// The value of two hexadecimal digits at a place.
 fn pair_at(text: &[u8], place: usize) -> u64 {
     match text.get(place..place.saturating_add(2)) {
-        Some([high, low]) => digit_of(*high).saturating_mul(16).saturating_add(digit_of(*low)),
+        Some([high, low]) => digit_of(*high)
+            .saturating_mul(16)
+            .saturating_add(digit_of(*low)),
         _ => 0,
     }
 }

@@ -63,11 +63,7 @@ fn label_in(line: &[u8]) -> Option<(usize, u64, u64)> {
     }
     let begin = end_of(line, LABEL)?;
     let range = range_in(line.get(begin..)?)?;
-    Some((
-        begin.saturating_add(range.length),
-        range.start,
-        range.end,
-    ))
+    Some((begin.saturating_add(range.length), range.start, range.end))
 }
 
 /// The process of a heading, if a line is one.
@@ -79,12 +75,7 @@ fn heading_in(line: &[u8]) -> Option<u32> {
 }
 
 /// Writes a line with its names, and returns the process of which the next lines tell.
-fn put_line(
-    text: &mut Written,
-    areas: &Areas,
-    process: Option<u32>,
-    line: &[u8],
-) -> Option<u32> {
+fn put_line(text: &mut Written, areas: &Areas, process: Option<u32>, line: &[u8]) -> Option<u32> {
     let Some((length, start, end)) = label_in(line) else {
         text.put(line);
         return heading_in(line).or(process);

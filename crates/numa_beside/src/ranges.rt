@@ -129,7 +129,12 @@ pub(crate) fn number_in(text: &[u8]) -> Option<u64> {
             b'0'..=b'9' => u64::from(*byte).saturating_sub(48),
             _ => break,
         };
-        number = Some(number.unwrap_or(0u64).saturating_mul(10).saturating_add(digit));
+        number = Some(
+            number
+                .unwrap_or(0u64)
+                .saturating_mul(10)
+                .saturating_add(digit),
+        );
     }
     number
 }

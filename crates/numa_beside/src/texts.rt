@@ -29,12 +29,7 @@ impl PutName for Behind {
 }
 
 /// Writes a line with its names, and returns the process of which the next lines tell.
-fn put_line(
-    text: &mut Written,
-    areas: &Areas,
-    process: Option<u32>,
-    line: &[u8],
-) -> Option<u32> {
+fn put_line(text: &mut Written, areas: &Areas, process: Option<u32>, line: &[u8]) -> Option<u32> {
     text.put(line);
     if let Some(range) = range_of(line) {
         let some = areas.between(process, range.start, range.end);

@@ -1,6 +1,7 @@
 //! Why pages of a space, or of each process of a host, go where they go.
-use numa_answers::{About, PageInterval, Residence, add_answer, shown, stretches_of, text_of};
-use numa_answers::told_of;
+use numa_answers::{
+    About, PageInterval, Residence, add_answer, shown, stretches_of, text_of, told_of,
+};
 use numa_host::{Host, Process};
 use numa_lines::RunFault;
 use numa_machine::PlaceRefusal;
