@@ -47,7 +47,8 @@ def sets_difference(table, space, record, cpu):
     if record is not None:
         want.update({"asked for": record.mask, "effective": record.nodes})
     found = {name: members(cells) for name, cells in table.items() if name in SETS}
-    shown = {name: {it for it in nodes if it < TABLE} for name, nodes in want.items()}
+    drawn = min(space.machine.nodes, TABLE)
+    shown = {name: {it for it in nodes if it < drawn} for name, nodes in want.items()}
     return None if found == shown else f"sets {found}, not {shown}"
 
 
