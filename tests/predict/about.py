@@ -58,7 +58,8 @@ def rows_of(text, form):
         groups = [it for it in ElementTree.fromstring(text) if it.get("class") == "about"]
         return [row.text for group in groups for row in group if row.text]
     page = Page(text)
-    if page.tags.count("script") != 2 or re.search(r"<script[^>]*\bsrc|https?://", text):
+    if page.tags.count("script") != 2 or re.search(
+            r"<script[^>]*\bsrc|https?://(?!www\.w3\.org/2000/svg)", text):
         return [f"{page.tags.count('script')} scripts"]
     return page.rows.splitlines()
 
