@@ -3,10 +3,9 @@
 //! [`Answers`] writes the answers of scripts as lines of JSON. [`Comparing`] compares worked
 //! scripts with theirs in other ways than [`numa_lines::Expect`], and writes them anew.
 //! [`stretches_of`] tells by which rules pages go, and [`page_of`] makes a page to explore.
-//! [`text_of`] says why a page goes where it goes, and how a page that is there comes where it lies,
-//! and [`shown`] gives that a form.
-//! [`told_of`] adds to a picture or a page what it is of. [`reported`] and [`add_answer`] go on with
-//! a report, or with why there is none.
+//! [`text_of`] says why a page goes where it goes, and how a page that is there comes where it
+//! lies, and [`shown`] gives that a form. [`told_of`] adds to a picture or a page what it is of.
+//! [`reported`] and [`add_answer`] go on with a report, or with why there is none.
 #![tactic(auto)]
 
 mod about;

@@ -47,8 +47,9 @@ function pictureOf(rows) {
     const top = 40 * place + 10;
     const { start, end, anon, policy, nodes } = row.value;
     const names = namesOf(row.value, row.areas);
-    add('text', root, { x: 16, y: top + 11 }, hex(start) + '-' + hex(end) + ' '
-      + (names ? names + ' ' : '') + pagesText(anon) + ' ' + policy + ' ' + nodesText(nodes, 'pages'));
+    const words = [hex(start) + '-' + hex(end), names, pagesText(anon), policy,
+      nodesText(nodes, 'pages')];
+    add('text', root, { x: 16, y: top + 11 }, words.filter((it) => it).join(' '));
     let done = 0;
     for (const { node, pages } of nodes) {
       const left = 16 + (888 * done) / most;

@@ -1,5 +1,5 @@
-//! The nodes of a machine as a table of a picture, a column each: which sets have a node, how far it
-//! is, and as which number it is asked for a page.
+//! The nodes of a machine as a table of a picture, a column each: which sets have a node, how far
+//! it is, and as which number it is asked for a page.
 
 use numa_machine::Machine;
 use numa_mask::{NodeId, NodeMask};
@@ -11,8 +11,8 @@ const NODES: u32 = 64;
 
 const ACROSS: u32 = 16;
 
-/// The first column of pixels of the nodes, the pixels from one to the next, those of a cell, and of
-/// a row.
+/// The first column of pixels of the nodes, the pixels from one to the next, those of a cell, and
+/// of a row.
 const LEFT: u64 = 160;
 
 const STEP: u64 = 46;

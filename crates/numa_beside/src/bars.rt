@@ -115,8 +115,8 @@ fn put_line(text: &mut Written, paint: Paint, lengths: &Lengths, line: &[u8]) {
     text.put(b"\n");
 }
 
-/// An answer of `predict` or `moves` as text, with a bar before each line of pages by node: how many
-/// columns a node has of it is in proportion to its pages, and how long it is as the bars of
+/// An answer of `predict` or `moves` as text, with a bar before each line of pages by node: how
+/// many columns a node has of it is in proportion to its pages, and how long it is as the bars of
 /// pictures are.
 ///
 /// # Errors
