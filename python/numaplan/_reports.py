@@ -130,7 +130,8 @@ def explain(script: Text, page: int, lines: Iterable[str] = (), *, task: int = 1
     """Why the page of a number (address / 4096) would go where it goes, and of one that is there where
     it lies and how it would come there, as `numaplan explain` prints it. With `at`, the name of a file
     or a text as bytes, it lies where lines `at START LENGTH NODE` of that say, too, of a host lines
-    `in P at ..` of it and of the script; in the format "text", "json" or "svg". Raises NoMachine, BadCpu or Unmapped."""
+    `in P at ..` of it and of the script. The format is "text", "json" or "svg". Raises NoMachine,
+    BadCpu or Unmapped."""
     name, text = read(script)
     asked = AskedReport(u32("task", task), u32("node", node), rules_number(rules),
                         format_number(format))

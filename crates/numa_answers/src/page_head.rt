@@ -36,7 +36,8 @@ pre { background: #f6f6f6; padding: 8px; max-width: 1184px; white-space: pre-wra
   .cell { border-right-width: 0; }
 }
 @media print {
-  button, input, select { display: none; }
+  button:not(.rest), input, select { display: none; }
+  .rest { border: 0; background: none; }
   th { position: static; }
   .wide { overflow: visible; }
   tr, .strip { break-inside: avoid; }

@@ -14,9 +14,11 @@ let said = document.getElementById('said');
 let mark = '';
 let process;
 const CELLS = 64;
-// A table has a column for each of so many nodes; and by process the views that can be opened.
+// A table has a column for each of so many nodes.
 const FEW = 16;
+// By process the views that can be opened, and what makes sections that aren't made yet.
 const opened = new Map();
+const unmade = new Map();
 
 function make(name, parent, text, kind) {
   const made = document.createElement(name);
@@ -234,6 +236,8 @@ function open(views, range) {
 // Shows the range that the page's address names.
 function follow() {
   const found = /^#(?:(\\d+)[/])?(0x[0-9a-f]+)$/.exec(location.hash);
+  const missing = found && unmade.get(found[1]);
+  if (missing) missing();
   const views = found && opened.get(found[1]);
   const range = views && rangeOf(views[0][1], Number(found[2]));
   if (!range) return;
@@ -418,8 +422,11 @@ function section(name, heading, build, from) {
   };
   if (document.getElementsByTagName('*').length < 2500) return made();
   const seer = new IntersectionObserver((seen) => {
-    if (!seen.some((it) => it.isIntersecting)) return;
+    if (seen.some((it) => it.isIntersecting)) unmade.get(String(from.process))();
+  });
+  unmade.set(String(from.process), () => {
     seer.disconnect();
+    unmade.delete(String(from.process));
     made();
   });
   seer.observe(part);
@@ -441,6 +448,10 @@ if (data.processes) {
   one(data);
 }
 window.onhashchange = follow;
+window.onbeforeprint = () => {
+  for (const make of [...unmade.values()]) make();
+  for (const fill of fills) fill();
+};
 follow();
 document.body.dataset.ready = 'yes';
 </script>

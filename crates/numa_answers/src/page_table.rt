@@ -3,8 +3,11 @@
 /// The part of the script that makes tables, saves them, and takes keys. In a string of this kind
 /// two backslashes stand for one.
 pub(crate) static TABLES: &str = "
-// How many rows a table has at first, and how many more come as one scrolls.
+// How many rows a table has at first, and how many more come as one scrolls; and on paper.
 const ROWS = 60;
+const PRINTED = 2000;
+// What fills each table for paper.
+const fills = [];
 
 const shown = (cell) => (typeof cell === 'object' ? cell.text : String(cell));
 const key = (cell) => (typeof cell === 'object' ? cell.key : cell);
@@ -103,7 +106,7 @@ function table(title, heads, rows, chosen, nodes) {
   const made = make('table', make('div', part, undefined, 'wide'));
   const top = make('tr', make('thead', made));
   const body = make('tbody', made);
-  const rest = make('button', part);
+  const rest = make('button', part, undefined, 'rest');
   let [by, falls, left, count] = [-1, false, [], 0];
   function more() {
     for (const row of left.slice(count, count + ROWS)) {
@@ -152,6 +155,9 @@ function table(title, heads, rows, chosen, nodes) {
   }
   filter.oninput = show;
   rest.onclick = more;
+  fills.push(() => {
+    while (count < Math.min(left.length, PRINTED)) more();
+  });
   show();
   new IntersectionObserver((seen) => {
     if (!rest.hidden && seen.some((it) => it.isIntersecting)) more();

@@ -14,7 +14,7 @@ mod pictures;
 mod ranges;
 mod texts;
 
-pub use areas::{Area, Areas};
+pub use areas::{Area, Areas, Span};
 pub use bars::barred;
 pub use naming::named;
 pub use paint::Paint;

@@ -13,18 +13,18 @@ const AREAS: usize = 4096;
 /// The object of an area.
 fn object_of(alloc: Global, areas: &Areas, area: &Area) -> Object {
     let mut object = Object::new(alloc);
-    if let Some(process) = area.process {
+    if let Some(process) = area.span.process {
         object.put_number("process", u64::from(process));
     }
-    object.put_number("start", area.start);
-    object.put_number("end", area.end);
+    object.put_number("start", area.span.start);
+    object.put_number("end", area.span.end);
     object.put_bytes("name", areas.name(area));
     object
 }
 
 /// Whether an area is of the process that is asked about, if one is.
 fn is_of(area: &Area, process: Option<u32>) -> bool {
-    process.is_none() || area.process == process
+    process.is_none() || area.span.process == process
 }
 
 /// The object that has only the list of the areas with names, at most so many, as a line.
