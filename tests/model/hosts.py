@@ -3,6 +3,7 @@
 A line is told apart by its first word, and what stands behind `in P` is read as a line by itself.
 Written from docs/SCRIPT.md alone. Not proved."""
 
+import placed
 from commands import COMMANDS, mems as allow
 from space import ERRNO, Space
 from words import BadWords, Fault, is_found_late, is_silent, line_of, node_list, small, words_of
@@ -38,8 +39,9 @@ FORMS = {
 # What is no process's: lines that make a machine, and the host's weights.
 NOT_IN = ["limits", "rules", "cpus", "machine", "weight"]
 WORKS = ["publish", "begin", "look", "try", "give", "touch", "release"]
-PLACES = ["at", "populate", "room", "room alone", "memory-migrate", "migrate", "move", "moved",
-          "mbind strict", "mbind move", "mbind strict move"]
+OF_HOST = ["room", "room alone", "memory-migrate"]  # what of pages is the host's
+PLACES = ["at", "populate", "migrate", "move", "moved"]
+BINDS = ["mbind strict", "mbind move", "mbind strict move"]
 
 
 class Host:
@@ -54,6 +56,69 @@ class Host:
         self.processes = {}
         self.weights = [1] * space.machine.nodes
         self.weight_count = 0  # accepted lines `weight`, which each process begins with
+        self.arrivals = []  # the processes as they came to their groups, the last behind all others
+        self.pages = {}  # by process; all find the same rooms
+        self.common = placed.Placed()  # the rooms, and whether pages follow
+        self.common.follows = True
+
+
+class NoFrames:
+    """No worker places a page of a process of a host."""
+
+    kept = {}
+
+
+class Process:
+    """What a line about pages finds of a process: its space, its pages, the host's rooms."""
+
+    def __init__(self, host, process):
+        self.host, self.process = host, process
+        self.space = host.processes[process][1]
+        self.crew = NoFrames()
+        self.placed = host.pages[process]
+        self.placed.rooms = host.common.rooms
+        self.placed.follows = host.common.follows
+
+    def give(self, name, arguments):
+        """A command, which the host counts."""
+        text = accept(self.host, "in", (self.process, name, arguments))
+        self.space = self.host.processes[self.process][1]
+        return text
+
+
+class Common:
+    """What a line about pages finds of the host."""
+
+    def __init__(self, host):
+        self.space = Space(host.machine, host.limits)
+        self.placed = host.common
+
+
+def come(host, process):
+    """A process comes to a group, behind all that are there."""
+    host.arrivals = [it for it in host.arrivals if it != process] + [process]
+
+
+def top_down(host, group):
+    """The groups from one on, each before those below it, those below one as they were made."""
+    yield group
+    for other, (parent, _) in host.groups.items():
+        if parent == group:
+            yield from top_down(host, other)
+
+
+def go_along(host, allowed):
+    """Pages follow of each process that was allowed other nodes: group by group, in each the first that
+    came first."""
+    for group in top_down(host, 0):
+        for process in [it for it in host.arrivals if host.processes[it][0] == group]:
+            old, new = allowed.get(process), host.processes[process][1].allowed
+            if old is not None and old != new:
+                placed.follow(Process(host, process), old, new)
+
+
+def allowed_now(host):
+    return {process: space.allowed for process, (_, space) in host.processes.items()}
 
 
 def effective(host, group):
@@ -111,7 +176,9 @@ def group_mems(host, group, nodes):
     if nodes is None and own is not None and populated:
         return "Populated"
     host.groups[group] = (parent, nodes)
+    before = allowed_now(host)
     follow(host)
+    go_along(host, before)
     return None
 
 
@@ -127,6 +194,8 @@ def new_process(host, process, group):
     space.weights = list(host.weights)
     space.version = host.weight_count
     host.processes[process] = (group, space)
+    host.pages[process] = placed.Placed()
+    come(host, process)
     follow(host)
     return None
 
@@ -135,7 +204,10 @@ def leave(host, process):
     """`exit`: the process is there no more."""
     if process not in host.processes:
         return "NoSuchProcess"
-    del host.processes[process]
+    for page in list(host.pages[process].stated):
+        placed.leave(Process(host, process).placed, page)
+    del host.processes[process], host.pages[process]
+    host.arrivals.remove(process)
     return None
 
 
@@ -146,7 +218,10 @@ def attach(host, process, group):
     if group not in host.groups:
         return "NoSuchGroup"
     host.processes[process] = (group, host.processes[process][1])
+    come(host, process)
+    before = allowed_now(host)
     follow(host)
+    go_along(host, before)
     return None
 
 
@@ -164,6 +239,8 @@ def fork(host, parent, child, maker, number):
     if cause is None:
         copy.version += 1
         host.processes[child] = (group, copy)
+        host.pages[child] = placed.Placed()
+        come(host, child)
     return cause
 
 
@@ -225,8 +302,8 @@ def answer(host, line, ask):
     if name == "in":
         return answer_in(host, rest, ask)
     if name not in FORMS:
-        line_of(line)
-        return "bad state"
+        said, arguments = line_of(line)
+        return placed.LINES[said](Common(host), *arguments) if said in OF_HOST else "bad state"
     if len(rest) != len(FORMS[name]):
         raise BadWords
     arguments = [read(word) for read, word in zip(FORMS[name], rest)]
@@ -242,15 +319,32 @@ def answer_in(host, words, ask):
     if is_silent(line):
         raise BadWords
     name, arguments = line_of(line)
-    if name in NOT_IN + PLACES:
+    if name in NOT_IN + OF_HOST:
         raise BadWords
     if name in WORKS:
         return "bad state"
     fault = next((it for it in arguments if isinstance(it, Fault)), None)
     if fault and not (host.machine.is_linux and is_found_late(name, arguments)):
         return fault.text
-    if name in COMMANDS:
-        return accept(host, "in", (process, name, arguments))
+    if name in COMMANDS or name in BINDS:
+        return answer_command(host, process, name, arguments)
     if process not in host.processes:
         return refused("NoSuchProcess")
-    return ask(host.processes[process][1], name, arguments)
+    if name in PLACES:
+        return of_host(host, placed.LINES[name](Process(host, process), *arguments))
+    its = Process(host, process)
+    return ask(its.space, placed.nodes_of(its), name, arguments)
+
+
+def answer_command(host, process, name, arguments):
+    """A command of a process, with what it does to its pages."""
+    if process not in host.processes or host.version >= host.limits[2]:
+        return accept(host, "in", (process, name.split()[0], arguments[:3] if name in BINDS else arguments))
+    if name in BINDS:
+        return placed.LINES[name](Process(host, process), *arguments)
+    return placed.command(Process(host, process), name, arguments)
+
+
+def of_host(host, text):
+    """The answer, with the host's version for the process'."""
+    return f"v{host.version}:" + text.partition(":")[2] if text.startswith("v") else text

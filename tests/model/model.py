@@ -150,12 +150,12 @@ def counts(space, task, address, pages, cpu):
 QUESTIONS = {"place": place, "span": span, "counts": counts}
 
 
-def asked(space, name, arguments):
-    """The answer of a process of a host, which has no workers."""
+def asked(space, nodes, name, arguments):
+    """The answer of a process of a host, whose pages lie on these nodes."""
     if name == "ranges":
         return f"ranges {len(ranges(space))}"
     if name == "maps":
-        return maps(space, {}, *arguments)
+        return maps(space, nodes, *arguments)
     return QUESTIONS[name](space, *arguments)
 
 

@@ -338,7 +338,10 @@ def bind_strictly_and_move(state, start, length, asked, task, cpu):
 def command(state, name, arguments):
     """A command, and what it does to the pages that are there."""
     old = state.space.allowed
-    text, state.space = accept(state.space, name, arguments)
+    if hasattr(state, "give"):
+        text = state.give(name, arguments)
+    else:
+        text, state.space = accept(state.space, name, arguments)
     if text.startswith("ok"):
         if name == "unmap":
             forget(state.placed, *span_of(*arguments))

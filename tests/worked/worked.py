@@ -4,6 +4,7 @@ here a second time, apart from the program. Not proved."""
 
 import glob
 import os
+import re
 
 TOP = os.path.dirname(os.path.dirname(os.path.dirname(os.path.abspath(__file__))))
 MARK = b" => "
@@ -35,7 +36,7 @@ def is_of_pages(path):
     """Whether a script has lines about pages that are there."""
     with open(path, "rb") as file:
         text = file.read()
-    return b"\nat 0x" in text or b"\npopulate 0x" in text
+    return re.search(rb"^(in [0-9]+ )?(at|populate) 0x", text, re.M) is not None
 
 
 def paths(hosts=False):

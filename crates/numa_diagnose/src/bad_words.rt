@@ -2,7 +2,7 @@
 use crate::finding::Detail;
 use numa_script::keyword::{Keyword, read_keyword};
 use numa_script::parts::words;
-use numa_script::{Cause, Line, Malformed, ScriptLine, why_malformed};
+use numa_script::{Cause, Malformed, why_malformed};
 
 /// The place of the word after the policy of an `mbind`, from 0.
 const AFTER_POLICY: u32 = 4;
@@ -20,20 +20,6 @@ fn word_at(line: &[u8], place: u32) -> Option<&[u8]> {
         left -= 1;
     }
     None
-}
-
-/// The column at which the word with a place, from 0, begins, or would begin.
-fn column_of(line: &[u8], place: u32) -> usize {
-    let mut column = 1usize;
-    let mut left = place;
-    for word in words(line) {
-        if left == 0 {
-            return column;
-        }
-        left -= 1;
-        column = column.saturating_add(word.len()).saturating_add(1);
-    }
-    column
 }
 
 /// Whether a line begins with a word that only a host's script has, once it is one.
@@ -100,19 +86,10 @@ pub(crate) fn plain_words(line: &[u8]) -> Detail {
     }
 }
 
-/// The column of what makes a line of a process one about pages that are there.
-fn pages_column(line: &[u8], said: &Line<'_>) -> usize {
-    match said {
-        Line::Bind { .. } => column_of(line, AFTER_POLICY + TOLD),
-        _ => column_of(line, TOLD),
-    }
-}
-
-/// Why a line of a host's script is answered so. What isn't malformed is about pages that are
-/// there.
-pub(crate) fn host_words(line: &[u8], said: &ScriptLine<'_>) -> Detail {
+/// Why a line of a host's script is answered so.
+pub(crate) fn host_words(line: &[u8]) -> Detail {
     match why_malformed(line) {
-        None => Detail::NoPages(Some(pages_column(line, &said.line))),
+        None => Detail::None,
         Some(malformed) => malformed_detail(line, malformed),
     }
 }

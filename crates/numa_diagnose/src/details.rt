@@ -243,7 +243,12 @@ fn hole_detail(space: &Space, said: &Line<'_>) -> Detail {
 }
 
 /// The details of the refusal of a line about pages that are there.
-fn placed_detail(space: &Space, line: &[u8], said: &Line<'_>, refusal: PlacedRefusal) -> Detail {
+pub(crate) fn placed_detail(
+    space: &Space,
+    line: &[u8],
+    said: &Line<'_>,
+    refusal: PlacedRefusal,
+) -> Detail {
     match refusal {
         PlacedRefusal::Unaligned if is_decimal_start(line) => Detail::DecimalStart,
         PlacedRefusal::Unaligned => first_page(said),
@@ -254,7 +259,7 @@ fn placed_detail(space: &Space, line: &[u8], said: &Line<'_>, refusal: PlacedRef
 }
 
 /// The details of why a page isn't moved.
-fn move_detail(space: &Space, said: &Line<'_>, refusal: MoveRefusal) -> Detail {
+pub(crate) fn move_detail(space: &Space, said: &Line<'_>, refusal: MoveRefusal) -> Detail {
     match refusal {
         MoveRefusal::NoSuchNode => last_node(space),
         MoveRefusal::Unmapped => first_page(said),

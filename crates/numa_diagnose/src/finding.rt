@@ -18,9 +18,6 @@ pub enum Detail {
     MalformedBind(Malformed),
     /// Only a host's script has the line, and this isn't one.
     NoHost,
-    /// The line is about pages that are there, which a host has none of; where a process is told
-    /// it, with the column of what it is told.
-    NoPages(Option<usize>),
     /// No machine is ready yet, so the line wasn't judged.
     NoMachine,
     /// A machine is already ready.
@@ -71,7 +68,6 @@ impl Detail {
             Detail::Malformed(malformed) => Some(malformed.column),
             Detail::MalformedBind(malformed) => Some(malformed.column),
             Detail::NoHost => Some(1),
-            Detail::NoPages(column) => column,
             _ => None,
         }
     }

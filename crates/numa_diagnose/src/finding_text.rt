@@ -119,7 +119,7 @@ fn cause_words(cause: Cause) -> &'static str {
         Cause::TwoSpaces => "two spaces in a row; write one",
         Cause::UnknownWord => "no line begins with this word",
         Cause::NotTold(_) => {
-            "in P is followed by a command, a question or maps; write one of these"
+            "in P is followed by a command, a question, maps, populate, at, migrate, move or moved"
         }
         Cause::TooFewWords(_) => "too few words",
         Cause::TooManyWords(_) => "too many words",
@@ -274,9 +274,6 @@ fn detail_words(detail: Detail) -> &'static str {
     match detail {
         Detail::Malformed(_) | Detail::MalformedBind(_) => ": ",
         Detail::NoHost => ": only a host's script has this line; write host after machine",
-        Detail::NoPages(_) => {
-            ": in a host no line says where pages lie; this one is for scripts of one process"
-        }
         Detail::LateHost => ": host comes after machine and before the first command",
         Detail::HostReady => ": the script is a host's already; take the line out",
         Detail::NeedsProcess => ": in a host a line of one process follows in P; write that",

@@ -1,10 +1,12 @@
 //! Details of an error or a refusal in a host's script.
 use crate::bad_words::host_words;
-use crate::details::{all_nodes, is_decimal_start, last_of, list_detail, refusal_detail};
+use crate::details::{
+    all_nodes, is_decimal_start, last_of, list_detail, move_detail, placed_detail, refusal_detail,
+};
 use crate::finding::Detail;
 use numa_host::Host;
 use numa_mask::parts::first_place;
-use numa_requests::{CoreRefusal, HostCommand, HostRefusal, Refusal};
+use numa_requests::{CoreRefusal, HostCommand, HostRefusal, MoveRefusal, PlacedRefusal, Refusal};
 use numa_script::{Line, Reply, ScriptLine, WordError};
 
 /// The details of a line that has no place where it stands.
@@ -18,7 +20,6 @@ fn state_detail(said: &ScriptLine<'_>) -> Detail {
             Detail::MachineReady
         }
         Line::Work(_) => Detail::NoWorkers,
-        Line::Pages(_) | Line::Bind { .. } => Detail::NoPages(None),
         _ => Detail::NeedsProcess,
     }
 }
@@ -46,6 +47,29 @@ fn in_detail(host: &Host, line: &[u8], said: &ScriptLine<'_>, cause: CoreRefusal
     }
     match host.process(process) {
         Some(space) => refusal_detail(space, &said.line, cause),
+        None => Detail::None,
+    }
+}
+
+/// The details of why a line about pages is refused.
+fn pages_detail(host: &Host, line: &[u8], said: &ScriptLine<'_>, refusal: PlacedRefusal) -> Detail {
+    let Some(process) = said.process else {
+        return last_of(host.machine());
+    };
+    let inner = inner_of(line).strip_prefix(b" ").unwrap_or(&[]);
+    match host.process(process) {
+        Some(space) => placed_detail(space, inner, &said.line, refusal),
+        None => Detail::None,
+    }
+}
+
+/// The details of why a page of a process isn't moved.
+fn moved_detail(host: &Host, said: &ScriptLine<'_>, refusal: MoveRefusal) -> Detail {
+    let Some(process) = said.process else {
+        return Detail::None;
+    };
+    match host.process(process) {
+        Some(space) => move_detail(space, &said.line, refusal),
         None => Detail::None,
     }
 }
@@ -132,10 +156,12 @@ fn word_detail(host: &Host, line: &[u8], fault: WordError) -> Detail {
 pub(crate) fn host_detail(host: &Host, line: &[u8], said: &ScriptLine<'_>, fault: Reply) -> Detail {
     match fault {
         Reply::HostRefused(refusal) => refused_detail(host, line, said, refusal),
-        Reply::BadWords => host_words(line, said),
+        Reply::BadWords => host_words(line),
         Reply::BadState => state_detail(said),
         Reply::BadWord(fault) => word_detail(host, line, fault),
         Reply::Refused(cause) => in_detail(host, line, said, cause),
+        Reply::PlacedRefused(refusal) => pages_detail(host, line, said, refusal),
+        Reply::MoveRefused(refusal) => moved_detail(host, said, refusal),
         _ => Detail::None,
     }
 }

@@ -1,5 +1,6 @@
 -- What becomes of a host that answers a line.
-use Rattle.std.proofs.Common.{◌≡◌, Bool, true, Option, Some, None, List}
+use Rattle.std.proofs.Common.{◌≡◌, ◌∷◌, ℕ, Bool, true, false, Option, Some, None, Ok, Err, List}
+use Rattle.std.proofs.Common.{length}
 use Rattle.std.proofs.Common.{refl, sym, ap, subst, ◌∙◌}
 use Rattle.std.proofs.lemmas.Bool.{ne_eqb}
 use Rattle.std.specs.Prelude.{MatchOption, not}
@@ -18,8 +19,12 @@ use Rattle.numa_script.specs.declared.reply.Reply.{Reply}
 use Rattle.numa_script.specs.declared.reply.Reply.TheVariants as reply
 use Rattle.numa_run.specs.Replies.{reply_in}
 use Rattle.numa_run.specs.Work.{needs_room}
-use Rattle.numa_host_script.specs.Sessions.{Hosting, Outcome, command_outcome, command_unless}
-use Rattle.numa_host_script.specs.Sessions.{host_needs_room, with_reply}
+use Rattle.numa_host_pages.specs.Homes.{HostLying}
+use Rattle.numa_host_pages.specs.Obeying.{pages_after}
+use Rattle.numa_host_pages.specs.Standing.{AreOf, HostLies, Obeys}
+use Rattle.numa_host_script.specs.Hosts.{Hosting, Lack, Outcome, command_outcome, command_unless}
+use Rattle.numa_host_script.specs.Hosts.{host_needs_room, with_reply}
+use Rattle.numa_host_script.specs.declared.running.RunningHost.{RunningHost}
 use Rattle.numa_host_script.specs.Standing.{Replies, RunsAs, hosting_with}
 
 -- a command of a process that may need room does so by the definition
@@ -54,49 +59,81 @@ first-told needs None refusal is room =
 first-told needs (Some cause) refusal is room = sym (ap Some is)
 
 -- the cause that stands against a command of the host is that of the definition
-pub cause-here : (host : HostState) (at : Hosting) (said : HostCommand) → RunsAs host at
-    → host_refusal_of host.blank.machine host.blank.bounds at.history said
+pub cause-here : (running : RunningHost) (at : Hosting) (said : HostCommand) → RunsAs running at
+    → host_refusal_of running.host.blank.machine running.host.blank.bounds at.history said
     ≡ host_refusal_of at.machine at.bounds at.history said
-cause-here host at said stands =
-    ap (λ (m : Hardware). host_refusal_of m host.blank.bounds at.history said) stands.machine
+cause-here running at said stands =
+    ap (λ (m : Hardware). host_refusal_of m running.host.blank.bounds at.history said)
+    stands.machine
     ∙ ap (λ (b : Bounds). host_refusal_of at.machine b at.history said) stands.bounds
 
--- the same host stands for the same
-pub same-host : (old new : HostState) (at : Hosting) → new ≡ old → RunsAs old at
-    → RunsAs new (hosting_with at at.history)
-same-host old new at same stands = record {
-  machine = ap (λ (h : HostState). h.blank.machine) same ∙ stands.machine;
-  bounds = ap (λ (h : HostState). h.blank.bounds) same ∙ stands.bounds;
-  stands = subst (λ (h : HostState). HostStandsFor h at.history) (sym same) stands.stands;
-}
-
 -- a reply that changes nothing
-pub still : (old new : HostState) (answer : Reply) (outcome : Bool → Hosting → Outcome)
-    (refused : Bool) → new ≡ old
-    → ((at : Hosting) → RunsAs old at → outcome refused at ≡ with_reply answer at)
-    → Replies old answer new outcome
-still old new answer outcome refused same is = λ at stands.
+pub still : (running : RunningHost) (answer : Reply) (outcome : Lack → Hosting → Outcome)
+    (lack : Lack)
+    → ((at : Hosting) → RunsAs running at → outcome lack at ≡ with_reply answer at)
+    → Replies running answer running outcome
+still running answer outcome lack is = λ at stands.
     let here = is at stands in (
-      refused,
+      lack,
       sym (ap (λ (o : Outcome). reply_in o.answer) here),
-      subst (λ (o : Outcome). RunsAs new (hosting_with at o.history)) (sym here)
-          (same-host old new at same stands),
+      subst (λ (o : Outcome). RunsAs running (hosting_with at o)) (sym here) stands,
+    )
+
+-- what memory lacked for, where it lacked for moves alone
+abbrev moves-lack : Bool → (ℕ → ℕ → Bool) → Lack
+moves-lack refused moves = record { refused = refused; moves = moves }
+
+-- a command that was accepted
+pub carried : (old new : RunningHost) (said : HostCommand) (version : ℕ)
+    → Obeys old.host old.pages said (Ok tt) new.host new.pages
+    → ((history : List HostCommand) → HostStandsFor new.host history → version ≡ length history)
+    → Replies old (reply.Accepted version) new (λ lack at. command_outcome lack at said)
+carried old new said version obeys counts = λ at stands.
+    let ok = obeys.applied.ok at.history stands.stands in
+    let did = obeys.lies at.history at.lying stands.stands stands.lies stands.are in
+    let none : host_refusal_of at.machine at.bounds at.history said ≡ None =
+    sym (cause-here old at said stands) ∙ ok.0 in
+    let lack : Lack = moves-lack false did.0 in
+    let after : HostLying = pages_after did.0 at.machine at.history said at.lying in
+    let is : command_outcome lack at said ≡ command_unless None after at said =
+    ap (λ (c : Option HostRefusal). command_unless (first_of c None) after at said) none in
+    let moved = ap (λ (m : Hardware). pages_after did.0 m at.history said at.lying)
+    stands.machine in (
+      lack,
+      ap (λ (n : ℕ). Some (reply.Accepted n)) (counts (said ∷ at.history) ok.1)
+          ∙ sym (ap (λ (o : Outcome). reply_in o.answer) is),
+      subst (λ (o : Outcome). RunsAs new (hosting_with at o)) (sym is) (record {
+        machine = obeys.applied.machine ∙ stands.machine;
+        bounds = obeys.applied.bounds ∙ stands.bounds;
+        stands = ok.1;
+        lies = subst (HostLies new.pages) moved did.1;
+        are = subst (λ (l : HostLying). AreOf l (said ∷ at.history)) moved did.2;
+      }),
     )
 
 -- a command that was refused
-pub denied : (old new : HostState) (said : HostCommand) (refusal : HostRefusal)
-    → ((history : List HostCommand) → HostStandsFor old history
-    → MatchOption (host_refusal_of old.blank.machine old.blank.bounds history said)
-    (refusal ≡ NoMemory) (λ first. refusal ≡ first))
-    → new ≡ old → (refusal ≡ NoMemory → HostMayNeedRoom said)
-    → Replies old (reply.HostRefused refusal) new (λ refused at. command_outcome refused at said)
-denied old new said refusal err same room =
-    still old new (reply.HostRefused refusal) (λ refused at. command_outcome refused at said) true
-    same
-    (λ at stands.
+pub denied : (old new : RunningHost) (said : HostCommand) (refusal : HostRefusal)
+    → Obeys old.host old.pages said (Err refusal) new.host new.pages
+    → Replies old (reply.HostRefused refusal) new (λ lack at. command_outcome lack at said)
+denied old new said refusal obeys = λ at stands.
+    let did = obeys.lies at.history at.lying stands.stands stands.lies stands.are in
     let first = subst
     (λ (c : Option HostRefusal). MatchOption c (refusal ≡ NoMemory) (λ f. refusal ≡ f))
-    (cause-here old at said stands) (err at.history stands.stands) in
-    ap (λ (c : Option HostRefusal). command_unless c at said)
+    (cause-here old at said stands) (obeys.applied.err at.history stands.stands) in
+    let lack : Lack = moves-lack true did.0 in
+    let is : command_outcome lack at said ≡ with_reply (reply.HostRefused refusal) at =
+    ap (λ (c : Option HostRefusal). command_unless c
+    (pages_after did.0 at.machine at.history said at.lying) at said)
     (first-told (host_needs_room said) (host_refusal_of at.machine at.bounds at.history said)
-    refusal first (λ is. host-room_needed said (room is))))
+    refusal first (λ is. host-room_needed said (obeys.applied.room is))) in
+    let same : new.host ≡ old.host = obeys.applied.unchanged in (
+      lack,
+      sym (ap (λ (o : Outcome). reply_in o.answer) is),
+      subst (λ (o : Outcome). RunsAs new (hosting_with at o)) (sym is) (record {
+        machine = obeys.applied.machine ∙ stands.machine;
+        bounds = obeys.applied.bounds ∙ stands.bounds;
+        stands = subst (λ (h : HostState). HostStandsFor h at.history) (sym same) stands.stands;
+        lies = did.1;
+        are = stands.are;
+      }),
+    )

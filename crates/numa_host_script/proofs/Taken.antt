@@ -1,11 +1,16 @@
 -- What taking a line comes to, before a host and in one.
-use Rattle.std.proofs.Common.{◌≡◌, ℕ, Bool, true, false, Option, Some, None, List, [], refl}
+use Rattle.std.proofs.Common.{◌≡◌, ◌≢◌, ℕ, Bool, true, false, Option, Some, None, List, [], refl}
 use Rattle.std.proofs.Common.{sym, ap, subst, ◌∙◌}
-use Rattle.std.specs.Prelude.{if◌then◌else◌, is_some, Result, Ok}
+use Rattle.std.specs.Prelude.{if◌then◌else◌, is_some, Result, Ok, Err}
 use Rattle.numa_machine.specs.Machine.{Hardware}
+use Rattle.numa_mask.specs.declared.list.ListFault.{ListFault}
+use Rattle.numa_mode.specs.Policy.{Specification}
 use Rattle.numa_space.specs.Limited.{Bounds}
 use Rattle.numa_host.specs.Processes.{is_there, members_of}
-use Rattle.numa_host.specs.Standing.{HostState, HostStandsFor}
+use Rattle.numa_host.specs.Standing.{HostStandsFor}
+use Rattle.numa_host_pages.specs.Homes.{empty_host}
+use Rattle.numa_host_pages.specs.Standing.{HostLies}
+use Rattle.numa_requests.specs.declared.command.Command.{Command}
 use Rattle.numa_requests.specs.declared.host_command.HostCommand.{HostCommand}
 use Rattle.numa_requests.specs.declared.host_refusal.HostRefusal.TheVariants.{NoMemory}
 use Rattle.numa_script.specs.Lines.{alone}
@@ -13,6 +18,8 @@ use Rattle.numa_script.specs.declared.line.Line.{Line}
 use Rattle.numa_script.specs.declared.line.Line.TheVariants as line
 use Rattle.numa_script.specs.declared.line.Question.{Question}
 use Rattle.numa_script.specs.declared.line.ScriptLine.{ScriptLine}
+use Rattle.numa_script.specs.declared.page_line.BoundPages.{BoundPages}
+use Rattle.numa_script.specs.declared.page_line.PageLine.{PageLine}
 use Rattle.numa_script.specs.declared.page_line.PageLine.TheVariants as page
 use Rattle.numa_script.specs.declared.policy.WordError.{WordError}
 use Rattle.numa_script.specs.declared.reply.Reply.{Reply}
@@ -24,94 +31,224 @@ use Rattle.numa_run.specs.Scripts.{ScriptStandsFor, ScriptTakes, IsTaken}
 use Rattle.numa_run.specs.declared.running.Taken.{Taken}
 use Rattle.numa_run.specs.declared.running.Taken.TheVariants as own
 use Rattle.numa_run.specs.declared.script.Script.{Script}
-use Rattle.numa_host_script.specs.Sessions.{Hosted, Hosting, Served, Session, Single}
+use Rattle.numa_host_script.specs.Hosts.{Outcome, plenty}
+use Rattle.numa_host_script.specs.Paging.{page_where}
+use Rattle.numa_host_script.specs.Sessions.{Hosted, Hosting, Lack, Served, Session, Single}
 use Rattle.numa_host_script.specs.Sessions.{asked_where, begun, begun_on, begun_where}
-use Rattle.numa_host_script.specs.Sessions.{bounds_after, host_command_of, is_begin}
+use Rattle.numa_host_script.specs.Sessions.{bounds_after, host_command_of, host_outcome, is_begin}
 use Rattle.numa_host_script.specs.Sessions.{is_fresh, listed_where, own_outcome, own_where, served}
 use Rattle.numa_host_script.specs.Sessions.{session_after, session_served}
 use Rattle.numa_host_script.specs.Standing.{Replies, RunsAs, StandsIn, Takes, hosting_with, told}
 use Rattle.numa_host_script.specs.Standing.{IsTakenIn}
 use Rattle.numa_host_script.specs.Taking.{IsLeft, left_in, touched_answer}
+use Rattle.numa_host_script.specs.declared.running.RunningHost.{RunningHost}
 use Rattle.numa_host_script.specs.declared.taking.HostTaken.{HostTaken}
 use Rattle.numa_host_script.specs.declared.taking.HostTaken.TheVariants as taken
 use Rattle.numa_run.proofs.Taking.{malformed-is}
 use Rattle.numa_host_script.proofs.Bounds.{bounds-after}
-use Rattle.numa_host_script.proofs.Obeyed.{same-host}
 
-pub begins : (refused : Bool) (session : Session) (said : ScriptLine) → is_begin said ≡ true
-    → session_served refused session said ≡ begun refused session
+pub begins : (lack : Lack) (session : Session) (said : ScriptLine) → is_begin said ≡ true
+    → session_served lack session said ≡ begun lack.refused session
 unfolding session_served
-begins refused session said is = rw is refl
+begins lack session said is = rw is refl
 
-pub goes-on : (refused : Bool) (session : Session) (said : ScriptLine) → is_begin said ≡ false
-    → session_served refused session said ≡ served refused session said
+pub goes-on : (lack : Lack) (session : Session) (said : ScriptLine) → is_begin said ≡ false
+    → session_served lack session said ≡ served lack session said
 unfolding session_served
-goes-on refused session said is = rw is refl
+goes-on lack session said is = rw is refl
+
+-- memory lacked for what the line itself wanted, or for nothing
+abbrev pub lack_of : Bool → Lack
+lack_of refused = record { refused = refused; moves = λ group process. false }
 
 -- ---- lines of a host
 
--- a question of a process changes nothing
+-- a line that is answered a text, or by a refusal, changes nothing
 pub asked-still : (there refused : Bool) (at : Hosting) (process : ℕ) (asked : Question)
-    → (asked_where there refused at process asked).history ≡ at.history
+    → hosting_with at (asked_where there refused at process asked) ≡ at
 asked-still true refused at process asked = refl
 asked-still false refused at process asked = refl
 
 pub listed-still : (there : Bool) (at : Hosting) (process task : ℕ)
-    → (listed_where there at process task).history ≡ at.history
+    → hosting_with at (listed_where there at process task) ≡ at
 listed-still true at process task = refl
 listed-still false at process task = refl
 
-pub asked-taken : (host : HostState) (process : ℕ) (asked : Question)
-    → Takes host (told process (line.Question asked)) (taken.Asked process asked) host
-asked-taken host process asked = λ at stands. (
-  false,
+pub moved-still : (there refused : Bool) (at : Hosting) (process : ℕ)
+    → hosting_with at (page_where there refused at process page.Moved) ≡ at
+moved-still true refused at process = refl
+moved-still false refused at process = refl
+
+pub asked-taken : (running : RunningHost) (process : ℕ) (asked : Question)
+    → Takes running (told process (line.Question asked)) (taken.Asked process asked) running
+asked-taken running process asked = λ at stands. (
+  plenty,
   refl,
-  subst (λ (h : List HostCommand). RunsAs host (hosting_with at h))
-      (sym (asked-still (is_there (members_of at.history) process) false at process asked))
-      (same-host host host at refl stands),
+  subst (RunsAs running)
+      (sym (asked-still (is_there (members_of at.history) process) false at process asked)) stands,
 )
 
-pub listed-taken : (host : HostState) (process task : ℕ)
-    → Takes host (told process (line.Maps task)) (taken.Listed process task) host
-listed-taken host process task = λ at stands. (
-  false,
+pub listed-taken : (running : RunningHost) (process task : ℕ)
+    → Takes running (told process (line.Maps task)) (taken.Listed process task) running
+listed-taken running process task = λ at stands. (
+  plenty,
   refl,
-  subst (λ (h : List HostCommand). RunsAs host (hosting_with at h))
-      (sym (listed-still (is_there (members_of at.history) process) at process task))
-      (same-host host host at refl stands),
+  subst (RunsAs running)
+      (sym (listed-still (is_there (members_of at.history) process) at process task)) stands,
 )
 
--- a line that names no process, by the command that it says
-pub own-taken : (old new : HostState) (said : Line) (answer : Reply)
+pub moved-taken : (running : RunningHost) (process : ℕ)
+    → Takes running (told process (line.Pages (Ok page.Moved))) (taken.Moved process) running
+moved-taken running process = λ at stands. (
+  plenty,
+  refl,
+  subst (RunsAs running)
+      (sym (moved-still (is_there (members_of at.history) process) false at process)) stands,
+)
+
+pub rooms-taken : (running : RunningHost)
+    → Takes running (alone (line.Pages (Ok page.Rooms))) taken.Rooms running
+rooms-taken running = λ at stands. (plenty, refl, stands)
+
+-- the reply of a line that a process is told, by what the line says
+pub reply-taken : (old new : RunningHost) (said : ScriptLine) (answer : Reply)
+    (outcome : Lack → Hosting → Outcome)
+    → ((lack : Lack) (at : Hosting) → outcome lack at ≡ host_outcome lack at said)
+    → Replies old answer new outcome → Takes old said (taken.Reply answer) new
+reply-taken old new said answer outcome same replies = λ at stands.
+    let done = replies at stands in (
+      done.0,
+      done.1 ∙ ap (λ (o : Outcome). reply_in o.answer) (same done.0 at),
+      subst (λ (o : Outcome). RunsAs new (hosting_with at o)) (same done.0 at) done.2,
+    )
+
+-- a line that no process is told
+pub in-nothing : (running : RunningHost) (process : ℕ) (said : Line)
+    → ((given : Result Command WordError) → said ≢ line.Command given)
+    → ((start : ℕ) (fault : WordError) → said ≢ line.EmptyBind start fault)
+    → ((asked : Question) → said ≢ line.Question asked)
+    → ((task : ℕ) → said ≢ line.Maps task)
+    → ((shown : Result PageLine ListFault) → said ≢ line.Pages shown)
+    → ((start bytes : ℕ) (policy : Result Specification WordError) (pages : BoundPages)
+    → said ≢ line.Bind start bytes policy pages)
+    → Takes running (told process said) (taken.Reply reply.BadState) running
+in-nothing running process line.Silent given none asks lists shows binds =
+    λ at stands. (plenty, refl, stands)
+in-nothing running process line.Malformed given none asks lists shows binds =
+    λ at stands. (plenty, refl, stands)
+in-nothing running process (line.Limits ranges tasks commands) given none asks lists shows binds =
+    λ at stands. (plenty, refl, stands)
+in-nothing running process (line.Rules rules) given none asks lists shows binds =
+    λ at stands. (plenty, refl, stands)
+in-nothing running process (line.Cpus said) given none asks lists shows binds =
+    λ at stands. (plenty, refl, stands)
+in-nothing running process (line.Machine said) given none asks lists shows binds =
+    λ at stands. (plenty, refl, stands)
+in-nothing running process (line.Command said) given none asks lists shows binds =
+    absurd (given said refl)
+in-nothing running process (line.EmptyBind start fault) given none asks lists shows binds =
+    absurd (none start fault refl)
+in-nothing running process (line.Question said) given none asks lists shows binds =
+    absurd (asks said refl)
+in-nothing running process (line.Maps task) given none asks lists shows binds =
+    absurd (lists task refl)
+in-nothing running process (line.Work said) given none asks lists shows binds =
+    λ at stands. (plenty, refl, stands)
+in-nothing running process (line.Pages said) given none asks lists shows binds =
+    absurd (shows said refl)
+in-nothing running process (line.Bind start bytes policy pages) given none asks lists shows
+    binds = absurd (binds start bytes policy pages refl)
+in-nothing running process line.Host given none asks lists shows binds =
+    λ at stands. (plenty, refl, stands)
+in-nothing running process (line.HostCommand said) given none asks lists shows binds =
+    λ at stands. (plenty, refl, stands)
+
+-- a line that names no process and isn't about pages, by the command that it says
+abbrev pub IsOther : Line → Type 0
+IsOther (line.Pages (Ok said)) = ⊥
+IsOther said = Unit {0}
+
+own-is : (said : Line) → IsOther said → (lack : Lack) (at : Hosting)
+    → own_where (host_command_of said) lack at said ≡ own_outcome lack at said
+own-is line.Silent other lack at = refl
+own-is line.Malformed other lack at = refl
+own-is (line.Limits ranges tasks commands) other lack at = refl
+own-is (line.Rules rules) other lack at = refl
+own-is (line.Cpus said) other lack at = refl
+own-is (line.Machine said) other lack at = refl
+own-is (line.Command said) other lack at = refl
+own-is (line.EmptyBind start fault) other lack at = refl
+own-is (line.Question said) other lack at = refl
+own-is (line.Maps task) other lack at = refl
+own-is (line.Work said) other lack at = refl
+own-is (line.Pages (Ok said)) other lack at = absurd other
+own-is (line.Pages (Err fault)) other lack at = refl
+own-is (line.Bind start bytes policy pages) other lack at = refl
+own-is line.Host other lack at = refl
+own-is (line.HostCommand said) other lack at = refl
+
+pub is-other : (said : Line) → ((shown : PageLine) → said ≢ line.Pages (Ok shown)) → IsOther said
+is-other line.Silent none = tt
+is-other line.Malformed none = tt
+is-other (line.Limits ranges tasks commands) none = tt
+is-other (line.Rules rules) none = tt
+is-other (line.Cpus said) none = tt
+is-other (line.Machine said) none = tt
+is-other (line.Command said) none = tt
+is-other (line.EmptyBind start fault) none = tt
+is-other (line.Question said) none = tt
+is-other (line.Maps task) none = tt
+is-other (line.Work said) none = tt
+is-other (line.Pages (Ok said)) none = absurd (none said refl)
+is-other (line.Pages (Err fault)) none = tt
+is-other (line.Bind start bytes policy pages) none = tt
+is-other line.Host none = tt
+is-other (line.HostCommand said) none = tt
+
+pub own-taken : (old new : RunningHost) (said : Line) (answer : Reply) → IsOther said
+    → Replies old answer new (λ lack at. own_where (host_command_of said) lack at said)
+    → Takes old (alone said) (taken.Reply answer) new
+own-taken old new said answer other replies = reply-taken old new (alone said) answer
+    (λ lack at. own_where (host_command_of said) lack at said) (own-is said other) replies
+
+-- the same, where the command is found to be this
+pub own-found : (old new : RunningHost) (said : Line) (answer : Reply)
     (found : Option (Result HostCommand WordError)) → found ≡ host_command_of said
-    → Replies old answer new (λ refused at. own_where found refused at said)
-    → Replies old answer new (λ refused at. own_outcome refused at said)
-own-taken old new said answer found is replies =
+    → Replies old answer new (λ lack at. own_where found lack at said)
+    → Replies old answer new (λ lack at. own_where (host_command_of said) lack at said)
+own-found old new said answer found is replies =
     subst (λ (f : Option (Result HostCommand WordError)).
-    Replies old answer new (λ refused at. own_where f refused at said)) is replies
+    Replies old answer new (λ lack at. own_where f lack at said)) is replies
 
 -- a line that names a process
-pub in-taken : (old new : HostState) (said : ScriptLine) (process : ℕ) (found : HostTaken)
+pub in-taken : (old new : RunningHost) (said : ScriptLine) (process : ℕ) (found : HostTaken)
     → said.process ≡ Some process → Takes old (told process said.line) found new
     → Takes old said found new
 in-taken old new said process found is takes =
     let same : said ≡ told process said.line = λ i. record { process = is i; line = said.line } in
     subst (λ (s : ScriptLine). Takes old s found new) (sym same) takes
 
+-- a line that names none
+pub unnamed-taken : (old new : RunningHost) (said : ScriptLine) (found : HostTaken)
+    → said.process ≡ None → Takes old (alone said.line) found new → Takes old said found new
+unnamed-taken old new said found is takes =
+    let same : said ≡ alone said.line = λ i. record { process = is i; line = said.line } in
+    subst (λ (s : ScriptLine). Takes old s found new) (sym same) takes
+
 module _ (script : Script) (limits : Bounds) where
   -- ---- a line `host`
 
   -- the line `host` was carried out in a state
-  abbrev pub BeginsAt : Reply → Script → Bounds → Option HostState → Session → Type 0
-  BeginsAt answer script_then limits_then host_then session = (refused : Bool)
-      × StandsIn script_then limits_then host_then (begun refused session).session
-      × (Some answer ≡ reply_in (begun refused session).answer)
+  abbrev pub BeginsAt : Reply → Script → Bounds → Option RunningHost → Session → Type 0
+  BeginsAt answer script_then limits_then host_then session = (lack : Lack)
+      × StandsIn script_then limits_then host_then (begun lack.refused session).session
+      × (Some answer ≡ reply_in (begun lack.refused session).answer)
 
-  pub begun-already : (host : HostState) (session : Session)
+  pub begun-already : (host : RunningHost) (session : Session)
       → StandsIn script limits (Some host) session
       → BeginsAt reply.BadState script limits (Some host) session
   begun-already host (Single state) stands = absurd stands
-  begun-already host (Hosted at) stands = (false, stands, refl)
+  begun-already host (Hosted at) stands = (plenty, stands, refl)
 
   pub begun-early : (session : Session) → StandsIn script limits None session
       → ((state : State) → ScriptStandsFor script state → is_fresh state ≡ false)
@@ -120,7 +257,7 @@ module _ (script : Script) (limits : Bounds) where
   begun-early (Single state) stands early =
       let is : begun false (Single state) ≡ begun_where false false state =
       ap (λ (b : Bool). begun_where b false state) (early state stands.0) in (
-        false,
+        plenty,
         subst (λ (s : Served). StandsIn script limits None s.session) (sym is) stands,
         sym (ap (λ (s : Served). reply_in s.answer) is),
       )
@@ -143,24 +280,27 @@ module _ (script : Script) (limits : Bounds) where
   begun-starved machine (Single state) stands fresh =
       let here = fresh state stands.0 in
       let is = begun-fresh true state machine here.0 here.1 in (
-        true,
+        lack_of true,
         subst (λ (s : Served). StandsIn script limits None s.session) (sym is) stands,
         sym (ap (λ (s : Served). reply_in s.answer) is),
       )
 
-  pub begun-now : (machine : Hardware) (host : HostState) (session : Session)
+  pub begun-now : (machine : Hardware) (host : RunningHost) (session : Session)
       → StandsIn script limits None session → IsFresh machine
-      → host.blank.machine ≡ machine → host.blank.bounds ≡ limits → HostStandsFor host []
+      → host.host.blank.machine ≡ machine → host.host.blank.bounds ≡ limits
+      → HostStandsFor host.host [] → HostLies host.pages empty_host
       → BeginsAt reply.HostReady script limits (Some host) session
-  begun-now machine host (Hosted at) stands fresh same bounds empty = absurd stands
-  begun-now machine host (Single state) stands fresh same bounds empty =
+  begun-now machine host (Hosted at) stands fresh same bounds empty lies = absurd stands
+  begun-now machine host (Single state) stands fresh same bounds empty lies =
       let here = fresh state stands.0 in
       let is = begun-fresh false state machine here.0 here.1 in (
-        false,
+        plenty,
         subst (λ (s : Served). StandsIn script limits (Some host) s.session) (sym is) (record {
           machine = same;
           bounds = bounds ∙ stands.1;
           stands = empty;
+          lies = lies;
+          are = record { order = refl; same = record { count = refl; each = λ process. refl } };
         }),
         sym (ap (λ (s : Served). reply_in s.answer) is),
       )
@@ -168,14 +308,14 @@ module _ (script : Script) (limits : Bounds) where
   -- ---- every line
 
   -- a line was taken in a state
-  abbrev pub TakesAt : ScriptLine → HostTaken → Script → Bounds → Option HostState → Session
+  abbrev pub TakesAt : ScriptLine → HostTaken → Script → Bounds → Option RunningHost → Session
       → Type 0
-  TakesAt said found script_then limits_then host_then session = (refused : Bool)
-      × StandsIn script_then limits_then host_then (session_after refused session said)
-      × IsLeft refused session said (left_in found)
+  TakesAt said found script_then limits_then host_then session = (lack : Lack)
+      × StandsIn script_then limits_then host_then (session_after lack session said)
+      × IsLeft lack session said (left_in found)
 
   pub taken-begin : (said : ScriptLine) (answer : Reply) (script_then : Script)
-      (limits_then : Bounds) (host_then : Option HostState) (session : Session)
+      (limits_then : Bounds) (host_then : Option RunningHost) (session : Session)
       → is_begin said ≡ true → BeginsAt answer script_then limits_then host_then session
       → TakesAt said (taken.Reply answer) script_then limits_then host_then session
   taken-begin said answer script_then limits_then host_then session is first =
@@ -187,16 +327,22 @@ module _ (script : Script) (limits : Bounds) where
       )
 
   -- a line of a host
-  left-hosted : (refused : Bool) (at : Hosting) (said : ScriptLine) (found : HostTaken)
-      → session_served refused (Hosted at) said ≡ served refused (Hosted at) said
-      → IsTakenIn refused at said found → IsLeft refused (Hosted at) said (left_in found)
-  left-hosted refused at said (taken.Own found) same left = absurd left
-  left-hosted refused at said (taken.Reply answer) same left =
+  left-hosted : (lack : Lack) (at : Hosting) (said : ScriptLine) (found : HostTaken)
+      → session_served lack (Hosted at) said ≡ served lack (Hosted at) said
+      → IsTakenIn lack at said found → IsLeft lack (Hosted at) said (left_in found)
+  left-hosted lack at said (taken.Own found) same left = absurd left
+  left-hosted lack at said (taken.Reply answer) same left =
       left ∙ sym (ap (λ (s : Served). reply_in s.answer) same)
-  left-hosted refused at said (taken.Asked process asked) same left = left
-  left-hosted refused at said (taken.Listed process task) same left = left
+  left-hosted lack at said (taken.Asked process asked) same left = left
+  left-hosted lack at said (taken.Listed process task) same left = left
+  left-hosted lack at said (taken.Moved process) same left = left
+  left-hosted lack at said taken.Rooms same left = left
+  left-hosted lack at said (taken.Arrived process) same left = (
+    subst (λ (s : Served). touched_answer s.session (Some process) ≡ s.answer) (sym same) left.0,
+    left.1,
+  )
 
-  pub taken-hosted : (said : ScriptLine) (found : HostTaken) (old new : HostState)
+  pub taken-hosted : (said : ScriptLine) (found : HostTaken) (old new : RunningHost)
       (session : Session) → is_begin said ≡ false → Takes old said found new
       → StandsIn script limits (Some old) session
       → TakesAt said found script limits (Some new) session
@@ -217,22 +363,22 @@ module _ (script : Script) (limits : Bounds) where
   says-alone None said shown other is = ap alone is
   says-alone (Some process) said shown other is = absurd (other is)
 
-  left-alone : (refused : Bool) (state : State) (said : ScriptLine) (found : Taken)
-      → session_served refused (Single state) said ≡ served refused (Single state) said
-      → IsTaken refused state (own_line said) found
-      → IsLeft refused (Single state) said (left_in (taken.Own found))
-  left-alone refused state said (own.Reply answer) same left =
+  left-alone : (lack : Lack) (state : State) (said : ScriptLine) (found : Taken)
+      → session_served lack (Single state) said ≡ served lack (Single state) said
+      → IsTaken lack.refused state (own_line said) found
+      → IsLeft lack (Single state) said (left_in (taken.Own found))
+  left-alone lack state said (own.Reply answer) same left =
       left ∙ sym (ap (λ (s : Served). reply_in s.answer) same)
-  left-alone refused state said (own.Question asked) same left =
+  left-alone lack state said (own.Question asked) same left =
       says-alone said.process said.line (line.Question asked) (λ e. cc) left.1
-  left-alone refused state said (own.Maps task) same left =
+  left-alone lack state said (own.Maps task) same left =
       says-alone said.process said.line (line.Maps task) (λ e. cc) left.1
-  left-alone refused state said own.Moved same left =
+  left-alone lack state said own.Moved same left =
       says-alone said.process said.line (line.Pages (Ok page.Moved)) (λ e. cc) left.1
-  left-alone refused state said own.Rooms same left =
+  left-alone lack state said own.Rooms same left =
       says-alone said.process said.line (line.Pages (Ok page.Rooms)) (λ e. cc) left.1
-  left-alone refused state said own.Arrived same left =
-      (subst (λ (s : Served). touched_answer s.session ≡ s.answer) (sym same) left.1, left.2)
+  left-alone lack state said own.Arrived same left =
+      (subst (λ (s : Served). touched_answer s.session None ≡ s.answer) (sym same) left.1, left.2)
 
   -- a line that is told to a process has no place
   pub taken-foreign : (said : ScriptLine) (process : ℕ) (session : Session)
@@ -244,8 +390,8 @@ module _ (script : Script) (limits : Bounds) where
       ap (λ (p : Option ℕ). if is_some p then line.Malformed else said.line) told_so in
       let is : outcome_of false state (own_line said) ≡ state_reply reply.BadWords state =
       ap (outcome_of false state) malformed ∙ malformed-is false state in
-      let same = goes-on false (Single state) said other in (
-        false,
+      let same = goes-on plenty (Single state) said other in (
+        plenty,
         subst (λ (s : Served). StandsIn script limits None s.session) (sym same)
             (subst (λ (r : Played). ScriptStandsFor script r.state × (limits ≡ r.state.bounds))
             (sym is) stands),
@@ -269,14 +415,15 @@ module _ (script : Script) (limits : Bounds) where
   taken-alone said found script_then limits_then (Single state) other alone_so kept takes stands =
       let done = subst (λ (l : Line). ScriptTakes script l found script_then)
       (own-says said alone_so) takes state stands.0 in
-      let same = goes-on done.0 (Single state) said other in
+      let lack = lack_of done.0 in
+      let same = goes-on lack (Single state) said other in
       let bounds : limits_then ≡ (after done.0 state (own_line said)).bounds =
       kept state stands.0
       ∙ ap (bounds_after state.machine limits) (own-says said alone_so)
       ∙ ap (λ (b : Bounds). bounds_after state.machine b (own_line said)) stands.1
       ∙ sym (bounds-after done.0 state (own_line said)) in (
-        done.0,
+        lack,
         subst (λ (s : Served). StandsIn script_then limits_then None s.session) (sym same)
             (done.2, bounds),
-        left-alone done.0 state said found same done.1,
+        left-alone lack state said found same done.1,
       )

@@ -13,7 +13,7 @@ use Rattle.numa_script.specs.declared.reply.Reply.TheVariants as reply
 use Rattle.numa_run.specs.Answers.{own_line}
 use Rattle.numa_run.specs.Judged.{asked_fault, fault_or, question_cause}
 use Rattle.numa_run.specs.Replies.{reply_in}
-use Rattle.numa_host_script.specs.Sessions.{Hosting, Session, Single, Hosted}
+use Rattle.numa_host_script.specs.Sessions.{Hosting, Lack, Session, Single, Hosted}
 use Rattle.numa_host_script.specs.Sessions.{host_outcome, session_served}
 
 -- the refusal of a question to a process: that of a script that has accepted its commands
@@ -32,20 +32,20 @@ refused_by None refused at said = None
 refused_by (Some process) refused at said = refused_in refused at process said
 
 -- the fault or the refusal that a line of a host is answered; none where its answer is neither
-abbrev pub host_fault : Bool → Hosting → ScriptLine → Option Reply
-host_fault refused at said = fault_or (reply_in (host_outcome refused at said).answer)
-    (refused_by said.process refused at said.line)
+abbrev pub host_fault : Lack → Hosting → ScriptLine → Option Reply
+host_fault lack at said = fault_or (reply_in (host_outcome lack at said).answer)
+    (refused_by said.process lack.refused at said.line)
 
 -- the refusal of a question
-abbrev pub session_refused : Bool → Session → ScriptLine → Option Reply
-session_refused refused (Single state) said = asked_fault refused state (own_line said)
-session_refused refused (Hosted at) said = refused_by said.process refused at said.line
+abbrev pub session_refused : Lack → Session → ScriptLine → Option Reply
+session_refused lack (Single state) said = asked_fault lack.refused state (own_line said)
+session_refused lack (Hosted at) said = refused_by said.process lack.refused at said.line
 
 -- the fault or the refusal that a line is answered; none where its answer is neither
-abbrev pub session_fault : Bool → Session → ScriptLine → Option Reply
-session_fault refused session said = fault_or
-    (reply_in (session_served refused session said).answer) (session_refused refused session said)
+abbrev pub session_fault : Lack → Session → ScriptLine → Option Reply
+session_fault lack session said = fault_or
+    (reply_in (session_served lack session said).answer) (session_refused lack session said)
 
 -- the answer tells that memory lacked
-abbrev pub Starves : Bool → Session → ScriptLine → Type 0
-Starves refused session said = IsSomeAnd (session_fault refused session said) LacksMemory
+abbrev pub Starves : Lack → Session → ScriptLine → Type 0
+Starves lack session said = IsSomeAnd (session_fault lack session said) LacksMemory

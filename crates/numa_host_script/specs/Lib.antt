@@ -1,4 +1,6 @@
+pub mod Hosts
 pub mod Judged
+pub mod Paging
 pub mod Sessions
 pub mod Standing
 pub mod Taking

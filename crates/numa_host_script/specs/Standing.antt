@@ -1,28 +1,58 @@
 -- Which states a running script of a host stands for, and what it does with lines.
-use Rattle.std.specs.Prelude.{◌≡◌, ℕ, Bool, List, Option, Some, None}
+use Rattle.std.specs.Prelude.{◌≡◌, ℕ, Bool, true, false, Option, Some, None, IsSome, List, Result}
+use Rattle.std.specs.Prelude.{◌∷◌, Ok, Err, length}
 use Rattle.numa_space.specs.Limited.{Bounds}
-use Rattle.numa_host.specs.Standing.{HostState, HostStandsFor}
+use Rattle.numa_host.specs.Standing.{HostState, HostStandsFor, IsHostApplied}
+use Rattle.numa_host_pages.specs.Homes.{HostLying, lent, pages_in, pages_lent, with_pages}
+use Rattle.numa_host_pages.specs.Standing.{AreOf, HostLies}
+use Rattle.numa_host_pages.specs.declared.pages.HostPages.{HostPages}
+use Rattle.numa_page_state.specs.Lying.{Lying}
+use Rattle.numa_page_state.specs.Outcomes.{forgotten, has_stated, is_no_memory, lack_of}
+use Rattle.numa_page_state.specs.Sending.{command_of}
+use Rattle.numa_page_state.specs.Standing.{LiesAs}
+use Rattle.numa_page_state.specs.declared.sending.Rebinding.{Rebinding}
+use Rattle.numa_page_state.specs.declared.state.PageState.{PageState}
+use Rattle.numa_placed.specs.Spots.{spot_at}
+use Rattle.numa_placed.specs.declared.spot.Spot.{Spot}
+use Rattle.numa_ranges.specs.declared.run.Run.{Run}
+use Rattle.numa_requests.specs.declared.page_refusal.PlacedRefusal.{PlacedRefusal}
+use Rattle.numa_page_state.specs.Standing.{LieThere}
+use Rattle.numa_page_state.specs.declared.state.PageState.{PageState}
+use Rattle.numa_placed.specs.declared.spot.Spot.TheVariants.{Nowhere}
+use Rattle.numa_script.specs.Lines.{alone}
+use Rattle.numa_script.specs.declared.page_line.MoveWords.{MoveWords}
+use Rattle.numa_script.specs.declared.page_line.PageLine.TheVariants as page
 use Rattle.numa_script.specs.declared.line.Line.{Line}
 use Rattle.numa_script.specs.declared.line.Line.TheVariants as line
 use Rattle.numa_script.specs.declared.line.ScriptLine.{ScriptLine}
 use Rattle.numa_script.specs.declared.reply.Reply.{Reply}
+use Rattle.numa_script.specs.declared.reply.Reply.TheVariants as reply
 use Rattle.numa_requests.specs.declared.host_command.HostCommand.{HostCommand}
-use Rattle.numa_run.specs.Replies.{reply_in}
+use Rattle.numa_requests.specs.declared.host_command.HostCommand.TheVariants.{In}
+use Rattle.numa_requests.specs.declared.host_refusal.HostRefusal.{HostRefusal}
+use Rattle.numa_run.specs.Replies.{Replied, Shown, reply_in}
 use Rattle.numa_run.specs.Scripts.{ScriptStandsFor}
 use Rattle.numa_run.specs.declared.script.Script.{Script}
-use Rattle.numa_host_script.specs.Sessions.{Hosting, Session, Single, Hosted, Outcome}
-use Rattle.numa_host_script.specs.Sessions.{host_outcome}
+use Rattle.numa_host_script.specs.Judged.{refused_by}
+use Rattle.numa_host_script.specs.Paging.{arrived_text, lying_with, own_cause, pages_at}
+use Rattle.numa_host_script.specs.Paging.{sent_unless, takes_more, told_by}
+use Rattle.numa_host_script.specs.Sessions.{Hosting, Lack, Session, Single, Hosted, Outcome}
+use Rattle.numa_host_script.specs.Sessions.{host_outcome, with_reply}
+use Rattle.numa_host_script.specs.declared.running.RunningHost.{RunningHost}
 use Rattle.numa_host_script.specs.declared.taking.HostTaken.{HostTaken}
 use Rattle.numa_host_script.specs.declared.taking.HostTaken.TheVariants as taken
 
--- the host's machine and limits are these, and it stands for the commands
-pub record RunsAs (host : HostState) (at : Hosting) : Type 0 where
-  pub machine : host.blank.machine ≡ at.machine
-  pub bounds : host.blank.bounds ≡ at.bounds
-  pub stands : HostStandsFor host at.history
+-- the host's machine and limits are these, and it stands for the commands; pages lie so, and they
+-- are those of its processes
+pub record RunsAs (running : RunningHost) (at : Hosting) : Type 0 where
+  pub machine : running.host.blank.machine ≡ at.machine
+  pub bounds : running.host.blank.bounds ≡ at.bounds
+  pub stands : HostStandsFor running.host at.history
+  pub lies : HostLies running.pages at.lying
+  pub are : AreOf at.lying at.history
 
 -- a script, the limits of its machine, and a host, once there is one
-abbrev pub StandsIn : Script → Bounds → Option HostState → Session → Type 0
+abbrev pub StandsIn : Script → Bounds → Option RunningHost → Session → Type 0
 StandsIn script limits None (Single state) = ScriptStandsFor script state × (limits ≡ state.bounds)
 StandsIn script limits (Some host) (Hosted at) = RunsAs host at
 StandsIn script limits _ _ = ⊥
@@ -47,7 +77,18 @@ IsScriptIn script (Hosted at) = ⊥
 -- the host is that of the session
 abbrev pub IsHostIn : HostState → Session → Type 0
 IsHostIn host (Single state) = ⊥
-IsHostIn host (Hosted at) = RunsAs host at
+IsHostIn host (Hosted at) = (host.blank.machine ≡ at.machine) × (host.blank.bounds ≡ at.bounds)
+    × HostStandsFor host at.history
+
+-- nothing is kept of the pages of a process, and none is there
+abbrev pub IsBare : ℕ → Session → Type 0
+IsBare process (Single state) = Unit {0}
+IsBare process (Hosted at) = (page : ℕ) → (pages_at at process).spots page ≡ Nowhere
+
+-- the pages of a process lie as they are kept
+abbrev pub ArePagesOf : PageState → ℕ → Session → Type 0
+ArePagesOf kept process (Single state) = ⊥
+ArePagesOf kept process (Hosted at) = LieThere kept (pages_at at process).spots
 
 -- ---- a line of a host
 
@@ -55,25 +96,118 @@ IsHostIn host (Hosted at) = RunsAs host at
 abbrev pub told : ℕ → Line → ScriptLine
 told process said = record { process = Some process; line = said }
 
--- the host, where its accepted commands are these
-abbrev pub hosting_with : Hosting → List HostCommand → Hosting
-hosting_with at history = record at { history = history }
+-- the host once a line came to this
+abbrev pub hosting_with : Hosting → Outcome → Hosting
+hosting_with at done = record at { history = done.history; lying = done.lying }
 
--- the line was answered by a reply, as the outcome says, and the commands are those that it says
-abbrev pub Replies : HostState → Reply → HostState → (Bool → Hosting → Outcome) → Type 0
+-- the line was answered by a reply, as the outcome says, and all is as it says
+abbrev pub Replies : RunningHost → Reply → RunningHost → (Lack → Hosting → Outcome) → Type 0
 Replies old answer new outcome = (at : Hosting) → RunsAs old at
-    → (refused : Bool) × (Some answer ≡ reply_in (outcome refused at).answer)
-    × RunsAs new (hosting_with at (outcome refused at).history)
+    → (lack : Lack) × (Some answer ≡ reply_in (outcome lack at).answer)
+    × RunsAs new (hosting_with at (outcome lack at))
 
--- what was taken is the reply that the definition says, or the line itself, which changes nothing
-abbrev pub IsTakenIn : Bool → Hosting → ScriptLine → HostTaken → Type 0
-IsTakenIn refused at said (taken.Reply answer) =
-    Some answer ≡ reply_in (host_outcome refused at said).answer
-IsTakenIn refused at said (taken.Asked process asked) = said ≡ told process (line.Question asked)
-IsTakenIn refused at said (taken.Listed process task) = said ≡ told process (line.Maps task)
-IsTakenIn refused at said (taken.Own found) = ⊥
+-- the same where the process is there, and the host takes more commands
+abbrev pub RepliesThere : RunningHost → Reply → RunningHost → ℕ → (Lack → Hosting → Outcome)
+    → Type 0
+RepliesThere old answer new process outcome = (at : Hosting) → RunsAs old at
+    → takes_more at process ≡ true
+    → (lack : Lack) × (Some answer ≡ reply_in (outcome lack at).answer)
+    × RunsAs new (hosting_with at (outcome lack at))
 
-abbrev pub Takes : HostState → ScriptLine → HostTaken → HostState → Type 0
+-- the same of a line that may have no reply, and then tells what pages of a process did
+abbrev pub Changes : RunningHost → Option Reply → RunningHost → ℕ → (Bool → Hosting → Outcome)
+    → Type 0
+Changes old told new process outcome = (at : Hosting) → RunsAs old at
+    → (refused : Bool) × ((outcome refused at).answer ≡ told_by told
+    (length (outcome refused at).history) (pages_lent process (outcome refused at).lying))
+    × RunsAs new (hosting_with at (outcome refused at))
+
+-- the same of the pages alone
+abbrev pub ChangesPages : HostPages → Option Reply → HostPages
+    → (Bool → HostLying → Option Reply × HostLying) → Type 0
+ChangesPages old told new outcome = (at : HostLying) → HostLies old at
+    → (refused : Bool) × ((outcome refused at).0 ≡ told) × HostLies new (outcome refused at).1
+
+-- nothing is stated any more of a span of a process that has such pages, where something was
+abbrev pub ForgetsIn : Option Lying → (ℕ → Spot) → ℕ → ℕ
+    → Result (Option (List (Run Spot))) PlacedRefusal → Type 0
+ForgetsIn had spots start bytes (Ok None) = has_stated spots start bytes ≡ false
+ForgetsIn had spots start bytes (Ok (Some after)) =
+    (has_stated spots start bytes ≡ true) × IsSome had
+    × (lack_of false (forgotten start bytes spots) ≡ None)
+    × ((page : ℕ) → spot_at after page ≡ forgotten start bytes spots page)
+ForgetsIn had spots start bytes (Err why) = (has_stated spots start bytes ≡ true)
+    × (lack_of (is_no_memory why) (forgotten start bytes spots) ≡ Some why)
+
+-- ---- mbind .. move
+
+-- the host's machine and limits are these, and it stands for the commands
+pub record HostRuns (host : HostState) (at : Hosting) : Type 0 where
+  pub machine : host.blank.machine ≡ at.machine
+  pub bounds : host.blank.bounds ≡ at.bounds
+  pub stands : HostStandsFor host at.history
+
+-- the policy was set, and pages that were lent went; or it was answered so, and they are as they
+-- were
+abbrev pub SendsIn : HostState → PageState → Result Reply Reply → HostState → PageState → ℕ
+    → Rebinding → MoveWords → Type 0
+SendsIn old before (Ok answer) new after process said words = (at : Hosting) → HostRuns old at
+    → takes_more at process ≡ true → LiesAs before (pages_at at process) → (done : Lying)
+    × (sent_unless false (own_cause at process (command_of said)) at process said words ≡ record {
+      answer = Replied answer;
+      history = In process (command_of said) ∷ at.history;
+      lying = lying_with at process done;
+    })
+    × HostRuns new (record at { history = In process (command_of said) ∷ at.history })
+    × LiesAs after done
+SendsIn old before (Err answer) new after process said words = (at : Hosting) → HostRuns old at
+    → takes_more at process ≡ true → LiesAs before (pages_at at process) → (refused : Bool)
+    × (sent_unless refused (own_cause at process (command_of said)) at process said words
+    ≡ with_reply answer at)
+    × HostRuns new at × (after ≡ before)
+
+-- it was answered so, and all is as the definition says
+abbrev pub IsSentTo : Reply → RunningHost → Hosting → ℕ → Rebinding → MoveWords → Type 0
+IsSentTo answer new at process said words = (lack : Lack)
+    × (Some answer ≡ reply_in (sent_unless lack.refused (own_cause at process (command_of said))
+    at process said words).answer)
+    × RunsAs new (hosting_with at (sent_unless lack.refused
+    (own_cause at process (command_of said)) at process said words))
+
+-- the same of all that runs, once the pages of the process were lent
+abbrev pub SendsLent : HostState → HostPages → PageState → Reply → RunningHost → ℕ → Rebinding
+    → MoveWords → Type 0
+SendsLent host pages state answer new process said words = (at : Hosting) (lying : Lying)
+    → HostRuns host at → AreOf at.lying at.history → pages_in process at.lying.homes ≡ Some lying
+    → HostLies pages (record at.lying { homes = with_pages process None at.lying.homes })
+    → LiesAs state (lent at.lying.room at.lying.follows lying) → takes_more at process ≡ true
+    → IsSentTo answer new at process said words
+
+-- a command was carried out, and answered so
+abbrev pub IsReplyTo : Result (Unit {0}) HostRefusal → HostState → Reply → Type 0
+IsReplyTo (Ok done) new answer = answer ≡ reply.Accepted new.version
+IsReplyTo (Err why) new answer = answer ≡ reply.HostRefused why
+
+abbrev pub Answers : HostState → HostCommand → Reply → HostState → Type 0
+Answers old said answer new = (done : Result (Unit {0}) HostRefusal)
+    × IsHostApplied old said done new × IsReplyTo done new answer
+
+-- what was taken is the reply that the definition says, or the line itself, which changes nothing;
+-- of `populate` it is the answer, which the pages after it tell
+abbrev pub IsTakenIn : Lack → Hosting → ScriptLine → HostTaken → Type 0
+IsTakenIn lack at said (taken.Reply answer) =
+    Some answer ≡ reply_in (host_outcome lack at said).answer
+IsTakenIn lack at said (taken.Asked process asked) = said ≡ told process (line.Question asked)
+IsTakenIn lack at said (taken.Listed process task) = said ≡ told process (line.Maps task)
+IsTakenIn lack at said (taken.Moved process) = said ≡ told process (line.Pages (Ok page.Moved))
+IsTakenIn lack at said taken.Rooms = said ≡ alone (line.Pages (Ok page.Rooms))
+IsTakenIn lack at said (taken.Arrived process) =
+    (Shown (arrived_text (hosting_with at (host_outcome lack at said)) process)
+    ≡ (host_outcome lack at said).answer)
+    × (None ≡ refused_by said.process lack.refused at said.line)
+IsTakenIn lack at said (taken.Own found) = ⊥
+
+abbrev pub Takes : RunningHost → ScriptLine → HostTaken → RunningHost → Type 0
 Takes old said found new = (at : Hosting) → RunsAs old at
-    → (refused : Bool) × IsTakenIn refused at said found
-    × RunsAs new (hosting_with at (host_outcome refused at said).history)
+    → (lack : Lack) × IsTakenIn lack at said found
+    × RunsAs new (hosting_with at (host_outcome lack at said))

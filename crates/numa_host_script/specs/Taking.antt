@@ -10,25 +10,27 @@ use Rattle.numa_script.specs.declared.page_line.PageLine.TheVariants as page
 use Rattle.numa_script.specs.declared.reply.Reply.{Reply}
 use Rattle.numa_script.specs.declared.reply.Reply.TheVariants as reply
 use Rattle.numa_run.specs.Judged.{fault_or}
-use Rattle.numa_run.specs.Replies.{Answer, Replied, bytes_of, reply_in}
+use Rattle.numa_run.specs.Replies.{Answer, Replied, Shown, bytes_of, reply_in}
 use Rattle.numa_run.specs.Scripts.{arrived_answer}
 use Rattle.numa_run.specs.declared.running.Taken.{Taken}
 use Rattle.numa_run.specs.declared.running.Taken.TheVariants as own
 use Rattle.numa_host_script.specs.Judged.{Starves, session_fault, session_refused}
-use Rattle.numa_host_script.specs.Sessions.{Hosted, Session, Single, session_after, session_answer}
+use Rattle.numa_host_script.specs.Sessions.{Hosted, Hosting, Lack, Session, Single, session_after}
+use Rattle.numa_host_script.specs.Sessions.{session_answer}
 use Rattle.numa_host_script.specs.Sessions.{session_served}
+use Rattle.numa_host_script.specs.Paging.{arrived_text}
 use Rattle.numa_host_script.specs.Standing.{StandsIn, told}
 use Rattle.numa_host_script.specs.declared.script.HostScript.{HostScript}
 use Rattle.numa_host_script.specs.declared.taking.HostTaken.{HostTaken}
 use Rattle.numa_host_script.specs.declared.taking.HostTaken.TheVariants as taken
 
 -- what is left of a line that was taken: its reply; or the line, which has changed nothing and
--- whose answer is a text of what there is; or what pages that it touched did, which the session after
--- it tells
+-- whose answer is a text of what there is; or what pages that it touched did, which the session
+-- after it tells
 pub data Left : Type 0 where
   Told : Reply → Left
   Open : ScriptLine → Left
-  Touched : Left
+  Touched : Option ℕ → Left
 
 abbrev pub left_in : HostTaken → Left
 left_in (taken.Own (own.Reply answer)) = Told answer
@@ -36,45 +38,54 @@ left_in (taken.Own (own.Question asked)) = Open (alone (line.Question asked))
 left_in (taken.Own (own.Maps task)) = Open (alone (line.Maps task))
 left_in (taken.Own own.Moved) = Open (alone (line.Pages (Ok page.Moved)))
 left_in (taken.Own own.Rooms) = Open (alone (line.Pages (Ok page.Rooms)))
-left_in (taken.Own own.Arrived) = Touched
+left_in (taken.Own own.Arrived) = Touched None
 left_in (taken.Reply answer) = Told answer
 left_in (taken.Asked process asked) = Open (told process (line.Question asked))
 left_in (taken.Listed process task) = Open (told process (line.Maps task))
+left_in (taken.Moved process) = Open (told process (line.Pages (Ok page.Moved)))
+left_in taken.Rooms = Open (alone (line.Pages (Ok page.Rooms)))
+left_in (taken.Arrived process) = Touched (Some process)
 
--- what pages that were touched did; a host has none
-abbrev pub touched_answer : Session → Answer
-touched_answer (Single state) = arrived_answer state
-touched_answer (Hosted at) = Replied reply.BadState
+-- what pages that were touched did, those of the one process or of one of a host
+abbrev pub touched_by : Option ℕ → Hosting → Answer
+touched_by None at = Replied reply.BadState
+touched_by (Some process) at = Shown (arrived_text at process)
+
+abbrev pub touched_answer : Session → Option ℕ → Answer
+touched_answer (Single state) process = arrived_answer state
+touched_answer (Hosted at) process = touched_by process at
 
 -- the reply is the one that the definition says, or the line is left as it is
-abbrev pub IsLeft : Bool → Session → ScriptLine → Left → Type 0
-IsLeft refused session said (Told answer) =
-    Some answer ≡ reply_in (session_served refused session said).answer
-IsLeft refused session said (Open same) = said ≡ same
-IsLeft refused session said Touched =
-    (touched_answer (session_after refused session said)
-    ≡ (session_served refused session said).answer)
-    × (None ≡ session_refused refused session said)
+abbrev pub IsLeft : Lack → Session → ScriptLine → Left → Type 0
+IsLeft lack session said (Told answer) =
+    Some answer ≡ reply_in (session_served lack session said).answer
+IsLeft lack session said (Open same) = said ≡ same
+IsLeft lack session said (Touched process) =
+    (touched_answer (session_after lack session said) process
+    ≡ (session_served lack session said).answer)
+    × (None ≡ session_refused lack session said)
 
 -- the answer of what is left, and its fault or refusal
-abbrev pub answer_left : Bool → Session → Left → Answer
-answer_left refused session (Told answer) = Replied answer
-answer_left refused session (Open said) = (session_served refused session said).answer
-answer_left refused session Touched = touched_answer session
+abbrev pub answer_left : Lack → Session → Left → Answer
+answer_left lack session (Told answer) = Replied answer
+answer_left lack session (Open said) = (session_served lack session said).answer
+answer_left lack session (Touched process) = touched_answer session process
 
-abbrev pub fault_left : Bool → Session → Left → Option Reply
-fault_left refused session (Told answer) = fault_in answer
-fault_left refused session (Open said) = session_fault refused session said
-fault_left refused session Touched = fault_or (reply_in (touched_answer session)) None
+abbrev pub fault_left : Lack → Session → Left → Option Reply
+fault_left lack session (Told answer) = fault_in answer
+fault_left lack session (Open said) = session_fault lack session said
+fault_left lack session (Touched process) =
+    fault_or (reply_in (touched_answer session process)) None
 
--- where there is a host, a line that names no process and shows what is has no place
-abbrev pub misplaced_reply : Taken → Reply
-misplaced_reply (own.Reply answer) = answer
-misplaced_reply (own.Question asked) = reply.BadState
-misplaced_reply (own.Maps task) = reply.BadState
-misplaced_reply own.Moved = reply.BadState
-misplaced_reply own.Rooms = reply.BadState
-misplaced_reply own.Arrived = reply.BadState
+-- where there is a host, a line that names no process and shows what is has no place; but the rooms
+-- are the host's
+abbrev pub misplaced_reply : Taken → Option Reply
+misplaced_reply (own.Reply answer) = Some answer
+misplaced_reply (own.Question asked) = Some reply.BadState
+misplaced_reply (own.Maps task) = Some reply.BadState
+misplaced_reply own.Moved = Some reply.BadState
+misplaced_reply own.Rooms = None
+misplaced_reply own.Arrived = Some reply.BadState
 
 -- ---- what a script does with a line
 
@@ -84,37 +95,37 @@ SessionStandsFor script session = StandsIn script.script script.limits script.ho
 -- the line was carried out, and the session that the definition says is reached
 abbrev pub SessionTakes : HostScript → ScriptLine → HostTaken → HostScript → Type 0
 SessionTakes old said found new =
-    (session : Session) → SessionStandsFor old session → (refused : Bool)
-    × SessionStandsFor new (session_after refused session said)
-    × IsLeft refused session said (left_in found)
+    (session : Session) → SessionStandsFor old session → (lack : Lack)
+    × SessionStandsFor new (session_after lack session said)
+    × IsLeft lack session said (left_in found)
 
 -- the answer was said, and nothing else changed; and whether it tells lack of memory
 abbrev pub SessionWrites : {W : Type 0} → (W → Option (List ℕ)) → HostScript → Watched W
     → HostTaken → Bool → HostScript → Watched W → Type 0
 SessionWrites contents old output found starved new output_then =
-    (session : Session) → SessionStandsFor old session → (refused : Bool)
+    (session : Session) → SessionStandsFor old session → (lack : Lack)
     × SessionStandsFor new session
-    × Said contents output output_then (bytes_of (answer_left refused session (left_in found)))
-    × (IsTrue starved ↔ IsSomeAnd (fault_left refused session (left_in found)) LacksMemory)
+    × Said contents output output_then (bytes_of (answer_left lack session (left_in found)))
+    × (IsTrue starved ↔ IsSomeAnd (fault_left lack session (left_in found)) LacksMemory)
 
 -- the fault or the refusal was told, and nothing changed
 abbrev pub SessionTells : HostScript → HostTaken → Option Reply → HostScript → Type 0
 SessionTells old found fault new =
-    (session : Session) → SessionStandsFor old session → (refused : Bool)
-    × SessionStandsFor new session × (fault ≡ fault_left refused session (left_in found))
+    (session : Session) → SessionStandsFor old session → (lack : Lack)
+    × SessionStandsFor new session × (fault ≡ fault_left lack session (left_in found))
 
 -- the line was served, and whether its answer tells lack of memory
 abbrev pub SessionServes : {W : Type 0} → (W → Option (List ℕ)) → HostScript → Watched W
     → ScriptLine → Bool → HostScript → Watched W → Type 0
 SessionServes contents old output said starved new output_then =
-    (session : Session) → SessionStandsFor old session → (refused : Bool)
-    × SessionStandsFor new (session_after refused session said)
-    × Said contents output output_then (session_answer refused session said)
-    × (IsTrue starved ↔ Starves refused session said)
+    (session : Session) → SessionStandsFor old session → (lack : Lack)
+    × SessionStandsFor new (session_after lack session said)
+    × Said contents output output_then (session_answer lack session said)
+    × (IsTrue starved ↔ Starves lack session said)
 
 -- the line was judged: its fault or its refusal is given, or none where its answer is neither
 abbrev pub SessionJudges : HostScript → ScriptLine → Option Reply → HostScript → Type 0
 SessionJudges old said fault new =
-    (session : Session) → SessionStandsFor old session → (refused : Bool)
-    × SessionStandsFor new (session_after refused session said)
-    × (fault ≡ session_fault refused session said)
+    (session : Session) → SessionStandsFor old session → (lack : Lack)
+    × SessionStandsFor new (session_after lack session said)
+    × (fault ≡ session_fault lack session said)

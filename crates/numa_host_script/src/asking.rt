@@ -1,17 +1,23 @@
 //! What a process answers: questions by a plan that is made of its space, and `maps` by the space.
-ghost use Rattle.std.specs.Prelude.{◌≡◌, [], Bool, List, false};
+ghost use Rattle.std.specs.Prelude.{◌≡◌, ℕ, [], Bool, List, MatchOption, false};
 ghost use Rattle.numa_lines.specs.Written.{Said};
 ghost use Rattle.numa_run.specs.Judged.{question_cause};
 ghost use Rattle.numa_run.specs.Questions.{question_text};
-ghost use Rattle.numa_run.specs.Ranges.{listing_of};
+ghost use Rattle.numa_run.specs.Listings.{there_listing};
+ghost use Rattle.numa_page_state.specs.Lying.{Process};
+ghost use Rattle.numa_page_state.specs.Standing.{LieThere};
+ghost use Rattle.numa_placed.specs.declared.spot.Spot.{Spot};
+ghost use Rattle.numa_placed.specs.declared.spot.Spot.TheVariants.{Nowhere};
 ghost use Rattle.numa_space.specs.Standing.{StandsFor};
 ghost use Rattle.numa_requests.specs.declared.command.Command.{Command};
 
 use numa_compile::compile;
 use numa_lines::Watched;
-use numa_maps::{Resident, write_maps};
+use numa_maps::Resident;
+use numa_page_state::PageState;
 use numa_requests::CoreRefusal;
 use numa_run::judging::{cause_at, refusal_by_plan};
+use numa_run::listing::say_there;
 use numa_run::questions::say_by_plan;
 use numa_script::Question;
 use numa_script::tell::{say_ranges, say_starved};
@@ -44,15 +50,25 @@ pub fn ask<W: Write>(
     starved
 }
 
-/// Lists the ranges of a space, with their policies for a task.
-pub fn list<W: Write>(alloc: Global, space: &Space, task: u32, output: &mut Watched<W>)
-    ensures { (history : List Command) → StandsFor space.now history
-        → Said W.contents output.old output.new (listing_of space.now.machine history task []) }
+/// Lists the ranges of a space, with their policies for a task and the pages that lie there.
+pub fn list<W: Write>(
+    alloc: Global,
+    space: &Space,
+    task: u32,
+    pages: Option<&PageState>,
+    output: &mut Watched<W>,
+)
+    ensures { (spots : ℕ → Spot) (history : List Command) (process : Process)
+        → StandsFor space.now history → process.machine ≡ space.now.machine
+        → process.history ≡ history → process.kept ≡ []
+        → MatchOption pages.entry ((page : ℕ) → spots page ≡ Nowhere)
+        (λ kept. LieThere kept.now spots)
+        → Said W.contents output.old output.new (there_listing process spots task) }
 {
     // Tells the proof that the ranges are in ascending order and maximal.
     let _ = space.range_iter();
     let resident = Resident::new(alloc);
-    let _ = write_maps(space, task, &resident, output);
+    say_there(space, task, &resident, pages, output);
 }
 
 /// The first cause that refuses a question about a space.

@@ -5,12 +5,12 @@ ghost use Rattle.numa_host.specs.Processes.{commands_of, is_there, members_of};
 ghost use Rattle.numa_run.specs.Answers.{State, after, answer_of, own_line};
 ghost use Rattle.numa_run.specs.Judged.{fault_of};
 ghost use Rattle.numa_run.specs.Replies.{outcome_of};
-ghost use Rattle.numa_run.specs.States.{LieNowhere};
 ghost use Rattle.numa_script.specs.declared.line.Line.{Line};
 ghost use Rattle.numa_script.specs.declared.line.Question.{Question};
 ghost use Rattle.numa_script.specs.declared.line.ScriptLine.{ScriptLine};
+ghost use Rattle.numa_host_script.specs.Paging.{pages_at};
 ghost use Rattle.numa_host_script.specs.Judged.{host_fault};
-ghost use Rattle.numa_host_script.specs.Sessions.{Hosting, Single, in_outcome, is_begin};
+ghost use Rattle.numa_host_script.specs.Sessions.{Hosting, Lack, Single, in_outcome, is_begin};
 ghost use Rattle.numa_host_script.specs.Sessions.{session_after, session_answer};
 ghost use Rattle.numa_host_script.specs.Standing.{told};
 
@@ -19,14 +19,14 @@ use numa_script::{Line, Question};
 /// Until a line `host` comes, each line is answered as in a script of one process, and leads to the
 /// same state.
 pub fn without_host()
-    ensures { (refused : Bool) (state : State) (said : ScriptLine) → is_begin said ≡ false
-        → (session_answer refused (Single state) said ≡ answer_of refused state (own_line said))
-        × (session_after refused (Single state) said
-        ≡ Single (after refused state (own_line said))) }
+    ensures { (lack : Lack) (state : State) (said : ScriptLine) → is_begin said ≡ false
+        → (session_answer lack (Single state) said ≡ answer_of lack.refused state (own_line said))
+        × (session_after lack (Single state) said
+        ≡ Single (after lack.refused state (own_line said))) }
 {}
 
 /// A process answers a question, and `maps`, as a script does that has accepted its commands, has
-/// placed no page, and was told of none where it lies.
+/// placed no page in a frame, and whose pages lie where those of the process do.
 pub fn process_answers()
     ensures asked { (refused : Bool) (at : Hosting) (process : ℕ) (state : State)
         (question : Question) → state.machine ≡ Some at.machine
@@ -37,7 +37,8 @@ pub fn process_answers()
     ensures listed { (refused : Bool) (at : Hosting) (process : ℕ) (state : State) (task : ℕ)
         → state.machine ≡ Some at.machine
         → state.world.history ≡ commands_of at.machine at.history process
-        → state.resident ≡ [] → LieNowhere state
+        → state.resident ≡ [] → state.lying.spots ≡ (pages_at at process).spots
+        → state.bounds ≡ at.bounds
         → is_there (members_of at.history) process ≡ true
         → (in_outcome refused at process (Line.Maps task)).answer
         ≡ (outcome_of refused state (Line.Maps task)).answer }
@@ -45,10 +46,10 @@ pub fn process_answers()
 
 /// A question of a process is judged as by a script that has accepted its commands.
 pub fn process_judged()
-    ensures { (refused : Bool) (at : Hosting) (process : ℕ) (state : State)
+    ensures { (lack : Lack) (at : Hosting) (process : ℕ) (state : State)
         (question : Question) → state.machine ≡ Some at.machine
         → state.world.history ≡ commands_of at.machine at.history process
         → is_there (members_of at.history) process ≡ true
-        → host_fault refused at (told process (Line.Question question))
-        ≡ fault_of refused state (Line.Question question) }
+        → host_fault lack at (told process (Line.Question question))
+        ≡ fault_of lack.refused state (Line.Question question) }
 {}

@@ -1,29 +1,33 @@
 //! Running scripts that may become a host's.
-ghost use Rattle.std.specs.Prelude.{◌≡◌, ◌↔◌, ℕ, Bool, true, false, IfSome, IsTrue};
-ghost use Rattle.std.specs.Prelude.{MatchOption, None, Some};
+ghost use Rattle.std.specs.Prelude.{◌≡◌, ◌↔◌, ℕ, IsTrue, MatchOption, None, Ok, Some, false};
 ghost use Rattle.numa_lines.specs.Written.{Said};
-ghost use Rattle.numa_host_script.specs.Sessions.{Session, begun, bounds_after, is_begin, is_fresh};
-ghost use Rattle.numa_host_script.specs.Sessions.{session_answer, session_by};
+ghost use Rattle.numa_host_script.specs.Hosts.{Lack, plenty};
 ghost use Rattle.numa_host_script.specs.Judged.{Starves, session_fault};
-ghost use Rattle.numa_host_script.specs.Standing.{IsAlone, IsHost, IsHostIn, IsScriptIn, told};
+ghost use Rattle.numa_host_script.specs.Sessions.{Session, begun, is_begin, session_answer};
+ghost use Rattle.numa_host_script.specs.Sessions.{session_by};
+ghost use Rattle.numa_host_script.specs.Standing.{ArePagesOf, IsAlone, IsBare, IsHost, IsHostIn};
+ghost use Rattle.numa_host_script.specs.Standing.{IsScriptIn, told};
 ghost use Rattle.numa_host_script.specs.Taking.{SessionJudges, SessionServes, SessionStandsFor};
 ghost use Rattle.numa_host_script.specs.Taking.{SessionTakes, SessionTells, SessionWrites};
-ghost use Rattle.numa_host_script.specs.Taking.{misplaced_reply};
-ghost use Rattle.numa_run.specs.Answers.{State};
 ghost use Rattle.numa_run.specs.Replies.{reply_in};
-ghost use Rattle.numa_run.specs.Scripts.{ScriptStandsFor};
-ghost use Rattle.numa_script.specs.Lines.{alone};
+ghost use Rattle.numa_script.specs.declared.line.Line.{Line};
+ghost use Rattle.numa_script.specs.declared.page_line.PageLine.{PageLine};
 
 use crate::asking::{ask, list, question_cause};
+use crate::lines::{fresh_machine, is_begin, limits_after, misplaced, plain_question};
+use crate::running::RunningHost;
 use crate::taking::{HostTaken, take};
+use crate::telling::{say_arrived_in, say_last_in, say_rooms_in};
 use numa_host::Host;
+use numa_host_pages::HostPages;
 use numa_lines::{Serve, Watched};
-use numa_machine::{Machine, Rules};
+use numa_machine::Rules;
+use numa_page_state::PageState;
 use numa_requests::{HostRefusal, Limits};
 use numa_run::{Script, Taken};
 use numa_script::line::{malformed, parse_over};
 use numa_script::tell::say_reply;
-use numa_script::{Line, Question, Reply, ScriptLine};
+use numa_script::{Question, Reply, ScriptLine};
 use std::alloc::Global;
 use std::io::Write;
 
@@ -32,7 +36,7 @@ pub struct HostScript {
     script: Script,
     // The limits of the script's machine, or of the one to come.
     limits: Limits,
-    host: Option<Host>,
+    host: Option<RunningHost>,
 }
 
 // (By hand, so that it is proved here alone: what is derived is proved in each crate that drops.)
@@ -45,84 +49,6 @@ impl Drop for HostScript {
         } = self;
         drop(script);
         drop(host);
-    }
-}
-
-/// Whether a line is `host`.
-#[inline(always)]
-fn is_begin(said: &ScriptLine<'_>) -> bool
-    ensures { result ≡ is_begin said.now }
-{
-    if let Some(_) = said.process {
-        return false;
-    }
-    match &said.line {
-        Line::Host => true,
-        _ => false,
-    }
-}
-
-/// The question of a line that names no process.
-#[inline(always)]
-fn plain_question(said: &ScriptLine<'_>) -> Option<Question>
-    ensures { IfSome result (λ asked. said.now ≡ alone (Line.Question asked)) }
-{
-    if let Some(_) = said.process {
-        return None;
-    }
-    match &said.line {
-        Line::Question(question) => Some(*question),
-        _ => None,
-    }
-}
-
-/// The machine of a script, if it is ready and no command is accepted yet.
-fn fresh_machine(script: &Script) -> Option<&Machine>
-    ensures { (state : State) → ScriptStandsFor script.now state → MatchOption result
-        (is_fresh state ≡ false) (λ machine. (state.machine ≡ Some machine.now)
-        × (is_fresh state ≡ true)) }
-{
-    let core = script.core()?;
-    if core.space().version() > 0 {
-        return None;
-    }
-    Some(core.space().machine())
-}
-
-/// The limits after a line of one process.
-fn limits_after(script: &Script, limits: Limits, line: &Line<'_>) -> Limits
-    ensures { (state : State) → ScriptStandsFor script.now state
-        → result ≡ bounds_after state.machine limits line.now }
-{
-    if let Some(_) = script.core() {
-        return limits;
-    }
-    let Line::Limits {
-        ranges,
-        tasks,
-        commands,
-    } = line
-    else {
-        return limits;
-    };
-    match Limits::new(*ranges, *tasks, *commands) {
-        Some(given) => given,
-        None => limits,
-    }
-}
-
-/// The reply to what was taken of a line of one process, if it isn't a reply, where there is a
-/// host.
-fn misplaced(taken: Taken) -> Reply
-    ensures { result ≡ misplaced_reply taken }
-{
-    match taken {
-        Taken::Reply(reply) => reply,
-        Taken::Question(_) => Reply::BadState,
-        Taken::Maps(_) => Reply::BadState,
-        Taken::Moved => Reply::BadState,
-        Taken::Rooms => Reply::BadState,
-        Taken::Arrived => Reply::BadState,
     }
 }
 
@@ -143,9 +69,9 @@ impl HostScript {
     #[cold]
     #[inline(never)]
     fn begin(&mut self, alloc: Global) -> Reply
-        ensures { (session : Session) → SessionStandsFor self.old session → (refused : Bool)
-            × SessionStandsFor self.new (begun refused session).session
-            × (Some result ≡ reply_in (begun refused session).answer) }
+        ensures { (session : Session) → SessionStandsFor self.old session → (lack : Lack)
+            × SessionStandsFor self.new (begun lack.refused session).session
+            × (Some result ≡ reply_in (begun lack.refused session).answer) }
     {
         if let Some(_) = &self.host {
             return Reply::BadState;
@@ -156,7 +82,12 @@ impl HostScript {
         let Ok(copy) = machine.copy(alloc) else {
             return Reply::HostRefused(HostRefusal::NoMemory);
         };
-        drop(self.host.replace(Host::new(alloc, copy, self.limits)));
+        let Ok(pages) = HostPages::new(alloc) else {
+            drop(copy);
+            return Reply::HostRefused(HostRefusal::NoMemory);
+        };
+        let host = Host::new(alloc, copy, self.limits);
+        drop(self.host.replace(RunningHost { host, pages }));
         Reply::HostReady
     }
 
@@ -169,8 +100,8 @@ impl HostScript {
         if is_begin(said) {
             return HostTaken::Reply(self.begin(alloc));
         }
-        if let Some(host) = &mut self.host {
-            return take(host, said);
+        if let Some(running) = &mut self.host {
+            return take(running, alloc, said);
         }
         if let Some(_) = said.process {
             return HostTaken::Reply(Reply::BadWords);
@@ -233,6 +164,12 @@ impl HostScript {
                 self.list(alloc, process, task, output);
                 false
             }
+            HostTaken::Moved(process) => {
+                self.tell_last(process, output);
+                false
+            }
+            HostTaken::Rooms => self.write_own(alloc, Taken::Rooms, output),
+            HostTaken::Arrived(process) => self.tell_arrived(alloc, process, output),
         }
     }
 
@@ -242,8 +179,11 @@ impl HostScript {
         ensures { SessionWrites W.contents self.old output.old (HostTaken.Own taken) result
             self.new output.new }
     {
-        if let Some(_) = &self.host {
-            let reply = misplaced(taken);
+        if let Some(running) = &self.host {
+            let Some(reply) = misplaced(taken) else {
+                say_rooms_in(running, output);
+                return false;
+            };
             say_reply(output, &reply);
             return reply.lacks_memory();
         }
@@ -259,16 +199,16 @@ impl HostScript {
         question: Question,
         output: &mut Watched<W>,
     ) -> bool
-        ensures { (session : Session) → SessionStandsFor self.now session → (refused : Bool)
+        ensures { (session : Session) → SessionStandsFor self.now session → (lack : Lack)
             × Said W.contents output.old output.new
-            (session_answer refused session (told process (Line.Question question)))
-            × (IsTrue result ↔ (Starves refused session (told process (Line.Question question)))) }
+            (session_answer lack session (told process (Line.Question question)))
+            × (IsTrue result ↔ (Starves lack session (told process (Line.Question question)))) }
     {
-        let Some(host) = &self.host else {
+        let Some(running) = &self.host else {
             say_reply(output, &Reply::BadWords);
             return false;
         };
-        let Some(space) = host.process(process) else {
+        let Some(space) = running.host.process(process) else {
             say_reply(output, &Reply::HostRefused(HostRefusal::NoSuchProcess));
             return false;
         };
@@ -280,17 +220,53 @@ impl HostScript {
     fn list<W: Write>(&self, alloc: Global, process: u32, task: u32, output: &mut Watched<W>)
         ensures { (session : Session) → SessionStandsFor self.now session
             → Said W.contents output.old output.new
-            (session_answer false session (told process (Line.Maps task))) }
+            (session_answer plenty session (told process (Line.Maps task))) }
     {
-        let Some(host) = &self.host else {
+        let Some(running) = &self.host else {
             say_reply(output, &Reply::BadWords);
             return;
         };
-        let Some(space) = host.process(process) else {
+        let Some(space) = running.host.process(process) else {
             say_reply(output, &Reply::HostRefused(HostRefusal::NoSuchProcess));
             return;
         };
-        list(alloc, space, task, output);
+        list(alloc, space, task, running.pages.pages_of(process), output);
+    }
+
+    /// Writes what the last move of a process did.
+    #[inline(never)]
+    fn tell_last<W: Write>(&self, process: u32, output: &mut Watched<W>)
+        ensures { (session : Session) → SessionStandsFor self.now session
+            → Said W.contents output.old output.new
+            (session_answer plenty session (told process (Line.Pages (Ok PageLine.Moved)))) }
+    {
+        let Some(running) = &self.host else {
+            say_reply(output, &Reply::BadWords);
+            return;
+        };
+        let Some(_) = running.host.process(process) else {
+            say_reply(output, &Reply::HostRefused(HostRefusal::NoSuchProcess));
+            return;
+        };
+        say_last_in(running, process, output);
+    }
+
+    /// Writes what the last first touches of a process did.
+    #[inline(never)]
+    fn tell_arrived<W: Write>(
+        &mut self,
+        alloc: Global,
+        process: u32,
+        output: &mut Watched<W>,
+    ) -> bool
+        ensures { SessionWrites W.contents self.old output.old (HostTaken.Arrived process) result
+            self.new output.new }
+    {
+        if let Some(running) = &self.host {
+            say_arrived_in(running, process, output);
+            return false;
+        }
+        self.script.write(alloc, Taken::Arrived, output)
     }
 
     /// The error or the refusal of a line that was taken; `None` if its answer is neither. A
@@ -303,6 +279,9 @@ impl HostScript {
             HostTaken::Reply(reply) => reply.fault(),
             HostTaken::Asked { process, question } => self.asked_fault(alloc, process, question),
             HostTaken::Listed { process, task: _ } => self.listed_fault(process),
+            HostTaken::Moved(process) => self.listed_fault(process),
+            HostTaken::Rooms => self.own_fault(Taken::Rooms),
+            HostTaken::Arrived(_) => self.arrived_fault(),
         }
     }
 
@@ -311,20 +290,34 @@ impl HostScript {
         ensures { SessionTells self.old (HostTaken.Own taken) result self.new }
     {
         if let Some(_) = &self.host {
-            return misplaced(taken).fault();
+            let Some(reply) = misplaced(taken) else {
+                return None;
+            };
+            return reply.fault();
         }
         self.script.fault(taken)
     }
 
+    /// The error or the refusal of a line that touched pages of a process: none in a host.
+    fn arrived_fault(&mut self) -> Option<Reply>
+        ensures { (process : ℕ) → SessionTells self.old (HostTaken.Arrived process) result
+            self.new }
+    {
+        if let Some(_) = &self.host {
+            return None;
+        }
+        self.script.fault(Taken::Arrived)
+    }
+
     /// The error or the refusal of a question of a process.
     fn asked_fault(&self, alloc: Global, process: u32, question: Question) -> Option<Reply>
-        ensures { (session : Session) → SessionStandsFor self.now session → (refused : Bool)
-            × (result ≡ session_fault refused session (told process (Line.Question question))) }
+        ensures { (session : Session) → SessionStandsFor self.now session → (lack : Lack)
+            × (result ≡ session_fault lack session (told process (Line.Question question))) }
     {
-        let Some(host) = &self.host else {
+        let Some(running) = &self.host else {
             return Some(Reply::BadWords);
         };
-        let Some(space) = host.process(process) else {
+        let Some(space) = running.host.process(process) else {
             return Some(Reply::HostRefused(HostRefusal::NoSuchProcess));
         };
         match question_cause(alloc, space, question) {
@@ -333,15 +326,17 @@ impl HostScript {
         }
     }
 
-    /// The error or the refusal of a listing of a process.
+    /// The error or the refusal of a listing of a process, or of what its last move did.
     fn listed_fault(&self, process: u32) -> Option<Reply>
-        ensures { (session : Session) (task : ℕ) → SessionStandsFor self.now session
-            → result ≡ session_fault false session (told process (Line.Maps task)) }
+        ensures listed { (session : Session) (task : ℕ) → SessionStandsFor self.now session
+            → result ≡ session_fault plenty session (told process (Line.Maps task)) }
+        ensures moved { (session : Session) → SessionStandsFor self.now session → result
+            ≡ session_fault plenty session (told process (Line.Pages (Ok PageLine.Moved))) }
     {
-        let Some(host) = &self.host else {
+        let Some(running) = &self.host else {
             return Some(Reply::BadWords);
         };
-        match host.process(process) {
+        match running.host.process(process) {
             None => Some(Reply::HostRefused(HostRefusal::NoSuchProcess)),
             Some(_) => None,
         }
@@ -400,7 +395,19 @@ impl HostScript {
         ensures { (session : Session) → SessionStandsFor self.now session
             → MatchOption result (IsAlone session) (λ host. IsHostIn host.now session) }
     {
-        self.host.as_ref()
+        let running = self.host.as_ref()?;
+        Some(&running.host)
+    }
+
+    /// Where the pages of a process of a host lie, if something is kept of them.
+    pub fn pages_of(&self, process: u32) -> Option<&PageState>
+        ensures { (session : Session) → SessionStandsFor self.now session → MatchOption result
+            (IsBare process session) (λ kept. ArePagesOf kept.now process session) }
+    {
+        let Some(running) = &self.host else {
+            return None;
+        };
+        running.pages.pages_of(process)
     }
 
     /// Carries out a line, as `serve_line`, and returns what is wrong with it: `Some` exactly if
@@ -415,18 +422,18 @@ impl HostScript {
 }
 
 impl Serve for HostScript {
-    ghost use Rattle.std.specs.Prelude.{Bool, false};
+    ghost use Rattle.numa_host_script.specs.Hosts.{Lack, plenty};
     ghost use Rattle.numa_host_script.specs.Sessions.{Session, session_after_bytes};
     ghost use Rattle.numa_host_script.specs.Sessions.{session_answer_to};
     ghost use Rattle.numa_host_script.specs.Taking.{SessionStandsFor};
 
     ghost State = { Session };
 
+    ghost Lack = { Lack };
+
+    ghost plenty = { plenty };
+
     ghost stands_for = { SessionStandsFor };
-
-    ghost Lack = { Bool };
-
-    ghost plenty = { false };
 
     ghost answer_of = { session_answer_to };
 

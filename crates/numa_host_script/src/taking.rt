@@ -1,15 +1,20 @@
 //! Carrying out the lines of a host.
 ghost use Rattle.std.specs.Prelude.{◌≡◌, Ok, Option};
 ghost use Rattle.numa_host_script.specs.Sessions.{command_outcome, given_outcome, host_command_of};
-ghost use Rattle.numa_host_script.specs.Sessions.{own_outcome, plain_reply};
+ghost use Rattle.numa_host_script.specs.Sessions.{own_where, plain_reply};
+ghost use Rattle.numa_script.specs.Lines.{alone};
 ghost use Rattle.numa_host_script.specs.Standing.{Replies, Takes, told};
 ghost use Rattle.numa_run.specs.Replies.{bind_nothing};
 
-use numa_host::Host;
+use crate::binding::bind;
+use crate::paging::{give, own_page, pages_in};
+use crate::running::RunningHost;
+use numa_host_pages::obey;
 use numa_requests::{Command, HostCommand};
 use numa_run::Taken;
 use numa_script::commands::empty_bind;
 use numa_script::{Line, Question, Reply, ScriptLine, WordError};
+use std::alloc::Global;
 
 /// What a line came to: it has been carried out, or its answer shows what is.
 #[derive(Drop)]
@@ -22,49 +27,44 @@ pub enum HostTaken {
     Asked { process: u32, question: Question },
     /// The ranges of a process are still to be listed, for a task.
     Listed { process: u32, task: u32 },
+    /// What the last move of a process did is still to be told.
+    Moved(u32),
+    /// How many more pages nodes take is still to be told.
+    Rooms,
+    /// Pages of a process were touched, and what came of it is still to be told.
+    Arrived(u32),
 }
 
-/// Carries out a command.
-fn obey(host: &mut Host, command: &HostCommand) -> Reply
-    ensures { Replies host.old result host.new
-        (λ refused at. command_outcome refused at command.now) }
+/// Carries out a command of the host.
+fn obey_host(running: &mut RunningHost, command: &HostCommand) -> Reply
+    ensures { Replies running.old result running.new
+        (λ lack at. command_outcome lack at command.now) }
 {
-    match host.apply(command) {
-        Ok(()) => Reply::Accepted(host.version()),
+    match obey(&mut running.host, &mut running.pages, command) {
+        Ok(()) => Reply::Accepted(running.host.version()),
         Err(refusal) => Reply::HostRefused(refusal),
     }
 }
 
-/// Carries out a command of a process, or tells what is wrong with its words.
-fn give(host: &mut Host, process: u32, said: Result<Command, WordError>) -> Reply
-    ensures { Replies host.old result host.new
-        (λ refused at. given_outcome refused at process said) }
-{
-    match said {
-        Ok(command) => obey(host, &HostCommand::In { process, command }),
-        Err(fault) => Reply::BadWord(fault),
-    }
-}
-
 /// Carries out an `mbind` of length 0 whose mode, flag and nodes are refused together.
-fn bind_nothing(host: &mut Host, process: u32, start: u64, fault: WordError) -> Reply
-    ensures { Replies host.old result host.new (λ refused at. given_outcome refused at process
-        (bind_nothing at.machine.rules start fault)) }
+fn bind_nothing(running: &mut RunningHost, process: u32, start: u64, fault: WordError) -> Reply
+    ensures { Replies running.old result running.new (λ lack at. given_outcome lack.refused at
+        process (bind_nothing at.machine.rules start fault)) }
 {
-    if host.machine().rules().is_linux() {
-        return give(host, process, Ok(empty_bind(start)));
+    if running.host.machine().rules().is_linux() {
+        return give(running, process, Ok(empty_bind(start)));
     }
-    give(host, process, Err(fault))
+    give(running, process, Err(fault))
 }
 
 /// Carries out a line of a process.
-fn take_in(host: &mut Host, process: u32, line: &Line<'_>) -> HostTaken
-    ensures { Takes host.old (told process line.now) result host.new }
+fn take_in(running: &mut RunningHost, alloc: Global, process: u32, line: &Line<'_>) -> HostTaken
+    ensures { Takes running.old (told process line.now) result running.new }
 {
     match line {
-        Line::Command(said) => HostTaken::Reply(give(host, process, *said)),
+        Line::Command(said) => HostTaken::Reply(give(running, process, *said)),
         Line::EmptyBind { start, fault } => {
-            HostTaken::Reply(bind_nothing(host, process, *start, *fault))
+            HostTaken::Reply(bind_nothing(running, process, *start, *fault))
         }
         Line::Question(question) => HostTaken::Asked {
             process,
@@ -74,8 +74,13 @@ fn take_in(host: &mut Host, process: u32, line: &Line<'_>) -> HostTaken
             process,
             task: *task,
         },
-        Line::Pages(_) => HostTaken::Reply(Reply::BadWords),
-        Line::Bind { .. } => HostTaken::Reply(Reply::BadWords),
+        Line::Pages(said) => pages_in(running, alloc, process, said),
+        Line::Bind {
+            start,
+            length,
+            policy,
+            pages,
+        } => HostTaken::Reply(bind(running, alloc, process, *start, *length, policy, pages)),
         _ => HostTaken::Reply(Reply::BadState),
     }
 }
@@ -107,24 +112,38 @@ fn plain_reply(line: &Line<'_>) -> Reply
     }
 }
 
-/// Carries out a line that names no process.
-fn take_own(host: &mut Host, line: &Line<'_>) -> Reply
-    ensures { Replies host.old result host.new (λ refused at. own_outcome refused at line.now) }
+/// Carries out a line that names no process and isn't about pages.
+fn reply_own(running: &mut RunningHost, line: &Line<'_>) -> Reply
+    ensures { Replies running.old result running.new
+        (λ lack at. own_where (host_command_of line.now) lack at line.now) }
 {
     match host_command_of(line) {
-        Some(Ok(command)) => obey(host, &command),
+        Some(Ok(command)) => obey_host(running, &command),
         Some(Err(fault)) => Reply::BadWord(fault),
         None => plain_reply(line),
     }
 }
 
+/// Carries out a line that names no process.
+fn take_own(running: &mut RunningHost, line: &Line<'_>) -> HostTaken
+    ensures { Takes running.old (alone line.now) result running.new }
+{
+    match line {
+        Line::Pages(said) => match said {
+            Ok(shown) => own_page(running, shown),
+            Err(_) => HostTaken::Reply(reply_own(running, line)),
+        },
+        _ => HostTaken::Reply(reply_own(running, line)),
+    }
+}
+
 /// Carries out a line.
 #[inline(never)]
-pub(crate) fn take(host: &mut Host, said: &ScriptLine<'_>) -> HostTaken
-    ensures { Takes host.old said.now result host.new }
+pub(crate) fn take(running: &mut RunningHost, alloc: Global, said: &ScriptLine<'_>) -> HostTaken
+    ensures { Takes running.old said.now result running.new }
 {
     match said.process {
-        Some(process) => take_in(host, process, &said.line),
-        None => HostTaken::Reply(take_own(host, &said.line)),
+        Some(process) => take_in(running, alloc, process, &said.line),
+        None => take_own(running, &said.line),
     }
 }

@@ -2,16 +2,16 @@
 use Rattle.std.specs.Prelude.{◌≡◌, ℕ, Bool, List, Result, Ok, Err}
 use Rattle.numa_lines.specs.Output.{output_of}
 use Rattle.numa_machine.specs.declared.rules.Rules.TheVariants.{Document}
-use Rattle.numa_host_script.specs.Sessions.{session_after_bytes, session_answer_to, session_by}
+use Rattle.numa_host_script.specs.Sessions.{Lack, session_after_bytes, session_answer_to, session_by}
 use Rattle.numaplan_handles.specs.declared.dialog.LineRefusal.{LineRefusal}
 use Rattle.numaplan_handles.specs.declared.dialog.LineRefusal.TheVariants as refused
 
--- the answers to a whole script, where some of its lines were refused a growth
+-- the answers to a whole script, where memory lacked for some of its lines
 abbrev pub AreAnswers : List ℕ → List ℕ → Type 0
 AreAnswers script answers =
-    (growth_refused : ℕ → Bool)
+    (lacks : ℕ → Lack)
     × (answers ≡ output_of session_answer_to session_after_bytes (session_by Document)
-    growth_refused script)
+    lacks script)
 
 abbrev pub line_code : Result ℕ LineRefusal → ℕ
 line_code (Ok count) = 0

@@ -3,7 +3,7 @@ use Rattle.std.specs.Prelude.{◌≡◌, ℕ, Bool, List, [], length}
 use Rattle.std.specs.Prelude.{Option, Some, None, Result, Ok, Err}
 use Rattle.numaplan_handles.specs.Room.{Copies}
 use Rattle.numa_machine.specs.declared.rules.Rules.{Rules}
-use Rattle.numa_host_script.specs.Sessions.{Session, session_after_bytes, session_answer_to}
+use Rattle.numa_host_script.specs.Sessions.{Lack, Session, session_after_bytes, session_answer_to}
 use Rattle.numa_host_script.specs.Sessions.{session_by}
 use Rattle.numa_host_script.specs.Standing.{StandsIn}
 use Rattle.numa_host_script.specs.declared.script.HostScript.{HostScript}
@@ -24,9 +24,9 @@ IsFresh rules dialog = IsAt dialog.script (session_by rules) × (dialog.answer.i
 abbrev pub IsServed : Dialog → List ℕ → Dialog → (List ℕ → Type 0) → Type 0
 IsServed before line later told =
     (session : Session) → IsAt before.script session
-    → (growth_refused : Bool)
-    × IsAt later.script (session_after_bytes growth_refused session line)
-    × told (session_answer_to growth_refused session line)
+    → (lack : Lack)
+    × IsAt later.script (session_after_bytes lack session line)
+    × told (session_answer_to lack session line)
 
 -- the line was served, and its answer is kept, which is so long; or there was no memory for it and
 -- nothing has changed; or it was served, there was no memory for the whole answer, and none is kept

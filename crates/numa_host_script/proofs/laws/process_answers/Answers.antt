@@ -1,9 +1,8 @@
 use Rattle.std.proofs.Common.{Bool, Option, refl, sym, ap, ◌∙◌}
 use Rattle.numa_machine.specs.Machine.{Hardware}
 use Rattle.numa_script.specs.declared.line.Line.TheVariants as line
-use Rattle.numa_run.specs.Ranges.{listing_of}
+use Rattle.numa_run.specs.Listings.{there_listing}
 use Rattle.numa_run.specs.Replies.{Shown, outcome_of, served_by}
-use Rattle.numa_run.proofs.Nowhere.{listing-alone}
 use Rattle.numa_host_script.specs.Sessions.{listed_where}
 use Rattle.numa_host_script.proofs.laws.process_answers.Goals as goal
 
@@ -14,9 +13,13 @@ returns-clause-asked c = λ refused at process state question machine history th
 
 pub returns-clause-listed : goal.returns-clause-listed
 unfolding outcome_of
-returns-clause-listed c = λ refused at process state task machine history placed nowhere there.
+returns-clause-listed c = λ refused at process state task machine history placed lie bounds there.
     ap (λ (b : Bool). (listed_where b at process task).answer) there
-    ∙ (λ i. Shown (listing_of at.machine (sym history i) task (sym placed i)))
-    ∙ ap Shown (sym (listing-alone at.machine state task nowhere))
+    ∙ (λ i. Shown (there_listing (record {
+      machine = at.machine;
+      bounds = sym bounds i;
+      history = sym history i;
+      kept = sym placed i;
+    }) (sym lie i) task))
     ∙ sym (ap (λ (m : Option Hardware). (served_by m refused state (line.Maps task)).answer)
     machine)

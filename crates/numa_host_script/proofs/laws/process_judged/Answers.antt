@@ -4,5 +4,5 @@ use Rattle.numa_host_script.proofs.laws.process_judged.Goals as goal
 
 pub returns : goal.returns
 unfolding outcome_of
-returns c = λ refused at process state question machine history there.
+returns c = λ lack at process state question machine history there.
     rw (there, machine, history) refl

@@ -5,9 +5,9 @@ use Rattle.numa_host_script.proofs.streams.run_by.Goals as goal
 
 pub serve_script-requires : goal.serve_script-requires
 serve_script-requires g c = record {
-  enough = λ refused session line. (
-    ap (session_answer refused session) (line_of_seen line),
-    ap (session_after refused session) (line_of_seen line),
+  enough = λ lack session line. (
+    ap (session_answer lack session) (line_of_seen line),
+    ap (session_after lack session) (line_of_seen line),
   );
 }
 

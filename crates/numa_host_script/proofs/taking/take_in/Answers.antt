@@ -1,4 +1,4 @@
-use Rattle.numa_host_script.proofs.Taken.{asked-taken, listed-taken}
+use Rattle.numa_host_script.proofs.Taken.{asked-taken, in-nothing, listed-taken}
 use Rattle.numa_host_script.proofs.taking.take_in.Goals as goal
 
 pub returns-in-Command : goal.returns-in-Command
@@ -9,8 +9,20 @@ returns-in-EmptyBind c = rw c.in-EmptyBind.is c.bind_nothing.ensures
 
 pub returns-in-Question : goal.returns-in-Question
 returns-in-Question c =
-    rw c.in-Question.is (asked-taken c.args.host.now c.args.process c.in-Question.question)
+    rw c.in-Question.is (asked-taken c.args.running.now c.args.process c.in-Question.question)
 
 pub returns-in-Maps : goal.returns-in-Maps
 returns-in-Maps c =
-    rw c.in-Maps.is (listed-taken c.args.host.now c.args.process c.in-Maps.task)
+    rw c.in-Maps.is (listed-taken c.args.running.now c.args.process c.in-Maps.task)
+
+pub returns-in-Pages : goal.returns-in-Pages
+returns-in-Pages c = rw c.in-Pages.is c.pages_in.ensures
+
+pub returns-in-Bind : goal.returns-in-Bind
+returns-in-Bind c = rw c.in-Bind.is c.bind.ensures
+
+pub returns-in_default : goal.returns-in_default
+returns-in_default c =
+    in-nothing c.args.running.now c.args.process c.args.line.now c.in_default.not-Command
+    c.in_default.not-EmptyBind c.in_default.not-Question c.in_default.not-Maps
+    c.in_default.not-Pages c.in_default.not-Bind

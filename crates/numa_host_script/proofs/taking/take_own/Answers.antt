@@ -1,13 +1,18 @@
-use Rattle.std.proofs.Common.{None, refl, false, sym, ◌∙◌}
-use Rattle.numa_host_script.specs.Sessions.{own_where, plain_reply}
-use Rattle.numa_host_script.proofs.Obeyed.{still}
-use Rattle.numa_host_script.proofs.Taken.{own-taken}
+use Rattle.std.proofs.Common.{Ok}
+use Rattle.numa_host_script.proofs.Taken.{is-other, own-taken}
 use Rattle.numa_host_script.proofs.taking.take_own.Goals as goal
 
-pub returns-in-None : goal.returns-in-None
-returns-in-None c =
-    rw c.plain_reply.ensures
-    (own-taken c.args.host.now c.args.host.now c.args.line.now _ None
-    (sym c.in-None.is ∙ c.host_command_of.ensures)
-    (still c.args.host.now c.args.host.now (plain_reply c.args.line.now)
-    (λ refused at. own_where None refused at c.args.line.now) false refl (λ at stands. refl)))
+pub returns-in-Ok : goal.returns-in-Ok
+returns-in-Ok c = rw (c.in-Pages.is, c.in-Ok.is) c.own_page.ensures
+
+pub returns-in-Err : goal.returns-in-Err
+returns-in-Err c =
+    own-taken c.args.running.now c.reply_own.new.running c.args.line.now c.reply_own.result
+    (rw (c.in-Pages.is, c.in-Err.is) tt) c.reply_own.ensures
+
+pub returns-in_default : goal.returns-in_default
+returns-in_default c =
+    own-taken c.args.running.now c.reply_own-in_default.new.running c.args.line.now
+    c.reply_own-in_default.result
+    (is-other c.args.line.now (λ shown. c.in_default.not-Pages (Ok shown)))
+    c.reply_own-in_default.ensures

@@ -14,7 +14,7 @@ returns-in_default-process g c =
     rw c.in-Some.is
     (λ session stands.
     asked-nobody g.W.Write.contents c.args.output.now c.say_reply-in_default-process.new.output
-    c.args.self.now.script c.args.self.now.limits c.in-Some.host c.args.process
+    c.args.self.now.script c.args.self.now.limits c.in-Some.running c.args.process
     c.args.question session c.say_reply-in_default-process.ensures
     c.in_default-process.ensures stands)
 
@@ -23,6 +23,6 @@ returns g c =
     rw c.in-Some.is
     (λ session stands.
     asked-there g.W.Write.contents c.args.output.now c.ask.new.output c.args.self.now.script
-    c.args.self.now.limits c.in-Some.host c.args.process c.args.question
+    c.args.self.now.limits c.in-Some.running c.args.process c.args.question
     c.in-Some-process.space.now c.ask.result session c.in-Some-process.ensures
     c.ask.ensures.answer c.ask.ensures.ranges stands)

@@ -13,14 +13,14 @@ pub returns-in_default-process : goal.returns-in_default-process
 returns-in_default-process c =
     rw c.in-Some.is
     (λ session stands.
-    told-nobody c.args.self.now.script c.args.self.now.limits c.in-Some.host c.args.process
+    told-nobody c.args.self.now.script c.args.self.now.limits c.in-Some.running c.args.process
     c.args.question session c.in_default-process.ensures stands)
 
 pub returns-in-None : goal.returns-in-None
 returns-in-None c =
     rw c.in-Some.is
     (λ session stands.
-    told-there c.args.self.now.script c.args.self.now.limits c.in-Some.host c.args.process
+    told-there c.args.self.now.script c.args.self.now.limits c.in-Some.running c.args.process
     c.args.question c.in-Some-process.space.now None session c.in-Some-process.ensures
     c.in-None.ensures stands)
 
@@ -28,6 +28,6 @@ pub returns-in-Some-question_cause : goal.returns-in-Some-question_cause
 returns-in-Some-question_cause c =
     rw c.in-Some.is
     (λ session stands.
-    told-there c.args.self.now.script c.args.self.now.limits c.in-Some.host c.args.process
+    told-there c.args.self.now.script c.args.self.now.limits c.in-Some.running c.args.process
     c.args.question c.in-Some-process.space.now (Some c.in-Some-question_cause.cause) session
     c.in-Some-process.ensures c.in-Some-question_cause.ensures stands)

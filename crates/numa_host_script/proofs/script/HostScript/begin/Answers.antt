@@ -1,11 +1,39 @@
 use Rattle.std.proofs.Common.{◌∙◌}
-use Rattle.numa_host_script.proofs.Taken.{begun-now}
+use Rattle.numa_host_script.proofs.Taken.{begun-already, begun-early, begun-now, begun-starved}
 use Rattle.numa_host_script.proofs.script.HostScript.begin.Goals as goal
+
+pub returns-in-Some : goal.returns-in-Some
+returns-in-Some c =
+    rw c.in-Some.is
+    (λ session stands.
+    begun-already c.args.self.now.script c.args.self.now.limits c.in-Some.field-0 session stands)
+
+pub returns-in_default-fresh_machine : goal.returns-in_default-fresh_machine
+returns-in_default-fresh_machine c =
+    rw c.in_default.is
+    (λ session stands.
+    begun-early c.args.self.now.script c.args.self.now.limits session stands
+    c.in_default-fresh_machine.ensures)
+
+pub returns-in_default-copy : goal.returns-in_default-copy
+returns-in_default-copy c =
+    rw c.in_default.is
+    (λ session stands.
+    begun-starved c.args.self.now.script c.args.self.now.limits
+    c.in-Some-fresh_machine.machine.now session stands c.in-Some-fresh_machine.ensures)
+
+pub returns-in_default-new : goal.returns-in_default-new
+returns-in_default-new c =
+    rw c.in_default.is
+    (λ session stands.
+    begun-starved c.args.self.now.script c.args.self.now.limits
+    c.in-Some-fresh_machine.machine.now session stands c.in-Some-fresh_machine.ensures)
 
 pub returns : goal.returns
 returns c =
     rw (c.in_default.is, c.replace.ensures.after)
     (λ session stands.
     begun-now c.args.self.now.script c.args.self.now.limits c.in-Some-fresh_machine.machine.now
-    c.new.result session stands c.in-Some-fresh_machine.ensures
-    (c.new.ensures.machine ∙ c.in-Ok.ensures) c.new.ensures.bounds c.new.ensures.stands)
+    (record { host = c.new-host.result; pages = c.in-Ok-new.pages }) session stands
+    c.in-Some-fresh_machine.ensures (c.new-host.ensures.machine ∙ c.in-Ok.ensures)
+    c.new-host.ensures.bounds c.new-host.ensures.stands c.in-Ok-new.ensures)

@@ -1,3 +1,6 @@
+use Rattle.std.proofs.Common.{refl}
+use Rattle.numa_host_script.specs.Paging.{pages_at}
+use Rattle.numa_host_script.proofs.Told.{pages-there}
 use Rattle.numa_host_script.proofs.Written.{listed-foreign, listed-nobody, listed-there}
 use Rattle.numa_host_script.proofs.script.HostScript.list.Goals as goal
 
@@ -14,7 +17,7 @@ returns-in_default-process g c =
     rw c.in-Some.is
     (λ session stands.
     listed-nobody g.W.Write.contents c.args.output.now c.say_reply-in_default-process.new.output
-    c.args.self.now.script c.args.self.now.limits c.in-Some.host c.args.process
+    c.args.self.now.script c.args.self.now.limits c.in-Some.running c.args.process
     c.args.task session c.say_reply-in_default-process.ensures c.in_default-process.ensures stands)
 
 pub returns : goal.returns
@@ -22,5 +25,9 @@ returns g c =
     rw c.in-Some.is
     (λ session stands.
     listed-there g.W.Write.contents c.args.output.now c.list.new.output c.args.self.now.script
-    c.args.self.now.limits c.in-Some.host c.args.process c.args.task
-    c.in-Some-process.space.now session c.in-Some-process.ensures c.list.ensures stands)
+    c.args.self.now.limits c.in-Some.running c.args.process c.args.task
+    c.in-Some-process.space.now session c.in-Some-process.ensures
+    (λ at runs one there machine kept.
+    c.list.ensures (pages_at at c.args.process).spots one.history one there machine refl kept
+    (pages-there c.pages_of.result c.args.process at.lying
+    (c.pages_of.ensures at.lying runs.lies))) stands)

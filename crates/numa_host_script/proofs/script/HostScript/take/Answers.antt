@@ -13,7 +13,7 @@ returns-in-Some c =
     rw c.in-Some.is
     (λ session stands.
     taken-hosted c.args.self.now.script c.args.self.now.limits c.args.said.now c.take.result
-    c.in-Some.host c.take.new.host session (sym c.is_begin.ensures ∙ c.if-is_begin.false)
+    c.in-Some.running c.take.new.running session (sym c.is_begin.ensures ∙ c.if-is_begin.false)
     c.take.ensures stands)
 
 pub returns-in-Some-process : goal.returns-in-Some-process

@@ -1,4 +1,5 @@
-use Rattle.numa_host_script.proofs.Written.{written-asked, written-listed, written-reply}
+use Rattle.numa_host_script.proofs.Written.{written-asked, written-listed, written-moved}
+use Rattle.numa_host_script.proofs.Written.{written-reply}
 use Rattle.numa_host_script.proofs.script.HostScript.write.Goals as goal
 
 pub returns-in-Own : goal.returns-in-Own
@@ -27,3 +28,17 @@ returns-in-Listed g c =
     written-listed g.W.Write.contents c.args.output.now c.list.new.output
     c.args.self.now.script c.args.self.now.limits c.args.self.now.host c.in-Listed.process
     c.in-Listed.task session (c.list.ensures session stands) stands)
+
+pub returns-in-Moved : goal.returns-in-Moved
+returns-in-Moved g c =
+    rw c.in-Moved.is
+    (λ session stands.
+    written-moved g.W.Write.contents c.args.output.now c.tell_last.new.output
+    c.args.self.now.script c.args.self.now.limits c.args.self.now.host c.in-Moved.process
+    session (c.tell_last.ensures session stands) stands)
+
+pub returns-in-Rooms : goal.returns-in-Rooms
+returns-in-Rooms g c = rw c.in-Rooms.is c.write_own-in-Rooms.ensures
+
+pub returns-in-Arrived : goal.returns-in-Arrived
+returns-in-Arrived g c = rw c.in-Arrived.is c.tell_arrived.ensures

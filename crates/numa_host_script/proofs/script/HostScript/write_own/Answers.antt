@@ -1,14 +1,24 @@
-use Rattle.numa_host_script.proofs.Written.{written-misplaced, written-own}
+use Rattle.std.proofs.Common.{◌∙◌, sym}
+use Rattle.numa_host_script.proofs.Written.{written-misplaced, written-own, written-rooms}
 use Rattle.numa_host_script.proofs.script.HostScript.write_own.Goals as goal
+
+pub returns-in_default-misplaced : goal.returns-in_default-misplaced
+returns-in_default-misplaced g c =
+    rw c.in-Some.is
+    (λ session stands.
+    written-rooms g.W.Write.contents c.args.output.now c.say_rooms_in.new.output
+    c.args.self.now.script c.args.self.now.limits c.in-Some.running c.args.taken session
+    (sym c.in_default-misplaced.is ∙ c.misplaced.ensures) c.say_rooms_in.ensures stands)
 
 pub returns-in-Some : goal.returns-in-Some
 returns-in-Some g c =
     rw c.in-Some.is
     (λ session stands.
     written-misplaced g.W.Write.contents c.args.output.now c.say_reply.new.output
-    c.args.self.now.script c.args.self.now.limits c.in-Some.field-0 c.args.taken
-    c.misplaced-reply.result c.lacks_memory.result session c.misplaced-reply.ensures
-    c.say_reply.ensures c.lacks_memory.ensures stands)
+    c.args.self.now.script c.args.self.now.limits c.in-Some.running c.args.taken
+    c.in-Some-misplaced.reply c.lacks_memory.result session
+    (sym c.in-Some-misplaced.is ∙ c.misplaced.ensures) c.say_reply.ensures
+    c.lacks_memory.ensures stands)
 
 pub returns : goal.returns
 returns g c =

@@ -1,0 +1,382 @@
+-- What an `mbind .. move` of a process makes of a host that answers it, and of where its pages lie.
+use Rattle.std.proofs.Common.{◌≡◌, ℕ, suc, Bool, true, false, Option, Some, None, Result, Ok, Err}
+use Rattle.std.proofs.Common.{List, [], ◌∷◌, length, refl, sym, ap, subst, ◌∙◌, inl, inr, is_some}
+use Rattle.std.proofs.lemmas.Bool.{cases_Bool}
+use Rattle.std.specs.Prelude.{Box}
+use Rattle.std.specs.Global.{Global}
+use Rattle.numa_space.specs.Standing.{SpaceState, StandsFor}
+use Rattle.numa_placed.specs.Spots.{too_many}
+use Rattle.numa_placed.specs.declared.spot.Spot.{Spot}
+use Rattle.numa_requests.specs.declared.command.Command.{Command}
+use Rattle.numa_requests.specs.declared.host_command.HostCommand.{HostCommand}
+use Rattle.numa_requests.specs.declared.host_command.HostCommand.TheVariants.{In}
+use Rattle.numa_requests.specs.declared.host_refusal.HostRefusal.{HostRefusal}
+use Rattle.numa_requests.specs.declared.page_refusal.PlacedRefusal.{PlacedRefusal}
+use Rattle.numa_requests.specs.declared.page_refusal.PlacedRefusal.TheVariants as cause
+use Rattle.numa_requests.specs.declared.refusal.Refusal.{Refusal}
+use Rattle.numa_host.specs.Processes.{commands_of, is_there, members_of}
+use Rattle.numa_host.specs.Standing.{HostState, HostStandsFor, IsHostApplied, IsSpaceOf}
+use Rattle.numa_host_pages.specs.Homes.{HostLying, given_back, lent, pages_in}
+use Rattle.numa_host_pages.specs.Homes.{with_pages}
+use Rattle.numa_host_pages.specs.Standing.{AreOf, HostLies, IsLent}
+use Rattle.numa_host_pages.specs.declared.pages.HostPages.{HostPages}
+use Rattle.numa_page_state.specs.Lying.{Lying, Process, nothing}
+use Rattle.numa_page_state.specs.Lying.{process_in as process_by}
+use Rattle.numa_page_state.specs.Outcomes.{is_no_memory, lack_of}
+use Rattle.numa_page_state.specs.Sending.{asked_of, command_of, rebinding_in, sent_in, sent_spots}
+use Rattle.numa_page_state.specs.Sending.{tells_left, with_sent}
+use Rattle.numa_page_state.specs.Standing.{LiesAs, Sends}
+use Rattle.numa_page_state.specs.declared.last.Last.TheVariants as went
+use Rattle.numa_page_state.specs.declared.sending.Rebinding.{Rebinding}
+use Rattle.numa_page_state.specs.declared.sending.Sending.{Sending}
+use Rattle.numa_page_state.specs.declared.state.PageState.{PageState}
+use Rattle.numa_page_state.proofs.Asking.{settles}
+use Rattle.numa_script.specs.declared.page_line.MoveWords.{MoveWords}
+use Rattle.numa_script.specs.declared.reply.Reply.{Reply}
+use Rattle.numa_script.specs.declared.reply.Reply.TheVariants as reply
+use Rattle.numa_run.specs.Obeying.{toucher_of}
+use Rattle.numa_run.specs.Replies.{Replied, reply_in}
+use Rattle.numa_host_script.specs.Hosts.{Hosting, Lack, Outcome, process_outcome, with_reply}
+use Rattle.numa_host_script.specs.Paging.{lying_with, moved_by, own_cause, pages_at}
+use Rattle.numa_host_script.specs.Paging.{pages_reply, process_in, sent_outcome, sent_unless}
+use Rattle.numa_host_script.specs.Paging.{takes_more, unless_pages}
+use Rattle.numa_host_script.specs.Standing.{Answers, HostRuns, IsSentTo, Replies, RepliesThere}
+use Rattle.numa_host_script.specs.Standing.{RunsAs, SendsIn, SendsLent, hosting_with}
+use Rattle.numa_host_script.specs.declared.running.RunningHost.{RunningHost}
+use Rattle.numa_host_script.proofs.Bindings.{nobody-takes}
+use Rattle.numa_host_script.proofs.Lent.{given-are, lent-none, lent-some, none-in, none-lent}
+use Rattle.numa_host_script.proofs.Lent.{none-out, same-back, some-lent}
+use Rattle.numa_host_script.proofs.Spaces.{own-space, same-process}
+use Rattle.numa_host_script.proofs.Unmapped.{cause-some, flag, refused-plain}
+
+-- ---- mbind .. move, of pages that were lent
+
+starved-why : (why : PlacedRefusal) → is_no_memory why ≡ true → why ≡ cause.NoMemory
+starved-why cause.NoMemory is = refl
+starved-why cause.Unaligned is = cc
+starved-why cause.OutOfSpace is = cc
+starved-why cause.NoSuchNode is = cc
+starved-why cause.Occupied is = cc
+starved-why cause.NodesNotAllowed is = cc
+starved-why cause.Astray is = cc
+starved-why cause.BadCpu is = cc
+starved-why cause.Unmapped is = cc
+starved-why cause.NoRoom is = cc
+starved-why cause.TooManyRuns is = cc
+
+enough : (spots : ℕ → Spot) → too_many spots ≡ false → lack_of false spots ≡ None
+enough spots few = rw few refl
+
+-- where nobody is there, nothing is owed
+pub nobody-sends : (host new : HostState) (state after : PageState) (answer : Reply)
+    (process : ℕ) (said : Rebinding) (words : MoveWords)
+    → ((history : List HostCommand) → HostStandsFor host history
+    → is_there (members_of history) process ≡ false)
+    → SendsIn host state (Err answer) new after process said words
+nobody-sends host new state after answer process said words nobody = λ at runs more lies.
+    absurd (nobody-takes at process (nobody at.history runs.stands) more)
+
+module _ (host : HostState) (state : PageState) (process : ℕ) (said : Rebinding)
+    (words : MoveWords) (space : SpaceState)
+    (owns : (history : List HostCommand) → HostStandsFor host history
+    → (is_there (members_of history) process ≡ true)
+    × IsSpaceOf host.blank.machine host.blank.bounds
+    (commands_of host.blank.machine history process) space) where
+  abbrev command : HostCommand
+  command = In process (command_of said)
+
+  -- what `sent` promises
+  abbrev pub FindsSent : Result (Option Sending) PlacedRefusal → Type 0
+  FindsSent found = (history : List Command) (lying : Lying) → StandsFor space history
+      → LiesAs state lying
+      → Sends (process_by space history []) said (toucher_of words) lying found
+
+  pub finds-that : (found wanted : Result (Option Sending) PlacedRefusal) → found ≡ wanted
+      → FindsSent found → FindsSent wanted
+  finds-that found wanted is all = subst FindsSent is all
+
+  finds-here : (found : Result (Option Sending) PlacedRefusal) → FindsSent found
+      → (at : Hosting) → HostRuns host at → LiesAs state (pages_at at process)
+      → Sends (process_in at process) said (toucher_of words) (pages_at at process) found
+  finds-here found all at runs lies =
+      let own = owns at.history runs.stands in
+      subst (λ (p : Process). Sends p said (toucher_of words) (pages_at at process) found)
+      (same-process host at process space runs.machine runs.bounds own.1 [] refl)
+      (all (commands_of at.machine at.history process) (pages_at at process)
+      (own-space host at process space runs.machine runs.bounds own.1).stands lies)
+
+  passes : (first : Option Refusal) (at : Hosting) → is_some first ≡ true
+      → sent_unless false first at process said words
+      ≡ process_outcome false at process (command_of said)
+  passes None at some = cc
+  passes (Some refusal) at some = refl
+
+  -- something refuses the policy
+  pub send-refused : (new : HostState) (answer : Reply) → FindsSent (Ok None)
+      → Answers host command answer new
+      → SendsIn host state (Err answer) new state process said words
+  send-refused new answer all answers = λ at runs more lies.
+      let some = finds-here (Ok None) all at runs lies in
+      let plain = refused-plain host new at process (command_of said) answer runs
+      (cause-some at.machine at.bounds at.history process (command_of said) some) answers in (
+        false,
+        passes (own_cause at process (command_of said)) at some ∙ plain.0,
+        plain.1,
+        refl,
+      )
+
+  -- runs or memory lack
+  pub send-denied : (why : PlacedRefusal) → FindsSent (Err why)
+      → SendsIn host state (Err (pages_reply why)) host state process said words
+  send-denied why all = λ at runs more lies.
+      elim (cases_Bool (is_no_memory why)) [
+        | inl t ↦ (
+          true,
+          ap (λ (w : PlacedRefusal). with_reply (pages_reply w) at) (sym (starved-why why t)),
+          runs,
+          refl,
+        )
+        | inr e ↦
+            let so = finds-here (Err why) all at runs lies e in (
+              false,
+              ap (λ (o : Option Refusal). sent_unless false o at process said words) so.0
+                  ∙ ap (λ (o : Option PlacedRefusal).
+                  unless_pages o at (sent_outcome at process said words)) so.1,
+              runs,
+              refl,
+            )
+      ]
+
+  -- memory lacked when the policy was to be set
+  pub send-starved : (new : HostState) (why : HostRefusal)
+      → IsHostApplied host command (Err why) new
+      → SendsIn host state (Err (pages_reply cause.NoMemory)) new state process said words
+  send-starved new why applied = λ at runs more lies. (
+    true,
+    refl,
+    subst (λ (h : HostState). HostRuns h at) (sym applied.unchanged) runs,
+    refl,
+  )
+
+  -- the policy is set, and the pages went
+  pub send-done : (new : HostState) (version : ℕ) (done : Sending) (after : PageState)
+      (late : Bool) → IsHostApplied host command (Ok tt) new
+      → ((history : List HostCommand) → HostStandsFor new history → version ≡ length history)
+      → FindsSent (Ok (Some done))
+      → after ≡ record {
+        placed = done.placed;
+        rooms = done.rooms;
+        follows = state.follows;
+        last = went.Pages (record {
+          moved = done.moved;
+          left = done.left;
+          before = state.placed;
+          after = done.copy;
+        });
+        arrived = state.arrived;
+      }
+      → late ≡ tells_left words.strict said.spec done.left
+      → SendsIn host state (Ok (reply.Sent version done.moved done.left late)) new after process
+      said words
+  send-done new version done after late applied counts all is tells = λ at runs more lies.
+      let from : Lying = pages_at at process in
+      let so = finds-here (Ok (Some done)) all at runs lies in
+      let asked = asked_of (process_in at process) said (toucher_of words) in
+      let lying : Lying = with_sent [] asked from in
+      let ok = applied.ok at.history runs.stands in
+      let counted : version ≡ suc (length at.history) = counts (command ∷ at.history) ok.1 in
+      let lateness : late ≡ tells_left words.strict said.spec (sent_in [] asked from).left =
+      tells ∙ ap (tells_left words.strict said.spec) so.1.left in
+      let told : sent_outcome at process said words ≡ record {
+        answer = Replied (reply.Sent version done.moved done.left late);
+        history = command ∷ at.history;
+        lying = lying_with at process lying;
+      } = λ i. record {
+        answer = Replied (reply.Sent (sym counted i) (sym so.1.moved i) (sym so.1.left i)
+            (sym lateness i));
+        history = command ∷ at.history;
+        lying = lying_with at process lying;
+      } in (
+        lying,
+        ap (λ (o : Option Refusal). sent_unless false o at process said words) so.0
+            ∙ ap (λ (o : Option PlacedRefusal).
+            unless_pages o at (sent_outcome at process said words))
+            (enough (sent_spots asked from) so.1.few) ∙ told,
+        record {
+          machine = applied.machine ∙ runs.machine;
+          bounds = applied.bounds ∙ runs.bounds;
+          stands = ok.1;
+        },
+        settles state done after from [] asked is lies so.1,
+      )
+
+-- ---- pages are given back
+
+module _ (host : HostState) (pages pages_then : HostPages) (state after : PageState)
+    (new : HostState) (process : ℕ) (said : Rebinding) (words : MoveWords) where
+  abbrev pub given : RunningHost
+  given = record { host = new; pages = pages_then }
+
+  abbrev pub Gives : Type 0
+  Gives = (at : HostLying) (done : Lying)
+      → HostLies pages (record at { homes = with_pages process None at.homes })
+      → LiesAs after done → HostLies pages_then (given_back process done at)
+
+  -- the pages went
+  sent-given : (answer : Reply) → SendsIn host state (Ok answer) new after process said words
+      → Gives → (at : Hosting) → HostRuns host at → AreOf at.lying at.history
+      → takes_more at process ≡ true → LiesAs state (pages_at at process)
+      → HostLies pages (record at.lying { homes = with_pages process None at.lying.homes })
+      → IsSentTo answer given at process said words
+  sent-given answer sends gives at runs are more lies out =
+      let d = sends at runs more lies in
+      let kept = given-are process d.0 at.lying at.history are in (
+        flag false,
+        sym (ap (λ (o : Outcome). reply_in o.answer) d.1),
+        subst (λ (o : Outcome). RunsAs given (hosting_with at o)) (sym d.1) (record {
+          machine = d.2.machine;
+          bounds = d.2.bounds;
+          stands = d.2.stands;
+          lies = gives at.lying d.0 out d.3;
+          are = record { order = kept.order; same = kept.same };
+        }),
+      )
+
+  pub lent-sent : (answer : Reply) → SendsIn host state (Ok answer) new after process said words
+      → Gives → SendsLent host pages state answer given process said words
+  lent-sent answer sends gives = λ at lying runs are is out has more.
+      sent-given answer sends gives at runs are more
+      (subst (λ (l : Lying). LiesAs state l) (sym (lent-some process at.lying lying is)) has) out
+
+  -- they are as they were
+  pub lent-kept : (answer : Reply) → SendsIn host state (Err answer) new after process said words
+      → Gives → SendsLent host pages state answer given process said words
+  lent-kept answer sends gives = λ at lying runs are is out has more.
+      let from : Lying = lent at.lying.room at.lying.follows lying in
+      let d = sends at runs more
+      (subst (λ (l : Lying). LiesAs state l) (sym (lent-some process at.lying lying is)) has) in
+      let back : LiesAs after from = subst (λ (s : PageState). LiesAs s from) (sym d.3) has in (
+        flag d.0,
+        sym (ap (λ (o : Outcome). reply_in o.answer) d.1),
+        subst (λ (o : Outcome). RunsAs given (hosting_with at o)) (sym d.1) (record {
+          machine = d.2.machine;
+          bounds = d.2.bounds;
+          stands = d.2.stands;
+          lies = same-back pages_then process at.lying lying is (gives at.lying from out back);
+          are = are;
+        }),
+      )
+
+  -- first pages are kept where they went
+  abbrev pub before : RunningHost
+  before = record { host = host; pages = pages }
+
+  runs-before : (at : Hosting) → RunsAs before at → HostRuns host at
+  runs-before at stands = record {
+    machine = stands.machine;
+    bounds = stands.bounds;
+    stands = stands.stands;
+  }
+
+  first-lies : ((at : HostLying) → HostLies pages at
+      → LiesAs state (lent at.room at.follows nothing))
+      → (at : Hosting) → RunsAs before at → pages_in process at.lying.homes ≡ None
+      → LiesAs state (pages_at at process)
+  first-lies begins at stands none = subst (λ (l : Lying). LiesAs state l)
+      (sym (lent-none process at.lying none)) (begins at.lying stands.lies)
+
+  pub first-sent : (answer : Reply) → SendsIn host state (Ok answer) new after process said words
+      → Gives → ((at : HostLying) → HostLies pages at
+      → LiesAs state (lent at.room at.follows nothing))
+      → (at : Hosting) → RunsAs before at → pages_in process at.lying.homes ≡ None
+      → takes_more at process ≡ true → IsSentTo answer given at process said words
+  first-sent answer sends gives begins at stands none more =
+      sent-given answer sends gives at (runs-before at stands) stands.are more
+      (first-lies begins at stands none) (none-out pages process at.lying none stands.lies)
+
+  pub first-kept : (answer : Reply) → SendsIn host state (Err answer) new after process said words
+      → ((at : HostLying) → HostLies pages at → LiesAs state (lent at.room at.follows nothing))
+      → (at : Hosting) → RunsAs before at → pages_in process at.lying.homes ≡ None
+      → takes_more at process ≡ true
+      → IsSentTo answer (record { host = new; pages = pages }) at process said words
+  first-kept answer sends begins at stands none more =
+      let d = sends at (runs-before at stands) more (first-lies begins at stands none) in
+      let same : RunningHost = record { host = new; pages = pages } in (
+        flag d.0,
+        sym (ap (λ (o : Outcome). reply_in o.answer) d.1),
+        subst (λ (o : Outcome). RunsAs same (hosting_with at o)) (sym d.1) (record {
+          machine = d.2.machine;
+          bounds = d.2.bounds;
+          stands = d.2.stands;
+          lies = stands.lies;
+          are = stands.are;
+        }),
+      )
+
+-- there is no memory for the first ones
+pub first-starved : (running : RunningHost) (process : ℕ) (said : Rebinding) (words : MoveWords)
+    (at : Hosting) → RunsAs running at
+    → IsSentTo (pages_reply cause.NoMemory) running at process said words
+first-starved running process said words at stands = (flag true, refl, stands)
+
+-- ---- mbind .. move
+
+module _ (old : RunningHost) (process : ℕ) (said : Rebinding) (words : MoveWords)
+    (pages : HostPages) (new : RunningHost) (answer : Reply) where
+  abbrev pub sends : Lack → Hosting → Outcome
+  sends lack at =
+      sent_unless lack.refused (own_cause at process (command_of said)) at process said words
+
+  pub send-some : (state : Box PageState Global)
+      → ((at : HostLying) → HostLies old.pages at
+      → IsLent (Some state) (pages_in process at.homes) at
+      × HostLies pages (record at { homes = with_pages process None at.homes }))
+      → SendsLent old.host pages state.value answer new process said words
+      → RepliesThere old answer new process sends
+  send-some state lends sent = λ at stands more.
+      let out = lends at.lying stands.lies in
+      let had = some-lent state (pages_in process at.lying.homes) at.lying out.0 in
+      sent at had.0 (record {
+        machine = stands.machine;
+        bounds = stands.bounds;
+        stands = stands.stands;
+      }) stands.are had.1 out.1 had.2 more
+
+  pub send-none : ((at : HostLying) → HostLies old.pages at
+      → IsLent None (pages_in process at.homes) at
+      × HostLies pages (record at { homes = with_pages process None at.homes }))
+      → ((at : Hosting) → RunsAs (record { host = old.host; pages = pages }) at
+      → pages_in process at.lying.homes ≡ None → takes_more at process ≡ true
+      → IsSentTo answer new at process said words)
+      → RepliesThere old answer new process sends
+  send-none lends sent = λ at stands more.
+      let out = lends at.lying stands.lies in
+      let none = none-lent (pages_in process at.lying.homes) at.lying out.0 in
+      sent at (record {
+        machine = stands.machine;
+        bounds = stands.bounds;
+        stands = stands.stands;
+        lies = none-in pages process at.lying none out.1;
+        are = stands.are;
+      }) none more
+
+-- by the policy that the command sets
+pub moved-some : (old new : RunningHost) (answer : Reply) (process : ℕ) (command : Command)
+    (words : MoveWords) (said : Rebinding) → Some said ≡ rebinding_in command
+    → RepliesThere old answer new process (λ lack at. sent_unless lack.refused
+    (own_cause at process (command_of said)) at process said words)
+    → RepliesThere old answer new process (λ lack at. moved_by (rebinding_in command)
+    lack.refused at process command words)
+moved-some old new answer process command words said is serves =
+    subst (λ (o : Option Rebinding). RepliesThere old answer new process
+    (λ lack at. moved_by o lack.refused at process command words)) is serves
+
+pub moved-none : (old new : RunningHost) (answer : Reply) (process : ℕ) (command : Command)
+    (words : MoveWords) → None ≡ rebinding_in command
+    → Replies old answer new (λ lack at. process_outcome lack.refused at process command)
+    → RepliesThere old answer new process (λ lack at. moved_by (rebinding_in command)
+    lack.refused at process command words)
+moved-none old new answer process command words is serves =
+    subst (λ (o : Option Rebinding). RepliesThere old answer new process
+    (λ lack at. moved_by o lack.refused at process command words)) is
+    (λ at stands more. serves at stands)

@@ -1,0 +1,16 @@
+use Rattle.std.proofs.Common.{sym, subst, []}
+use Rattle.numa_host_pages.specs.Homes.{lent}
+use Rattle.numa_page_state.specs.Lying.{ground_in}
+use Rattle.numa_page_state.specs.Standing.{LiesAs}
+use Rattle.numa_page_state.specs.declared.state.PageState.{PageState}
+use Rattle.numa_host_script.proofs.Acted.{changed-lent}
+use Rattle.numa_host_script.proofs.paging.change_lent.Goals as goal
+
+pub returns : goal.returns
+returns c = λ at lying is out has.
+    changed-lent _ c.change-told.new.kept c.change-told.result c.give_back.new.self
+    c.args.process c.args.line.now (ground_in c.args.space.now []) at
+    (rw c.new-resident.ensures at c.change-told.ensures)
+    (λ done lies. c.give_back.ensures at done out lies) lying is
+    (subst (λ (s : PageState). LiesAs s (lent at.room at.follows lying))
+    (sym c.deref_mut.ensures.value) has)

@@ -1,0 +1,18 @@
+use Rattle.numa_host_script.proofs.Written.{written-arrived, written-early}
+use Rattle.numa_host_script.proofs.script.HostScript.tell_arrived.Goals as goal
+
+pub returns-in-Some : goal.returns-in-Some
+returns-in-Some g c =
+    rw c.in-Some.is
+    (λ session stands.
+    written-arrived g.W.Write.contents c.args.output.now c.say_arrived_in.new.output
+    c.args.self.now.script c.args.self.now.limits c.in-Some.running c.args.process session
+    c.say_arrived_in.ensures stands)
+
+pub returns : goal.returns
+returns g c =
+    rw c.in_default.is
+    (λ session stands.
+    written-early g.W.Write.contents c.args.output.now c.write.new.output c.args.self.now.script
+    c.write.new.self c.args.self.now.limits c.args.process c.write.result session
+    c.write.ensures stands)

@@ -1,0 +1,294 @@
+//! Lines about pages in a host.
+ghost use Rattle.std.specs.Prelude.{◌≡◌, ◌≢◌, ℕ, [], Bool, IsSome, None, Ok, Some, false, true};
+ghost use Rattle.numa_host.specs.Processes.{is_there, members_of};
+ghost use Rattle.numa_host_pages.specs.Homes.{HostLying, given_back, lent, pages_in, pages_lent};
+ghost use Rattle.numa_host_pages.specs.Homes.{with_pages};
+ghost use Rattle.numa_host_pages.specs.Standing.{HostLies};
+ghost use Rattle.numa_host_script.specs.Paging.{given_outcome, obeyed, page_where, pages_changed};
+ghost use Rattle.numa_host_script.specs.Paging.{pages_reply, unmap_outcome};
+ghost use Rattle.numa_host_script.specs.Standing.{Answers, Changes, ChangesPages, ForgetsIn};
+ghost use Rattle.numa_host_script.specs.Standing.{Replies, Takes, told};
+ghost use Rattle.numa_page_state.specs.Lying.{Lying, ground_in, with_spots};
+ghost use Rattle.numa_page_state.specs.Standing.{LiesAs};
+ghost use Rattle.numa_placed.specs.Spots.{spot_at};
+ghost use Rattle.numa_placed.specs.declared.spot.Spot.{Spot};
+ghost use Rattle.numa_run.specs.PageLines.{lack_reply};
+ghost use Rattle.numa_script.specs.Lines.{alone};
+
+use crate::running::{RunningHost, space_of};
+use crate::taking::HostTaken;
+use numa_host::Host;
+use numa_host_pages::HostPages;
+use numa_maps::Resident;
+use numa_mask::ListFault;
+use numa_page_state::PageState;
+use numa_placed::Placed;
+use numa_requests::{Command, HostCommand, HostRefusal, MoveRefusal, PlacedRefusal};
+use numa_run::paging::{change, lack_reply, page_reply};
+use numa_script::{Line, PageLine, Reply, WordError};
+use numa_space::Space;
+use std::alloc::Global;
+
+/// Whether the reply to a line is that there is no memory for it.
+fn tells_lack(line: &PageLine, told: &Option<Reply>) -> bool
+    ensures lack { result ≡ true → told.now ≡ Some (lack_reply line.now) }
+    ensures other { result ≡ false → told.now ≢ Some (lack_reply line.now) }
+{
+    match line {
+        PageLine::Move { .. } => { matches!(told, Some(Reply::MoveRefused(MoveRefusal::NoMemory))) }
+        _ => matches!(told, Some(Reply::PlacedRefused(PlacedRefusal::NoMemory))),
+    }
+}
+
+/// Changes where the pages of a process lie, which were lent to it, and are given back.
+fn change_lent(
+    pages: &mut HostPages,
+    alloc: Global,
+    process: u32,
+    space: &Space,
+    line: &PageLine,
+    state: Box<PageState>,
+) -> Option<Reply>
+    requires moved { line.now ≢ PageLine.Moved }
+    requires rooms { line.now ≢ PageLine.Rooms }
+    ensures { (at : HostLying) (lying : Lying) → pages_in process at.homes ≡ Some lying
+        → HostLies pages.old (record at { homes = with_pages process None at.homes })
+        → LiesAs state.value (lent at.room at.follows lying)
+        → (refused : Bool)
+        × ((pages_changed refused (ground_in space.now []) process line.now at).0 ≡ result)
+        × HostLies pages.new (pages_changed refused (ground_in space.now []) process line.now
+        at).1 }
+{
+    let mut state = state;
+    let resident = Resident::new(alloc);
+    let told = change(&mut state, space, &resident, line);
+    pages.give_back(process, state);
+    told
+}
+
+/// The same of a process that has none yet, and then has some unless memory lacks.
+fn change_first(
+    pages: &mut HostPages,
+    alloc: Global,
+    process: u32,
+    space: &Space,
+    line: &PageLine,
+) -> Option<Reply>
+    requires moved { line.now ≢ PageLine.Moved }
+    requires rooms { line.now ≢ PageLine.Rooms }
+    ensures { (at : HostLying) → pages_in process at.homes ≡ None → HostLies pages.old at
+        → (refused : Bool)
+        × ((pages_changed refused (ground_in space.now []) process line.now at).0 ≡ result)
+        × HostLies pages.new (pages_changed refused (ground_in space.now []) process line.now
+        at).1 }
+{
+    let Ok(mut state) = pages.begin(alloc) else {
+        return Some(lack_reply(line));
+    };
+    let resident = Resident::new(alloc);
+    let told = change(&mut state, space, &resident, line);
+    if tells_lack(line, &told) {
+        drop(state);
+        return told;
+    }
+    pages.give_back(process, state);
+    told
+}
+
+/// Changes where the pages of a process lie, by its space. What `populate` did is no reply.
+fn change_pages(
+    pages: &mut HostPages,
+    alloc: Global,
+    process: u32,
+    space: &Space,
+    line: &PageLine,
+) -> Option<Reply>
+    requires moved { line.now ≢ PageLine.Moved }
+    requires rooms { line.now ≢ PageLine.Rooms }
+    ensures { ChangesPages pages.old result pages.new (λ refused at.
+        pages_changed refused (ground_in space.now []) process line.now at) }
+{
+    match pages.lend(process) {
+        Some(state) => change_lent(pages, alloc, process, space, line, state),
+        None => change_first(pages, alloc, process, space, line),
+    }
+}
+
+/// Carries out a line that changes where the pages of a process lie.
+fn change_in(
+    running: &mut RunningHost,
+    alloc: Global,
+    process: u32,
+    line: &PageLine,
+) -> Option<Reply>
+    requires moved { line.now ≢ PageLine.Moved }
+    requires rooms { line.now ≢ PageLine.Rooms }
+    ensures { Changes running.old result running.new process (λ refused at. page_where
+        (is_there (members_of at.history) process) refused at process line.now) }
+{
+    let Some(space) = space_of(&running.host, process) else {
+        return Some(Reply::HostRefused(HostRefusal::NoSuchProcess));
+    };
+    change_pages(&mut running.pages, alloc, process, space, line)
+}
+
+/// Carries out a line about pages that a process is told. What `moved` and a `populate` that isn't
+/// refused tell is still to be written.
+fn page_in(running: &mut RunningHost, alloc: Global, process: u32, line: &PageLine) -> HostTaken
+    ensures { Takes running.old (told process (Line.Pages (Ok line.now))) result running.new }
+{
+    match line {
+        PageLine::Room { .. } => HostTaken::Reply(Reply::BadWords),
+        PageLine::Rooms => HostTaken::Reply(Reply::BadWords),
+        PageLine::MemoryMigrate(_) => HostTaken::Reply(Reply::BadWords),
+        PageLine::Moved => HostTaken::Moved(process),
+        _ => match change_in(running, alloc, process, line) {
+            Some(reply) => HostTaken::Reply(reply),
+            None => HostTaken::Arrived(process),
+        },
+    }
+}
+
+/// The same, or tells what is wrong with its list.
+pub(crate) fn pages_in(
+    running: &mut RunningHost,
+    alloc: Global,
+    process: u32,
+    said: &Result<PageLine, ListFault>,
+) -> HostTaken
+    ensures { Takes running.old (told process (Line.Pages said.now)) result running.new }
+{
+    match said {
+        Ok(line) => page_in(running, alloc, process, line),
+        Err(fault) => HostTaken::Reply(Reply::BadWord(WordError::List(*fault))),
+    }
+}
+
+/// Carries out a line about pages that no process is told. What `room` alone tells is still to be
+/// written.
+pub(crate) fn own_page(running: &mut RunningHost, line: &PageLine) -> HostTaken
+    ensures { Takes running.old (alone (Line.Pages (Ok line.now))) result running.new }
+{
+    match line {
+        PageLine::Room { node, pages } => {
+            let machine = running.host.machine();
+            HostTaken::Reply(page_reply(Reply::RoomOk, running.pages.limit(machine, *node, *pages)))
+        }
+        PageLine::Rooms => HostTaken::Rooms,
+        PageLine::MemoryMigrate(follows) => {
+            running.pages.set_follows(*follows);
+            HostTaken::Reply(Reply::MemoryMigrateOk)
+        }
+        _ => HostTaken::Reply(Reply::BadState),
+    }
+}
+
+/// Why pages stand against a command; where memory lacks, it is the command that lacks it.
+pub(crate) fn pages_reply(refusal: PlacedRefusal) -> Reply
+    ensures { result ≡ pages_reply refusal }
+{
+    match refusal {
+        PlacedRefusal::NoMemory => Reply::HostRefused(HostRefusal::NoMemory),
+        _ => Reply::PlacedRefused(refusal),
+    }
+}
+
+/// Carries out a command of a process that leaves its pages where they lie.
+pub(crate) fn obey_in(host: &mut Host, process: u32, command: &Command) -> Reply
+    ensures { Answers host.old (HostCommand.In process command.now) result host.new }
+{
+    let said = HostCommand::In {
+        process,
+        command: *command,
+    };
+    match host.apply(&said) {
+        Ok(()) => Reply::Accepted(host.version()),
+        Err(refusal) => Reply::HostRefused(refusal),
+    }
+}
+
+/// The pages of a process without those of a span, if some of the span were stated to lie
+/// somewhere.
+///
+/// # Errors
+/// `TooManyRuns`, `NoMemory`: as [`PageState::without_span`] says.
+fn without_span(
+    pages: &HostPages,
+    process: u32,
+    start: u64,
+    length: u64,
+) -> Result<Option<Placed>, PlacedRefusal>
+    ensures { (at : HostLying) → HostLies pages.now at → ForgetsIn (pages_in process at.homes)
+        (pages_lent process at).spots start length result }
+{
+    match pages.pages_of(process) {
+        Some(state) => state.without_span(start, length),
+        None => Ok(None),
+    }
+}
+
+/// The pages of a process lie so from now on; one that left a node gave its room back.
+fn replace(pages: &mut HostPages, process: u32, after: Placed)
+    ensures { (at : HostLying) (spots : ℕ → Spot) → HostLies pages.old at
+        → IsSome (pages_in process at.homes) → ((page : ℕ) → spot_at after page ≡ spots page)
+        → HostLies pages.new (given_back process (with_spots spots (pages_lent process at)) at) }
+{
+    let Some(mut state) = pages.lend(process) else {
+        drop(after);
+        return;
+    };
+    state.replace(after);
+    pages.give_back(process, state);
+}
+
+/// Unmaps pages of a process; if the host accepts that, nothing is stated of them any more.
+fn unmap(running: &mut RunningHost, process: u32, start: u64, length: u64) -> Reply
+    ensures { Replies running.old result running.new (λ lack at. unmap_outcome lack.refused at
+        process start length) }
+{
+    let command = Command::Unmap { start, length };
+    let forgotten = match without_span(&running.pages, process, start, length) {
+        Ok(forgotten) => forgotten,
+        Err(refusal) => return pages_reply(refusal),
+    };
+    let Some(after) = forgotten else {
+        return obey_in(&mut running.host, process, &command);
+    };
+    let said = HostCommand::In { process, command };
+    match running.host.apply(&said) {
+        Ok(()) => {
+            replace(&mut running.pages, process, after);
+            Reply::Accepted(running.host.version())
+        }
+        Err(refusal) => {
+            drop(after);
+            Reply::HostRefused(refusal)
+        }
+    }
+}
+
+/// Carries out a command of a process.
+fn obeyed(running: &mut RunningHost, process: u32, command: &Command) -> Reply
+    ensures { Replies running.old result running.new (λ lack at. obeyed lack.refused at process
+        command.now) }
+{
+    match command {
+        Command::Unmap { start, length } => unmap(running, process, *start, *length),
+        _ => obey_in(&mut running.host, process, command),
+    }
+}
+
+/// Carries out a command of a process, or tells what is wrong with its words.
+pub(crate) fn give(
+    running: &mut RunningHost,
+    process: u32,
+    said: Result<Command, WordError>,
+) -> Reply
+    ensures { Replies running.old result running.new (λ lack at. given_outcome lack.refused at
+        process said) }
+{
+    match said {
+        Ok(command) => obeyed(running, process, &command),
+        Err(fault) => Reply::BadWord(fault),
+    }
+}
