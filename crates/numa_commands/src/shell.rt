@@ -1,8 +1,9 @@
 //! Questions of a shell, beside those of scripts.
 use numa_command_line::address;
 use numa_host_script::HostScript;
+use numa_lines::RunFault;
 use numa_mask::parts::first_place;
-use numa_play::{page_meant, page_place, subject_of};
+use numa_play::{page_meant, page_places, subject_of};
 use numa_questions::{AskedPages, EachAsked, ReasonsAsked, prediction_of, reasons_of};
 use numa_script::number::{number, small};
 use numa_script::parts::words;
@@ -156,17 +157,21 @@ fn explained(
     touch: Touch,
     page: u64,
 ) -> Result<Vec<u8>, Halt> {
-    let there = [page_place(script, page)];
+    let Ok(there) = page_places(alloc, script, process, page) else {
+        return Err(Halt::Stopped(RunFault::Memory));
+    };
     let asked = ReasonsAsked {
         touch,
         pages: AskedPages { page, pages: None },
         format: Format::Text,
-        there: &there,
+        there: there.as_slice(),
     };
-    match subject_of(script, process) {
+    let text = match subject_of(script, process) {
         Ok(subject) => reasons_of(alloc, subject, None, asked),
         Err(halt) => Err(halt),
-    }
+    };
+    drop(there);
+    text
 }
 
 /// Why the page of an address goes where it goes.

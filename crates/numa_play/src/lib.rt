@@ -7,8 +7,8 @@
 //! Malformed and refused lines are skipped, and what is wrong with each is reported. [`judge`]
 //! passes a line to a running script and returns what is wrong with it, if its answer is an error
 //! or a refusal. [`check`] does only that of whole scripts. [`touches`] and [`page_meant`] say
-//! which touches and which page are asked for, by what lines name, and [`page_place`] where that page
-//! lies.
+//! which touches and which page are asked for, by what lines name, and [`page_places`] where that
+//! page lies.
 #![tactic(auto)]
 
 mod findings;
@@ -24,7 +24,7 @@ mod touching;
 pub use findings::{Findings, Look, PLAIN};
 pub use judging::judge;
 pub use named::TasksNamed;
-pub use places::page_place;
+pub use places::page_places;
 pub use playing::{Scripts, check, plain_by, play};
 pub use question::{answer, other_subject, subject_after, subject_of};
 pub use touching::{page_meant, touches};

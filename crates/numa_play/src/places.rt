@@ -3,7 +3,11 @@ ghost use Rattle.std.specs.Prelude.{◌≡◌, ℕ, IsSome, Option};
 ghost use Rattle.numa_page_state.specs.Lying.{Lying};
 ghost use Rattle.numa_page_state.specs.Standing.{Lies};
 ghost use Rattle.numa_placed.specs.Spots.{node_of};
-ghost use Rattle.numa_play.specs.Places.{place_by, place_of};
+ghost use Rattle.numa_host_script.specs.Hosts.{Hosting};
+ghost use Rattle.numa_host_script.specs.Paging.{pages_at};
+ghost use Rattle.numa_host_script.specs.Sessions.{Hosted};
+ghost use Rattle.numa_host_script.specs.Standing.{StandsIn};
+ghost use Rattle.numa_play.specs.Places.{place_by, place_of, place_on};
 ghost use Rattle.numa_requests.specs.declared.placement.Placement.{Placement};
 ghost use Rattle.numa_run.specs.Scripts.{ScriptStandsFor};
 ghost use Rattle.numa_run.specs.States.{State};
@@ -11,6 +15,7 @@ ghost use Rattle.numa_run.specs.States.{State};
 use numa_host_script::HostScript;
 use numa_run::Script;
 use numa_subjects::PagePlace;
+use std::alloc::{AllocError, Global};
 
 /// The node of a page without a frame, if it is there.
 fn node_in(script: &Script, page: u64) -> Option<u8>
@@ -36,8 +41,46 @@ fn place_in(script: &Script, page: u64) -> Option<PagePlace>
     Some(PagePlace { node, frame: None })
 }
 
-/// Where a page lies after a script of one process, if it is there: in the frame that it keeps, or
-/// where lines say. Of a host nothing is known.
-pub fn page_place(script: &HostScript, page: u64) -> Option<PagePlace> {
-    place_in(script.script()?, page)
+/// Where a page of a process of a host lies, if it is there.
+fn place_of_process(script: &HostScript, process: u32, page: u64) -> Option<PagePlace>
+    ensures { (at : Hosting) → StandsIn script.now.script script.now.limits script.now.host
+        (Hosted at) → result ≡ place_on (node_of ((pages_at at process).spots page)) }
+{
+    let Some(kept) = script.pages_of(process) else {
+        return None;
+    };
+    let Some(node) = kept.placed().at(page).node() else {
+        return None;
+    };
+    Some(PagePlace { node, frame: None })
+}
+
+/// Where a page lies after a script, if it is there: in the frame that it keeps, or where lines
+/// say. Of a host in that process or, if none is given, in each, in the order in which they were
+/// made.
+///
+/// # Errors
+/// `AllocError`: out of memory.
+pub fn page_places(
+    alloc: Global,
+    script: &HostScript,
+    process: Option<u32>,
+    page: u64,
+) -> Result<Vec<Option<PagePlace>>, AllocError> {
+    let mut places = Vec::new(alloc);
+    if let Some(script) = script.script() {
+        places.push(place_in(script, page))?;
+        return Ok(places);
+    }
+    if let Some(process) = process {
+        places.push(place_of_process(script, process, page))?;
+        return Ok(places);
+    }
+    let Some(host) = script.host() else {
+        return Ok(places);
+    };
+    for one in host.processes() {
+        places.push(place_of_process(script, one.id, page))?;
+    }
+    Ok(places)
 }

@@ -4,7 +4,9 @@ use numa_host_script::HostScript;
 use numa_lines::RunFault;
 use numa_moves::{AtLines, PassOver, RefusedAt};
 use numa_placed::Placed;
-use numa_play::{Findings, Scripts, answer, other_subject, page_place, plain_by, play, subject_of};
+use numa_play::{
+    Findings, Scripts, answer, other_subject, page_places, plain_by, play, subject_of,
+};
 use numa_questions::{AskedPages, ReasonsAsked, reasons_of};
 use numa_sheets::{Format, Touch};
 use numa_subjects::{Ended, Halt, PagePlace, Twin};
@@ -16,6 +18,7 @@ const KEEPING: Reading = Reading {
     task: None,
     other: Twin::Always,
     heeds_at: true,
+    heeds_all_at: true,
     keeps_at: true,
 };
 
@@ -39,33 +42,57 @@ fn is_framed(known: Option<PagePlace>) -> bool {
 }
 
 /// Where a page lies: in a frame, if it is known to keep one, or else where pages are stated to
-/// lie.
+/// lie, or where it is known to lie.
 fn place_among(known: Option<PagePlace>, placed: &Placed, page: u64) -> Option<PagePlace> {
     if is_framed(known) {
         return known;
     }
-    let node = placed.at(page).node()?;
-    Some(PagePlace { node, frame: None })
+    match placed.at(page).node() {
+        Some(node) => Some(PagePlace { node, frame: None }),
+        None => known,
+    }
 }
 
-/// Where a page lies after a script in the one space, or in each process, whose pages are stated to
-/// lie so.
+/// Where the page lies in one of the processes, if it is known to be there.
+fn known_of(known: &[Option<PagePlace>], number: usize) -> Option<PagePlace> {
+    match known.get(number) {
+        Some(place) => *place,
+        None => None,
+    }
+}
+
+/// Where a page lies in the one space, or in each process, by where it is known to lie and where
+/// pages are stated to lie.
 fn places_among(
     alloc: Global,
-    script: &HostScript,
+    known: &[Option<PagePlace>],
     there: &[Placed],
     page: u64,
 ) -> Result<Vec<Option<PagePlace>>, AllocError> {
-    let known = page_place(script, page);
     let mut places = Vec::with_capacity(alloc, there.len())?;
-    for placed in there {
-        places.push(place_among(known, placed, page))?;
+    for number in 0..there.len() {
+        let place = place_among(known_of(known, number), &there[number], page);
+        places.push(place)?;
     }
     Ok(places)
 }
 
-/// Where a page lies after a script and these lines: in the one space, or in each process, in the
-/// order in which they were made. Lines that are refused are noted.
+/// Where a page lies after a script, whose pages further lines state to lie so.
+fn places_beside(
+    alloc: Global,
+    script: &HostScript,
+    process: Option<u32>,
+    there: &[Placed],
+    page: u64,
+) -> Result<Vec<Option<PagePlace>>, AllocError> {
+    let known = page_places(alloc, script, process, page)?;
+    let places = places_among(alloc, known.as_slice(), there, page);
+    drop(known);
+    places
+}
+
+/// Where a page lies after a script and these further lines: in the one space, or in each process,
+/// in the order in which they were made. Lines that are refused are noted.
 ///
 /// # Errors
 /// `NoMachine`, `NoHost`, `NoProcess`, or `Stopped`: out of memory.
@@ -82,7 +109,7 @@ pub fn places_in(
         drop(there);
         return Err(halt);
     }
-    let places = places_among(alloc, script, there.as_slice(), page);
+    let places = places_beside(alloc, script, process, there.as_slice(), page);
     drop(there);
     match places {
         Ok(places) => Ok(places),
@@ -134,8 +161,12 @@ fn explanation_after<T: Write>(
         return Err(Halt::Stopped(why));
     }
     let (script, other) = (findings.script(), findings.other());
-    let there = [page_place(script, asked.pages.page)];
-    explanation(alloc, script, other, process, asked, &there)
+    let Ok(there) = page_places(alloc, script, process, asked.pages.page) else {
+        return Err(Halt::Stopped(RunFault::Memory));
+    };
+    let text = explanation(alloc, script, other, process, asked, there.as_slice());
+    drop(there);
+    text
 }
 
 /// Plays the scripts, and writes why a page would go where it goes, if it were touched now, and by

@@ -17,6 +17,7 @@ const KEEPING: Reading = Reading {
     task: None,
     other: Twin::None,
     heeds_at: true,
+    heeds_all_at: false,
     keeps_at: true,
 };
 

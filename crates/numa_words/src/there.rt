@@ -126,9 +126,11 @@ pub struct Reading {
     pub other: Twin,
     /// Whether lines `at` of a script of one process count, so that it is told why one is refused.
     pub heeds_at: bool,
+    /// Whether the lines `at` of a host's script count too, as the host carries them out.
+    pub heeds_all_at: bool,
     /// Whether pages are there: then lines that state where they lie are kept, but those that a
-    /// script of one process carries out, and judged at the end. Else they are passed over, but
-    /// for malformed and early ones.
+    /// script carries out that count, and judged at the end. Else they are passed over, but for
+    /// malformed and early ones.
     pub keeps_at: bool,
 }
 
@@ -136,6 +138,7 @@ pub struct Reading {
 #[derive(Drop)]
 struct Keeping<T> {
     at: AtLines<Findings<T>>,
+    heeds_all_at: bool,
     keeps_at: bool,
     areas: Areas,
 }
@@ -175,8 +178,9 @@ impl<T: Write> TakeLine<()> for Keeping<T> {
         let count = self.at.lines.len();
         let taken = self.at.take(name, place, line, output);
         // (An early line isn't judged, as none is that wants a machine. That of a script of one
-        // process is carried out there.)
-        if is_early || is_alone && has_own(self.at.lines.as_slice(), count) {
+        // process is carried out there, and that of a host too.)
+        let is_own = is_alone && has_own(self.at.lines.as_slice(), count);
+        if is_early || is_own || self.heeds_all_at {
             self.at.lines.truncate(count);
         }
         taken
@@ -211,7 +215,7 @@ fn begin<T: Write + Drop>(
     let look = Look {
         other: how.other,
         tells_own_at: how.heeds_at,
-        tells_at: false,
+        tells_at: how.heeds_all_at,
         ..PLAIN
     };
     let mut findings = Findings::new(alloc, rules, look, told).asking(process, how.task);
@@ -221,6 +225,7 @@ fn begin<T: Write + Drop>(
     }
     Ok(Keeping {
         at: AtLines::new(alloc, findings),
+        heeds_all_at: how.heeds_all_at,
         keeps_at: how.keeps_at,
         areas: Areas::new(alloc),
     })

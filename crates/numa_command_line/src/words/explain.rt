@@ -66,7 +66,7 @@ that chose the first node, with its arithmetic; and the order of the others, wit
 distances. Of a page that is there, by at, populate, touch or a move, a line before says \
 where it lies, and one behind from which nodes, or with which nodes full, it would come \
 there. With --at it lies where lines `at START LENGTH NODE` of that file state, too, in a \
-host lines `in P at ..` of the scripts and of the file.\n\nADDRESS is hexadecimal after 0x, \
+host lines `in P at ..`.\n\nADDRESS is hexadecimal after 0x, \
 with a letter, or as eight digits or more of which the first is 0, as answers print it. \
 Other digits are decimal, or hexadecimal if only that page is mapped; if both pages are, \
 write the one that is meant with 0x.\n\nWith --pages it names, for each stretch of so many \

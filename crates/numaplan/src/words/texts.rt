@@ -6,7 +6,7 @@ use numa_host_script::HostScript;
 use numa_lines::RunFault;
 use numa_moves::{AtLines, Origin, PassOver, RefusedAt};
 use numa_placed::Placed;
-use numa_play::{Findings, page_meant, page_place, subject_of, touches};
+use numa_play::{Findings, page_meant, page_places, subject_of, touches};
 use numa_questions::AskedPages;
 use numa_sheets::{AddressAsked, Format, FreePages, Touch, Watch};
 use numa_subjects::{Halt, PagePlace, differ};
@@ -356,8 +356,12 @@ fn reasons<T: Write>(
     if !meant.asking.at.is_empty() {
         return reasons_there(alloc, findings, meant, pages, faults);
     }
-    let there = [page_place(script, page)];
-    reasons_beside(alloc, findings, &there, meant, pages)
+    let Ok(there) = page_places(alloc, script, meant.process, page) else {
+        return Err(Halt::Stopped(RunFault::Memory));
+    };
+    let answer = reasons_beside(alloc, findings, there.as_slice(), meant, pages);
+    drop(there);
+    answer
 }
 
 /// What becomes of pages that are there.
@@ -432,11 +436,13 @@ fn touches_in<T: Write>(
 /// pages that are there.
 pub fn reading_of(asking: Asking<'_>) -> Reading {
     let is_moves = matches!(asking.question, Question::Moves(..));
+    let is_explain = matches!(asking.question, Question::Explain(..));
     let keeps_at = is_moves || !asking.at.is_empty();
     Reading {
         task: asking.task(),
         other: asking.twin(),
-        heeds_at: keeps_at || matches!(asking.question, Question::Explain(..)),
+        heeds_at: keeps_at || is_explain,
+        heeds_all_at: is_explain,
         keeps_at,
     }
 }
