@@ -155,10 +155,12 @@ uint32_t np_explain(const uint8_t *script, size_t length, const uint8_t *lines,
                     size_t lines_length, const np_question *asked, uint64_t page, uint8_t *text,
                     size_t room, np_report *report);
 
-/* Where the accesses of a trace go on a machine where no page is placed (numaplan replay): a line
- * `TASK ADDRESS CPU [COUNT]` for each, of a host with `in P` before it. The question's task and
- * node don't count. NP_BAD_RULES; NP_BAD_FORMAT; NP_NO_MEMORY; NP_NO_MACHINE; NP_BAD_ACCESS where a
- * line of the trace can't be replayed; the last message says why. */
+/* Where the accesses of a trace go on the frames of a machine where no page is placed, or, where no
+ * node has a frame, in the room that the script leaves, beside its pages (numaplan replay): a line
+ * `TASK ADDRESS CPU [COUNT]` for each, of a host with `in P` before it; a line `mark TEXT` closes a
+ * phase. The question's task and node don't count. NP_BAD_RULES; NP_BAD_FORMAT; NP_NO_MEMORY;
+ * NP_NO_MACHINE; NP_BAD_ACCESS where a line of the trace can't be replayed, or no page finds room;
+ * the last message says why. */
 uint32_t np_replay(const uint8_t *script, size_t length, const uint8_t *lines, size_t lines_length,
                    const uint8_t *trace, size_t trace_length, const np_question *asked,
                    uint8_t *text, size_t room, np_report *report);

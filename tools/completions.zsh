@@ -112,8 +112,9 @@ _numaplan() {
         replay)
             _arguments \
                 '(--trace)--trace[The file of the trace; - is standard input]:TRACE:_files' \
+                '(--free)--free[Pages take room, not frames\: these nodes have so much; with K, M, G or T after it a number is in bytes]:NODE=PAGES,..: ' \
                 '(--process)--process[Asks about process P of a host only; without it, or with all, about each process]:P: ' \
-                '(--format)--format[How the answer is written]:FORMAT:(text json html)' \
+                '(--format)--format[How the answer is written]:FORMAT:(text json csv html)' \
                 '(--largest)--largest[Shows the N largest ranges by themselves, and the others as a sum; without it 40 in a picture, 400 in a page]:N: ' \
                 '(--lenient)--lenient[Ends with status 0 even if lines were faulty or refused]' \
                 '(--rules)--rules[Whose rules count, unless a line `rules` of the scripts says otherwise]:RULES:(document linux)' \

@@ -145,10 +145,11 @@ def explain(script: Text, page: int, lines: Iterable[str] = (), *, task: int = 1
 
 def replay(script: Text, trace: Text, lines: Iterable[str] = (), *, format: str = "json",
            rules: str = "document") -> Report:
-    """Where the accesses of a trace go after a script, on a machine where no page is placed, as
-    `numaplan replay` prints it, in the format "text", "json" or "html". A trace is the name of a file, or
-    its text as bytes: `TASK ADDRESS CPU [COUNT]` a line. Raises NoMachine, or BadAccess, whose last
-    message says which line can't be replayed."""
+    """Where the accesses of a trace go after a script, on a machine where no page is placed, or beside
+    the script's pages where no node has a frame, as `numaplan replay` prints it, in the format "text",
+    "json", "csv" or "html". A trace is the name of a file, or its text as bytes: `TASK ADDRESS CPU
+    [COUNT]` a line, or `mark TEXT`. Raises NoMachine, or BadAccess, whose last message says which line
+    can't be replayed, or that no page finds room."""
     name, text = read(script)
     trace_name, accesses = read(trace, "trace")
     asked = AskedReport(0, 0, rules_number(rules), format_number(format))

@@ -127,7 +127,7 @@ def texts(path, core, after, rules):
         want((mine is None, unlined(mine)), (theirs is None, unlined(theirs)), f"diff {path} {form}")
     for trace in TRACES:
         met = {form: program("replay", by, f"--format={form}", f"--trace={trace}", path) or None
-               for form in ("text", "json", "html")}
+               for form in ("text", "json", "csv", "html")}
         for form, answer in [*met.items(), ("svg", met["text"])]:  # (a replay has no picture)
             want(library(core.replay_text, trace, format=form), answer, f"replay {path} {form}")
     for page in PAGES:

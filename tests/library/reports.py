@@ -84,7 +84,7 @@ def each_word(script):
                  program("explain", by, *TOUCH, f"--format={form}", hex(page * 4096), script),
                  library(numaplan.explain, script, page, format=form, rules=rules))
         for trace in TRACES:
-            for form in ("text", "json", "html"):
+            for form in ("text", "json", "csv", "html"):
                 same(f"replay {script} {trace}",
                      program("replay", by, f"--format={form}", f"--trace={trace}", script),
                      library(numaplan.replay, script, trace, format=form, rules=rules))

@@ -116,8 +116,8 @@ work_asked word.Moves rows = option_map (λ free. moves (texts_at (codes "at") r
 work_asked word.Explain rows = asked_in rows (option_and_then (explain_by
     (texts_at (codes "at") rows) (small_at (codes "pages") rows) (format_in rows))
     (address_in rows))
-work_asked word.Replay rows = Some (replay (texts_at (codes "trace") rows) (format_in rows)
-    (is_on (codes "lenient") rows))
+work_asked word.Replay rows = option_map (λ free. replay (texts_at (codes "trace") rows) free
+    (format_in rows) (is_on (codes "lenient") rows)) (frees_in rows)
 work_asked word.Shell rows = Some shell
 
 abbrev pub scripts_asked : List Row → Subcommand → Option Doings
@@ -158,7 +158,7 @@ doing_name (check format) = codes "check"
 doing_name (expect format any_version update) = codes "expect"
 doing_name (ask touch what lenient names) = asking_name what
 doing_name (moves at lines touch free format lenient names) = codes "moves"
-doing_name (replay trace format lenient) = codes "replay"
+doing_name (replay trace free format lenient) = codes "replay"
 doing_name shell = codes "shell"
 
 abbrev pub name_of : Doings → Text

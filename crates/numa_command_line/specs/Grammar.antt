@@ -52,7 +52,7 @@ abbrev pub drawn_formats : List Text
 drawn_formats = codes "text" ∷ codes "json" ∷ codes "svg" ∷ []
 
 abbrev pub replay_formats : List Text
-replay_formats = codes "text" ∷ codes "json" ∷ codes "html" ∷ []
+replay_formats = codes "text" ∷ codes "json" ∷ codes "csv" ∷ codes "html" ∷ []
 
 abbrev pub rules : Names → Rule
 rules = choice (codes "rules") (codes "document")
@@ -100,8 +100,8 @@ explain_arguments formats =
 
 abbrev pub replay_arguments : Names → List Rule
 replay_arguments formats =
-    needed true (option (codes "trace")) ∷ process ∷ format formats ∷ largest ∷ lenient ∷ files
-    ∷ []
+    needed true (option (codes "trace")) ∷ option (codes "free") ∷ process ∷ format formats
+    ∷ largest ∷ lenient ∷ files ∷ []
 
 abbrev pub shell_arguments : List Rule
 shell_arguments = process ∷ files ∷ []

@@ -70,9 +70,11 @@ pub enum ScriptJob {
         lenient: bool,
         names: bool,
     },
-    /// Replay the trace of the file `trace` after them, leniently.
+    /// Replay the trace of the file `trace` after them, leniently. With `free` pages take room:
+    /// these nodes have so much, and the others never fill.
     Replay {
         trace: Vec<String>,
+        free: Vec<FreePages>,
         format: Format,
         lenient: bool,
     },

@@ -3,7 +3,7 @@ use crate::asking::{Asking, Question};
 use numa_command_line::{JobFault, Outlet};
 use numa_lines::RunFault;
 use numa_sheets::AddressAsked;
-use numa_subjects::{Ended, Halt};
+use numa_subjects::{Ended, Halt, NOTHING_SERVED};
 use std::io;
 use std::io::{ErrorKind, Write};
 use std::process::ExitCode;
@@ -107,6 +107,12 @@ fn end_trace(rt: &impl Eprint, trace: &str, place: u64, why: &str) -> ExitCode {
     ExitCode::from(NOT_AS_ASKED)
 }
 
+/// Ends because no page of this trace finds a place.
+fn end_served(rt: &impl Eprint, trace: &str) -> ExitCode {
+    let _ = eprintln!(rt; "{trace}: {NOTHING_SERVED}");
+    ExitCode::from(NOT_AS_ASKED)
+}
+
 /// The status of an answer after lines that ended so; with `lenient`, malformed and refused ones
 /// don't matter.
 pub fn status_of(ended: Ended, lenient: bool) -> ExitCode {
@@ -181,6 +187,7 @@ pub fn ended(
         Err(Halt::Unmapped | Halt::TwoPages) => ExitCode::from(2),
         Err(Halt::ManyTasks(first, second)) => lack_task(rt, first, second),
         Err(Halt::BadAccess(place, fault)) => end_trace(rt, trace, place, fault.text()),
+        Err(Halt::NothingServed) => end_served(rt, trace),
         Err(Halt::NoHost) => end_with(rt, 2, NO_HOST),
         Err(Halt::NoProcess(process)) => lack_process(rt, process),
         Err(Halt::ManyProcesses) => end_with(rt, 2, MANY_PROCESSES),

@@ -7,6 +7,10 @@ use numa_lines::RunFault;
 use numa_traces::ReplayError;
 use std::alloc::AllocError;
 
+/// What is told of a trace that finds nothing ([`Halt::NothingServed`]).
+pub const NOTHING_SERVED: &str = "no page of the trace finds a place: no node on which one may lie \
+has room (lines room of the scripts, --free)";
+
 /// Why a question about played scripts has no answer. Nothing of an answer was written, except for
 /// `Stopped(Write)`.
 #[derive(Clone, Copy, Debug)]
@@ -28,6 +32,9 @@ pub enum Halt {
     ManyTasks(u32, u32),
     /// A line of the trace, from 1, can't be replayed.
     BadAccess(u64, ReplayError),
+    /// Pages take room, and no access of the trace found a page that lies somewhere, or room for
+    /// one.
+    NothingServed,
     /// A process is asked for, and the scripts are of one process.
     NoHost,
     /// The host has no process of this number.

@@ -14,6 +14,6 @@ mod subject;
 
 pub use ended::{Ended, Twin};
 pub use faults::tells_fault;
-pub use halt::Halt;
+pub use halt::{Halt, NOTHING_SERVED};
 pub use page_place::PagePlace;
 pub use subject::{Subject, differ, host_in, member, space_in};

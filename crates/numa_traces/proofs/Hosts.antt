@@ -6,7 +6,6 @@ use Rattle.std.specs.BTreeMap.{is_at}
 use Rattle.std.specs.Ordering.{nat_cmp}
 use Rattle.std.proofs.lemmas.Bool.{cases_Bool, eqb-true, eq-eqb}
 use Rattle.std.proofs.lemmas.Bool.Decides.{nat_tests}
-use Rattle.numa_machine.specs.Machine.{Hardware}
 use Rattle.numa_plan.specs.Meaning.{PlanData}
 use Rattle.numa_traces.specs.Hosting.{HasProcess, HostFrames, HostReplayed}
 use Rattle.numa_traces.specs.Hosting.{IsHostReplay, IsPart, frames_before}
@@ -64,15 +63,15 @@ module _ (plans : ℕ → PlanData) (start : HostFrames) (trace : List (ℕ × A
     tallies = λ route. rw apart (part.tallies route);
   }
 
-pub next-of-host : (machine : Hardware) (plans : ℕ → PlanData) (trace : List (ℕ × Access))
+pub next-of-host : (room : List ℕ) (plans : ℕ → PlanData) (trace : List (ℕ × Access))
     (process : ℕ) (access : Access) (old new : HostReplayed) (one after : ProcessReplay)
     → process_of old.processes process ≡ Some one
     → ((other : ℕ) → process_of new.processes other
     ≡ if is_at (nat_cmp process) other then Some after else process_of old.processes other)
     → after.plan ≡ one.plan
     → IsNext one.plan access (with_free one.replay old.free) (with_free after.replay new.free)
-    → IsHostReplay machine plans trace old
-    → IsHostReplay machine plans ((process, access) ∷ trace) new
+    → IsHostReplay room plans trace old
+    → IsHostReplay room plans ((process, access) ∷ trace) new
 next-of-host machine plans trace process access old new one after found written same next was =
     record { start = was.start; fresh = was.fresh; free = own.0; each = each }
   where
@@ -98,13 +97,13 @@ next-of-host machine plans trace process access old new one after found written 
     ]
 
 -- one process more, before the first access
-pub begun-with : (machine : Hardware) (plans : ℕ → PlanData) (process : ℕ)
+pub begun-with : (room : List ℕ) (plans : ℕ → PlanData) (process : ℕ)
     (old new : HostReplayed) (one : ProcessReplay) → one.plan ≡ plans process
     → one.replay ≡ record { frames = record { pages = []; free = [] }; tallies = [] }
     → new.free ≡ old.free
     → ((other : ℕ) → process_of new.processes other
     ≡ if is_at (nat_cmp process) other then Some one else process_of old.processes other)
-    → IsHostReplay machine plans [] old → IsHostReplay machine plans [] new
+    → IsHostReplay room plans [] old → IsHostReplay room plans [] new
 begun-with machine plans process old new one plan none kept written was =
     record { start = was.start; fresh = was.fresh; free = kept ∙ was.free; each = each }
   where

@@ -1,6 +1,9 @@
+pub mod Closing
 pub mod Counted
 pub mod Freed
 pub mod Hosts
+pub mod Phased
 pub mod Replays
 pub mod Reversed
 pub mod Sharing
+pub mod Stepped

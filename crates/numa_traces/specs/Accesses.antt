@@ -1,4 +1,4 @@
--- What a line of a trace says: `TASK ADDRESS CPU [COUNT]`, and `in P` before it.
+-- What a line of a trace says: `TASK ADDRESS CPU [COUNT]`, and `in P` before it; or `mark TEXT`.
 use Rattle.std.specs.Prelude.{ℕ, List, [], ◌∷◌, Option, Some, None, Result, Ok, Err}
 use Rattle.std.specs.Prelude.{if◌then◌else◌, codes, drop, take}
 use Rattle.std.specs.Str.{bytes_eq}
@@ -71,3 +71,12 @@ said_by (Err why) = Err why
 -- what a line says: nothing where it is empty or a comment
 abbrev pub access_of : List ℕ → Result (Option TraceLine) AccessError
 access_of line = if is_silent line then Ok None else said_by (line_by line)
+
+-- the text of a mark, if it has any
+abbrev pub mark_text : List ℕ → Option (List ℕ)
+mark_text [] = None
+mark_text (byte ∷ rest) = Some (byte ∷ rest)
+
+-- what stands behind `mark `, where a line begins so and something does
+abbrev pub mark_of : List ℕ → Option (List ℕ)
+mark_of line = if bytes_eq (take 5 line) (codes "mark ") then mark_text (drop 5 line) else None

@@ -1,16 +1,16 @@
 -- What a trace meets on a host: each process goes by its own plan, and all take the same frames. A
 -- trace is the list of its accesses, each with the number of its process, the newest first.
-use Rattle.std.specs.Prelude.{◌≡◌, ◌==◌, ◌&&◌, ◌||◌, ℕ, ◌<◌, Option, Some, List, [], ◌∷◌}
-use Rattle.std.specs.Prelude.{MatchOption, is_some, slice_index, if◌then◌else◌}
+use Rattle.std.specs.Prelude.{◌≡◌, ◌==◌, ◌&&◌, ◌||◌, ℕ, Option, Some, None, List, [], ◌∷◌}
+use Rattle.std.specs.Prelude.{MatchOption, is_some, if◌then◌else◌}
 use Rattle.std.specs.BTreeMap.{is_at}
 use Rattle.std.specs.Map.{lookup}
 use Rattle.std.specs.Ordering.{nat_cmp}
-use Rattle.numa_machine.specs.Machine.{Hardware, frames_of}
 use Rattle.numa_plan.specs.Meaning.{PlanData}
 use Rattle.numa_traces.specs.Placing.{Frames}
 use Rattle.numa_traces.specs.Replaying.{EndsReplay, Replayed, frames_with_access, is_first}
 use Rattle.numa_traces.specs.Replaying.{route_from}
-use Rattle.numa_traces.specs.Tallies.{Route, is_route, no_accesses, tally_at, with_accesses}
+use Rattle.numa_traces.specs.Tallies.{Route, Tallied, is_route, no_accesses, tally_at}
+use Rattle.numa_traces.specs.Tallies.{with_accesses}
 use Rattle.numa_traces.specs.declared.access.Access.{Access}
 use Rattle.numa_traces.specs.declared.fault.ReplayError.{ReplayError}
 use Rattle.numa_traces.specs.declared.fault.ReplayError.TheVariants.{NoProcess}
@@ -84,11 +84,10 @@ abbrev pub HasProcess : ℕ → List (ℕ × ProcessReplay) → List (ℕ × Pro
 HasProcess process old new = (other : ℕ)
     → is_some (process_of new other) ≡ (process == other || is_some (process_of old other))
 
--- no page is placed, and every frame is free
-pub record IsFreshHost (machine : Hardware) (host : HostFrames) : Type 0 where
+-- no page is placed, and nodes have so many frames, or so much room
+pub record IsFreshHost (room : List ℕ) (host : HostFrames) : Type 0 where
   pub pages : (process : ℕ) → host.pages process ≡ []
-  pub free : (node : ℕ) → node < machine.nodes
-      → slice_index host.free node ≡ frames_of machine node
+  pub free : host.free ≡ room
 
 -- what a process met after a trace
 pub record IsPart (plans : ℕ → PlanData) (start : HostFrames) (trace : List (ℕ × Access))
@@ -98,11 +97,12 @@ pub record IsPart (plans : ℕ → PlanData) (start : HostFrames) (trace : List 
   pub tallies : (route : Route) → tally_at met.replay.tallies route
       ≡ host_tally_of plans start trace process route
 
--- a trace was replayed from a fresh machine, by these plans of the processes
-pub record IsHostReplay (machine : Hardware) (plans : ℕ → PlanData) (trace : List (ℕ × Access))
+-- a trace was replayed where nodes had so much room and no page was placed, by these plans of the
+-- processes
+pub record IsHostReplay (room : List ℕ) (plans : ℕ → PlanData) (trace : List (ℕ × Access))
     (met : HostReplayed) : Type 0 where
   pub start : HostFrames
-  pub fresh : IsFreshHost machine start
+  pub fresh : IsFreshHost room start
   pub free : met.free ≡ (host_frames_after plans start trace).free
   pub each : (process : ℕ) (one : ProcessReplay) → process_of met.processes process ≡ Some one
       → IsPart plans start trace process one
@@ -118,3 +118,29 @@ with_free met free = record {
 abbrev pub EndsHostReplay : HostReplayed → ℕ → Access → ReplayError → Type 0
 EndsHostReplay met process access why = MatchOption (process_of met.processes process)
     (why ≡ NoProcess) (λ one. EndsReplay one.plan (with_free one.replay met.free) access why)
+
+-- ---- marks
+
+-- a mark of a host: its text, and of each process how many accesses took which route up to it
+pub record HostMarked : Type 0 where
+  pub text : List ℕ
+  pub processes : List (ℕ × Tallied)
+
+-- what was counted of a process, by what it met
+abbrev pub counted_in : ℕ × ProcessReplay → ℕ × Tallied
+counted_in it = (it.0, it.1.replay.tallies)
+
+-- what was counted of a process
+abbrev pub tallies_of : List (ℕ × Tallied) → ℕ → Option Tallied
+tallies_of [] process = None
+tallies_of ((other, tallies) ∷ processes) process =
+    if other == process then Some tallies else tallies_of processes process
+
+-- one that has this text, and follows these accesses
+pub record IsHostMark (room : List ℕ) (plans : ℕ → PlanData) (text : List ℕ)
+    (trace : List (ℕ × Access)) (mark : HostMarked) : Type 0 where
+  pub says : mark.text ≡ text
+  pub start : HostFrames
+  pub fresh : IsFreshHost room start
+  pub each : (process : ℕ) (tallies : Tallied) → tallies_of mark.processes process ≡ Some tallies
+      → (route : Route) → tally_at tallies route ≡ host_tally_of plans start trace process route

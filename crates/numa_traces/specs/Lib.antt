@@ -1,10 +1,13 @@
 pub mod Accesses
 pub mod Hosting
 pub mod HostReading
+pub mod Phases
 pub mod Placing
 pub mod PlanReading
 pub mod Reading
 pub mod Replaying
+pub mod Resting
+pub mod Rooms
 pub mod Routes
 pub mod Tallies
 pub mod Whole

@@ -1,15 +1,20 @@
 -- Lines of a trace of one space, or of one process of a host, and their replay.
-use Rattle.std.specs.Prelude.{◌≡◌, ◌==◌, ℕ, List, [], ◌∷◌, Option, None, Some, Result, Ok, Err}
+use Rattle.std.specs.Prelude.{◌≡◌, ◌==◌, ◌⊎◌, ℕ, List, [], ◌∷◌, Option, None, Some, Result, Ok, Err}
 use Rattle.std.specs.Prelude.{if◌then◌else◌}
-use Rattle.numa_machine.specs.Machine.{Hardware}
 use Rattle.numa_plan.specs.Meaning.{PlanData}
-use Rattle.numa_traces.specs.Replaying.{EndsReplay, IsReplay}
+use Rattle.numa_traces.specs.Accesses.{access_of, mark_of}
+use Rattle.numa_traces.specs.Phases.{Closes, IsTrace, Step, Touches}
+use Rattle.numa_traces.specs.Placing.{Frames}
+use Rattle.numa_traces.specs.Replaying.{EndsReplay}
+use Rattle.numa_traces.specs.Resting.{found, lies_where}
 use Rattle.numa_traces.specs.declared.access.Access.{Access}
 use Rattle.numa_traces.specs.declared.access.TraceLine.{TraceLine}
 use Rattle.numa_traces.specs.declared.fault.AccessError.{AccessError}
 use Rattle.numa_traces.specs.declared.fault.ReplayError.{ReplayError}
-use Rattle.numa_traces.specs.declared.fault.ReplayError.TheVariants.{Malformed, Named}
+use Rattle.numa_traces.specs.declared.fault.ReplayError.TheVariants.{Malformed, Named, NoMemory}
 use Rattle.numa_traces.specs.declared.plan_reading.PlanReplay.{PlanReplay}
+
+-- ---- what a line says
 
 -- an access for the replay of one space, or of the process of a host that has this number: what
 -- other processes do is left out
@@ -25,22 +30,53 @@ said_for own (Err fault) = Err (Malformed fault)
 said_for own (Ok None) = Ok None
 said_for own (Ok (Some line)) = access_for own line.process line.access
 
--- before the first line
-abbrev pub IsBegun : Hardware → PlanData → Option ℕ → PlanReplay → Type 0
-IsBegun machine plan process begun =
-    (begun.plan.now ≡ plan) × (begun.process ≡ process) × IsReplay machine plan [] begun.replay
+-- the step that an access is, if there is one
+abbrev pub touch_of : Result (Option Access) ReplayError → Result (Option (Step Access)) ReplayError
+touch_of (Err fault) = Err fault
+touch_of (Ok None) = Ok None
+touch_of (Ok (Some access)) = Ok (Some (Touches access))
 
--- a line with this access was replayed; where it has none, nothing has changed
-abbrev pub ReplaysLine : Result (Option Access) ReplayError → PlanReplay → PlanReplay → Type 0
-ReplaysLine (Err why) old new = ⊥
-ReplaysLine (Ok None) old new = new ≡ old
-ReplaysLine (Ok (Some access)) old new = (new.plan.now ≡ old.plan.now)
-    × (new.process ≡ old.process)
-    × ((machine : Hardware) (trace : List Access) → IsReplay machine old.plan.now trace old.replay
-    → IsReplay machine old.plan.now (access ∷ trace) new.replay)
+-- a mark, or else an access
+abbrev pub step_by : Option (List ℕ) → Option ℕ → List ℕ → Result (Option (Step Access)) ReplayError
+step_by (Some text) own line = Ok (Some (Closes text))
+step_by None own line = touch_of (said_for own (access_of line))
 
--- why a line with this access can't be replayed
-abbrev pub EndsAtLine : Result (Option Access) ReplayError → PlanReplay → ReplayError → Type 0
-EndsAtLine (Err fault) old why = why ≡ fault
-EndsAtLine (Ok None) old why = ⊥
-EndsAtLine (Ok (Some access)) old why = EndsReplay old.plan.now old.replay access why
+-- the step that a line is for it
+abbrev pub step_of : Option ℕ → List ℕ → Result (Option (Step Access)) ReplayError
+step_of own line = step_by (mark_of line) own line
+
+-- ---- what a line does
+
+-- steps were replayed, which met what a replay has met
+abbrev pub HasMet : Frames → List (Step Access) → PlanReplay → Type 0
+HasMet start steps at = IsTrace at.plan.now (lies_where at.before) start steps at.replay
+    at.marks.items
+
+-- before the first line: no page is placed, and nodes have so much room
+abbrev pub IsBegun : PlanData → Option ℕ → List ℕ → PlanReplay → Type 0
+IsBegun plan process room begun = (begun.plan.now ≡ plan) × (begun.process ≡ process)
+    × HasMet (record { pages = []; free = room }) [] begun
+
+-- the plan, the process and where pages lay before stay the same
+pub record IsSame (old new : PlanReplay) : Type 0 where
+  pub plan : new.plan.now ≡ old.plan.now
+  pub before : new.before ≡ old.before
+  pub process : new.process ≡ old.process
+
+-- a line with this step was replayed; where it has none, nothing has changed
+abbrev pub ReplaysStep : Result (Option (Step Access)) ReplayError → PlanReplay → PlanReplay
+    → Type 0
+ReplaysStep (Err why) old new = ⊥
+ReplaysStep (Ok None) old new = new ≡ old
+ReplaysStep (Ok (Some step)) old new = IsSame old new
+    × ((start : Frames) (steps : List (Step Access)) → HasMet start steps old
+    → HasMet start (step ∷ steps) new)
+
+-- why a line with this step can't be replayed
+abbrev pub EndsAtStep : Result (Option (Step Access)) ReplayError → PlanReplay → ReplayError
+    → Type 0
+EndsAtStep (Err fault) old why = why ≡ fault
+EndsAtStep (Ok None) old why = ⊥
+EndsAtStep (Ok (Some (Closes text))) old why = why ≡ NoMemory
+EndsAtStep (Ok (Some (Touches access))) old why = (why ≡ NoMemory)
+    ⊎ EndsReplay old.plan.now (found (lies_where old.before) old.replay access.page) access why

@@ -1,6 +1,6 @@
 -- How many accesses took which route.
-use Rattle.std.specs.Prelude.{◌≡◌, ◌≤◌, ◌^◌, ◌⊎◌, ⊤, ℕ, ◌+◌, Bool, Option, List, unwrap_or}
-use Rattle.std.specs.Prelude.{if◌then◌else◌}
+use Rattle.std.specs.Prelude.{◌≡◌, ◌≤◌, ◌^◌, ◌⊎◌, ⊤, ℕ, ◌+◌, Bool, true, false, Option, List, []}
+use Rattle.std.specs.Prelude.{◌∷◌, if◌then◌else◌, is_some, unwrap_or}
 use Rattle.std.specs.BTreeMap.{is_at}
 use Rattle.std.specs.Map.{lookup}
 use Rattle.std.specs.Option.{option_cmp}
@@ -32,6 +32,12 @@ Tallied = List (Route × AccessCounts)
 -- the tally of a route; nothing went where none is kept
 abbrev pub tally_at : Tallied → Route → AccessCounts
 tally_at tallies route = unwrap_or (lookup (is_at (route_cmp route)) tallies) no_accesses
+
+-- no route leads to a node
+abbrev pub are_unserved : Tallied → Bool
+are_unserved [] = true
+are_unserved ((route, tally) ∷ tallies) =
+    if is_some route.2 then false else are_unserved tallies
 
 -- a tally with this many more accesses, the first of them a fault or not
 abbrev pub with_accesses : AccessCounts → ℕ → Bool → AccessCounts

@@ -2,8 +2,8 @@
 ghost use Rattle.std.specs.Prelude.{◌≡◌};
 ghost use Rattle.std.specs.Option.{option_map};
 ghost use Rattle.numa_script.specs.Lines.{is_silent};
-ghost use Rattle.numa_traces.specs.Accesses.{access_by, access_of, behind_in, line_by, named_by};
-ghost use Rattle.numa_traces.specs.Accesses.{with_task};
+ghost use Rattle.numa_traces.specs.Accesses.{access_by, access_of, behind_in, line_by, mark_of};
+ghost use Rattle.numa_traces.specs.Accesses.{mark_text, named_by, with_task};
 
 use crate::fault::AccessError;
 use numa_mask::Parts;
@@ -110,6 +110,26 @@ fn behind_in(line: &[u8]) -> Option<&[u8]>
     ensures { option_map (λ rest. rest.now) result ≡ behind_in line.now }
 {
     line.strip_prefix(b"in ")
+}
+
+/// The text of a mark, if it has any.
+fn mark_text(rest: &[u8]) -> Option<&[u8]>
+    ensures { option_map (λ text. text.now) result ≡ mark_text rest.now }
+{
+    if rest.is_empty() {
+        return None;
+    }
+    Some(rest)
+}
+
+/// The text of a mark, if a line is one: it begins with `mark `, and something follows.
+pub fn mark_in(line: &[u8]) -> Option<&[u8]>
+    ensures { option_map (λ text. text.now) result ≡ mark_of line.now }
+{
+    match line.strip_prefix(b"mark ") {
+        Some(rest) => mark_text(rest),
+        None => None,
+    }
 }
 
 /// What a line says that isn't silent.

@@ -43,7 +43,7 @@ impl AccessError {
     pub fn text(self) -> &'static str {
         match self {
             AccessError::WordCount => {
-                "bad words: a line of a trace is [in P] TASK ADDRESS CPU [COUNT]"
+                "bad words: a line of a trace is [in P] TASK ADDRESS CPU [COUNT], or mark TEXT"
             }
             AccessError::BadProcess => "bad words: P is no number below 2^32",
             AccessError::BadTask => "bad words: TASK is no number below 2^32",

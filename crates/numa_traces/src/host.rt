@@ -1,7 +1,6 @@
 //! Replaying a trace of the processes of a host: each goes by its own plan, and all take the same
 //! frames.
-ghost use Rattle.std.specs.Prelude.{◌≡◌, ◌∷◌, ℕ, [], List, MatchOption, IfErr, IfOk, OnOk};
-ghost use Rattle.numa_machine.specs.Machine.{Hardware};
+ghost use Rattle.std.specs.Prelude.{◌≡◌, ◌∷◌, ℕ, [], List, MatchOption, IfErr, OnOk};
 ghost use Rattle.numa_plan.specs.Meaning.{PlanData};
 ghost use Rattle.numa_traces.specs.Hosting.{AreSameProcesses, EndsHostReplay, HasProcess};
 ghost use Rattle.numa_traces.specs.Hosting.{IsHostReplay, process_of};
@@ -9,10 +8,8 @@ ghost use Rattle.numa_traces.specs.declared.access.Access.{Access};
 
 use crate::access::Access;
 use crate::fault::ReplayError;
-use crate::memory::all_frames;
 use crate::process::{ProcessReplay, take_shared};
 use crate::replay::Replay;
-use numa_machine::Machine;
 use numa_plan::Plan;
 use std::alloc::{AllocError, Global};
 use std::collections::BTreeMap;
@@ -23,8 +20,8 @@ use std::marker::Model;
 /// one process lies no page of another does.
 pub struct HostReplay {
     processes: BTreeMap<u32, ProcessReplay>,
-    // The number of frames that each node has left.
-    free: Vec<u32>,
+    // The number of frames that each node has left, or of pages for which it has room.
+    free: Vec<u64>,
 }
 
 // (By hand, so that it is proved here alone: a derived one is proved in each crate that drops.)
@@ -45,19 +42,16 @@ impl Model for HostReplay {
 }
 
 impl HostReplay {
-    /// The state before the first access: no page is placed, and there are no processes.
-    ///
-    /// # Errors
-    /// `AllocError`: out of memory.
-    pub fn new(alloc: Global, machine: &Machine) -> Result<HostReplay, AllocError>
-        ensures replay { (plans : ℕ → PlanData) → IfOk result (IsHostReplay machine.now plans []) }
-        ensures processes { IfOk result (λ replay. replay.processes ≡ []) }
+    /// The state before the first access where nodes have so many frames, or so much room: no page
+    /// is placed, and there are no processes. It doesn't allocate.
+    pub fn new(alloc: Global, room: Vec<u64>) -> HostReplay
+        ensures replay { (plans : ℕ → PlanData) → IsHostReplay room.items plans [] result }
+        ensures processes { result.processes ≡ [] }
     {
-        let free = all_frames(alloc, machine)?;
-        Ok(HostReplay {
+        HostReplay {
             processes: BTreeMap::new(alloc),
-            free,
-        })
+            free: room,
+        }
     }
 
     /// Adds a process with its plan, which is for the machine, before the first access.
@@ -65,9 +59,9 @@ impl HostReplay {
     /// # Errors
     /// `AllocError`: out of memory.
     pub fn add(&mut self, alloc: Global, process: u32, plan: Plan) -> Result<(), AllocError>
-        ensures replay { (machine : Hardware) (plans : ℕ → PlanData)
-            → IsHostReplay machine plans [] self.old → plans process ≡ plan
-            → OnOk result (IsHostReplay machine plans [] self.new) }
+        ensures replay { (room : List ℕ) (plans : ℕ → PlanData)
+            → IsHostReplay room plans [] self.old → plans process ≡ plan
+            → OnOk result (IsHostReplay room plans [] self.new) }
         ensures processes { OnOk result
             (HasProcess process self.old.processes self.new.processes) }
     {
@@ -106,9 +100,9 @@ impl HostReplay {
     /// The first that applies: `NoProcess`, there is no such process; those of [`Replay::take`].
     /// Then the replay has ended.
     pub fn take(&mut self, process: u32, access: Access) -> Result<(), ReplayError>
-        ensures ok { (machine : Hardware) (plans : ℕ → PlanData) (trace : List (ℕ × Access))
-            → IsHostReplay machine plans trace self.old
-            → OnOk result (IsHostReplay machine plans ((process, access) ∷ trace) self.new) }
+        ensures ok { (room : List ℕ) (plans : ℕ → PlanData) (trace : List (ℕ × Access))
+            → IsHostReplay room plans trace self.old
+            → OnOk result (IsHostReplay room plans ((process, access) ∷ trace) self.new) }
         ensures processes { OnOk result
             (AreSameProcesses self.old.processes self.new.processes) }
         ensures err { IfErr result (EndsHostReplay self.old process access) }

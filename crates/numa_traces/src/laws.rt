@@ -1,9 +1,11 @@
-//! A law about the definitions that the contracts of this crate cite. The function does nothing:
-//! what it ensures is the law.
+//! Laws about the definitions that the contracts of this crate cite. The functions do nothing: what
+//! they ensure are the laws.
 ghost use Rattle.std.specs.Prelude.{◌≡◌, ℕ, List, map};
 ghost use Rattle.numa_plan.specs.Meaning.{PlanData};
 ghost use Rattle.numa_traces.specs.Hosting.{HostFrames, frames_before, host_tally_of, seen_by};
+ghost use Rattle.numa_traces.specs.Placing.{Frames};
 ghost use Rattle.numa_traces.specs.Replaying.{frames_after, tally_of};
+ghost use Rattle.numa_traces.specs.Resting.{frames_over, nowhere, tally_over};
 ghost use Rattle.numa_traces.specs.Tallies.{Route};
 ghost use Rattle.numa_traces.specs.declared.access.Access.{Access};
 
@@ -18,4 +20,13 @@ pub fn alone()
         (trace : List Access) (route : Route)
         → host_tally_of plans start (map (λ access. (process, access)) trace) process route
         ≡ tally_of (plans process) (seen_by start process) trace route }
+{}
+
+/// Where no page lies anywhere before a trace, its accesses meet what those of a fresh machine
+/// meet: the same frames, and the same counts of each route.
+pub fn nothing_before()
+    ensures frames { (plan : PlanData) (start : Frames) (trace : List Access)
+        → frames_over plan nowhere start trace ≡ frames_after plan start trace }
+    ensures tallies { (plan : PlanData) (start : Frames) (trace : List Access) (route : Route)
+        → tally_over plan nowhere start trace route ≡ tally_of plan start trace route }
 {}

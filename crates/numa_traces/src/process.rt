@@ -21,7 +21,7 @@ pub struct ProcessReplay {
 /// As [`Replay::take`]. Then the replay has ended.
 pub(crate) fn take_shared(
     one: &mut ProcessReplay,
-    free: &mut Vec<u32>,
+    free: &mut Vec<u64>,
     access: Access,
 ) -> Result<(), ReplayError>
     ensures plan { one.new.plan ≡ one.old.plan }

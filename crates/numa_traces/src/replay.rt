@@ -4,7 +4,10 @@ ghost use Rattle.numa_machine.specs.Machine.{Hardware};
 ghost use Rattle.numa_plan.specs.Meaning.{PlanData, place_refusal, planned_list};
 ghost use Rattle.numa_traces.specs.Hosting.{with_free};
 ghost use Rattle.numa_traces.specs.Replaying.{EndsReplay, IsNext, IsReplay};
+ghost use Rattle.numa_traces.specs.Placing.{node_of};
+ghost use Rattle.numa_traces.specs.Resting.{laid_by};
 ghost use Rattle.numa_traces.specs.declared.access.Access.{Access};
+ghost use Rattle.numa_traces.specs.declared.fault.ReplayError.TheVariants as fault;
 
 use crate::access::Access;
 use crate::fault::ReplayError;
@@ -55,6 +58,20 @@ impl Replay {
         })
     }
 
+    /// The state before the first access where nodes have so much room: of 2^64 - 1 a node never
+    /// fills. It doesn't allocate.
+    pub(crate) fn with_room(alloc: Global, room: Vec<u64>) -> Replay
+        ensures { result ≡ record {
+          frames = record { pages = []; free = room.items };
+          tallies = [];
+        } }
+    {
+        Replay {
+            memory: Memory::with_room(alloc, room),
+            tallies: Tallies::new(alloc),
+        }
+    }
+
     /// The state before the first access of a process that has no frames of its own. It doesn't
     /// allocate.
     pub(crate) fn shared(alloc: Global) -> Replay
@@ -67,7 +84,7 @@ impl Replay {
     }
 
     /// Exchanges the numbers of frames left for others.
-    pub(crate) fn exchange(&mut self, free: &mut Vec<u32>)
+    pub(crate) fn exchange(&mut self, free: &mut Vec<u64>)
         ensures own { self.new ≡ with_free self.old free.old.items }
         ensures given { free.new.items ≡ self.old.frames.free }
     {
@@ -86,6 +103,23 @@ impl Replay {
         ensures { result.now ≡ self.now.tallies }
     {
         &self.tallies
+    }
+
+    /// A page lies on a node and takes nothing of its room, unless an access placed it.
+    ///
+    /// # Errors
+    /// `NoMemory`: out of memory. Then nothing has changed.
+    pub(crate) fn lay(&mut self, page: u64, node: u8) -> Result<(), ReplayError>
+        ensures laid { OnOk result (self.new ≡ record {
+          frames = laid_by (node_of self.old.frames.pages page) self.old.frames page (Some node);
+          tallies = self.old.tallies;
+        }) }
+        ensures err { IfErr result (λ why. why ≡ fault.NoMemory) }
+    {
+        match self.memory.lay(page, node) {
+            Ok(()) => Ok(()),
+            Err(_) => Err(ReplayError::NoMemory),
+        }
     }
 
     /// Replays an access: if its page isn't placed, its first touch places it by the plan.

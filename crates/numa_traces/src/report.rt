@@ -1,8 +1,8 @@
 //! The report of a replay, as text or JSON.
-use crate::host::HostReplay;
-use crate::replay::Replay;
+use crate::moments::{Moment, TakeRoute, has_between, moment_before, take_between};
+use crate::records::records_text;
 use crate::summary::Summary;
-use crate::tallies::{AccessCounts, Route, Tallies};
+use crate::tallies::{AccessCounts, Route};
 use numa_machine::Machine;
 use numa_sheets::{Format, Object, Written};
 use serde_json::Value;
@@ -103,18 +103,6 @@ fn summary_text(alloc: Global, task: Option<u32>, said: &Summary) -> Result<Vec<
     }
 }
 
-/// A report being written.
-#[derive(Drop)]
-struct Sheet {
-    format: Format,
-    written: Written,
-    // The task whose accesses are being added up, if there is one, and the text before its object.
-    task: Option<u32>,
-    before: &'static str,
-    of_task: Summary,
-    of_all: Summary,
-}
-
 /// Writes the object of a task, or of the total.
 fn say_object(written: &mut Written, task: Option<u32>, said: &Summary) {
     match summary_text(written.alloc(), task, said) {
@@ -129,11 +117,67 @@ fn say_line(written: &mut Written, said: &Summary) {
     written.put(b"\n");
 }
 
-impl Sheet {
-    /// The state before the first task.
-    fn new(alloc: Global, format: Format) -> Sheet {
+/// The object with the text of a phase.
+fn phase_text(alloc: Global, text: Option<&[u8]>) -> Result<Vec<u8>, AllocError> {
+    let mut object = Object::new(alloc);
+    match text {
+        Some(text) => object.put_bytes("phase", text),
+        None => object.put_if_text("phase", None),
+    }
+    match object.made() {
+        Ok(value) => value.to_vec(alloc),
+        Err(fault) => Err(fault),
+    }
+}
+
+/// Begins the object of a phase.
+fn begin_phase(written: &mut Written, text: Option<&[u8]>) {
+    match phase_text(written.alloc(), text) {
+        Ok(object) => {
+            let object = object.as_slice();
+            written.put(object.strip_suffix(b"}").unwrap_or(object));
+            written.put(b",");
+        }
+        Err(_) => written.lack(),
+    }
+}
+
+/// A report being written.
+#[derive(Drop)]
+struct Sheet<'a> {
+    machine: &'a Machine,
+    format: Format,
+    // Whether accesses are told by task.
+    by_task: bool,
+    written: Written,
+    // The task whose accesses are being added up, if there is one, and the text before its object.
+    task: Option<u32>,
+    before: &'static str,
+    of_task: Summary,
+    of_all: Summary,
+}
+
+impl TakeRoute for Sheet<'_> {
+    fn take_route(&mut self, route: &Route, counts: &AccessCounts) {
+        let (task, cpu, node) = *route;
+        if self.by_task && self.task != Some(task) {
+            self.end_task();
+            self.task = Some(task);
+            self.of_task = Summary::new();
+        }
+        let place = place_of(self.machine, cpu, node);
+        self.of_task.add(place, counts);
+        self.of_all.add(place, counts);
+    }
+}
+
+impl<'a> Sheet<'a> {
+    /// The state before the first phase.
+    fn new(alloc: Global, machine: &'a Machine, format: Format, by_task: bool) -> Sheet<'a> {
         Sheet {
+            machine,
             format,
+            by_task,
             written: Written::new(alloc),
             task: None,
             before: "\n",
@@ -142,69 +186,150 @@ impl Sheet {
         }
     }
 
+    /// Whether the report is of objects.
+    fn has_objects(&self) -> bool {
+        match self.format {
+            Format::Json | Format::Html(_) => true,
+            _ => false,
+        }
+    }
+
     /// Writes the task whose accesses were added up, if there is one.
     fn end_task(&mut self) {
         let Some(task) = self.task else {
             return;
         };
+        let has_objects = self.has_objects();
         let written = &mut self.written;
-        match self.format {
-            Format::Json | Format::Html(_) => {
-                written.put(self.before.as_bytes());
-                self.before = ",\n";
-                say_object(written, Some(task), &self.of_task);
-            }
-            _ => {
-                written.put_form(b"task $", &[task as u64]);
-                say_line(written, &self.of_task);
-            }
+        if has_objects {
+            written.put(self.before.as_bytes());
+            self.before = ",\n";
+            say_object(written, Some(task), &self.of_task);
+            return;
         }
+        written.put_form(b"task $", &[task as u64]);
+        say_line(written, &self.of_task);
     }
 
-    /// Adds the accesses of a route; those of a task come together.
-    fn add(&mut self, machine: &Machine, route: &Route, tally: &AccessCounts) {
-        let (task, cpu, node) = *route;
-        if self.task != Some(task) {
-            self.end_task();
-            self.task = Some(task);
-            self.of_task = Summary::new();
+    /// Begins a phase, or all of them, before the first task.
+    fn begin(&mut self) {
+        self.task = None;
+        self.before = "\n";
+        self.of_all = Summary::new();
+        if self.by_task && self.has_objects() {
+            self.written.put(b"\"tasks\":[");
         }
-        let place = place_of(machine, cpu, node);
-        self.of_task.add(place, tally);
-        self.of_all.add(place, tally);
     }
 
     /// Writes the total.
     fn end(&mut self) {
         self.end_task();
+        let has_objects = self.has_objects();
         let written = &mut self.written;
-        match self.format {
-            Format::Json | Format::Html(_) => {
-                written.put(b"\n],\"total\":");
-                say_object(written, None, &self.of_all);
-                written.put(b"}\n");
+        if !has_objects {
+            written.put(b"total");
+            say_line(written, &self.of_all);
+            return;
+        }
+        if self.by_task {
+            written.put(b"\n],");
+        }
+        written.put(b"\"total\":");
+        say_object(written, None, &self.of_all);
+    }
+
+    /// Writes what was counted between two moments.
+    fn say_between(&mut self, before: Option<&Moment<'_>>, after: &Moment<'_>) {
+        self.begin();
+        take_between(self, before, after);
+        self.end();
+    }
+
+    /// Writes a phase, which follows so many others.
+    fn say_phase(&mut self, number: usize, before: Option<&Moment<'_>>, after: &Moment<'_>) {
+        if self.has_objects() {
+            let written = &mut self.written;
+            written.put(if number == 0 {
+                b"\n"
+            } else {
+                b",\n".as_slice()
+            });
+            begin_phase(written, after.text);
+            self.say_between(before, after);
+            self.written.put(b"}");
+            return;
+        }
+        match after.text {
+            Some(text) => {
+                self.written.put(b"phase ");
+                self.written.put(text);
+                self.written.put(b"\n");
             }
-            _ => {
-                written.put(b"total");
-                say_line(written, &self.of_all);
+            None => self.written.put(b"after the last mark\n"),
+        }
+        self.say_between(before, after);
+    }
+
+    /// Writes the phases; of that which no mark closes only if something was counted in it.
+    fn say_phases(&mut self, moments: &[Moment<'_>]) {
+        for number in 0..moments.len() {
+            let before = moment_before(moments, number);
+            let after = &moments[number];
+            if after.text.is_some() || has_between(before, after) {
+                self.say_phase(number, before, after);
             }
         }
     }
 
-    /// Writes the report of a replay.
-    fn say(&mut self, machine: &Machine, replay: &Replay) {
-        if let Format::Json | Format::Html(_) = self.format {
-            self.written.put(b"{\"tasks\":[");
+    /// Writes what was counted of one process: by phase, if there are marks, and in all.
+    fn say(&mut self, moments: &[Moment<'_>]) {
+        let Some(last) = moments.last() else {
+            return;
+        };
+        let has_marks = moments.len() > 1;
+        if self.has_objects() {
+            self.written.put(b"{");
+            if has_marks {
+                self.written.put(b"\"phases\":[");
+                self.say_phases(moments);
+                self.written.put(b"\n],");
+            }
+            self.say_between(None, last);
+            self.written.put(b"}\n");
+            return;
         }
-        for (route, tally) in replay.tallies().iter() {
-            self.add(machine, route, tally);
+        if has_marks {
+            self.say_phases(moments);
+            self.written.put(b"all phases\n");
         }
-        self.end();
+        self.say_between(None, last);
+    }
+
+    /// The same of all processes of a host. Objects go on with the members of one that has begun.
+    fn say_all(&mut self, moments: &[Moment<'_>]) {
+        let Some(last) = moments.last() else {
+            return;
+        };
+        let has_marks = moments.len() > 1;
+        if self.has_objects() {
+            self.say_between(None, last);
+            if has_marks {
+                self.written.put(b",\"phases\":[");
+                self.say_phases(moments);
+                self.written.put(b"\n]");
+            }
+            return;
+        }
+        if has_marks {
+            self.say_phases(moments);
+            self.written.put(b"all phases\n");
+        }
+        self.say_between(None, last);
     }
 }
 
 /// The node of an access's page, and its distance from the CPU's node; the machine has both nodes.
-fn place_of(machine: &Machine, cpu: u32, node: Option<u8>) -> Option<(u8, u8)> {
+pub(crate) fn place_of(machine: &Machine, cpu: u32, node: Option<u8>) -> Option<(u8, u8)> {
     let Some(node) = node else {
         return None;
     };
@@ -215,51 +340,43 @@ fn place_of(machine: &Machine, cpu: u32, node: Option<u8>) -> Option<(u8, u8)> {
     Some((node, 255))
 }
 
-/// The report of a replay, by task and in total: the accesses by the page's node and by its
-/// distance from the CPU's node, the faults that placed a page and those that found no frame, and
-/// the accesses that therefore went nowhere. The machine is that of the replay.
+/// The report of what was counted of one process, by phase where a trace has marks, by task and in
+/// total: the accesses by the page's node and by its distance from the CPU's node, the faults that
+/// placed a page and those that found no frame, and the accesses that therefore went nowhere. As
+/// CSV it has a record for each route of each phase. The machine is that of the replay.
 ///
 /// # Errors
 /// `AllocError`: out of memory.
 pub fn report_text(
     alloc: Global,
     machine: &Machine,
-    replay: &Replay,
+    moments: &[Moment<'_>],
     format: Format,
 ) -> Result<Vec<u8>, AllocError> {
-    let mut sheet = Sheet::new(alloc, format);
-    sheet.say(machine, replay);
+    if let Format::Csv = format {
+        return records_text(alloc, machine, moments);
+    }
+    let mut sheet = Sheet::new(alloc, machine, format, true);
+    sheet.say(moments);
     sheet.written.take()
 }
 
-/// Adds the accesses of each route.
-fn add_routes(sum: &mut Summary, machine: &Machine, tallies: &Tallies) {
-    for (route, tally) in tallies.iter() {
-        let (_, cpu, node) = *route;
-        sum.add(place_of(machine, cpu, node), tally);
-    }
-}
-
-/// The accesses of all processes of a host: of each the sums that [`report_text`] has in total, as
-/// a line or an object. The machine is that of the replay.
+/// The accesses of all processes of a host: by phase, where a trace has marks, and in all the sums
+/// that [`report_text`] has in total, as lines, or as further members of an object. The machine is
+/// that of the replay. CSV has no sums.
 ///
 /// # Errors
 /// `AllocError`: out of memory.
 pub fn total_text(
     alloc: Global,
     machine: &Machine,
-    host: &HostReplay,
+    moments: &[Moment<'_>],
     format: Format,
 ) -> Result<Vec<u8>, AllocError> {
-    let mut sum = Summary::new();
-    for (_, one) in host.iter() {
-        add_routes(&mut sum, machine, one.replay.tallies());
+    if let Format::Csv = format {
+        return Ok(Vec::new(alloc));
     }
-    if let Format::Json | Format::Html(_) = format {
-        return summary_text(alloc, None, &sum);
-    }
-    let mut written = Written::new(alloc);
-    written.put(b"total");
-    say_line(&mut written, &sum);
-    written.take()
+    let mut sheet = Sheet::new(alloc, machine, format, false);
+    sheet.say_all(moments);
+    sheet.written.take()
 }

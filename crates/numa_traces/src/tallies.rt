@@ -1,10 +1,11 @@
 //! The numbers of accesses by their routes.
-ghost use Rattle.std.specs.Prelude.{◌≡◌, [], IfErr, OnOk, OnErr, if◌then◌else◌};
-ghost use Rattle.numa_traces.specs.Tallies.{Counts, IsFull, IsRoomFault, tally_at};
+ghost use Rattle.std.specs.Prelude.{◌≡◌, [], IfErr, IfOk, OnOk, OnErr, if◌then◌else◌};
+ghost use Rattle.std.specs.Prelude.{◌==◌, length};
+ghost use Rattle.numa_traces.specs.Tallies.{Counts, IsFull, IsRoomFault, are_unserved, tally_at};
 ghost use Rattle.numa_traces.specs.declared.fault.ReplayError.TheVariants as fault;
 
 use crate::fault::ReplayError;
-use std::alloc::Global;
+use std::alloc::{AllocError, Global};
 use std::collections::BTreeMap;
 use std::collections::btree_map::Iter;
 use std::marker::Model;
@@ -49,6 +50,37 @@ impl Tallies {
         ensures { result ≡ [] }
     {
         Tallies(BTreeMap::new(alloc))
+    }
+
+    /// Returns a copy.
+    ///
+    /// # Errors
+    /// `AllocError`: out of memory.
+    pub fn copy(&self) -> Result<Tallies, AllocError>
+        ensures { IfOk result (λ copy. copy ≡ self.now) }
+    {
+        let counts = self.0.clone()?;
+        Ok(Tallies(counts))
+    }
+
+    /// Whether nothing was counted.
+    pub fn is_empty(&self) -> bool
+        ensures { result ≡ (length self.now == 0) }
+    {
+        self.0.len() == 0
+    }
+
+    /// Whether there is no route to a node: no access was served.
+    pub fn are_unserved(&self) -> bool
+        ensures { result ≡ are_unserved self.now }
+    {
+        for (route, _) in self.iter() {
+            let (_, _, node) = *route;
+            if let Some(_) = node {
+                return false;
+            }
+        }
+        true
     }
 
     /// The tally of a route.

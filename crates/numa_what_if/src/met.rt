@@ -1,11 +1,14 @@
 //! The report of what a trace met, as a text or as a page.
+use crate::stage::Planned;
 use numa_answers::{About, PageData, reported, shown_as, told_of, view_text};
 use numa_plan::Plan;
 use numa_reports::{PredictionRequest, ReportError};
 use numa_sheets::{Format, Touch};
 use numa_space::Space;
 use numa_subjects::{Halt, Subject};
-use numa_traces::{PlanReplay, Replay, Replaying, placed_text, report_text};
+use numa_traces::{
+    Moment, PlanReplay, Replay, Replaying, Tallies, moments_of, placed_text, report_text,
+};
 use std::alloc::Global;
 
 /// The most runs of pages on one node that a page shows.
@@ -47,15 +50,17 @@ fn data_of(
     Ok(data.end()?)
 }
 
-/// The report of a replay on the machine of a space, as a text, or as the data of a page.
+/// The report of a replay on the machine of a space, with what was counted at the marks and the end
+/// of its trace, as a text, or as the data of a page.
 pub(crate) fn report_in(
     alloc: Global,
-    space: &Space,
-    plan: &Plan,
+    planned: Planned<'_>,
     replay: &Replay,
+    moments: &[Moment<'_>],
     format: Format,
 ) -> Result<Vec<u8>, Halt> {
-    let text = report_text(alloc, space.machine(), replay, format)?;
+    let (space, plan) = (planned.space, planned.plan);
+    let text = report_text(alloc, space.machine(), moments, format)?;
     let Format::Html(number) = format else {
         return Ok(text);
     };
@@ -63,19 +68,29 @@ pub(crate) fn report_in(
     reported(data, space.machine().nodes())
 }
 
+/// Whether no access found a place, and there were some.
+pub(crate) fn serves_nothing(tallies: &Tallies) -> bool {
+    !tallies.is_empty() && tallies.are_unserved()
+}
+
 /// The report of a whole trace, as a text, or as a page.
 pub(crate) fn met(
     alloc: Global,
-    space: &Space,
-    plan: &Plan,
+    planned: Planned<'_>,
     replaying: &Replaying<PlanReplay<'_>>,
     format: Format,
 ) -> Result<Vec<u8>, Halt> {
     if let Some((place, fault)) = replaying.fault() {
         return Err(Halt::BadAccess(place, fault));
     }
-    let text = report_in(alloc, space, plan, &replaying.replay().replay, format)?;
-    let text = shown_as(alloc, format, "replay", text)?;
-    let about = About::of(Subject::One(space), None, &[]);
+    let trace = replaying.replay();
+    if planned.ground.room.is_some() && serves_nothing(trace.replay.tallies()) {
+        return Err(Halt::NothingServed);
+    }
+    let moments = moments_of(alloc, &trace.replay, trace.marks.as_slice())?;
+    let text = report_in(alloc, planned, &trace.replay, moments.as_slice(), format);
+    drop(moments);
+    let text = shown_as(alloc, format, "replay", text?)?;
+    let about = About::of(Subject::One(planned.space), None, &[]);
     told_of(alloc, format, &about, text)
 }

@@ -1,16 +1,17 @@
 //! Replaying traces in a space, or in each process of a host.
 use crate::met::{met, report_in};
+use crate::stage::{FRAMES, Ground, Planned, Stage, Unplanned, plan_of, room_of, space_on};
 use numa_answers::{About, add_answer, shown_as, told_of};
-use numa_compile::compile;
 use numa_host::{Host, Process};
 use numa_lines::{RunFault, TakeLine};
-use numa_plan::Plan;
 use numa_reports::ByProcess;
 use numa_sheets::Format;
 use numa_space::Space;
-use numa_subjects::{Halt, Subject, differ, host_in, space_in};
-use numa_traces::{HostReplay, PlanReplay, Replaying, read_by, total_text};
-use std::alloc::Global;
+use numa_subjects::{Halt, Subject, differ, host_in};
+use numa_traces::{
+    HostReplay, HostTrace, PlanReplay, Replaying, moments_in, moments_of_all, read_by, total_text,
+};
+use std::alloc::{AllocError, Global};
 use std::io::Read;
 
 /// A replay, and the same by the other rules, if that is wanted.
@@ -70,23 +71,20 @@ fn replayed_as(text: Result<Vec<u8>, Halt>, is_other: bool) -> Result<Replayed, 
     }
 }
 
-/// A space and its plan.
-#[derive(Clone, Copy)]
-struct Planned<'a> {
-    space: &'a Space,
-    plan: &'a Plan,
-}
-
 /// What a trace meets before its first line in a space by its plan.
 fn begun_in<'a>(
     alloc: Global,
     planned: Planned<'a>,
     process: Option<u32>,
 ) -> Result<Replaying<PlanReplay<'a>>, Halt> {
-    match PlanReplay::new(alloc, planned.space.machine(), planned.plan, process) {
-        Ok(replay) => Ok(Replaying::new(replay)),
-        Err(_) => Err(Halt::Stopped(RunFault::Memory)),
-    }
+    let Planned {
+        space,
+        plan,
+        ground,
+    } = planned;
+    let room = room_of(alloc, space.machine(), ground)?;
+    let replay = PlanReplay::new(alloc, plan, ground.before, process, room);
+    Ok(Replaying::new(replay))
 }
 
 /// The same, and in another space, if there is one.
@@ -124,18 +122,11 @@ fn replayed_by<S: Read + Drop>(
 ) -> Result<Replayed, Halt> {
     let begun = both_begun(alloc, planned, other, process);
     let both = read_whole(alloc, begun, trace)?;
-    let text = met(alloc, planned.space, planned.plan, &both.first, format);
+    let text = met(alloc, planned, &both.first, format);
     let is_other = match (other, &both.other) {
         (Some(other), Some(replaying)) => {
-            let own = met(
-                alloc,
-                planned.space,
-                planned.plan,
-                &both.first,
-                Format::Text,
-            );
-            let by_other = met(alloc, other.space, other.plan, replaying, Format::Text);
-            differ(own, by_other)
+            let own = met(alloc, planned, &both.first, Format::Text);
+            differ(own, met(alloc, other, replaying, Format::Text))
         }
         _ => false,
     };
@@ -147,19 +138,26 @@ fn replayed_by<S: Read + Drop>(
 fn replayed_beside<S: Read + Drop>(
     alloc: Global,
     planned: Planned<'_>,
-    other: Option<&Space>,
+    other: Option<Unplanned<'_>>,
     process: Option<u32>,
     trace: Vec<(String, S)>,
     format: Format,
 ) -> Result<Replayed, Halt> {
-    let Some(space) = other else {
+    let Some(Unplanned { space, ground }) = other else {
         return replayed_by(alloc, planned, None, process, trace, format);
     };
-    let Ok(plan) = compile(alloc, space) else {
-        drop(trace);
-        return Err(Halt::Stopped(RunFault::Memory));
+    let plan = match plan_of(alloc, space) {
+        Ok(plan) => plan,
+        Err(halt) => {
+            drop(trace);
+            return Err(halt);
+        }
     };
-    let other = Planned { space, plan: &plan };
+    let other = Planned {
+        space,
+        plan: &plan,
+        ground,
+    };
     let replayed = replayed_by(alloc, planned, Some(other), process, trace, format);
     drop(plan);
     replayed
@@ -169,17 +167,25 @@ fn replayed_beside<S: Read + Drop>(
 /// is one.
 fn replayed_in<S: Read + Drop>(
     alloc: Global,
-    space: &Space,
-    other: Option<&Space>,
+    own: Unplanned<'_>,
+    other: Option<Unplanned<'_>>,
     process: Option<u32>,
     trace: Vec<(String, S)>,
     format: Format,
 ) -> Result<Replayed, Halt> {
-    let Ok(plan) = compile(alloc, space) else {
-        drop(trace);
-        return Err(Halt::Stopped(RunFault::Memory));
+    let Unplanned { space, ground } = own;
+    let plan = match plan_of(alloc, space) {
+        Ok(plan) => plan,
+        Err(halt) => {
+            drop(trace);
+            return Err(halt);
+        }
     };
-    let planned = Planned { space, plan: &plan };
+    let planned = Planned {
+        space,
+        plan: &plan,
+        ground,
+    };
     let replayed = replayed_beside(alloc, planned, other, process, trace, format);
     drop(plan);
     replayed
@@ -187,9 +193,7 @@ fn replayed_in<S: Read + Drop>(
 
 /// Adds a process, which goes by the plan of all its accepted commands.
 fn add_process(alloc: Global, process: &Process, replay: &mut HostReplay) -> Result<(), Halt> {
-    let Ok(plan) = compile(alloc, &process.space) else {
-        return Err(Halt::Stopped(RunFault::Memory));
-    };
+    let plan = plan_of(alloc, &process.space)?;
     Ok(replay.add(alloc, process.id, plan)?)
 }
 
@@ -206,10 +210,11 @@ fn add_processes(
 }
 
 /// All processes of a host before the first access.
-fn begun(alloc: Global, host: &Host) -> Result<HostReplay, Halt> {
-    let mut replay = HostReplay::new(alloc, host.machine())?;
+fn begun(alloc: Global, host: &Host, ground: Ground<'_>) -> Result<Replaying<HostTrace>, Halt> {
+    let room = room_of(alloc, host.machine(), ground)?;
+    let mut replay = HostReplay::new(alloc, room);
     match add_processes(alloc, host.processes(), &mut replay) {
-        Ok(()) => Ok(replay),
+        Ok(()) => Ok(Replaying::new(HostTrace::new(alloc, replay))),
         Err(halt) => {
             drop(replay);
             Err(halt)
@@ -221,14 +226,21 @@ fn begun(alloc: Global, host: &Host) -> Result<HostReplay, Halt> {
 fn add_report(
     alloc: Global,
     process: &Process,
-    replay: &HostReplay,
+    trace: &HostTrace,
     format: Format,
     answers: &mut ByProcess,
 ) -> Result<(), Halt> {
-    let Some(one) = replay.process(process.id) else {
+    let Some(one) = trace.replay.process(process.id) else {
         return Ok(());
     };
-    let text = report_in(alloc, &process.space, &one.plan, &one.replay, format);
+    let moments = moments_in(alloc, trace, process.id)?;
+    let planned = Planned {
+        space: &process.space,
+        plan: &one.plan,
+        ground: FRAMES,
+    };
+    let text = report_in(alloc, planned, &one.replay, moments.as_slice(), format);
+    drop(moments);
     add_answer(answers, process, text)
 }
 
@@ -236,26 +248,39 @@ fn add_report(
 fn add_reports(
     alloc: Global,
     processes: &[Process],
-    replay: &HostReplay,
+    trace: &HostTrace,
     format: Format,
     answers: &mut ByProcess,
 ) -> Result<(), Halt> {
     for process in processes {
-        add_report(alloc, process, replay, format, answers)?;
+        add_report(alloc, process, trace, format, answers)?;
     }
     Ok(())
+}
+
+/// What all processes met.
+fn total_of(
+    alloc: Global,
+    host: &Host,
+    trace: &HostTrace,
+    format: Format,
+) -> Result<Vec<u8>, AllocError> {
+    let moments = moments_of_all(alloc, trace)?;
+    let total = total_text(alloc, host.machine(), moments.as_slice(), format);
+    drop(moments);
+    total
 }
 
 /// What a trace met, by process and in all.
 fn reports(
     alloc: Global,
     host: &Host,
-    replay: &HostReplay,
+    trace: &HostTrace,
     format: Format,
     answers: &mut ByProcess,
 ) -> Result<Vec<u8>, Halt> {
-    add_reports(alloc, host.processes(), replay, format, answers)?;
-    let total = total_text(alloc, host.machine(), replay, format)?;
+    add_reports(alloc, host.processes(), trace, format, answers)?;
+    let total = total_of(alloc, host, trace, format)?;
     answers.end_trace(total.as_slice());
     drop(total);
     let text = answers.take()?;
@@ -264,15 +289,32 @@ fn reports(
     told_of(alloc, format, &about, text)
 }
 
+/// Whether no access of any process found a place, and there were some.
+fn serve_nothing(trace: &HostTrace) -> bool {
+    let mut has_accesses = false;
+    for (_, one) in trace.replay.iter() {
+        let tallies = one.replay.tallies();
+        if !tallies.are_unserved() {
+            return false;
+        }
+        has_accesses = has_accesses || !tallies.is_empty();
+    }
+    has_accesses
+}
+
 /// The reports of a whole trace.
 fn met_in_each(
     alloc: Global,
     host: &Host,
-    replaying: &Replaying<HostReplay>,
+    ground: Ground<'_>,
+    replaying: &Replaying<HostTrace>,
     format: Format,
 ) -> Result<Vec<u8>, Halt> {
     if let Some((place, fault)) = replaying.fault() {
         return Err(Halt::BadAccess(place, fault));
+    }
+    if ground.room.is_some() && serve_nothing(replaying.replay()) {
+        return Err(Halt::NothingServed);
     }
     let mut answers = ByProcess::of_trace(alloc, format);
     let text = reports(alloc, host, replaying.replay(), format, &mut answers);
@@ -285,15 +327,16 @@ fn both_hosts_begun(
     alloc: Global,
     host: &Host,
     other: Option<&Host>,
-) -> Result<ByBoth<Replaying<HostReplay>>, Halt> {
-    let first = Replaying::new(begun(alloc, host)?);
+    ground: Ground<'_>,
+) -> Result<ByBoth<Replaying<HostTrace>>, Halt> {
+    let first = begun(alloc, host, ground)?;
     let Some(other) = other else {
         return Ok(ByBoth { first, other: None });
     };
-    match begun(alloc, other) {
+    match begun(alloc, other, ground) {
         Ok(other) => Ok(ByBoth {
             first,
-            other: Some(Replaying::new(other)),
+            other: Some(other),
         }),
         Err(halt) => {
             drop(first);
@@ -308,15 +351,20 @@ fn replayed_in_each<S: Read + Drop>(
     alloc: Global,
     host: &Host,
     other: Option<&Host>,
+    ground: Ground<'_>,
     trace: Vec<(String, S)>,
     format: Format,
 ) -> Result<Replayed, Halt> {
-    let both = read_whole(alloc, both_hosts_begun(alloc, host, other), trace)?;
-    let text = met_in_each(alloc, host, &both.first, format);
+    let begun = both_hosts_begun(alloc, host, other, ground);
+    let both = read_whole(alloc, begun, trace)?;
+    let text = met_in_each(alloc, host, ground, &both.first, format);
     let is_other = match (other, &both.other) {
         (Some(other), Some(replaying)) => {
-            let own = met_in_each(alloc, host, &both.first, Format::Text);
-            differ(own, met_in_each(alloc, other, replaying, Format::Text))
+            let own = met_in_each(alloc, host, ground, &both.first, Format::Text);
+            differ(
+                own,
+                met_in_each(alloc, other, ground, replaying, Format::Text),
+            )
         }
         _ => false,
     };
@@ -324,30 +372,40 @@ fn replayed_in_each<S: Read + Drop>(
     replayed_as(text, is_other)
 }
 
+/// The host of a stage, if it is one's.
+fn host_on(stage: Option<Stage<'_>>) -> Option<&Host> {
+    host_in(Some(stage?.subject))
+}
+
 /// Replays a trace by the plans of all accepted commands, of the one space or of each process, and
 /// by the other rules, if `other` is the same by those. Of the one process of a host with a number
-/// what others do is left out.
+/// what others do is left out. All processes of a host take the same frames, or the same room.
 ///
 /// # Errors
-/// `BadAccess`: the first line of the trace that can't be replayed; or `Stopped`: a read failed, or
-/// out of memory.
+/// `BadAccess`: the first line of the trace that can't be replayed; `NothingServed`: pages take
+/// room, and none found any; or `Stopped`: a read failed, or out of memory.
 pub fn replayed_of<S: Read + Drop>(
     alloc: Global,
-    subject: Subject<'_>,
-    other: Option<Subject<'_>>,
+    stage: Stage<'_>,
+    other: Option<Stage<'_>>,
     process: Option<u32>,
     trace: Vec<(String, S)>,
     format: Format,
 ) -> Result<Replayed, Halt> {
-    match subject {
+    let ground = stage.ground;
+    match stage.subject {
         Subject::One(space) => {
-            replayed_in(alloc, space, space_in(other), process, trace, format)
+            let own = Unplanned { space, ground };
+            replayed_in(alloc, own, space_on(other), process, trace, format)
         }
-        Subject::Each(host) => replayed_in_each(alloc, host, host_in(other), trace, format),
+        Subject::Each(host) => {
+            replayed_in_each(alloc, host, host_on(other), ground, trace, format)
+        }
     }
 }
 
-/// What a trace meets on the machine of a space, where no page is placed, as a text.
+/// What a trace meets on the machine of a space, where no page is placed and each takes a frame, as
+/// a text.
 ///
 /// # Errors
 /// `BadAccess`: the first line of the trace that can't be replayed; or `Stopped`: a read failed, or
@@ -358,6 +416,10 @@ pub fn replay_space<S: Read + Drop>(
     trace: Vec<(String, S)>,
     format: Format,
 ) -> Result<Vec<u8>, Halt> {
-    let replayed = replayed_in(alloc, space, None, None, trace, format)?;
+    let own = Unplanned {
+        space,
+        ground: FRAMES,
+    };
+    let replayed = replayed_in(alloc, own, None, None, trace, format)?;
     Ok(replayed.text)
 }

@@ -20,5 +20,5 @@ pub use differing::{diff, play_added};
 pub use explaining::{ExplainAsked, explain, explain_at, explanation, places_in};
 pub use moving::{Answer, Playing, moves_of};
 pub use placing::{PlacedAsked, moves, predict_at};
-pub use replaying::replay;
+pub use replaying::{Traced, replay};
 pub use there::{LineFaults, Played, Reading, play_there, stated_in};

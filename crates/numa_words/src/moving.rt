@@ -60,7 +60,7 @@ struct Course {
 }
 
 /// Refuses free pages of nodes that a machine with so many lacks.
-fn judge_free(free: &[FreePages], nodes: u32) -> Result<(), Halt> {
+pub(crate) fn judge_free(free: &[FreePages], nodes: u32) -> Result<(), Halt> {
     match free.iter().find(|one| u32::from(one.node) >= nodes) {
         Some(lacking) => Err(Halt::NoFreeNode(lacking.node, nodes)),
         None => Ok(()),

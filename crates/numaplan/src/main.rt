@@ -156,11 +156,13 @@ where
         }
         ScriptJob::Replay {
             trace,
+            free,
             format,
             lenient,
         } => {
             let asked = TraceAsked {
                 files: trace.as_slice(),
+                free: free.as_slice(),
                 format: *format,
                 lenient: *lenient,
                 tells,

@@ -30,6 +30,7 @@ halt_code (halt.NoNode nodes) = 35
 halt_code (halt.NoFreeNode node nodes) = 17
 halt_code halt.Unmapped = 36
 halt_code (halt.BadAccess place why) = 81
+halt_code halt.NothingServed = 81
 halt_code halt.NoHost = 82
 halt_code (halt.NoProcess process) = 82
 halt_code halt.ManyProcesses = 82

@@ -86,7 +86,7 @@ fn halt_code(halt: Halt) -> u32
         Halt::NoNode(_) => Code::BadCpu as u32,
         Halt::NoFreeNode(_, _) => 17,
         Halt::Unmapped => Code::Unmapped as u32,
-        Halt::BadAccess(_, _) => Code::BadAccess as u32,
+        Halt::BadAccess(_, _) | Halt::NothingServed => Code::BadAccess as u32,
         Halt::NoHost | Halt::NoProcess(_) | Halt::ManyProcesses => Code::ManyProcesses as u32,
         // (A task and a page are always given.)
         Halt::ManyTasks(_, _) | Halt::TwoPages => Code::Unmapped as u32,

@@ -5,9 +5,9 @@ use crate::report::{Report, report_of};
 use crate::sources::{ScriptText, first_of, named, scripts_of};
 use numa_questions::AskedPages;
 use numa_sheets::{Format, FreePages, Touch, Written};
-use numa_subjects::{Ended, Halt, Twin};
+use numa_subjects::{Ended, Halt, NOTHING_SERVED, Twin};
 use numa_traces::ReplayError;
-use numa_words::ExplainAsked;
+use numa_words::{ExplainAsked, Traced};
 use std::alloc::{AllocError, Global};
 
 /// The report of a word of the program, which appends its answer and the messages about lines to
@@ -109,6 +109,15 @@ pub fn explain(
     })
 }
 
+/// The message about a trace whose pages find no place.
+fn message_of_all(alloc: Global) -> Result<Vec<u8>, AllocError> {
+    let mut line = Written::new(alloc);
+    line.put(b"trace: ");
+    line.put(NOTHING_SERVED.as_bytes());
+    line.put(b"\n");
+    line.take()
+}
+
 /// The message about a line of a trace that can't be replayed.
 fn message_of(alloc: Global, place: u64, why: ReplayError) -> Result<Vec<u8>, AllocError> {
     let mut line = Written::new(alloc);
@@ -118,16 +127,17 @@ fn message_of(alloc: Global, place: u64, why: ReplayError) -> Result<Vec<u8>, Al
     line.take()
 }
 
-/// Appends the message about the line of a trace that ended a replay, if one did.
+/// Appends the message about the line of a trace that ended a replay, if one did, or about all.
 fn tell_access(
     alloc: Global,
     told: &mut Vec<u8>,
     ended: &Result<Ended, Halt>,
 ) -> Result<(), AllocError> {
-    let Err(Halt::BadAccess(place, why)) = ended else {
-        return Ok(());
+    let message = match ended {
+        Err(Halt::BadAccess(place, why)) => message_of(alloc, *place, *why)?,
+        Err(Halt::NothingServed) => message_of_all(alloc)?,
+        _ => return Ok(()),
     };
-    let message = message_of(alloc, *place, *why)?;
     told.extend_from_slice(message.as_slice())
 }
 
@@ -167,14 +177,11 @@ pub fn replay(
     };
     let mut answer = Vec::new(alloc);
     let mut told = Vec::new(alloc);
-    let ended = numa_words::replay(
-        alloc,
-        scripts,
-        traces,
+    let traced = Traced {
+        texts: traces,
+        free: &[],
         format,
-        Twin::None,
-        &mut answer,
-        &mut told,
-    );
+    };
+    let ended = numa_words::replay(alloc, scripts, traced, Twin::None, &mut answer, &mut told);
     replay_of(alloc, answer, told, ended)
 }

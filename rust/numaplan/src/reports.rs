@@ -299,8 +299,8 @@ impl<'a> Question<'a> {
         })
     }
 
-    /// What a trace of accesses, `TASK ADDRESS CPU [COUNT]` a line, meets where no page is placed:
-    /// `numaplan replay`.
+    /// What a trace of accesses, `TASK ADDRESS CPU [COUNT]` or `mark TEXT` a line, meets where no
+    /// page is placed, or beside the script's pages where no node has a frame: `numaplan replay`.
     pub fn replay(&self, trace: &str, format: Format) -> Result<Report, Unanswered> {
         let asked = self.asked(format);
         told(|text, report| unsafe {

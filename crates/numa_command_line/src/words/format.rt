@@ -38,7 +38,7 @@ pub const COMPARED: Argument = format_option!["json", "svg", "html"];
 pub const DRAWN_TOO: Argument = format_option!["json", "svg"];
 
 /// The option `--format FORMAT` of `replay`.
-pub const REPLAYED: Argument = format_option!["json", "html"];
+pub const REPLAYED: Argument = format_option!["json", "csv", "html"];
 
 /// The option `--largest N` of a subcommand that answers by a picture or a page.
 pub const LARGEST: Argument = Argument {

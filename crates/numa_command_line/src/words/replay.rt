@@ -1,4 +1,4 @@
-//! `numaplan replay --trace TRACE [FILE]..`: replays a trace of accesses.
+//! `numaplan replay --trace TRACE [--free NODE=PAGES,..] [FILE]..`: replays a trace of accesses.
 ghost use Rattle.std.specs.Prelude.{codes};
 ghost use Rattle.numa_command_line.specs.Grammar.{IsReader, replay_arguments};
 ghost use Rattle.numa_command_line.specs.Grammar.{replay_formats};
@@ -11,6 +11,7 @@ use crate::found::{is_on, texts_at};
 use crate::jobs::{JobFault, ScriptJob};
 use crate::usage::{Argument, FILES, SubcommandHelp, Takes};
 use crate::words::format::{LARGEST, REPLAYED, format_in};
+use crate::words::free::named;
 use crate::words::lenient::LENIENT;
 use crate::words::process::PROCESS;
 use clap::ArgMatches;
@@ -25,6 +26,16 @@ const TRACE: Argument = Argument {
     takes: Takes::Text,
 };
 
+/// The option `--free NODE=PAGES,..`.
+const FREE: Argument = Argument {
+    name: "free",
+    value: "NODE=PAGES,..",
+    help: "Pages take room, not frames: these nodes have so much; with K, M, G or T after it a \
+number is in bytes",
+    is_required: false,
+    takes: Takes::Text,
+};
+
 /// The help of the subcommand.
 static WORD: SubcommandHelp = SubcommandHelp {
     name: "replay",
@@ -32,22 +43,28 @@ static WORD: SubcommandHelp = SubcommandHelp {
     about: "Shows where the accesses of a trace go after scripts\n\nExamples, from the top of \
 the repository:\n  ./numaplan replay --trace examples/replayed.trace \
 examples/interleaved-range.numaplan\n  ./numaplan replay --format json --trace \
-examples/replayed.trace examples/interleaved-range.numaplan",
+examples/replayed.trace examples/interleaved-range.numaplan\n  ./numaplan replay --free \
+0=8K,2=1G --trace examples/phases.trace examples/interleaved-range.numaplan",
     more: "The trace is replayed after the scripts, on the frames of their machine, where no \
 page is placed yet: the first touch of a page places it on the first node of its list that \
 has a frame left, and later accesses go to where it lies. By task, and in total, it counts \
 the accesses by node (N0=) and by distance (D10=), the faults that placed a page (placed=) or \
-found no frame (exhausted=), and the accesses that these left unserved (unserved=).\n\nA line \
-of the trace is TASK ADDRESS CPU [COUNT], in decimal or 0x; empty lines and those that begin \
-with # are skipped. Of a host a line is in P TASK ADDRESS CPU [COUNT]: each process is \
-answered for, and then all together, and all take the same frames; or with --process process \
-P alone, whose lines need not name it.\n\nScript lines that are faulty or refused are \
+found no frame (exhausted=), and the accesses that these left unserved (unserved=).\n\nWith \
+--free, and where no node has a frame (FRAMES 0), pages take room instead, as those of \
+`populate` do: the named nodes have so much and the others never fill, or nodes have what \
+lines `room` of the scripts left. Pages that lie somewhere after the scripts stay there.\n\nA \
+line of the trace is TASK ADDRESS CPU [COUNT], in decimal or 0x; empty lines and those that \
+begin with # are skipped. A line mark TEXT closes a phase: totals are given by phase and in \
+all. Of a host a line is in P TASK ADDRESS CPU [COUNT]: each process is answered for, and \
+then all together, and all take the same frames or the same room; or with --process process P \
+alone, whose lines need not name it.\n\nScript lines that are faulty or refused are \
 reported on standard error as by `check`, and skipped. The status is 3 if there are some, \
-unless --lenient is given, if no machine is ready after the scripts, and if a line of the \
-trace can't be replayed. If neither --rules nor a line says whose rules count, and a kernel's \
-would give another answer, a line on standard error says so.",
+unless --lenient is given, if no machine is ready after the scripts, if a line of the trace \
+can't be replayed, and if pages take room and none finds any. If neither --rules nor a line \
+says whose rules count, and a kernel's would give another answer, a line on standard error \
+says so.",
     reads_lines: true,
-    arguments: &[TRACE, PROCESS, REPLAYED, LARGEST, LENIENT, FILES],
+    arguments: &[TRACE, FREE, PROCESS, REPLAYED, LARGEST, LENIENT, FILES],
 };
 
 /// The subcommand.
@@ -60,13 +77,15 @@ pub fn word() -> &'static SubcommandHelp
 /// The job of a command line with this subcommand.
 ///
 /// # Errors
-/// `NoMemory`: out of memory.
+/// `Usage`: `--free` is invalid. `NoMemory`: out of memory.
 pub fn work(alloc: Global, matches: &ArgMatches<'_>) -> Result<ScriptJob, JobFault>
     ensures { IsMade work_of (work_asked word.Replay (rows_of (found_of matches.now))) result }
 {
+    let free = named(alloc, matches)?;
     let trace = texts_at(alloc, matches, "trace")?;
     Ok(ScriptJob::Replay {
         trace,
+        free,
         format: format_in(matches),
         lenient: is_on(matches, "lenient"),
     })

@@ -106,11 +106,14 @@ impl ByProcess {
     }
 
     /// Before the first process, if a trace is replayed. Objects are members of a whole one; what
-    /// is neither an object nor a page is text.
+    /// is neither an object, a page nor a record is text.
     pub fn of_trace(alloc: Global, format: Format) -> ByProcess {
         let mut text = Written::new(alloc);
         if let Format::Json | Format::Html(_) = format {
             text.put(b"{\"processes\":[");
+            return ByProcess::behind(format, true, text);
+        }
+        if let Format::Csv = format {
             return ByProcess::behind(format, true, text);
         }
         ByProcess::behind(Format::Text, true, text)
@@ -192,11 +195,11 @@ impl ByProcess {
         }
     }
 
-    /// Ends with what a trace met in all processes, a line or an object.
+    /// Ends with what a trace met in all processes: lines, or further members of the object.
     pub fn end_trace(&mut self, total: &[u8]) {
         self.begin_all();
         if let Format::Json | Format::Html(_) = self.format {
-            self.text.put(b",\"total\":");
+            self.text.put(b",");
             self.text.put(total);
             self.text.put(b"}\n");
             return;

@@ -2,8 +2,9 @@
 use numa_command_line::{JobFault, Outlet, open_all};
 use numa_console::{StandardError, ended, with_progress};
 use numa_play::Scripts;
-use numa_sheets::Format;
+use numa_sheets::{Format, FreePages};
 use numa_subjects::Twin;
+use numa_words::Traced;
 use std::io;
 use std::io::{IsTerminal, Read};
 use std::process::ExitCode;
@@ -14,6 +15,8 @@ use std::rt::{Clock, Files};
 pub struct TraceAsked<'a> {
     /// Its file.
     pub files: &'a [String],
+    /// For how many more pages nodes have room, where pages take room.
+    pub free: &'a [FreePages],
     pub format: Format,
     /// Whether malformed and refused lines of scripts are no error.
     pub lenient: bool,
@@ -35,11 +38,15 @@ where
 {
     let outlet = Outlet::new();
     let mut output = outlet.writer(io::writer(rt));
+    let traced = Traced {
+        texts: traces,
+        free: asked.free,
+        format: asked.format,
+    };
     let answer = numa_words::replay(
         rt.alloc(),
         scripts,
-        traces,
-        asked.format,
+        traced,
         Twin::UnlessChosen,
         &mut output,
         StandardError { rt },

@@ -8,8 +8,8 @@ never one odd = absurd (let no = odd in cc)
 
 pub returns-clause-replay : goal.returns-clause-replay
 returns-clause-replay c plans = record {
-  start = record { pages = λ process. []; free = c.in_ok-free.free.items };
-  fresh = record { pages = λ process. refl; free = c.in_ok-free.ensures };
+  start = record { pages = λ process. []; free = c.args.room.items };
+  fresh = record { pages = λ process. refl; free = refl };
   free = refl;
   each = λ process one found. never one (sym (ap
       (λ (entries : List (ℕ × ProcessReplay)). process_of entries process) c.new.ensures.empty)

@@ -9,7 +9,7 @@ use Rattle.numa_traces.proofs.Replays.{on-ok}
 use Rattle.numa_traces.proofs.host.HostReplay.take.Goals as goal
 
 pub returns-clause-ok : goal.returns-clause-ok
-returns-clause-ok c machine plans trace was =
+returns-clause-ok c room plans trace was =
     let old : HostReplayed =
     record { processes = c.self.inside.processes.entries; free = c.self.inside.free.items } in
     let new : HostReplayed = record {
@@ -25,7 +25,7 @@ returns-clause-ok c machine plans trace was =
     else process_of old.processes other =
     ((c.get_mut.follows.holds c.take_shared.new.one).3 some).0 in
     on-ok c.take_shared.result
-    (λ next. next-of-host machine plans trace c.args.process c.args.access old new c.in-Some.one.now
+    (λ next. next-of-host room plans trace c.args.process c.args.access old new c.in-Some.one.now
     c.take_shared.new.one found written c.take_shared.ensures.plan next
-    (subst (λ (met : HostReplayed). IsHostReplay machine plans trace met) (sym c.self.view_is) was))
+    (subst (λ (met : HostReplayed). IsHostReplay room plans trace met) (sym c.self.view_is) was))
     c.take_shared.ensures.next

@@ -1,0 +1,16 @@
+use Rattle.std.proofs.Common.{refl}
+use Rattle.numa_traces.specs.Resting.{lies_where}
+use Rattle.numa_traces.specs.declared.plan_reading.PlanReplay.{PlanReplay}
+use Rattle.numa_traces.proofs.Replays.{on-ok}
+use Rattle.numa_traces.proofs.Stepped.{closed}
+use Rattle.numa_traces.proofs.plan_reading.PlanReplay.close.Goals as goal
+
+pub returns-clause-ok : goal.returns-clause-ok
+returns-clause-ok c =
+    let old : PlanReplay = c.args.self.now in
+    on-ok c.close.result (λ more. (
+      record { plan = refl; before = refl; process = refl },
+      λ start steps was. closed old.plan.now (lies_where old.before) start steps c.args.text.now
+          old.replay old.marks.items c.close.new.marks.items c.tallies.result.now
+          c.tallies.ensures more was,
+    )) c.close.ensures.marks

@@ -1,0 +1,113 @@
+//! The report of a replay as CSV: a record for each route of each phase. Accesses to pages that
+//! found no frame have no node.
+use crate::moments::{Moment, TakeRoute, moment_before, take_between};
+use crate::report::place_of;
+use crate::tallies::{AccessCounts, Route};
+use csv::{Writer, WriterBuilder};
+use itoa::Buffer;
+use numa_machine::Machine;
+use numa_sheets::Written;
+use std::alloc::{AllocError, Global};
+
+/// The header record.
+const HEAD: &[u8] = b"phase,task,cpu,node,distance,accesses,placed,exhausted\n";
+
+/// The records of a phase, written one by one. After it ran out of memory no more are written.
+#[derive(Drop)]
+struct Records<'a> {
+    machine: &'a Machine,
+    phase: &'a [u8],
+    writer: Writer<Vec<u8>>,
+    lacks_memory: bool,
+}
+
+impl<'a> Records<'a> {
+    /// No records.
+    fn new(alloc: Global, machine: &'a Machine, phase: &'a [u8]) -> Records<'a> {
+        Records {
+            machine,
+            phase,
+            writer: WriterBuilder::new().from_writer(Vec::new(alloc)),
+            lacks_memory: false,
+        }
+    }
+
+    /// Writes a record.
+    fn put_record(&mut self, record: &[&[u8]]) {
+        if !self.lacks_memory {
+            self.lacks_memory = self.writer.write_fields(record).is_err();
+        }
+    }
+
+    /// Writes the record of a route with the texts of its node and its distance, and the numbers of
+    /// its faults.
+    fn put(&mut self, route: &Route, place: [&str; 2], accesses: u64, faults: [u64; 2]) {
+        let mut task = Buffer::new();
+        let mut cpu = Buffer::new();
+        let mut count = Buffer::new();
+        let mut placed = Buffer::new();
+        let mut exhausted = Buffer::new();
+        self.put_record(&[
+            self.phase,
+            task.format(route.0).as_bytes(),
+            cpu.format(route.1).as_bytes(),
+            place[0].as_bytes(),
+            place[1].as_bytes(),
+            count.format(accesses).as_bytes(),
+            placed.format(faults[0]).as_bytes(),
+            exhausted.format(faults[1]).as_bytes(),
+        ]);
+    }
+
+    /// Appends the records to a text.
+    fn end(self, text: &mut Written) {
+        match self.writer.into_inner() {
+            Ok(part) if !self.lacks_memory => text.put(part.as_slice()),
+            _ => text.lack(),
+        }
+    }
+}
+
+impl TakeRoute for Records<'_> {
+    fn take_route(&mut self, route: &Route, counts: &AccessCounts) {
+        let Some((node, distance)) = place_of(self.machine, route.1, route.2) else {
+            self.put(route, ["", ""], counts.accesses, [0, counts.faults]);
+            return;
+        };
+        let mut first = Buffer::new();
+        let mut second = Buffer::new();
+        let place = [first.format(node), second.format(distance)];
+        self.put(route, place, counts.accesses, [counts.faults, 0]);
+    }
+}
+
+/// Writes the records of what was counted between two moments.
+fn put_between(
+    text: &mut Written,
+    machine: &Machine,
+    before: Option<&Moment<'_>>,
+    after: &Moment<'_>,
+) {
+    let phase = match after.text {
+        Some(phase) => phase,
+        None => b"".as_slice(),
+    };
+    let mut records = Records::new(text.alloc(), machine, phase);
+    take_between(&mut records, before, after);
+    records.end(text);
+}
+
+/// The records of each phase behind a header. Of that which no mark closes the text is empty.
+pub(crate) fn records_text(
+    alloc: Global,
+    machine: &Machine,
+    moments: &[Moment<'_>],
+) -> Result<Vec<u8>, AllocError> {
+    let mut text = Written::new(alloc);
+    text.put(HEAD);
+    for number in 0..moments.len() {
+        let before = moment_before(moments, number);
+        put_between(&mut text, machine, before, &moments[number]);
+    }
+    text.take()
+}
