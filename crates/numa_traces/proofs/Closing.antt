@@ -9,8 +9,9 @@ use Rattle.numa_plan.specs.Meaning.{PlanData}
 use Rattle.numa_traces.specs.Accesses.{access_of, mark_of}
 use Rattle.numa_traces.specs.HostReading.{ReplaysHostLine, said_in, step_by, step_in}
 use Rattle.numa_traces.specs.HostReading.{touch_in}
-use Rattle.numa_traces.specs.Hosting.{AreSameProcesses, HostReplayed, IsHostMark, IsHostReplay}
-use Rattle.numa_traces.specs.Hosting.{counted_in, host_tally_of, process_of, tallies_of}
+use Rattle.numa_traces.specs.Hosting.{Accepts, AreSameProcesses, HostReplayed, IsHostMark}
+use Rattle.numa_traces.specs.Hosting.{IsHostReplay, counted_in, host_tally_of, process_of}
+use Rattle.numa_traces.specs.Hosting.{tallies_of}
 use Rattle.numa_traces.specs.Phases.{Closes, Touches, accesses_in}
 use Rattle.numa_traces.specs.Tallies.{Tallied, tally_at}
 use Rattle.numa_traces.specs.declared.access.Access.{Access}
@@ -66,16 +67,18 @@ pub touched-host : {A E : Type 0} (taken : Result A E) (old : HostTrace) (met : 
     → ((room : List ℕ) (plans : ℕ → PlanData) (trace : List (ℕ × Access))
     → IsHostReplay room plans trace old.replay
     → OnOk taken (IsHostReplay room plans (it ∷ trace) met))
+    → OnOk taken (Accepts old.replay it.0 it.1)
     → OnOk taken (ReplaysHostLine (Ok (Some (Touches it))) old
     (record { alloc = old.alloc; replay = met; marks = old.marks }))
-touched-host (Ok value) old met it same next = (
+touched-host (Ok value) old met it same next accepted = (
   same,
+  accepted,
   λ room plans steps was. record {
     replay = next room plans (accesses_in steps) was.replay;
     marks = was.marks;
   },
 )
-touched-host (Err why) old met it same next = tt
+touched-host (Err why) old met it same next accepted = tt
 
 pub marked-line : (line text : List ℕ) → Some text ≡ mark_of line
     → Ok (Some (Closes text)) ≡ step_in line

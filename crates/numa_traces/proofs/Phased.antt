@@ -24,7 +24,7 @@ another_word = refl
 
 -- ---- phases
 
-one_more : List (Step ℕ)
+abbrev one_more : List (Step ℕ)
 one_more = Touches 3 ∷ Closes (codes "b") ∷ Touches 2 ∷ Closes (codes "a") ∷ Touches 1 ∷ []
 
 -- marks are no accesses

@@ -23,6 +23,15 @@ pub on-ok : {A E : Type 0} {P Q : Type 0} (result : Result A E) → (P → Q) �
 on-ok (Ok a) from p = from p
 on-ok (Err e) from p = tt
 
+pub in-any : {A E : Type 0} {P : Type 0} (result : Result A E) → P → OnOk result P
+in-any (Ok a) p = p
+in-any (Err e) p = tt
+
+pub on-both : {A E : Type 0} {P Q R : Type 0} (result : Result A E) → (P → Q → R) → OnOk result P
+    → OnOk result Q → OnOk result R
+on-both (Ok a) from p q = from p q
+on-both (Err e) from p q = tt
+
 -- a page that has a list is refused to no node of the plan
 pub none-refused : (plan : PlanData) (task page cpu : ℕ) (nodes : List ℕ) → cpu < plan.nodes
     → planned_list plan task page cpu ≡ Some nodes → place_refusal plan page cpu ≡ None

@@ -1,8 +1,9 @@
 -- Lines of a trace of a host, and their replay.
-use Rattle.std.specs.Prelude.{◌≡◌, ℕ, List, ◌∷◌, Option, None, Some, Result, Ok, Err}
+use Rattle.std.specs.Prelude.{◌≡◌, ⊤, ℕ, List, ◌∷◌, Option, None, Some, Result, Ok, Err}
 use Rattle.numa_plan.specs.Meaning.{PlanData}
 use Rattle.numa_traces.specs.Accesses.{access_of, mark_of}
-use Rattle.numa_traces.specs.Hosting.{AreSameProcesses, EndsHostReplay, IsHostMark, IsHostReplay}
+use Rattle.numa_traces.specs.Hosting.{IsHostReplay}
+use Rattle.numa_traces.specs.Hosting.{Accepts, AreSameProcesses, EndsHostReplay, IsHostMark}
 use Rattle.numa_traces.specs.Phases.{AreMarks, Closes, Step, Touches, accesses_in}
 use Rattle.numa_traces.specs.declared.access.Access.{Access}
 use Rattle.numa_traces.specs.declared.access.TraceLine.{TraceLine}
@@ -45,13 +46,18 @@ pub record HasMet (room : List ℕ) (plans : ℕ → PlanData) (steps : List (St
   pub replay : IsHostReplay room plans (accesses_in steps) at.replay
   pub marks : AreMarks (IsHostMark room plans) steps at.marks.items
 
+-- no plan refuses a step, and its process is there
+abbrev pub Allows : HostTrace → Step (ℕ × Access) → Type 0
+Allows at (Touches it) = Accepts at.replay it.0 it.1
+Allows at (Closes text) = ⊤
+
 -- a line with this step was replayed; where it has none, nothing has changed
 abbrev pub ReplaysHostLine : Result (Option (Step (ℕ × Access))) ReplayError → HostTrace
     → HostTrace → Type 0
 ReplaysHostLine (Err why) old new = ⊥
 ReplaysHostLine (Ok None) old new = new ≡ old
 ReplaysHostLine (Ok (Some step)) old new =
-    AreSameProcesses old.replay.processes new.replay.processes
+    AreSameProcesses old.replay.processes new.replay.processes × Allows old step
     × ((room : List ℕ) (plans : ℕ → PlanData) (steps : List (Step (ℕ × Access)))
     → HasMet room plans steps old → HasMet room plans (step ∷ steps) new)
 

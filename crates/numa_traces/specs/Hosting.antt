@@ -5,7 +5,7 @@ use Rattle.std.specs.Prelude.{MatchOption, is_some, if◌then◌else◌}
 use Rattle.std.specs.BTreeMap.{is_at}
 use Rattle.std.specs.Map.{lookup}
 use Rattle.std.specs.Ordering.{nat_cmp}
-use Rattle.numa_plan.specs.Meaning.{PlanData}
+use Rattle.numa_plan.specs.Meaning.{PlanData, place_refusal}
 use Rattle.numa_traces.specs.Placing.{Frames}
 use Rattle.numa_traces.specs.Replaying.{EndsReplay, Replayed, frames_with_access, is_first}
 use Rattle.numa_traces.specs.Replaying.{route_from}
@@ -113,6 +113,11 @@ with_free met free = record {
   frames = record { pages = met.frames.pages; free = free };
   tallies = met.tallies;
 }
+
+-- there is such a process, and its plan doesn't refuse the access
+abbrev pub Accepts : HostReplayed → ℕ → Access → Type 0
+Accepts met process access = MatchOption (process_of met.processes process) ⊥
+    (λ one. place_refusal one.plan access.page access.cpu ≡ None)
 
 -- why an access of a process can't be replayed
 abbrev pub EndsHostReplay : HostReplayed → ℕ → Access → ReplayError → Type 0

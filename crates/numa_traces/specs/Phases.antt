@@ -1,5 +1,6 @@
 -- What a trace is: accesses, and marks, each of which closes a phase. The newest step comes first.
-use Rattle.std.specs.Prelude.{◌≡◌, ℕ, ◌-◌, ◌++◌, Option, List, [], ◌∷◌}
+use Rattle.std.specs.Prelude.{◌≡◌, ◌+◌, ◌-◌, ◌++◌, ◌||◌, ℕ, Bool, List, [], ◌∷◌, Option, None}
+use Rattle.std.specs.Prelude.{Some, nat_lt}
 use Rattle.numa_plan.specs.Meaning.{PlanData}
 use Rattle.numa_traces.specs.Placing.{Frames}
 use Rattle.numa_traces.specs.Replaying.{Replayed}
@@ -56,3 +57,17 @@ since before after = record {
   accesses = after.accesses - before.accesses;
   faults = after.faults - before.faults;
 }
+
+-- the same where a mark came before, and all of it where none did
+abbrev pub part_since : Option Tallied → Route → AccessCounts → AccessCounts
+part_since None route after = after
+part_since (Some before) route after = since (tally_at before route) after
+
+-- whether there are accesses or faults
+abbrev pub has_counts : AccessCounts → Bool
+has_counts counts = nat_lt 0 counts.accesses || nat_lt 0 counts.faults
+
+-- what came since other counts, and these, are all
+pub record AddsUp (before after : AccessCounts) : Type 0 where
+  pub accesses : before.accesses + (since before after).accesses ≡ after.accesses
+  pub faults : before.faults + (since before after).faults ≡ after.faults

@@ -1,7 +1,7 @@
 -- Lines of a trace of one space, or of one process of a host, and their replay.
-use Rattle.std.specs.Prelude.{◌≡◌, ◌==◌, ◌⊎◌, ℕ, List, [], ◌∷◌, Option, None, Some, Result, Ok, Err}
-use Rattle.std.specs.Prelude.{if◌then◌else◌}
-use Rattle.numa_plan.specs.Meaning.{PlanData}
+use Rattle.std.specs.Prelude.{◌≡◌, ◌==◌, ◌⊎◌, ⊤, ℕ, List, [], ◌∷◌, Option, None, Some, Result, Ok}
+use Rattle.std.specs.Prelude.{Err, if◌then◌else◌}
+use Rattle.numa_plan.specs.Meaning.{PlanData, place_refusal}
 use Rattle.numa_traces.specs.Accesses.{access_of, mark_of}
 use Rattle.numa_traces.specs.Phases.{Closes, IsTrace, Step, Touches}
 use Rattle.numa_traces.specs.Placing.{Frames}
@@ -9,6 +9,7 @@ use Rattle.numa_traces.specs.Replaying.{EndsReplay}
 use Rattle.numa_traces.specs.Resting.{found, lies_where}
 use Rattle.numa_traces.specs.declared.access.Access.{Access}
 use Rattle.numa_traces.specs.declared.access.TraceLine.{TraceLine}
+use Rattle.numa_traces.specs.declared.before.Before.{Before}
 use Rattle.numa_traces.specs.declared.fault.AccessError.{AccessError}
 use Rattle.numa_traces.specs.declared.fault.ReplayError.{ReplayError}
 use Rattle.numa_traces.specs.declared.fault.ReplayError.TheVariants.{Malformed, Named, NoMemory}
@@ -52,10 +53,14 @@ abbrev pub HasMet : Frames → List (Step Access) → PlanReplay → Type 0
 HasMet start steps at = IsTrace at.plan.now (lies_where at.before) start steps at.replay
     at.marks.items
 
--- before the first line: no page is placed, and nodes have so much room
-abbrev pub IsBegun : PlanData → Option ℕ → List ℕ → PlanReplay → Type 0
-IsBegun plan process room begun = (begun.plan.now ≡ plan) × (begun.process ≡ process)
-    × HasMet (record { pages = []; free = room }) [] begun
+-- before the first line, by this plan, with these pages before, for this process: no page is placed
+-- by an access, and nodes have so much room
+pub record IsBegun (rule : PlanData) (there : Option Before) (own : Option ℕ) (room : List ℕ)
+    (begun : PlanReplay) : Type 0 where
+  pub plan : begun.plan.now ≡ rule
+  pub before : begun.before ≡ there
+  pub process : begun.process ≡ own
+  pub met : HasMet (record { pages = []; free = room }) [] begun
 
 -- the plan, the process and where pages lay before stay the same
 pub record IsSame (old new : PlanReplay) : Type 0 where
@@ -63,12 +68,17 @@ pub record IsSame (old new : PlanReplay) : Type 0 where
   pub before : new.before ≡ old.before
   pub process : new.process ≡ old.process
 
+-- the plan doesn't refuse a step
+abbrev pub Allows : PlanData → Step Access → Type 0
+Allows plan (Touches access) = place_refusal plan access.page access.cpu ≡ None
+Allows plan (Closes text) = ⊤
+
 -- a line with this step was replayed; where it has none, nothing has changed
 abbrev pub ReplaysStep : Result (Option (Step Access)) ReplayError → PlanReplay → PlanReplay
     → Type 0
 ReplaysStep (Err why) old new = ⊥
 ReplaysStep (Ok None) old new = new ≡ old
-ReplaysStep (Ok (Some step)) old new = IsSame old new
+ReplaysStep (Ok (Some step)) old new = IsSame old new × Allows old.plan.now step
     × ((start : Frames) (steps : List (Step Access)) → HasMet start steps old
     → HasMet start (step ∷ steps) new)
 

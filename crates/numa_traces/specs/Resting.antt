@@ -1,6 +1,7 @@
 -- A trace over pages that lie somewhere before it: they stay there, and take no room. A trace is
 -- the list of its accesses, the newest first.
-use Rattle.std.specs.Prelude.{ℕ, Option, Some, None, List, [], ◌∷◌, unwrap_or, if◌then◌else◌}
+use Rattle.std.specs.Prelude.{◌≡◌, ℕ, Option, Some, None, List, [], ◌∷◌, unwrap_or}
+use Rattle.std.specs.Prelude.{if◌then◌else◌}
 use Rattle.std.specs.BTreeMap.{insert_entry}
 use Rattle.std.specs.Option.{option_map}
 use Rattle.std.specs.Ordering.{nat_cmp}
@@ -37,11 +38,11 @@ stated_in before page =
 abbrev pub lies_in : Before → ℕ → Option ℕ
 lies_in before page = node_before before.resident.now (stated_in before) page
 
--- pages that all lie nowhere
-abbrev pub nowhere : ℕ → Option ℕ
-nowhere page = None
+-- all pages lie nowhere
+abbrev pub LieNowhere : (ℕ → Option ℕ) → Type 0
+LieNowhere there = (page : ℕ) → there page ≡ None
 
--- the same where nothing may lie anywhere
+-- where a page lies, if any may lie anywhere
 abbrev pub lies_where : Option Before → ℕ → Option ℕ
 lies_where None page = None
 lies_where (Some before) page = lies_in before page

@@ -2,8 +2,8 @@
 //! frames.
 ghost use Rattle.std.specs.Prelude.{◌≡◌, ◌∷◌, ℕ, [], List, MatchOption, IfErr, OnOk};
 ghost use Rattle.numa_plan.specs.Meaning.{PlanData};
-ghost use Rattle.numa_traces.specs.Hosting.{AreSameProcesses, EndsHostReplay, HasProcess};
-ghost use Rattle.numa_traces.specs.Hosting.{IsHostReplay, process_of};
+ghost use Rattle.numa_traces.specs.Hosting.{Accepts, AreSameProcesses, EndsHostReplay};
+ghost use Rattle.numa_traces.specs.Hosting.{HasProcess, IsHostReplay, process_of};
 ghost use Rattle.numa_traces.specs.declared.access.Access.{Access};
 
 use crate::access::Access;
@@ -103,6 +103,7 @@ impl HostReplay {
         ensures ok { (room : List ℕ) (plans : ℕ → PlanData) (trace : List (ℕ × Access))
             → IsHostReplay room plans trace self.old
             → OnOk result (IsHostReplay room plans ((process, access) ∷ trace) self.new) }
+        ensures accepted { OnOk result (Accepts self.old process access) }
         ensures processes { OnOk result
             (AreSameProcesses self.old.processes self.new.processes) }
         ensures err { IfErr result (EndsHostReplay self.old process access) }

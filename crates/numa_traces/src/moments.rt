@@ -1,4 +1,8 @@
 //! What was counted at the marks of a trace, and at its end.
+ghost use Rattle.std.specs.Prelude.{◌≡◌};
+ghost use Rattle.std.specs.Option.{option_map};
+ghost use Rattle.numa_traces.specs.Phases.{has_counts, part_since};
+
 use crate::host_reading::HostTrace;
 use crate::mark::{Mark, since};
 use crate::replay::Replay;
@@ -103,7 +107,10 @@ pub(crate) fn moment_before<'a, 'b>(
 }
 
 /// What came to a route since a moment.
-fn part_since(before: Option<&Tallies>, route: &Route, after: &AccessCounts) -> AccessCounts {
+fn part_since(before: Option<&Tallies>, route: &Route, after: &AccessCounts) -> AccessCounts
+    ensures { result
+        ≡ part_since (option_map (λ tallies. tallies.now) before.entry) route.now after.now }
+{
     match before {
         Some(before) => since(before.get(*route), *after),
         None => *after,
@@ -111,7 +118,9 @@ fn part_since(before: Option<&Tallies>, route: &Route, after: &AccessCounts) -> 
 }
 
 /// Whether there are accesses or faults.
-fn is_some(counts: AccessCounts) -> bool {
+fn has_counts(counts: AccessCounts) -> bool
+    ensures { result ≡ has_counts counts }
+{
     counts.accesses > 0 || counts.faults > 0
 }
 
@@ -125,7 +134,7 @@ pub(crate) trait TakeRoute {
 fn take_part<T: TakeRoute>(taker: &mut T, before: Option<&Tallies>, after: &Tallies) {
     for (route, counts) in after.iter() {
         let part = part_since(before, route, counts);
-        if before.is_none() || is_some(part) {
+        if before.is_none() || has_counts(part) {
             taker.take_route(route, &part);
         }
     }

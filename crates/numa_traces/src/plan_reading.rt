@@ -84,7 +84,7 @@ impl<'a> PlanReplay<'a> {
         process: Option<u32>,
         room: Vec<u64>,
     ) -> PlanReplay<'a>
-        ensures { IsBegun plan.now process room.items result }
+        ensures { IsBegun plan.now before.entry process room.items result }
     {
         PlanReplay {
             alloc,
@@ -99,7 +99,8 @@ impl<'a> PlanReplay<'a> {
     /// Replays an access.
     ///
     /// # Errors
-    /// As [`Replay::take`]. Then the replay has ended.
+    /// As [`Replay::take`]; or `NoMemory` before, for a page that lies somewhere before the trace.
+    /// Then the replay has ended.
     fn touch(&mut self, access: Access) -> Result<(), ReplayError>
         ensures ok { OnOk result (ReplaysStep (Ok (Some (Touches access))) self.old self.new) }
         ensures err { IfErr result (EndsAtStep (Ok (Some (Touches access))) self.old) }

@@ -1,5 +1,6 @@
 //! The replay of a process whose frames are those of its host.
-ghost use Rattle.std.specs.Prelude.{◌≡◌, IfErr, OnOk};
+ghost use Rattle.std.specs.Prelude.{◌≡◌, IfErr, None, OnOk};
+ghost use Rattle.numa_plan.specs.Meaning.{place_refusal};
 ghost use Rattle.numa_traces.specs.Hosting.{with_free};
 ghost use Rattle.numa_traces.specs.Replaying.{EndsReplay, IsNext};
 
@@ -25,6 +26,8 @@ pub(crate) fn take_shared(
     access: Access,
 ) -> Result<(), ReplayError>
     ensures plan { one.new.plan ≡ one.old.plan }
+    ensures accepted { OnOk result
+        (place_refusal one.old.plan access.page access.cpu ≡ None) }
     ensures next { OnOk result (IsNext one.old.plan access (with_free one.old.replay free.old.items)
         (with_free one.new.replay free.new.items)) }
     ensures err { IfErr result

@@ -1,5 +1,5 @@
 //! Replaying a trace, access by access.
-ghost use Rattle.std.specs.Prelude.{◌≡◌, ◌<◌, ◌∷◌, [], List, Some, IfOk, IfErr, OnOk};
+ghost use Rattle.std.specs.Prelude.{◌≡◌, ◌<◌, ◌∷◌, [], List, None, Some, IfOk, IfErr, OnOk};
 ghost use Rattle.numa_machine.specs.Machine.{Hardware};
 ghost use Rattle.numa_plan.specs.Meaning.{PlanData, place_refusal, planned_list};
 ghost use Rattle.numa_traces.specs.Hosting.{with_free};
@@ -129,6 +129,8 @@ impl Replay {
     /// `TooMany`, a count would exceed 2^64 - 1; `NoMemory`, out of memory. Then the replay has
     /// ended.
     pub fn take(&mut self, plan: &Plan, access: Access) -> Result<(), ReplayError>
+        ensures accepted { OnOk result
+            (place_refusal plan.now access.page access.cpu ≡ None) }
         ensures next { OnOk result (IsNext plan.now access self.old self.new) }
         ensures ok { (machine : Hardware) (trace : List Access)
             → IsReplay machine plan.now trace self.old

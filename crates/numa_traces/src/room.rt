@@ -1,5 +1,5 @@
 //! How much room nodes have before a trace.
-ghost use Rattle.std.specs.Prelude.{◌≡◌, ◌<◌, ℕ, IfOk, slice_index, false};
+ghost use Rattle.std.specs.Prelude.{◌≡◌, ◌<◌, ℕ, IfOk, slice_index, false, true};
 ghost use Rattle.std.specs.Option.{option_map};
 ghost use Rattle.numa_machine.specs.Machine.{frames_of};
 ghost use Rattle.numa_placed.specs.Shifts.{room_of};
@@ -82,8 +82,10 @@ pub fn room_before(
 
 /// Whether a node of a machine has frames.
 pub fn has_frames(machine: &Machine) -> bool
-    ensures { result ≡ false → (node : ℕ) → node < machine.now.nodes
+    ensures none { result ≡ false → (node : ℕ) → node < machine.now.nodes
         → frames_of machine.now node ≡ 0 }
+    ensures some { result ≡ true → (node : ℕ) × (node < machine.now.nodes)
+        × (0 < frames_of machine.now node) }
 {
     for node in 0..machine.nodes() {
         if machine.frames(node) > 0 {

@@ -1,12 +1,24 @@
-use Rattle.std.proofs.Common.{◌≡◌, ℕ, Option, Some, refl, subst, sym}
-use Rattle.std.specs.Prelude.{IsSome, if◌then◌else◌}
+use Rattle.std.proofs.Common.{◌≡◌, ℕ, Option, None, Some, refl, subst, sym}
+use Rattle.std.specs.Prelude.{IsSome, MatchOption, if◌then◌else◌}
 use Rattle.std.specs.BTreeMap.{is_at}
 use Rattle.std.specs.Ordering.{nat_cmp}
-use Rattle.numa_traces.specs.Hosting.{HostReplayed, IsHostReplay, process_of}
+use Rattle.numa_plan.specs.Meaning.{place_refusal}
+use Rattle.numa_traces.specs.Hosting.{Accepts, HostReplayed, IsHostReplay, process_of}
 use Rattle.numa_traces.specs.declared.process.ProcessReplay.{ProcessReplay}
 use Rattle.numa_traces.proofs.Hosts.{next-of-host}
 use Rattle.numa_traces.proofs.Replays.{on-ok}
 use Rattle.numa_traces.proofs.host.HostReplay.take.Goals as goal
+
+pub returns-clause-accepted : goal.returns-clause-accepted
+returns-clause-accepted c =
+    let old : HostReplayed =
+    record { processes = c.self.inside.processes.entries; free = c.self.inside.free.items } in
+    let access = c.args.access in
+    on-ok c.take_shared.result
+    (λ allowed. subst (λ (met : HostReplayed). Accepts met c.args.process access) c.self.view_is
+    (subst (λ (o : Option ProcessReplay). MatchOption o ⊥
+    (λ one. place_refusal one.plan access.page access.cpu ≡ None)) c.in-Some.ensures.value allowed))
+    c.take_shared.ensures.accepted
 
 pub returns-clause-ok : goal.returns-clause-ok
 returns-clause-ok c room plans trace was =

@@ -12,6 +12,7 @@ returns-clause-ok c =
     let text = c.args.text.now in
     on-ok c.close.result (λ more. (
       λ process. refl,
+      tt,
       λ room plans steps was. record {
         replay = was.replay;
         marks = (

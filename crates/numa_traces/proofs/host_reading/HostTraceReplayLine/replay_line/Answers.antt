@@ -40,7 +40,7 @@ returns-in-Ok-Some-clause-ok c =
     (other-line c.args.line.now (Ok (Some (c.in-Ok-Some.process, c.in-Ok-Some.access)))
     c.in_default.ensures (rw c.in-Ok-Some.field-0-is at c.in-Ok-Some.ensures))
     (touched-host c.take.result old c.take.new.self (c.in-Ok-Some.process, c.in-Ok-Some.access)
-    c.take.ensures.processes c.take.ensures.ok)
+    c.take.ensures.processes c.take.ensures.ok c.take.ensures.accepted)
 
 pub returns-in-Ok-Some-clause-err : goal.returns-in-Ok-Some-clause-err
 returns-in-Ok-Some-clause-err c =

@@ -10,6 +10,7 @@ returns-clause-ok c =
     let old : PlanReplay = c.args.self.now in
     on-ok c.close.result (λ more. (
       record { plan = refl; before = refl; process = refl },
+      tt,
       λ start steps was. closed old.plan.now (lies_where old.before) start steps c.args.text.now
           old.replay old.marks.items c.close.new.marks.items c.tallies.result.now
           c.tallies.ensures more was,

@@ -4,12 +4,13 @@ use Rattle.numa_traces.specs.Tallies.{tally_at}
 use Rattle.numa_traces.proofs.plan_reading.PlanReplay.new.Goals as goal
 
 pub returns : goal.returns
-returns c = (
-  refl,
-  refl,
-  record {
+returns c = record {
+  plan = refl;
+  before = refl;
+  process = refl;
+  met = record {
     frames = ap (λ (met : Replayed). met.frames) c.with_room.ensures;
     tallies = λ route. ap (λ (met : Replayed). tally_at met.tallies route) c.with_room.ensures;
     closes = c.new.ensures.items;
-  },
-)
+  };
+}

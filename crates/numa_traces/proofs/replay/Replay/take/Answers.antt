@@ -3,9 +3,19 @@ use Rattle.std.proofs.Common.{subst, ◌∙◌}
 use Rattle.numa_traces.specs.Placing.{node_of}
 use Rattle.numa_traces.specs.Replaying.{EndsReplay, IsNext, Replayed}
 use Rattle.numa_traces.specs.Tallies.{Counts}
-use Rattle.numa_traces.proofs.Replays.{next-of, none-refused, on-ok, placed-route, replayed}
-use Rattle.numa_traces.proofs.Replays.{room-ends, touched-route}
+use Rattle.numa_traces.proofs.Replays.{in-any, next-of, none-refused, on-ok, placed-route}
+use Rattle.numa_traces.proofs.Replays.{replayed, room-ends, touched-route}
 use Rattle.numa_traces.proofs.replay.Replay.take.Goals as goal
+
+pub returns-in-Some-clause-accepted : goal.returns-in-Some-clause-accepted
+returns-in-Some-clause-accepted c =
+    in-any c.add.result (none-refused c.args.plan.now c.args.access.task c.args.access.page
+    c.args.access.cpu c.in-Ok.list.now c.in-Ok.ensures.ok.0 c.in-Ok.ensures.ok.1)
+
+pub returns-clause-accepted : goal.returns-clause-accepted
+returns-clause-accepted c =
+    in-any c.add-2.result (none-refused c.args.plan.now c.args.access.task c.args.access.page
+    c.args.access.cpu c.in-Ok.list.now c.in-Ok.ensures.ok.0 c.in-Ok.ensures.ok.1)
 
 pub returns-in_default-place-clause-err : goal.returns-in_default-place-clause-err
 returns-in_default-place-clause-err c = none-refused c.args.plan.now c.args.access.task
