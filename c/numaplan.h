@@ -28,6 +28,11 @@
  * NP_NO_ROOM, which gives the length that is needed, and NP_ANSWER_LOST. After NP_NO_MEMORY every
  * handle is as it was.
  *
+ * Versions. A program runs with each later library of the same major number, that of the shared
+ * library's name, without being compiled again: a minor number adds calls, structs and answers.
+ * What a call takes and answers, a struct's fields and what a number means change by a major number
+ * alone, but for faults, which CHANGELOG tells.
+ *
  * Memory comes from malloc, realloc and free by three functions in libnumaplan.a (rattle_alloc,
  * rattle_realloc, rattle_dealloc), which another object that is linked before it can supply. */
 #ifndef NUMAPLAN_H

@@ -65,6 +65,15 @@ emulate_in() {
         compile_in "$prefix"
 }
 
+# Copies libnumaplan(3), with a page for each call that leads there.
+pages_in() (
+    cd "$1/share/man/man3" && umask 022 || return
+    install -m 644 "$top/docs/libnumaplan.3" .
+    for call in $(grep -ohE '\bnp_[a-z_]+\(' "$top/c/numaplan"{,_[!m]*}.h | tr -d '(' | sort -u); do
+        echo '.so man3/libnumaplan.3' >"$call.3" || return
+    done
+)
+
 # Puts archive, shared library with the usual links, header, numaplan.pc, Python module and what
 # stands on them in folders in PREFIX, and nothing elsewhere; of a library that is proved the wheel
 # and the crate for Rust too.
@@ -90,7 +99,7 @@ library_in() {
         install -D -m 644 -t "$prefix/lib/pkgconfig" "$work/${stem#lib}.pc" &&
         install -D -m 644 -t "$prefix/include" "$top/c/"*.h &&
         install -D -m 644 -t "$prefix/share/numaplan" "$top/c/tsan.supp" &&
-        install -D -m 644 -t "$prefix/share/man/man3" "$top/docs/libnumaplan.3" &&
+        mkdir -p "$prefix/share/man/man3" && pages_in "$prefix" &&
         install -D -m 644 -t "$prefix/share/numaplan/numaplan" "$top/python/numaplan/"*.{py,typed} &&
         install -D -m 755 -t "$prefix/share/numaplan/numaplan" "$top/tools/machine-line" &&
         { [ "$kind" != library ] ||
