@@ -10,7 +10,7 @@ from time import monotonic_ns
 
 import numaplan
 
-from . import marks, tracing
+from . import huge, marks, tracing
 from .calls import ANSWERED
 from .common import pages_on
 from .cpus import OF_MADE_UP
@@ -69,6 +69,7 @@ class Emulator:
         self.may_move_all = os.geteuid() == 0  # (CAP_SYS_NICE)
         self.marks = marks.number_of_file() if outcome.is_asked() else None
         self.answered, self.followed = self.calls_answered(), self.calls_followed() | marks.FOLLOWED
+        self.has_pools = self.fakes and not huge.are_empty()
         self.early, self.has_begun, self.stops = {}, False, Counter()
         self.told = ""  # what the call that is answered now tells, for the log
         self.unread = []  # (number, status) of tasks that were waited for elsewhere
@@ -87,7 +88,7 @@ class Emulator:
         if self.telling:
             most = resource.getrlimit(resource.RLIMIT_NOFILE)[1]
             resource.setrlimit(resource.RLIMIT_NOFILE, (most, most))  # (each ring takes a file)
-        self.add_task(first, self.space_type(self.machine), None)
+        self.add_task(first, self.space_type(self.machine), None).space.is_without_huge = huge.are_off()
 
     def calls_answered(self):
         """The calls that the kernel never sees."""
@@ -100,6 +101,8 @@ class Emulator:
         """The calls that stop a program, each with the word that makes it matter, or None."""
         names = [*self.answered, *(self.followed.keys() - marks.FOLLOWED.keys())]
         found = {name: ONLY_WITH.get(name) for name in names + ["open", "openat"] * self.fakes}
+        if self.has_pools:
+            found["mmap"] = None  # (a file may be one of huge pages)
         return found | dict.fromkeys(marks.FOLLOWED if self.marks else (), (0, False, self.marks))
 
     def tell(self, text):
@@ -211,21 +214,31 @@ class Emulator:
 
         return restore
 
+    def follow(self, task, name, registers):
+        """A call that goes on to the kernel; or its result, where this one answers."""
+        try:
+            found = self.followed[name](self, task, *words_of(name, registers))
+        except Failed:
+            return None  # (a text that isn't there: the kernel says so)
+        if isinstance(found, int):
+            return found
+        task.at_end = found
+        return None
+
     def at_call(self, task):
         registers = registers_of(task.number)
         name = NAMES.get(registers.call())
         self.stops[name] += 1
+        result = None
         if name in self.answered:
-            registers.rax = self.answer(task, registers) & 2**64 - 1
-            registers.orig_rax = 2**64 - 1
-            set_registers(task.number, registers)
+            result = self.answer(task, registers)
         elif name in ("open", "openat"):
             task.at_end = self.redirect(task, registers)
         elif name in self.followed:
-            try:
-                task.at_end = self.followed[name](self, task, *words_of(name, registers))
-            except Failed:
-                pass  # (a text that isn't there: the kernel says so)
+            result = self.follow(task, name, registers)
+        if result is not None:
+            registers.rax, registers.orig_rax = result & 2**64 - 1, 2**64 - 1
+            set_registers(task.number, registers)
 
     def at_end(self, task):
         """After a call that is followed; before and after each one where marks may be made by any."""
@@ -273,8 +286,14 @@ class Emulator:
         child, task.lent_to = self.tasks.get(task.lent_to), None
         if child and child.space is task.space:
             child.space.users -= 1
-            child.space = self.space_type(self.machine)
+            child.space = self.space_after(child)
             child.space.users, child.space.leader = 1, child.number
+
+    def space_after(self, task):
+        """The new memory of a task, with what is kept."""
+        space = self.space_type(self.machine)
+        space.is_without_huge = task.space.is_without_huge
+        return space
 
     def settled(self, number):
         """Another task, once what has happened to it is followed; None where it isn't one that is told of."""
@@ -322,7 +341,7 @@ class Emulator:
         except GONE:
             old = task  # (killed meanwhile)
         self.leave(old)  # (with its ring, which belongs to the number that it had)
-        task = self.add_task(number, self.space_type(self.machine), old.word, old)
+        task = self.add_task(number, self.space_after(old), old.word, old)
         if self.telling and self.telling.each:
             task.space.touchers.follow(number, self.telling.ring(number))
         if self.fakes:

@@ -40,6 +40,8 @@ def then_watched(name):
     """Follows a call as without --exact, and then looks for faults of the new area."""
     def follow(all_, task, *words):
         before = FOLLOWED[name](all_, task, *words) if name in FOLLOWED else None
+        if isinstance(before, int):
+            return before
 
         def at_end(registers):
             if before:

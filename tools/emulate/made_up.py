@@ -6,6 +6,7 @@ import re
 from collections import Counter
 from itertools import count
 
+from . import huge
 from .areas import SHARED_ANONYMOUS
 from .machine import KILOBYTES
 from .policies import MOST_BITS, shown_form
@@ -42,21 +43,24 @@ def make_tree(machine, root):
              "has_memory": machine.memory, "has_normal_memory": machine.memory, "has_generic_initiator": set()}
     for name, nodes in lists.items():
         write(f"{root}/node/{name}", list_text(nodes))
+    pools = huge.sizes()
     for node in every:
-        make_node(machine, f"{root}/node/node{node}", node)
+        make_node(machine, f"{root}/node/node{node}", node, pools)
         write(f"{root}/weights/node{node}", str(machine.weights.get(node, 1)))
     write(f"{root}/weights/auto", "false")
     if cpus.are_made_up:
         make_cpus(cpus, f"{root}/cpu")
 
 
-def make_node(machine, folder, node):
+def make_node(machine, folder, node, pools):
     cpus = machine.cpus.of_node[node]
     write(f"{folder}/cpumap", mask_text(cpus, max(machine.cpus.node_of)))
     write(f"{folder}/cpulist", list_text(cpus))
     write(f"{folder}/distance", " ".join(map(str, machine.distances[node])))
     write(f"{folder}/meminfo", memory_text(machine, node, 0, 0))
     write(f"{folder}/numastat", hits_text(machine, node))
+    for size in pools:
+        huge.make_pool(f"{folder}/hugepages/{size}")
     for cpu in cpus:
         os.symlink(f"../../cpu/cpu{cpu}", f"{folder}/cpu{cpu}")
 
@@ -106,7 +110,7 @@ def status_text(all_, number):
     for name, members, least in rows:
         text = re.sub(name + r"_allowed:.*", f"{name}_allowed:\t{mask_text(members, least)}", text)
         text = re.sub(name + r"_allowed_list:.*", f"{name}_allowed_list:\t{list_text(members)}", text)
-    return text
+    return re.sub("THP_enabled:.*", f"THP_enabled:\t{huge.is_possible(all_.tasks[number].space)}", text)
 
 
 def stat_text(all_, number):
@@ -213,7 +217,7 @@ def text_of(all_, task, path):
         node = int(found[1])
         return (memory_text(all_.machine, node, *all_.pages_on(node)) if found[2] == "meminfo"
                 else hits_text(all_.machine, node)) + "\n"
-    return None
+    return huge.text_of(path)
 
 
 def from_root(task, folder, path):

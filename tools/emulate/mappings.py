@@ -1,19 +1,36 @@
 """The calls that change what is mapped: they go on to the kernel, and the core follows. Each function gives
-what is to be done at the end of the call, or None. Not proved."""
+what is to be done at the end of the call, or None; or a number that is answered in the kernel's place. Not proved."""
 
 import errno
 
+from . import huge
 from .areas import Areas, named
 from .calls import whole_pages
 from .policies import word_of
-from .tracing import MAP_FIXED, PAGE, TOP, set_registers, text_at
+from .tracing import MAP_FIXED, PAGE, SET_AREA, TOP, set_registers, text_at
 
 FAILED = 2**64 - 4096  # results from here on are error numbers
 
 
-def mmap(all_, task, start, length, _protection, flags, *_):
-    if flags & MAP_FIXED:
+def mmap(all_, task, start, length, _protection, flags, file, *_):
+    fault = huge.fault_of_map(task, flags, file, all_.has_pools) if all_.fakes else 0
+    if fault:
+        return -fault
+    return replace(all_, task, start, length) if flags & MAP_FIXED else None
+
+
+def replace(all_, task, start, length):
+    """What is mapped there goes, if the call is a success."""
+    space, end = task.space, start + whole_pages(length)
+    if start % PAGE or end > TOP or not space.spans.between(start, end) or not all_.follows(task):
         forget(all_, task, start, length)
+        return None
+    all_.sweep(task, start, end)
+    return lambda registers: registers.rax >= FAILED or space.unmap(start, end)
+
+
+def shmget(all_, _, key, __, flags):
+    return -huge.fault_of_segment(key, flags) or None if all_.fakes else None
 
 
 def munmap(all_, task, start, length, *_):
@@ -123,8 +140,10 @@ def moved(space, pieces, old, new):
     space.put(kept, (to - from_) // PAGE)
 
 
-def prctl(all_, task, _option, what, start, length, name, *_):
+def prctl(all_, task, option, what, start, length, name, *_):
     """PR_SET_VMA_ANON_NAME: the name is kept, also where the kernel is built without names."""
+    if option != SET_AREA:
+        return huge.turned(task.space, option, what, start, length, name) if all_.fakes else None
     end = start + whole_pages(length)
     if what != 0 or start % PAGE or end > TOP:
         return None
@@ -144,5 +163,6 @@ def prctl(all_, task, _option, what, start, length, name, *_):
     return succeed if all_.fakes else None
 
 
-FOLLOWED = {"mmap": mmap, "munmap": munmap, "brk": brk, "shmdt": shmdt, "mremap": mremap, "madvise": madvise,
-            "prctl": prctl, "sched_setaffinity": before_other_cpu, "execve": before_exec, "execveat": before_exec}
+FOLLOWED = {"mmap": mmap, "munmap": munmap, "brk": brk, "shmget": shmget, "shmdt": shmdt, "mremap": mremap,
+            "madvise": madvise, "prctl": prctl, "sched_setaffinity": before_other_cpu, "execve": before_exec,
+            "execveat": before_exec}

@@ -17,9 +17,9 @@ WORDS = {
     "getcpu": "place place", "rseq": "address int int int", "sched_setaffinity": "pid int place",
     "sched_getaffinity": "pid int place", "open": "place int int", "openat": "int place int int",
     "mmap": "address length long long long long", "munmap": "address length", "brk": "address",
-    "mremap": "address length length long address", "madvise": "address length int", "shmat": "int address int",
-    "shmdt": "address", "prctl": "int long long long long", "set_tid_address": "place", "execve": "place place place",
-    "execveat": "int place place place int", "write": "int place long", "writev": "int place int", "dup": "int",
+    "mremap": "address length length long address", "madvise": "address length int", "shmget": "int long int",
+    "shmat": "int address int", "shmdt": "address", "prctl": "int long long long long", "set_tid_address": "place",
+    "execve": "place place place", "execveat": "int place place place int", "write": "int place long", "writev": "int place int", "dup": "int",
     "dup2": "int int", "dup3": "int int int", "fcntl": "int int long",
 }
 HALF = {"mode", "moves", "int"}  # the kinds of 32 bits, without a sign; a pid has one

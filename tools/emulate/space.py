@@ -44,6 +44,7 @@ class Space:
         self.raced = {}
         self.lines, self.refused = [], {}
         self.plan, self.takes_turns = None, False
+        self.is_without_huge = False  # whether the program has turned transparent huge pages off
 
     # ---- commands
 
@@ -308,6 +309,7 @@ class Space:
         other.core, other.takes_turns = self.core and self.core.copy(), self.takes_turns
         other.touchers, other.raced = self.touchers.copy(self.placed), self.raced.copy()
         other.touched_by, other.stacks = self.touched_by.copy(), self.stacks.copy()
+        other.is_without_huge = self.is_without_huge
         if self.placed:
             with Pagemap(task) as pagemap:
                 share(self, other, pagemap)

@@ -4,6 +4,7 @@ import ctypes
 import os
 import sys
 
+from . import huge
 from .made_up import CPUS, NODES, WEIGHTS
 from .marks import open_file
 from .tracing import LIBC, OPTIONS, SEIZE, install_filter, ptrace
@@ -12,7 +13,6 @@ from .words import OWN_FAULT, Unfit, tell
 
 NEW_MOUNTS, NEW_USER = 0x20000, 0x10000000  # CLONE_NEWNS, CLONE_NEWUSER
 BIND, RECURSIVE, PRIVATE = 0x1000, 0x4000, 0x40000  # MS_*
-NO_HUGE_PAGES = 41  # PR_SET_THP_DISABLE
 
 
 def checked(answer, what):
@@ -53,7 +53,7 @@ def run_program(room, program, emulator, ready, go):
             enter_namespace()
             cover(room)
             emulator.in_child(room)
-            LIBC.prctl(NO_HUGE_PAGES, 1, 0, 0, 0)
+            huge.turn_off()
         os.write(ready, b"r")
         if not os.read(go, 1):
             return

@@ -20,7 +20,7 @@ OPTIONS = 1 | 1 << FORK | 1 << VFORK | 1 << CLONE | 1 << EXEC | 1 << EXIT | 1 <<
 
 CALLS = {
     "write": 1, "open": 2, "close": 3, "mmap": 9, "munmap": 11, "brk": 12, "writev": 20, "mremap": 25, "madvise": 28,
-    "shmat": 30, "dup": 32, "dup2": 33, "execve": 59, "shmdt": 67, "fcntl": 72,
+    "shmget": 29, "shmat": 30, "dup": 32, "dup2": 33, "execve": 59, "shmdt": 67, "fcntl": 72,
     "prctl": 157, "sched_setaffinity": 203, "sched_getaffinity": 204, "set_tid_address": 218, "mbind": 237,
     "set_mempolicy": 238, "get_mempolicy": 239, "migrate_pages": 256, "openat": 257,
     "move_pages": 279, "dup3": 292, "getcpu": 309, "execveat": 322, "rseq": 334, "close_range": 436,
@@ -28,9 +28,11 @@ CALLS = {
 }
 NAMES = {number: name for name, number in CALLS.items()}
 X86_64 = 0xC000003E  # AUDIT_ARCH_X86_64
-# Calls that matter mostly with one word alone: its place, whether it is a bit among others, and the word.
-MAP_FIXED, SET_AREA, FORGET = 0x10, 0x53564D41, 4  # (PR_SET_VMA, MADV_DONTNEED)
-ONLY_WITH = {"mmap": (3, True, MAP_FIXED), "prctl": (0, False, SET_AREA), "madvise": (2, False, FORGET)}
+# Calls that matter with one of some words alone: its place, whether they are bits among others, and the words.
+MAP_FIXED, MAP_HUGETLB, SHM_HUGETLB, FORGET = 0x10, 0x40000, 0x800, 4  # (MADV_DONTNEED)
+SET_AREA, SET_HUGE, GET_HUGE = 0x53564D41, 41, 42  # PR_SET_VMA, PR_SET_THP_DISABLE, PR_GET_THP_DISABLE
+ONLY_WITH = {"mmap": (3, True, MAP_FIXED | MAP_HUGETLB), "prctl": (0, False, SET_AREA, SET_HUGE, GET_HUGE),
+             "madvise": (2, False, FORGET), "shmget": (2, True, SHM_HUGETLB)}
 
 
 class Registers(ctypes.Structure):
@@ -141,17 +143,19 @@ def cpu_of(task):
 
 
 def filter_program(watched):
-    """The instructions of the filter: these calls stop the program, those with a word of ONLY_WITH beside them
+    """The instructions of the filter: these calls stop the program, those with words of ONLY_WITH beside them
     with such a word alone; all others, and those of 32-bit programs, go on at full speed."""
     load, equal, has_bits, answer = 0x20, 0x15, 0x45, 0x06
     allow, stop = (answer, 0, 0, 0x7FFF0000), (answer, 0, 0, 0x7FF00000)
     always = [CALLS[name] for name, word in watched.items() if word is None]
     with_words = [(CALLS[name], *word) for name, word in watched.items() if word is not None]
     code = [(load, 0, 0, 4), (equal, 1, 0, X86_64), allow, (load, 0, 0, 0)]
-    end = len(code) + 4 * len(with_words) + len(always) + 1  # the place of `stop`
-    for number, place, is_bit, word in with_words:
-        code += [(equal, 0, 3, number), (load, 0, 0, 16 + 8 * place)]
-        code += [(has_bits if is_bit else equal, end - len(code) - 1, 0, word), allow]
+    end = len(code) + sum(len(one) for one in with_words) + len(always) + 1  # the place of `stop`
+    for number, place, is_bit, *words in with_words:
+        code += [(equal, 0, 2 + len(words), number), (load, 0, 0, 16 + 8 * place)]
+        for word in words:
+            code.append((has_bits if is_bit else equal, end - len(code) - 1, 0, word))
+        code.append(allow)
     for number in always:
         code.append((equal, end - len(code) - 1, 0, number))
     code += [allow, stop]
