@@ -1,5 +1,6 @@
 //! Links libnumaplan.a: that of the folder that NUMAPLAN_LIB names, else of PREFIX/lib, where this
-//! crate lies in PREFIX/share/numaplan/rust, as `./numaplan library PREFIX` and packages put it.
+//! crate lies in PREFIX/share/numaplan/rust, as `./numaplan library PREFIX` and packages put it. The
+//! archive has to be of the crate's version, as far as a numaplan.pc beside it tells.
 
 use std::path::PathBuf;
 
@@ -8,6 +9,13 @@ fn main() {
     let named = std::env::var_os("NUMAPLAN_LIB").map(PathBuf::from);
     let here = PathBuf::from(std::env::var_os("CARGO_MANIFEST_DIR").unwrap_or_default());
     let folder = named.unwrap_or_else(|| here.join("../../../../lib"));
+    let told = std::fs::read_to_string(folder.join("pkgconfig/numaplan.pc")).unwrap_or_default();
+    let version = told.lines().find_map(|line| line.strip_prefix("Version: "));
+    if version.is_some_and(|version| version != env!("CARGO_PKG_VERSION")) {
+        let (own, place) = (env!("CARGO_PKG_VERSION"), folder.display());
+        eprintln!("the crate is of numaplan {own}, the library in {place} of {}", version.unwrap_or_default());
+        std::process::exit(1);
+    }
     if folder.join("libnumaplan.a").exists() {
         println!("cargo:rustc-link-search=native={}", folder.display());
     }

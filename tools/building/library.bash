@@ -10,19 +10,40 @@ name_library() {
 }
 
 # link_library ARCHIVE FOLDER: makes archive and shared library in the folder. The archive has the
-# allocator's object of the kit. The shared library is STEM.so.0 to programs.
+# allocator's object of the kit. The shared library is STEM.so.0 to programs. What is proved is
+# compiled for x86-64-v2: on a processor of less the loader says so, and doesn't load it.
 link_library() {
-    local made=$1 to=$2/$stem kit
+    local made=$1 to=$2/$stem kit needs=()
     kit=$(dirname "$(rt doc | head -1)")
+    [ "$kind" != library ] || needs=(-Wl,-z,x86-64-v2)
     printf '%s\n' "create $to.a" "addlib $made" "addlib $kit/c/liblibc_c.a" save end | ar -M &&
         "${CC:-cc}" -shared -o "$to.so" -Wl,--whole-archive "$to.a" -Wl,--no-whole-archive \
-            -Wl,-z,defs -Wl,--version-script="$top/c/exports.map" -Wl,-soname,"$name"
+            "${needs[@]}" -Wl,-z,defs -Wl,--version-script="$top/c/exports.map" -Wl,-soname,"$name"
 }
 
 write_pc() {
     printf '%s\n' "prefix=$(realpath -m "$1")" 'Name: numaplan' \
         "Description: A planner of NUMA memory placement ($2)" "Version: $version" \
         "Libs: -L\${prefix}/lib -l${stem#lib}" 'Cflags: -I${prefix}/include'
+}
+
+# write_cmake FOLDER: what find_package(numaplan) of CMake reads. It finds the rest from where it lies,
+# and takes each version with the same first number that isn't older.
+write_cmake() {
+    local prefix='${numaplan_prefix}' name_in_cmake=${stem#lib}
+    printf '%s\n' "set(PACKAGE_VERSION $version)" \
+        "if(PACKAGE_FIND_VERSION_MAJOR EQUAL ${version%%.*} AND NOT PACKAGE_FIND_VERSION VERSION_GREATER $version)" \
+        '  set(PACKAGE_VERSION_COMPATIBLE TRUE)' 'endif()' >"$1/$name_in_cmake-config-version.cmake" &&
+        printf '%s\n' '# The targets numaplan::numaplan, the shared library, and numaplan::archive.' \
+            'get_filename_component(numaplan_prefix "${CMAKE_CURRENT_LIST_DIR}/../../.." ABSOLUTE)' \
+            'if(NOT TARGET numaplan::numaplan)' '  add_library(numaplan::numaplan SHARED IMPORTED)' \
+            '  set_target_properties(numaplan::numaplan PROPERTIES' "    IMPORTED_SONAME $name" \
+            "    IMPORTED_LOCATION \"$prefix/lib/$stem.so.$version\"" \
+            "    INTERFACE_INCLUDE_DIRECTORIES \"$prefix/include\")" \
+            '  add_library(numaplan::archive STATIC IMPORTED)' \
+            '  set_target_properties(numaplan::archive PROPERTIES' \
+            "    IMPORTED_LOCATION \"$prefix/lib/$stem.a\"" '    INTERFACE_LINK_LIBRARIES pthread' \
+            "    INTERFACE_INCLUDE_DIRECTORIES \"$prefix/include\")" 'endif()' >"$1/$name_in_cmake-config.cmake"
 }
 
 # Makes the wheel of the Python package, with the library in it, where there is a Python.
@@ -91,12 +112,14 @@ library_in() {
         made=$out/$kind/libnumaplan_c.a
     fi
     work=$(mktemp -d) || exit 1
-    link_library "$made" "$work" && write_pc "$prefix" "$state" >"$work/${stem#lib}.pc" || exit 1
+    link_library "$made" "$work" && write_pc "$prefix" "$state" >"$work/${stem#lib}.pc" &&
+        write_cmake "$work" || exit 1
     install -D -m 644 "$work/$stem.a" "$prefix/lib/$stem.a" &&
         install -D -m 755 "$work/$stem.so" "$prefix/lib/$stem.so.$version" &&
         ln -sf "$stem.so.$version" "$prefix/lib/$name" &&
         ln -sf "$name" "$prefix/lib/$stem.so" &&
         install -D -m 644 -t "$prefix/lib/pkgconfig" "$work/${stem#lib}.pc" &&
+        install -D -m 644 -t "$prefix/lib/cmake/${stem#lib}" "$work/"*.cmake &&
         install -D -m 644 -t "$prefix/include" "$top/c/"*.h &&
         install -D -m 644 -t "$prefix/share/numaplan" "$top/c/tsan.supp" &&
         mkdir -p "$prefix/share/man/man3" && pages_in "$prefix" &&
