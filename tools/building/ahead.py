@@ -128,11 +128,17 @@ def has_memory():
 def prove(crates, ways, processors):
     left, proved, runs = set(crates), set(), Runs()
     while True:
-        for name, jobs in next_ones(crates, ways, proved, runs.jobs, left, processors).items():
+        at_work = {it: jobs for it, jobs in runs.jobs.items() if proved.issuperset(crates[it])}
+        for name, jobs in next_ones(crates, ways, proved, at_work, left, processors).items():
             if not runs.jobs or has_memory():
                 left.remove(name)
                 runs.begin(name, jobs)
                 time.sleep(0.1)  # (so that the dearest one takes its lock first)
+        early = [it for it in left if not proved.issuperset(crates[it]) and proved.union(at_work).issuperset(crates[it])]
+        if early and len(runs.jobs) == len(at_work) and has_memory():
+            # (a run takes seconds to begin, and waits for what another proves)
+            left.remove(first := max(early, key=ways.get))
+            runs.begin(first, 2)
         if not runs.jobs:
             return
         proved.update(runs.wait())
