@@ -223,10 +223,10 @@ fn begun(alloc: Global, host: &Host, ground: Ground<'_>) -> Result<Replaying<Hos
 }
 
 /// Adds what the accesses of a process met.
-fn add_report(
+fn add_report<'a>(
     alloc: Global,
-    process: &Process,
-    trace: &HostTrace,
+    process: &'a Process,
+    trace: &'a HostTrace,
     format: Format,
     answers: &mut ByProcess,
 ) -> Result<(), Halt> {

@@ -85,7 +85,13 @@ fn replayed_on_frames<S: Read + Drop, T: Write>(
     texts: Vec<(String, S)>,
     format: Format,
 ) -> Result<Replayed, Halt> {
-    let other = other_stage(findings.other(), process, FRAMES);
+    let other = match other_subject(findings.other(), process) {
+        Some(subject) => Some(Stage {
+            subject,
+            ground: FRAMES,
+        }),
+        None => None,
+    };
     let stage = Stage {
         subject,
         ground: FRAMES,
@@ -118,12 +124,12 @@ fn rooms_of_both<T: Write>(
 }
 
 /// Replays a trace where pages take so much room, and by the other rules so much.
-fn replayed_in_room<S: Read + Drop, T: Write>(
+fn replayed_in_room<'a, S: Read + Drop, T: Write>(
     alloc: Global,
-    findings: &Findings<T>,
-    subject: Subject<'_>,
+    findings: &'a Findings<T>,
+    subject: Subject<'a>,
     process: Option<u32>,
-    rooms: &BothRooms,
+    rooms: &'a BothRooms,
     texts: Vec<(String, S)>,
     format: Format,
 ) -> Result<Replayed, Halt> {
