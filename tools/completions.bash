@@ -9,8 +9,8 @@ _numaplan() {
     [[ ${COMP_WORDS[0]} != */* || ! -f ${COMP_WORDS[0]%/*}/crates.txt ]] || own=' prove try install library package'
     case ${COMP_WORDS[1]}:${COMP_WORDS[at - 1]} in
         run:--format | check:--format) words='text json' ;;
-        run:--rules | check:--rules | expect:--rules | predict:--rules | diff:--rules | moves:--rules | explain:--rules | replay:--rules | shell:--rules) words='document linux' ;;
-        check:--process | predict:--task | predict:--node | predict:--process | predict:--largest | predict:--free | diff:--task | diff:--node | diff:--then | diff:--process | diff:--largest | moves:--task | moves:--node | moves:--then | moves:--free | moves:--process | moves:--largest | explain:--task | explain:--node | explain:--pages | explain:--process | replay:--free | replay:--process | replay:--largest | shell:--process | storm:--workers) : ;;
+        run:--rules | check:--rules | expect:--rules | predict:--rules | diff:--rules | moves:--rules | explain:--rules | report:--rules | replay:--rules | shell:--rules) words='document linux' ;;
+        check:--process | predict:--task | predict:--node | predict:--process | predict:--largest | predict:--free | diff:--task | diff:--node | diff:--then | diff:--process | diff:--largest | moves:--task | moves:--node | moves:--then | moves:--free | moves:--process | moves:--largest | explain:--task | explain:--node | explain:--pages | explain:--process | report:--task | report:--node | report:--then | report:--process | replay:--free | replay:--process | replay:--largest | shell:--process | storm:--workers) : ;;
         expect:--format) words='text json tap' ;;
         predict:--at | diff:--at | moves:--at | explain:--at | replay:--trace) files=yes ;;
         predict:--format) words='text json csv svg html' ;;
@@ -18,7 +18,7 @@ _numaplan() {
         moves:--format | explain:--format) words='text json svg' ;;
         replay:--format) words='text json csv html' ;;
         *)
-            [ "$COMP_CWORD" != 1 ] || words='run check expect predict diff moves explain replay shell storm help --help --version'$own
+            [ "$COMP_CWORD" != 1 ] || words='run check expect predict diff moves explain report replay shell storm help --help --version'$own
             [ "$COMP_CWORD" = 1 ] || case ${COMP_WORDS[1]} in
                 run) words='--echo --format --rules --help' files=yes ;;
                 check) words='--format --process --rules --help' files=yes ;;
@@ -27,10 +27,11 @@ _numaplan() {
                 diff) words='--task --node --then --at --process --format --largest --names --lenient --rules --help' files=yes ;;
                 moves) words='--at --task --node --then --free --process --format --largest --names --lenient --rules --help' files=yes ;;
                 explain) words='--task --node --at --pages --process --format --names --lenient --rules --help' files=yes ;;
+                report) words='--task --node --then --process --lenient --rules --help' files=yes ;;
                 replay) words='--trace --free --process --format --largest --lenient --rules --help' files=yes ;;
                 shell) words='--process --rules --help' files=yes ;;
                 storm) words='--workers --help' ;;
-                help) words='run check expect predict diff moves explain replay shell storm help' ;;
+                help) words='run check expect predict diff moves explain report replay shell storm help' ;;
             esac
             # (files, unless an option is begun)
             [[ -z $files || $word = -* ]] || words=''

@@ -11,6 +11,7 @@ _numaplan() {
         'diff:Shows which pages would go elsewhere if lines were added to scripts'
         'moves:Shows what becomes of pages that are there when lines move them'
         'explain:Explains why a page goes where it goes'
+        'report:Writes one page for a ticket: where pages would go, why, and what lines change'
         'replay:Shows where the accesses of a trace go after scripts'
         'shell:Answers lines as they are typed, after scripts'
         'storm:Lets workers place pages while policies change, and compares each placement'
@@ -109,6 +110,17 @@ _numaplan() {
                 '(-h --help)-h[Print help]' '(-h --help)--help[Print help]' \
                 '*:file:_files'
             ;;
+        report)
+            _arguments \
+                '(--task)--task[The task that touches the pages; it may be left out where scripts name one task or none]:T: ' \
+                '(--node)--node[The node of the CPU on which the task runs, or all\: each node with CPUs in turn]:N: ' \
+                '*--then[A script line to add, of which it is told what it changes; several are added in turn]:LINE: ' \
+                '(--process)--process[Asks about process P of a host only; without it, or with all, about each process]:P: ' \
+                '(--lenient)--lenient[Ends with status 0 even if lines were faulty or refused]' \
+                '(--rules)--rules[Whose rules count, unless a line `rules` of the scripts says otherwise]:RULES:(document linux)' \
+                '(-h --help)-h[Print help]' '(-h --help)--help[Print help]' \
+                '*:file:_files'
+            ;;
         replay)
             _arguments \
                 '(--trace)--trace[The file of the trace; - is standard input]:TRACE:_files' \
@@ -135,7 +147,7 @@ _numaplan() {
             ;;
         help)
             _arguments \
-                '1:command:(run check expect predict diff moves explain replay shell storm help)'
+                '1:command:(run check expect predict diff moves explain report replay shell storm help)'
             ;;
     esac
 }

@@ -58,7 +58,7 @@ def rows_of(text, form):
         groups = [it for it in ElementTree.fromstring(text) if it.get("class") == "about"]
         return [row.text for group in groups for row in group if row.text]
     page = Page(text)
-    if page.tags.count("script") != 2 or re.search(
+    if page.tags.count("script") != (0 if form == "report" else 2) or re.search(
             r"<script[^>]*\bsrc|https?://(?!www\.w3\.org/2000/svg)", text):
         return [f"{page.tags.count('script')} scripts"]
     return page.rows.splitlines()
@@ -90,6 +90,8 @@ def try_about(call, tell, folder):
                 got = rows_of(call(*words, "--format", form, name)[1], form)
                 good &= tell(got == want, f"what a {form} of {words[0]} is of, {kind}"
                              + ("" if got == want else f": {got}, not {want}"))
+        got = rows_of(call("report", *asked, *then, name)[1], "report")
+        good &= tell(got == [*shown, TOUCH, *after, *ends], f"what a report is of, {kind}: {got}")
         words = ["moves", *asked[:4], "--lenient", "--then", added[0], "--format", "svg"]
         if allowed:
             want = [*wrapped(SHOWN), TOUCH, *after, *ends]

@@ -1,5 +1,6 @@
 """Names of areas beside the ranges of answers: in text, JSON, pictures and pages. Not proved."""
 
+import html
 import json
 import re
 from xml.etree import ElementTree
@@ -121,6 +122,20 @@ def answers_difference(call, name, areas, words, forms, process=None):
     return None
 
 
+def report_difference(call, name, areas):
+    """What is wrong with the names in a report, or None."""
+    page = call("report", *TOUCH, "--then", "mems 2", name)[1]
+    if "<script" in page or "<!--" in page or page.count("<style") != 1:
+        return page[:300]
+    listed = html.unescape(page.split("<pre>")[1].split("</pre>")[0]).splitlines()
+    wanted = named_text(call("predict", *TOUCH, name)[1], areas).splitlines()
+    lacking = set(wanted) - {it.removeprefix("  ") for it in listed}
+    if lacking:
+        return f"lacks {lacking}"
+    drawn = re.findall("<div class='wide[^>]*>\n(.*?)</div>", page, re.S)[:3]  # (predict, diff and moves)
+    return next(filter(None, (picture_difference(it, areas) for it in drawn)), None)
+
+
 def try_names(call, tell, folder):
     """The names of areas of a script, and of a host's processes."""
     one, host = f"{folder}/named", f"{folder}/named-host"
@@ -141,6 +156,8 @@ def try_names(call, tell, folder):
         wrong = (answers_difference(call, host, of_all, words, forms)
                  or answers_difference(call, host, of_all, [*words, "--process", "7"], "svg", 7))
         good &= tell(not wrong, f"of a host's processes in answers of {words[0]}: {wrong or 'in each form'}")
+    wrong = report_difference(call, one, {None: areas})
+    good &= tell(not wrong, f"names of areas in a report: {wrong or 'as in its parts'}")
     words = ["explain", *TOUCH, "0x10000"]
     plain, told = call(*words, one)[1], call(*words, "--names", one)[1]
     good &= tell(told == plain.replace("\n", "  # heap\n", 1), f"explain names an area: {told!r}")

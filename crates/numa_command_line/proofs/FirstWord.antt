@@ -15,7 +15,7 @@ use Rattle.numa_command_line.specs.Asked.{explain_by, predict_by}
 use Rattle.numa_command_line.specs.Asked.{job_named, name_of, rows_behind, scripts_asked}
 use Rattle.numa_command_line.specs.Asked.{word_named, work_asked}
 use Rattle.numa_command_line.specs.Jobs.{Asking, Doing, Doings, Text, ask, diff, doings_of, explain}
-use Rattle.numa_command_line.specs.Jobs.{predict, scripts, storm}
+use Rattle.numa_command_line.specs.Jobs.{predict, report, scripts, storm}
 use Rattle.numa_command_line.specs.Values.{address_in, format_in, frees_in, is_on, process_in}
 use Rattle.numa_command_line.specs.Values.{rules_in, small_at}
 use Rattle.numa_command_line.specs.Values.{texts_at, touch_in, workers_in}
@@ -35,6 +35,7 @@ label word.Predict = codes "predict"
 label word.Diff = codes "diff"
 label word.Moves = codes "moves"
 label word.Explain = codes "explain"
+label word.Report = codes "report"
 label word.Replay = codes "replay"
 label word.Shell = codes "shell"
 
@@ -57,8 +58,9 @@ named_word name found =
     (one_of_words name word.Diff found _
     (one_of_words name word.Moves found _
     (one_of_words name word.Explain found _
+    (one_of_words name word.Report found _
     (one_of_words name word.Replay found _
-    (one_of_words name word.Shell found None (λ none. cc)))))))))
+    (one_of_words name word.Shell found None (λ none. cc))))))))))
 
 given_ask : (passes : Bool) (asked : Doing) (doing : Doing) → cond passes (Some asked) None
     ≡ Some doing → asked ≡ doing
@@ -101,12 +103,12 @@ page_name at pages format None what e = cc
 page_name at pages format (Some address) what e =
     ap asking_name (sym (given_both _ _ (explain at address pages format) what e))
 
-moves_name : (make : List FreePages → Doing)
-    → ((free : List FreePages) → doing_name (make free) ≡ codes "moves")
+freed_name : (named : Text) (make : List FreePages → Doing)
+    → ((free : List FreePages) → doing_name (make free) ≡ named)
     → (free : Option (List FreePages)) (doing : Doing) → option_map make free ≡ Some doing
-    → doing_name doing ≡ codes "moves"
-moves_name make names None doing e = cc
-moves_name make names (Some free) doing e =
+    → doing_name doing ≡ named
+freed_name named make names None doing e = cc
+freed_name named make names (Some free) doing e =
     ap doing_name (sym (some_is (make free) doing e)) ∙ names free
 
 work_name : (w : Subcommand) (rows : List Row) (doing : Doing) → work_asked w rows ≡ Some doing
@@ -123,13 +125,19 @@ work_name word.Diff rows doing e =
     (codes "diff") doing
     (λ what is. ap asking_name (sym (given_is _
     (diff (texts_at (codes "at") rows) (texts_at (codes "then") rows) (format_in rows)) what is))) e
-work_name word.Moves rows doing e = moves_name _ (λ free. refl) (frees_in rows) doing e
+work_name word.Moves rows doing e =
+    freed_name (codes "moves") _ (λ free. refl) (frees_in rows) doing e
 work_name word.Explain rows doing e =
     asked_name (touch_in rows) (is_on (codes "lenient") rows) (is_on (codes "names") rows) _
     (codes "explain") doing
     (page_name (texts_at (codes "at") rows) (small_at (codes "pages") rows) (format_in rows)
     (address_in rows)) e
-work_name word.Replay rows doing e = ap doing_name (sym (some_is _ doing e))
+work_name word.Report rows doing e =
+    asked_name (touch_in rows) (is_on (codes "lenient") rows) (is_on (codes "names") rows) _
+    (codes "report") doing
+    (λ what is. ap asking_name (sym (some_is (report (texts_at (codes "then") rows)) what is))) e
+work_name word.Replay rows doing e =
+    freed_name (codes "replay") _ (λ free. refl) (frees_in rows) doing e
 work_name word.Shell rows doing e = ap doing_name (sym (some_is _ doing e))
 
 scripts_name : (files : List Text) (rows : List Row) (process : Option (Option ℕ))

@@ -19,8 +19,8 @@ use Rattle.numa_sheets.specs.declared.asked.CpuAsked.TheVariants.{Node, Each}
 use Rattle.numa_sheets.specs.declared.asked.TouchAsked.{TouchAsked}
 use Rattle.numa_command_line.specs.Grammar.{IsProgram}
 use Rattle.numa_command_line.specs.Jobs.{Asking, Doing, Doings, Text, ask, check, diff, doings_of}
-use Rattle.numa_command_line.specs.Jobs.{expect, explain, moves, predict, replay, run, scripts}
-use Rattle.numa_command_line.specs.Jobs.{shell, storm}
+use Rattle.numa_command_line.specs.Jobs.{expect, explain, moves, predict, replay, report, run}
+use Rattle.numa_command_line.specs.Jobs.{scripts, shell, storm}
 use Rattle.numa_command_line.specs.Values.{address_in, format_in, frees_in, is_on, one_touch_in}
 use Rattle.numa_command_line.specs.Values.{process_in, rules_in, small_at, texts_at, touch_in}
 use Rattle.numa_command_line.specs.Values.{workers_in}
@@ -40,6 +40,7 @@ word_named name =
     else if bytes_eq name (codes "diff") then Some word.Diff
     else if bytes_eq name (codes "moves") then Some word.Moves
     else if bytes_eq name (codes "explain") then Some word.Explain
+    else if bytes_eq name (codes "report") then Some word.Report
     else if bytes_eq name (codes "replay") then Some word.Replay
     else if bytes_eq name (codes "shell") then Some word.Shell
     else None
@@ -54,6 +55,7 @@ abbrev pub is_plainly_asked : Asking → Bool
 is_plainly_asked (predict at format free) = is_plain format
 is_plainly_asked (diff at lines format) = is_plain format
 is_plainly_asked (explain at address pages format) = is_plain format
+is_plainly_asked (report lines) = false
 
 -- what is asked of each node is told as text or JSON
 abbrev pub can_ask_on : CpuAsked → Asking → Bool
@@ -116,6 +118,7 @@ work_asked word.Moves rows = option_map (λ free. moves (texts_at (codes "at") r
 work_asked word.Explain rows = asked_in rows (option_and_then (explain_by
     (texts_at (codes "at") rows) (small_at (codes "pages") rows) (format_in rows))
     (address_in rows))
+work_asked word.Report rows = asked_in rows (Some (report (texts_at (codes "then") rows)))
 work_asked word.Replay rows = option_map (λ free. replay (texts_at (codes "trace") rows) free
     (format_in rows) (is_on (codes "lenient") rows)) (frees_in rows)
 work_asked word.Shell rows = Some shell
@@ -151,6 +154,7 @@ abbrev pub asking_name : Asking → Text
 asking_name (predict at format free) = codes "predict"
 asking_name (diff at lines format) = codes "diff"
 asking_name (explain at address pages format) = codes "explain"
+asking_name (report lines) = codes "report"
 
 abbrev pub doing_name : Doing → Text
 doing_name (run echo format) = codes "run"

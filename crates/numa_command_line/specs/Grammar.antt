@@ -98,6 +98,10 @@ explain_arguments formats =
     task ∷ node ∷ option (codes "at") ∷ number (codes "pages") ∷ process ∷ format formats ∷ names
     ∷ lenient ∷ needed true (bare (codes "ADDRESS")) ∷ files ∷ []
 
+abbrev pub report_arguments : List Rule
+report_arguments =
+    task ∷ node ∷ options (codes "then") ∷ process ∷ lenient ∷ files ∷ []
+
 abbrev pub replay_arguments : Names → List Rule
 replay_arguments formats =
     needed true (option (codes "trace")) ∷ option (codes "free") ∷ process ∷ format formats
@@ -165,7 +169,7 @@ abbrev pub program : Choices → App
 program c =
     with_subcommand (with_subcommand (with_subcommand (with_subcommand (with_subcommand
     (with_subcommand (with_subcommand (with_subcommand (with_subcommand (with_subcommand
-    bare_program
+    (with_subcommand bare_program
     (reader c.rules (codes "run") (run_arguments c.run)))
     (reader c.rules (codes "check") (check_arguments c.check)))
     (reader c.rules (codes "expect") (expect_arguments c.expect)))
@@ -173,6 +177,7 @@ program c =
     (reader c.rules (codes "diff") (diff_arguments c.diff)))
     (reader c.rules (codes "moves") (moves_arguments c.moves)))
     (reader c.rules (codes "explain") (explain_arguments c.explain)))
+    (reader c.rules (codes "report") report_arguments))
     (reader c.rules (codes "replay") (replay_arguments c.replay)))
     (reader c.rules (codes "shell") shell_arguments))
     (word (codes "storm") storm_arguments)

@@ -13,6 +13,7 @@ use Rattle.numa_command_line.specs.declared.jobs.JobFault.{JobFault}
 use Rattle.numa_command_line.specs.declared.jobs.JobFault.TheVariants.{Help, Usage, NoMemory}
 use Rattle.numa_command_line.specs.declared.jobs.PageQuestion.{PageQuestion}
 use Rattle.numa_command_line.specs.declared.jobs.PageQuestion.TheVariants.{Predict, Diff, Explain}
+use Rattle.numa_command_line.specs.declared.jobs.PageQuestion.TheVariants.{Report}
 use Rattle.numa_command_line.specs.declared.jobs.ScriptJob.{ScriptJob}
 use Rattle.numa_command_line.specs.declared.jobs.ScriptJob.TheVariants.{Run, Check, Expect, Ask}
 use Rattle.numa_command_line.specs.declared.jobs.ScriptJob.TheVariants.{Moves, Replay, Shell}
@@ -31,6 +32,7 @@ pub data Asking : Type 0 where
   predict : List Text → Format → List FreePages → Asking
   diff : List Text → List Text → Format → Asking
   explain : List Text → AddressAsked → Option ℕ → Format → Asking
+  report : List Text → Asking
 
 -- with the rules that count where the scripts say nothing of them
 pub data Doing : Type 0 where
@@ -52,6 +54,7 @@ question_of (Diff at lines format) =
     diff (map string_bytes at.items) (map string_bytes lines.items) format
 question_of (Explain at address pages format) =
     explain (map string_bytes at.items) address pages format
+question_of (Report lines) = report (map string_bytes lines.items)
 
 abbrev pub work_of : ScriptJob → Doing
 work_of (Run echo format) = run echo format

@@ -11,7 +11,7 @@ use crate::found::{is_on, texts_at};
 use crate::jobs::{Job, JobFault, ScriptJob};
 use crate::program::program;
 use crate::words::format::format_in;
-use crate::words::{diff, explain, moves, predict, process, replay, rules, storm};
+use crate::words::{diff, explain, moves, predict, process, replay, report, rules, storm};
 use clap::error::ErrorKind;
 use clap::{ArgMatches, Command, Error};
 use std::alloc::Global;
@@ -29,6 +29,7 @@ pub(crate) enum Subcommand {
     Diff,
     Moves,
     Explain,
+    Report,
     Replay,
     Shell,
 }
@@ -45,6 +46,7 @@ fn word_of(name: &str) -> Option<Subcommand>
         "diff" => Some(Subcommand::Diff),
         "moves" => Some(Subcommand::Moves),
         "explain" => Some(Subcommand::Explain),
+        "report" => Some(Subcommand::Report),
         "replay" => Some(Subcommand::Replay),
         "shell" => Some(Subcommand::Shell),
         _ => None,
@@ -87,6 +89,7 @@ fn work_of(alloc: Global, word: Subcommand, matches: &ArgMatches<'_>) -> Result<
         Subcommand::Diff => diff::work(alloc, matches),
         Subcommand::Moves => moves::work(alloc, matches),
         Subcommand::Explain => explain::work(alloc, matches),
+        Subcommand::Report => report::work(alloc, matches),
         Subcommand::Replay => replay::work(alloc, matches),
         Subcommand::Shell => Ok(ScriptJob::Shell),
     }

@@ -30,6 +30,10 @@ pub enum PageQuestion {
         pages: Option<u32>,
         format: Format,
     },
+    /// All of these on one page, before and after these further lines, if there are some.
+    Report {
+        lines: Vec<String>,
+    },
 }
 
 /// What to do with scripts, which are read in order.

@@ -6,7 +6,7 @@ ghost use Rattle.numa_command_line.specs.Usage.{IsLocal};
 
 use crate::usage::with_word;
 use crate::words::{
-    check, diff, expect, explain, moves, predict, replay, rules, run, shell, storm,
+    check, diff, expect, explain, moves, predict, replay, report, rules, run, shell, storm,
 };
 use clap::Command;
 use numa_sheets::VERSION;
@@ -52,6 +52,7 @@ pub fn program<'a>(alloc: Global) -> Result<Command<'a>, AllocError>
     let program = with_word(alloc, program, diff::word(), rules);
     let program = with_word(alloc, program, moves::word(), rules);
     let program = with_word(alloc, program, explain::word(), rules);
+    let program = with_word(alloc, program, report::word(), rules);
     let program = with_word(alloc, program, replay::word(), rules);
     let program = with_word(alloc, program, shell::word(), rules);
     with_word(alloc, program, storm::word(), rules)

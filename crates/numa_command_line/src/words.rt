@@ -14,6 +14,7 @@ pub mod names;
 pub mod predict;
 pub mod process;
 pub mod replay;
+pub mod report;
 pub mod rules;
 pub mod run;
 pub mod shell;

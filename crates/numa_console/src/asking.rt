@@ -1,7 +1,7 @@
 //! What is asked after scripts.
 use numa_beside::Paint;
 use numa_command_line::PageQuestion;
-use numa_sheets::{AddressAsked, CpuAsked, Format, FreePages, TouchAsked};
+use numa_sheets::{AddressAsked, CpuAsked, DRAWN, Format, FreePages, TouchAsked};
 use numa_subjects::Twin;
 
 /// A question about pages.
@@ -16,6 +16,8 @@ pub enum Question<'a> {
     /// What becomes of pages that are there when these lines move them, and nodes take so many
     /// more.
     Moves(&'a [String], &'a [FreePages]),
+    /// All of these on one page, before and after these further lines, if there are some.
+    Report(&'a [String]),
 }
 
 /// What is asked after scripts.
@@ -60,6 +62,9 @@ impl<'a> Asking<'a> {
                 pages,
                 format,
             } => (at.as_slice(), Question::Explain(*address, *pages), *format),
+            PageQuestion::Report { lines } => {
+                (&[], Question::Report(lines.as_slice()), Format::Svg(DRAWN))
+            }
         };
         Asking {
             at,
@@ -103,7 +108,7 @@ impl<'a> Asking<'a> {
     /// The added lines.
     pub fn lines(&self) -> &'a [String] {
         match self.question {
-            Question::Diff(lines) | Question::Moves(lines, _) => lines,
+            Question::Diff(lines) | Question::Moves(lines, _) | Question::Report(lines) => lines,
             _ => &[],
         }
     }

@@ -19,7 +19,7 @@ const BAD_NODE: &str =
 For more information, try '--help'.\n";
 
 /// The message for each node in a picture, a page or records.
-const NOT_EACH: &str = "error: '--node all' wants '--format text' or '--format json'\n";
+const NOT_EACH: &str = "error: '--node all' wants an answer as text or JSON\n";
 
 /// The option `--task T`.
 pub const TASK: Argument = Argument {
@@ -108,6 +108,7 @@ fn is_plainly_asked(question: &PageQuestion) -> bool
         PageQuestion::Predict { format, .. } => is_plain(*format),
         PageQuestion::Diff { format, .. } => is_plain(*format),
         PageQuestion::Explain { format, .. } => is_plain(*format),
+        PageQuestion::Report { .. } => false,
     }
 }
 

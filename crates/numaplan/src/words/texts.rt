@@ -1,128 +1,24 @@
 //! The answers to questions about the state that scripts lead to, as texts.
-use crate::words::by_node::{joined, of_nodes};
+use crate::words::by_node::joined;
+use crate::words::meant::{
+    Meant, add, difference_in, differs_elsewhere, goes_elsewhere, prediction_in, states_in,
+};
+use crate::words::report::report;
 use numa_beside::{Areas, barred, named};
 use numa_console::{Asking, Question};
-use numa_host_script::HostScript;
 use numa_lines::RunFault;
-use numa_moves::{AtLines, Origin, PassOver, RefusedAt};
-use numa_placed::Placed;
-use numa_play::{Findings, page_meant, page_places, subject_of, touches};
+use numa_moves::Origin;
+use numa_play::{Findings, page_meant, page_places, touches};
 use numa_questions::AskedPages;
 use numa_sheets::{AddressAsked, Format, FreePages, Touch, Watch};
-use numa_subjects::{Halt, PagePlace, differ};
-use numa_what_if::{DiffAsked, StatesBefore, difference_since, states_of};
+use numa_subjects::{Halt, PagePlace};
+use numa_what_if::StatesBefore;
 use numa_words::{
     Answer, ExplainAsked, LineFaults, Played, Playing, Reading, explanation, moves_of, places_in,
-    play_added, prediction_there, stated_in,
+    play_added,
 };
 use std::alloc::Global;
 use std::io::Write;
-
-/// What is asked, the lines that state where pages lie, the touches that are meant, and the process
-/// of a host, if not all are asked for.
-#[derive(Clone, Copy)]
-struct Meant<'a> {
-    asking: Asking<'a>,
-    stated: &'a AtLines<PassOver>,
-    touches: &'a [Touch],
-    process: Option<u32>,
-}
-
-impl<'a> Meant<'a> {
-    /// The same, as text.
-    fn as_text(&self) -> Meant<'a> {
-        Meant {
-            asking: Asking {
-                format: Format::Text,
-                ..self.asking
-            },
-            ..*self
-        }
-    }
-
-    /// The answers on the nodes that are asked for, as one.
-    fn whole(&self, alloc: Global, texts: Vec<Vec<u8>>) -> Result<Vec<u8>, Halt> {
-        let Asking {
-            question,
-            format,
-            ..
-        } = self.asking;
-        let is_lines = matches!(question, Question::Explain(..));
-        let is_each = self.asking.is_each();
-        of_nodes(alloc, is_each, self.touches, texts, format, is_lines)
-    }
-}
-
-/// Adds the answer on one more node.
-fn add(texts: &mut Vec<Vec<u8>>, text: Vec<u8>) -> Result<(), Halt> {
-    match texts.push(text) {
-        Ok(()) => Ok(()),
-        Err(_) => Err(Halt::Stopped(RunFault::Memory)),
-    }
-}
-
-/// Where pages would go after a script, where these are there.
-fn prediction_beside<P: Watch>(
-    alloc: Global,
-    script: &HostScript,
-    there: &[Placed],
-    meant: Meant<'_>,
-    free: &[FreePages],
-    watch: &mut P,
-) -> Result<Vec<u8>, Halt> {
-    let (process, format) = (meant.process, meant.asking.format);
-    let mut texts = Vec::new(alloc);
-    for touch in meant.touches {
-        let text = prediction_there(alloc, script, process, *touch, format, free, there, watch)?;
-        add(&mut texts, text)?;
-    }
-    meant.whole(alloc, texts)
-}
-
-/// Where pages would go after a script; with a file that states where pages lie, these stay.
-fn prediction_in<P: Watch>(
-    alloc: Global,
-    script: &HostScript,
-    meant: Meant<'_>,
-    free: &[FreePages],
-    refused: &mut Vec<RefusedAt>,
-    watch: &mut P,
-) -> Result<Vec<u8>, Halt> {
-    let mut there = Vec::new(alloc);
-    if !meant.asking.at.is_empty() {
-        if let Err(halt) = stated_in(
-            alloc,
-            script,
-            meant.stated,
-            meant.process,
-            refused,
-            &mut there,
-        ) {
-            drop(there);
-            return Err(halt);
-        }
-    }
-    let text = prediction_beside(alloc, script, there.as_slice(), meant, free, watch);
-    drop(there);
-    text
-}
-
-/// Whether by the other rules pages would go elsewhere. (As JSON an answer would have the number of
-/// accepted commands too.)
-fn goes_elsewhere(
-    alloc: Global,
-    script: &HostScript,
-    other: &HostScript,
-    meant: Meant<'_>,
-    free: &[FreePages],
-) -> bool {
-    let meant = meant.as_text();
-    let mut refused = Vec::new(alloc);
-    let own = prediction_in(alloc, script, meant, free, &mut refused, &mut ());
-    let by_other = prediction_in(alloc, other, meant, free, &mut refused, &mut ());
-    drop(refused);
-    differ(own, by_other)
-}
 
 /// Where pages would go.
 fn prediction<T: Write, P: Watch>(
@@ -144,45 +40,6 @@ fn prediction<T: Write, P: Watch>(
         None => false,
     };
     Ok(Answer { text, is_other })
-}
-
-/// A difference that is asked for.
-fn diff_asked<'a>(meant: Meant<'_>, touch: Touch, lines: &'a [String]) -> DiffAsked<'a> {
-    DiffAsked {
-        touch,
-        format: meant.asking.format,
-        lines,
-    }
-}
-
-/// The states to which a script led, before the added lines.
-fn states_in(alloc: Global, script: &HostScript, meant: Meant<'_>) -> Result<StatesBefore, Halt> {
-    let Some(touch) = meant.touches.first() else {
-        return Err(Halt::NoMachine);
-    };
-    match subject_of(script, meant.process) {
-        Ok(subject) => states_of(alloc, subject, diff_asked(meant, *touch, &[])),
-        Err(halt) => Err(halt),
-    }
-}
-
-/// Which pages go elsewhere by the lines that a script was played since these states.
-fn difference_in<P: Watch>(
-    alloc: Global,
-    before: &StatesBefore,
-    script: &HostScript,
-    meant: Meant<'_>,
-    lines: &[String],
-    watch: &mut P,
-) -> Result<Vec<u8>, Halt> {
-    let subject = subject_of(script, meant.process)?;
-    let mut texts = Vec::new(alloc);
-    for touch in meant.touches {
-        let asked = diff_asked(meant, *touch, lines);
-        let text = difference_since(alloc, before, subject, asked, watch)?;
-        add(&mut texts, text)?;
-    }
-    meant.whole(alloc, texts)
 }
 
 /// Plays the added lines; with a file that states where pages lie, returns what becomes of these.
@@ -211,19 +68,6 @@ fn play<T: Write>(
         Ok(moves) => Ok(Some(moves)),
         Err(halt) => Err(halt),
     }
-}
-
-/// Whether by the other rules other pages would go elsewhere since the states before.
-fn differs_elsewhere(
-    alloc: Global,
-    own: (&StatesBefore, &HostScript),
-    other: (&StatesBefore, &HostScript),
-    meant: Meant<'_>,
-) -> bool {
-    let meant = meant.as_text();
-    let text = difference_in(alloc, own.0, own.1, meant, &[], &mut ());
-    let by_other = difference_in(alloc, other.0, other.1, meant, &[], &mut ());
-    differ(text, by_other)
 }
 
 /// A difference, with what became of the pages that are there behind it, if that is told.
@@ -391,6 +235,7 @@ fn moves<T: Write>(
 fn answer_of<T: Write, P: Watch>(
     alloc: Global,
     findings: &mut Findings<T>,
+    areas: &Areas,
     meant: Meant<'_>,
     faults: &mut LineFaults,
     watch: &mut P,
@@ -402,6 +247,7 @@ fn answer_of<T: Write, P: Watch>(
             reasons(alloc, findings, meant, address, pages, faults)
         }
         Question::Moves(lines, free) => moves(alloc, findings, meant, lines, free, faults),
+        Question::Report(lines) => report(alloc, findings, areas, meant, lines, faults, watch),
     }
 }
 
@@ -435,8 +281,12 @@ fn touches_in<T: Write>(
 /// How scripts are played for a question: lines that state where pages lie are kept for those about
 /// pages that are there.
 pub fn reading_of(asking: Asking<'_>) -> Reading {
-    let is_moves = matches!(asking.question, Question::Moves(..));
-    let is_explain = matches!(asking.question, Question::Explain(..));
+    let (is_moves, is_explain) = match asking.question {
+        Question::Moves(..) => (true, false),
+        Question::Explain(..) => (false, true),
+        Question::Report(lines) => (!lines.is_empty(), lines.is_empty()),
+        _ => (false, false),
+    };
     let keeps_at = is_moves || !asking.at.is_empty();
     Reading {
         task: asking.task(),
@@ -486,7 +336,8 @@ pub fn text_of<'a, T: Write, P: Watch>(
         process,
     };
     let findings = &mut played.findings;
-    let answer = answer_of(alloc, findings, meant, &mut played.faults, watch);
+    let (areas, faults) = (&played.areas, &mut played.faults);
+    let answer = answer_of(alloc, findings, areas, meant, faults, watch);
     drop(touches);
     match answer {
         Ok(answer) => {
