@@ -10,7 +10,8 @@
  *
  * Pages lie only where it was stated, and where they went since. Frames that workers take
  * (np_core_touch, seats) are separate.
- * There are at most 1,048,576 runs of pages that lie on one node. */
+ * There are at most 1,048,576 runs of pages that lie on one node. Pages that one policy puts on
+ * nodes in turn (np_pages_populate) count as one run. */
 #ifndef NUMAPLAN_PLACED_H
 #define NUMAPLAN_PLACED_H
 
@@ -156,7 +157,8 @@ uint32_t np_pages_counts(np_pages *pages, np_counts *counts);
 
 /* Writes the runs of pages that lie on one node, in order of address and as long as they can be, at
  * the start of `runs`, and how many they are to `count`. NP_NO_ROOM where `room` is less: then
- * `count` is what is needed, and `runs` is as it was. NP_NO_MEMORY. */
+ * `count` is what is needed, and `runs` is as it was. NP_NO_MEMORY. Of pages that lie on nodes in
+ * turn each is a run here, so that there may be more than 1,048,576. */
 uint32_t np_pages_runs(np_pages *pages, np_page_run *runs, size_t room, size_t *count);
 
 /* ---- moves: as far as there is room. They go node by node, as Linux does: each time the lowest

@@ -3,6 +3,7 @@ use Rattle.std.proofs.Common.{◌≡◌, ℕ, Bool, true, false, List, [], ◌�
 use Rattle.std.proofs.Common.{inl, inr, refl, sym, suc, ◌∙◌, ap}
 use Rattle.std.proofs.lemmas.Bool.{cases_Bool, eqb-true}
 use Rattle.numa_page_state.specs.Lying.{Lying}
+use Rattle.numa_page_state.specs.Outcomes.{Enough, Lack}
 use Rattle.numa_host_pages.specs.Homes.{Home, Room, home_followed, homes_followed}
 use Rattle.numa_host_pages.specs.Homes.{pages_followed, pages_in, pages_told, with_pages}
 
@@ -24,20 +25,20 @@ other-pages process other lying (home ∷ homes) far =
     ]
 
 -- where no node fills, a move wants no memory, and no node fills then
-free-pages : (lack follows : Bool) (old new : ℕ) (lying : Option Lying)
+free-pages : (lack : Lack) (follows : Bool) (old new : ℕ) (lying : Option Lying)
     → pages_followed lack follows old new lying None
-    ≡ pages_followed false follows old new lying None
+    ≡ pages_followed Enough follows old new lying None
 free-pages lack follows old new None = refl
 free-pages lack true old new (Some lying) = refl
 free-pages lack false old new (Some lying) = refl
 
-free-left : (lack follows : Bool) (old new : ℕ) (lying : Option Lying)
+free-left : (lack : Lack) (follows : Bool) (old new : ℕ) (lying : Option Lying)
     → (pages_followed lack follows old new lying None).1 ≡ None
 free-left lack follows old new None = refl
 free-left lack true old new (Some lying) = refl
 free-left lack false old new (Some lying) = refl
 
-free-home : (lack follows : Bool) (nodes : ℕ) (home : Home)
+free-home : (lack : Lack) (follows : Bool) (nodes : ℕ) (home : Home)
     → (home_followed lack follows nodes home None).1 ≡ None
 free-home lack follows nodes home =
     elim (cases_Bool (eqb home.allowed nodes)) [
@@ -45,9 +46,9 @@ free-home lack follows nodes home =
       | inr e ↦ rw e (free-left lack follows home.allowed nodes home.lying)
     ]
 
-same-home : (lack follows : Bool) (nodes : ℕ) (home : Home)
+same-home : (lack : Lack) (follows : Bool) (nodes : ℕ) (home : Home)
     → (home_followed lack follows nodes home None).0
-    ≡ (home_followed false follows nodes home None).0
+    ≡ (home_followed Enough follows nodes home None).0
 same-home lack follows nodes home =
     elim (cases_Bool (eqb home.allowed nodes)) [
       | inl e ↦ rw e refl
@@ -58,12 +59,12 @@ same-home lack follows nodes home =
           }) (free-pages lack follows home.allowed nodes home.lying))
     ]
 
-same-id : (lack follows : Bool) (nodes : ℕ) (home : Home)
+same-id : (lack : Lack) (follows : Bool) (nodes : ℕ) (home : Home)
     → (home_followed lack follows nodes home None).0.id ≡ home.id
 same-id lack follows nodes home =
     elim (cases_Bool (eqb home.allowed nodes)) [ inl e ↦ rw e refl | inr e ↦ rw e refl ]
 
-pub free-room : (lacks : ℕ → Bool) (follows : Bool) (group nodes : ℕ) (homes : List Home)
+pub free-room : (lacks : ℕ → Lack) (follows : Bool) (group nodes : ℕ) (homes : List Home)
     → (homes_followed lacks follows group nodes homes None).1 ≡ None
 free-room lacks follows group nodes [] = refl
 free-room lacks follows group nodes (home ∷ homes) =
@@ -76,7 +77,7 @@ free-room lacks follows group nodes (home ∷ homes) =
       | inr e ↦ rw e (free-room (λ k. lacks (suc k)) follows group nodes homes)
     ]
 
-pub free-alone : (lacks : ℕ → Bool) (follows : Bool) (group nodes process : ℕ)
+pub free-alone : (lacks : ℕ → Lack) (follows : Bool) (group nodes process : ℕ)
     (homes : List Home)
     → pages_in process (homes_followed lacks follows group nodes homes None).0
     ≡ pages_told follows group nodes process homes

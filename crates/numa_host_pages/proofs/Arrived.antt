@@ -5,6 +5,7 @@ use Rattle.std.proofs.Common.{suc, All, AllPairs, ◌<◌, get_or, length-append
 use Rattle.std.proofs.lemmas.Bool.{both_ways, cases_Bool, eqb-true, eq-eqb}
 use Rattle.std.proofs.lemmas.List.Elements.{filter-append}
 use Rattle.numa_host.specs.Processes.{Member as Process, is_there, moved_member}
+use Rattle.numa_page_state.specs.Outcomes.{Lack}
 use Rattle.numa_host_pages.specs.Homes.{Home, HostLying, Room, followed_each, group_followed}
 use Rattle.numa_host_pages.specs.Homes.{home_followed, homes_followed, other_homes}
 use Rattle.numa_host_pages.specs.Standing.{AreSame, arrival_of, count_of}
@@ -167,12 +168,12 @@ same-moved one two process group same once = record {
 
 -- ---- processes that follow stay in their places
 
-pub home-arrival : (lack follows : Bool) (nodes : ℕ) (home : Home) (room : Room)
+pub home-arrival : (lack : Lack) (follows : Bool) (nodes : ℕ) (home : Home) (room : Room)
     → arrival_of (home_followed lack follows nodes home room).0 ≡ arrival_of home
 home-arrival lack follows nodes home room =
     elim (cases_Bool (eqb home.allowed nodes)) [ inl e ↦ rw e refl | inr e ↦ rw e refl ]
 
-followed-arrivals : (lacks : ℕ → Bool) (follows : Bool) (group nodes : ℕ) (homes : List Home)
+followed-arrivals : (lacks : ℕ → Lack) (follows : Bool) (group nodes : ℕ) (homes : List Home)
     (room : Room) → map arrival_of (homes_followed lacks follows group nodes homes room).0
     ≡ map arrival_of homes
 followed-arrivals lacks follows group nodes [] room = refl
@@ -187,7 +188,7 @@ followed-arrivals lacks follows group nodes (home ∷ homes) room =
           rw e (λ i. arrival_of home ∷ rest i)
     ]
 
-pub each-arrivals : (lacks : ℕ → ℕ → Bool) (nodes : ℕ → ℕ) (groups : List ℕ) (at : HostLying)
+pub each-arrivals : (lacks : ℕ → ℕ → Lack) (nodes : ℕ → ℕ) (groups : List ℕ) (at : HostLying)
     → map arrival_of (followed_each lacks nodes groups at).homes ≡ map arrival_of at.homes
 each-arrivals lacks nodes [] at = refl
 each-arrivals lacks nodes (group ∷ groups) at =

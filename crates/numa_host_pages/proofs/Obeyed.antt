@@ -21,6 +21,7 @@ use Rattle.numa_requests.specs.declared.host_command.HostCommand.{HostCommand}
 use Rattle.numa_requests.specs.declared.host_command.HostCommand.TheVariants as command
 use Rattle.numa_requests.specs.declared.host_refusal.HostRefusal.{HostRefusal}
 use Rattle.numa_requests.specs.declared.host_refusal.HostRefusal.TheVariants as cause
+use Rattle.numa_page_state.specs.Outcomes.{Enough, Lack}
 use Rattle.numa_host_pages.specs.Homes.{Home, HostLying, home_followed, other_homes, pages_in}
 use Rattle.numa_host_pages.specs.Homes.{with_born, with_ended}
 use Rattle.numa_host_pages.specs.Homes.{with_attached}
@@ -39,7 +40,7 @@ pub refused : (old : HostState) (pages : HostPages) (said : HostCommand) (why : 
     → Obeys old pages said (Err why) new pages
 refused old pages said why new applied = record {
   applied = applied;
-  lies = λ history at stands lies are. (λ group process. false, lies, tt);
+  lies = λ history at stands lies are. (λ group process. Enough, lies, tt);
 }
 
 pub accepted : (old : HostState) (pages : HostPages) (said : HostCommand) (new : HostState)
@@ -47,7 +48,7 @@ pub accepted : (old : HostState) (pages : HostPages) (said : HostCommand) (new :
     → ((history : List HostCommand) (at : HostLying) → HostStandsFor old history
     → HostLies pages at → AreOf at history
     → host_refusal_of old.blank.machine old.blank.bounds history said ≡ None
-    → (lacks : ℕ → ℕ → Bool)
+    → (lacks : ℕ → ℕ → Lack)
     × HostLies later (pages_after lacks old.blank.machine history said at)
     × AreOf (pages_after lacks old.blank.machine history said at) (said ∷ history))
     → Obeys old pages said (Ok tt) new later
@@ -60,7 +61,7 @@ accepted old pages said new later applied does = record {
 -- a command that no page minds
 pub stays : (old : HostState) (pages : HostPages) (said : HostCommand)
     (result : Result (Unit {0}) HostRefusal) (new : HostState)
-    → ((lacks : ℕ → ℕ → Bool) (history : List HostCommand) (at : HostLying)
+    → ((lacks : ℕ → ℕ → Lack) (history : List HostCommand) (at : HostLying)
     → pages_after lacks old.blank.machine history said at ≡ at)
     → ((history : List HostCommand) → arrivals_of (said ∷ history) ≡ arrivals_of history)
     → ((history : List HostCommand) → members_of (said ∷ history) ≡ members_of history)
@@ -69,7 +70,7 @@ stays old pages said (Err why) new same arrives joins applied =
     refused old pages said why new applied
 stays old pages said (Ok done) new same arrives joins applied =
     accepted old pages said new pages applied (λ history at stands lies are none.
-    let lacks : ℕ → ℕ → Bool = λ place member. false in
+    let lacks : ℕ → ℕ → Lack = λ place member. Enough in
     let is = sym (same lacks history at) in (
       lacks,
       subst (HostLies pages) is lies,
@@ -85,7 +86,7 @@ stays old pages said (Ok done) new same arrives joins applied =
 -- the same where it is known which command it is
 pub stays-by : (old : HostState) (pages : HostPages) (said same : HostCommand)
     (result : Result (Unit {0}) HostRefusal) (new : HostState) → said ≡ same
-    → ((lacks : ℕ → ℕ → Bool) (history : List HostCommand) (at : HostLying)
+    → ((lacks : ℕ → ℕ → Lack) (history : List HostCommand) (at : HostLying)
     → pages_after lacks old.blank.machine history same at ≡ at)
     → ((history : List HostCommand) → arrivals_of (same ∷ history) ≡ arrivals_of history)
     → ((history : List HostCommand) → members_of (same ∷ history) ≡ members_of history)
@@ -285,7 +286,7 @@ ended-are at history process are = record {
 
 -- ---- one that moves
 
-pub attached-are : (at : HostLying) (history : List HostCommand) (lack : Bool)
+pub attached-are : (at : HostLying) (history : List HostCommand) (lack : Lack)
     (process group old new : ℕ) → AreOf at history
     → count_of process (members_of history) ≡ 1
     → AreOf (with_attached lack process group old new at) (command.Attach process group ∷ history)

@@ -8,6 +8,7 @@ use Rattle.std.specs.Global.{Global}
 use Rattle.std.specs.Vec.{with_items}
 use Rattle.numa_machine.specs.declared.no_memory.NoMemory.{NoMemory}
 use Rattle.numa_page_state.specs.Lying.{Lying}
+use Rattle.numa_page_state.specs.Outcomes.{Lack}
 use Rattle.numa_page_state.specs.Standing.{LiesAs}
 use Rattle.numa_page_state.specs.declared.state.PageState.{PageState}
 use Rattle.numa_host_pages.specs.Homes.{FollowEach, Home, HostLying, Room, group_followed}
@@ -34,7 +35,7 @@ pages-length process lying (home ∷ homes) =
       | inr e ↦ rw e (ap suc (pages-length process lying homes))
     ]
 
-pub followed-length : (lacks : ℕ → Bool) (follows : Bool) (group nodes : ℕ) (homes : List Home)
+pub followed-length : (lacks : ℕ → Lack) (follows : Bool) (group nodes : ℕ) (homes : List Home)
     (room : Room)
     → length (homes_followed lacks follows group nodes homes room).0 ≡ length homes
 followed-length lacks follows group nodes [] room = refl

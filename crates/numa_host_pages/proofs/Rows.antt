@@ -5,6 +5,7 @@ use Rattle.numa_requests.specs.declared.host_command.HostCommand.{HostCommand}
 use Rattle.numa_requests.specs.declared.host_command.HostCommand.TheVariants.{NewGroup}
 use Rattle.numa_requests.specs.declared.host_command.HostCommand.TheVariants.{NewProcess, Exit}
 use Rattle.numa_requests.specs.declared.host_command.HostCommand.TheVariants.{Attach, Fork}
+use Rattle.numa_page_state.specs.Outcomes.{Enough}
 use Rattle.numa_host_pages.specs.Homes.{Home, HostLying, empty_host, group_followed, pages_in}
 use Rattle.numa_host_pages.specs.Homes.{with_attached, with_born, with_ended, with_pages}
 use Rattle.numa_host_pages.specs.TopDown.{arrivals_of, top_down}
@@ -41,12 +42,12 @@ here : HostLying
 here = with_born 3 1 6 (with_born 1 2 9 (with_born 2 1 6 empty_host))
 
 -- the first group's processes are allowed others, and nobody else
-told : group_followed (λ k. false) 1 3 here
+told : group_followed (λ k. Enough) 1 3 here
     ≡ with_born 3 1 3 (with_born 1 2 9 (with_born 2 1 3 empty_host))
 unfolding here
 told = refl
 
-moved : with_attached false 2 2 6 9 here
+moved : with_attached Enough 2 2 6 9 here
     ≡ with_born 2 2 9 (with_born 3 1 6 (with_born 1 2 9 empty_host))
 unfolding here
 moved = refl

@@ -6,6 +6,7 @@ use Rattle.std.proofs.lemmas.List.{reverse-append}
 use Rattle.std.specs.Global.{Global}
 use Rattle.numa_host.specs.declared.group.ControlGroup.{ControlGroup}
 use Rattle.numa_page_state.specs.Lying.{Lying}
+use Rattle.numa_page_state.specs.Outcomes.{Enough, Lack}
 use Rattle.numa_page_state.specs.Standing.{HaveRoom, LiesAs}
 use Rattle.numa_page_state.specs.declared.state.PageState.{PageState}
 use Rattle.numa_placed.specs.declared.rooms.Rooms.{Rooms}
@@ -52,7 +53,7 @@ each-after nodes (group ∷ groups) rest at mid after told more = (
 )
 
 -- whether memory lacked at the first place, and at the others
-abbrev first_then : Bool → (ℕ → Bool) → ℕ → Bool
+abbrev first_then : Lack → (ℕ → Lack) → ℕ → Lack
 first_then first rest zero = first
 first_then first rest (suc k) = rest k
 
@@ -60,25 +61,25 @@ first_then first rest (suc k) = rest k
 pub group-passed : (first : Member) (rest news : List Member) (rooms : Option Rooms)
     (follows : Bool) (group nodes : ℕ) (homes : List Home) (room : Room)
     → AreHomes (first ∷ rest) homes → eqb first.group group ≡ false
-    → ((others : List Home) → AreHomes rest others → (lacks : ℕ → Bool)
+    → ((others : List Home) → AreHomes rest others → (lacks : ℕ → Lack)
     × AreHomes news (homes_followed lacks follows group nodes others room).0
     × HaveRoom rooms (homes_followed lacks follows group nodes others room).1)
-    → (lacks : ℕ → Bool)
+    → (lacks : ℕ → Lack)
     × AreHomes (first ∷ news) (homes_followed lacks follows group nodes homes room).0
     × HaveRoom rooms (homes_followed lacks follows group nodes homes room).1
 group-passed first rest news rooms follows group nodes [] room are other go = absurd are
 group-passed first rest news rooms follows group nodes (home ∷ others) room are other go =
     let told = go others are.1 in
     let is : eqb home.group group ≡ false = rw (← are.0.group) other in
-    (first_then false told.0, rw is (are.0, told.1), rw is told.2)
+    (first_then Enough told.0, rw is (are.0, told.1), rw is told.2)
 
 -- nobody is told
 pub group-none : (members : List Member) (rooms : Option Rooms) (follows : Bool) (group nodes : ℕ)
     (homes : List Home) (room : Room) → length members ≡ 0 → AreHomes members homes
-    → HaveRoom rooms room → (lacks : ℕ → Bool)
+    → HaveRoom rooms room → (lacks : ℕ → Lack)
     × AreHomes members (homes_followed lacks follows group nodes homes room).0
     × HaveRoom rooms (homes_followed lacks follows group nodes homes room).1
-group-none [] rooms follows group nodes [] room none are have = (λ k. false, tt, have)
+group-none [] rooms follows group nodes [] room none are have = (λ k. Enough, tt, have)
 group-none [] rooms follows group nodes (home ∷ others) room none are have = absurd are
 group-none (m ∷ members) rooms follows group nodes homes room none are have =
     absurd (omega (arith, none))
@@ -87,14 +88,14 @@ group-none (m ∷ members) rooms follows group nodes homes room none are have =
 pub group-joined : (first now : Member) (rest news : List Member) (had left rooms : Option Rooms)
     (follows : Bool) (group nodes : ℕ) (homes : List Home) (room : Room)
     → AreHomes (first ∷ rest) homes → HaveRoom had room → eqb first.group group ≡ true
-    → ((home : Home) (room : Room) → IsHome first home → HaveRoom had room → (lack : Bool)
+    → ((home : Home) (room : Room) → IsHome first home → HaveRoom had room → (lack : Lack)
     × IsHome now (home_followed lack follows nodes home room).0
     × HaveRoom left (home_followed lack follows nodes home room).1)
     → ((others : List Home) (room : Room) → AreHomes rest others → HaveRoom left room
-    → (lacks : ℕ → Bool)
+    → (lacks : ℕ → Lack)
     × AreHomes news (homes_followed lacks follows group nodes others room).0
     × HaveRoom rooms (homes_followed lacks follows group nodes others room).1)
-    → (lacks : ℕ → Bool)
+    → (lacks : ℕ → Lack)
     × AreHomes (now ∷ news) (homes_followed lacks follows group nodes homes room).0
     × HaveRoom rooms (homes_followed lacks follows group nodes homes room).1
 group-joined first now rest news had left rooms follows group nodes [] room are have its one go =
@@ -107,15 +108,15 @@ group-joined first now rest news had left rooms follows group nodes (home ∷ ot
     (first_then done.0 told.0, rw is (done.1, told.1), rw is told.2)
 
 -- whether memory lacked, by the place of a group and of a process
-abbrev group_then : (ℕ → Bool) → (ℕ → ℕ → Bool) → ℕ → ℕ → Bool
+abbrev group_then : (ℕ → Lack) → (ℕ → ℕ → Lack) → ℕ → ℕ → Lack
 group_then first rest zero = first
 group_then first rest (suc k) = rest k
 
 -- where each group is told in turn, memory lacked somewhere or nowhere
 pub each-lacks : (nodes : ℕ → ℕ) (groups : List ℕ) (at after : HostLying)
     → FollowEach nodes groups at after
-    → (lacks : ℕ → ℕ → Bool) × (after ≡ followed_each lacks nodes groups at)
-each-lacks nodes [] at after told = (λ k j. false, told)
+    → (lacks : ℕ → ℕ → Lack) × (after ≡ followed_each lacks nodes groups at)
+each-lacks nodes [] at after told = (λ k j. Enough, told)
 each-lacks nodes (group ∷ groups) at after told =
     let rest = each-lacks nodes groups (group_followed told.0 group (nodes group) at) after told.1
     in (group_then told.0 rest.0, rest.1)

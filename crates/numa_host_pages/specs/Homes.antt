@@ -5,7 +5,7 @@ use Rattle.numa_machine.specs.Machine.{Hardware}
 use Rattle.numa_requests.specs.declared.page_refusal.PlacedRefusal.{PlacedRefusal}
 use Rattle.numa_placed.specs.declared.spot.Spot.TheVariants.{Nowhere}
 use Rattle.numa_page_state.specs.Lying.{Lying, nothing, with_spots}
-use Rattle.numa_page_state.specs.Outcomes.{followed, room_outcome}
+use Rattle.numa_page_state.specs.Outcomes.{Enough, Lack, followed, room_outcome}
 
 -- how many more pages each node takes, once a line says so of one
 abbrev pub Room : Type 0
@@ -105,13 +105,13 @@ with_ended process at = record at {
 -- ---- pages follow the nodes that their process is allowed
 
 -- the pages of a process that was allowed some nodes and is allowed others, and the rooms then
-abbrev pub pages_followed : Bool → Bool → ℕ → ℕ → Option Lying → Room → Option Lying × Room
+abbrev pub pages_followed : Lack → Bool → ℕ → ℕ → Option Lying → Room → Option Lying × Room
 pages_followed lack follows old new None room = (None, room)
 pages_followed lack follows old new (Some lying) room =
     let done = followed lack old new [] (lent room follows lying) in (Some done, done.room)
 
 -- the same of a process; where it is allowed what it was, nothing changes
-abbrev pub home_followed : Bool → Bool → ℕ → Home → Room → Home × Room
+abbrev pub home_followed : Lack → Bool → ℕ → Home → Room → Home × Room
 home_followed lack follows nodes home room =
     if home.allowed == nodes then (home, room)
     else (
@@ -124,7 +124,7 @@ home_followed lack follows nodes home room =
 
 -- the processes of a group, one after the other; `lacks` says of each place in the list whether
 -- memory lacked when its pages were to move
-abbrev pub homes_followed : (ℕ → Bool) → Bool → ℕ → ℕ → List Home → Room → List Home × Room
+abbrev pub homes_followed : (ℕ → Lack) → Bool → ℕ → ℕ → List Home → Room → List Home × Room
 homes_followed lacks follows group nodes [] room = ([], room)
 homes_followed lacks follows group nodes (home ∷ homes) room =
     if home.group == group then (
@@ -143,11 +143,11 @@ abbrev pub pages_told : Bool → ℕ → ℕ → ℕ → List Home → Option Ly
 pages_told follows group nodes process [] = None
 pages_told follows group nodes process (home ∷ homes) =
     if home.id == process then
-    if home.group == group then (home_followed false follows nodes home None).0.lying
+    if home.group == group then (home_followed Enough follows nodes home None).0.lying
     else home.lying
     else pages_told follows group nodes process homes
 
-abbrev pub group_followed : (ℕ → Bool) → ℕ → ℕ → HostLying → HostLying
+abbrev pub group_followed : (ℕ → Lack) → ℕ → ℕ → HostLying → HostLying
 group_followed lacks group nodes at = record {
   room = (homes_followed lacks at.follows group nodes at.homes at.room).1;
   follows = at.follows;
@@ -156,7 +156,7 @@ group_followed lacks group nodes at = record {
 
 -- groups one after the other, each with the nodes that it allows; `lacks` says it of each place
 -- among the groups
-abbrev pub followed_each : (ℕ → ℕ → Bool) → (ℕ → ℕ) → List ℕ → HostLying → HostLying
+abbrev pub followed_each : (ℕ → ℕ → Lack) → (ℕ → ℕ) → List ℕ → HostLying → HostLying
 followed_each lacks nodes [] at = at
 followed_each lacks nodes (group ∷ groups) at = followed_each (λ k. lacks (suc k)) nodes groups
     (group_followed (lacks 0) group (nodes group) at)
@@ -164,11 +164,11 @@ followed_each lacks nodes (group ∷ groups) at = followed_each (λ k. lacks (su
 -- groups one after the other, each with the nodes that it allows
 abbrev pub FollowEach : (ℕ → ℕ) → List ℕ → HostLying → HostLying → Type 0
 FollowEach nodes [] at after = after ≡ at
-FollowEach nodes (group ∷ groups) at after = (lacks : ℕ → Bool)
+FollowEach nodes (group ∷ groups) at after = (lacks : ℕ → Lack)
     × FollowEach nodes groups (group_followed lacks group (nodes group) at) after
 
 -- a process comes to another group, behind all that are there
-abbrev pub with_attached : Bool → ℕ → ℕ → ℕ → ℕ → HostLying → HostLying
+abbrev pub with_attached : Lack → ℕ → ℕ → ℕ → ℕ → HostLying → HostLying
 with_attached lack process group old new at = record {
   room = (home_followed lack at.follows new (record {
     id = process;

@@ -7,20 +7,21 @@ use Rattle.numa_requests.specs.declared.host_command.HostCommand.{HostCommand}
 use Rattle.numa_requests.specs.declared.host_command.HostCommand.TheVariants.{NewProcess, Exit}
 use Rattle.numa_requests.specs.declared.host_command.HostCommand.TheVariants.{Attach, Fork}
 use Rattle.numa_requests.specs.declared.host_command.HostCommand.TheVariants.{SetGroupMems}
+use Rattle.numa_page_state.specs.Outcomes.{Lack}
 use Rattle.numa_host_pages.specs.Homes.{HostLying, followed_each, with_attached, with_born}
 use Rattle.numa_host_pages.specs.Homes.{with_ended}
 use Rattle.numa_host_pages.specs.TopDown.{top_down}
 
 -- groups allow what their lists say now, and the pages of each process follow whose group allows
 -- others than before
-abbrev pub mems_followed : (ℕ → ℕ → Bool) → Hardware → List HostCommand → HostLying → HostLying
+abbrev pub mems_followed : (ℕ → ℕ → Lack) → Hardware → List HostCommand → HostLying → HostLying
 mems_followed lacks machine history at = followed_each lacks
     (effective_mems machine.memory (groups_of history)) (top_down (groups_of history)) at
 
 -- a new process has no page, nor has a child until it writes; one that ends gives its room back;
 -- and pages follow the nodes that their process is allowed. `lacks` says of each place among the
 -- groups, and in the list of processes, whether memory lacked when the pages there were to move
-abbrev pub pages_after : (ℕ → ℕ → Bool) → Hardware → List HostCommand → HostCommand → HostLying
+abbrev pub pages_after : (ℕ → ℕ → Lack) → Hardware → List HostCommand → HostCommand → HostLying
     → HostLying
 pages_after lacks machine history (NewProcess process group) at =
     with_born process group (effective_mems machine.memory (groups_of history) group) at

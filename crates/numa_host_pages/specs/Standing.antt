@@ -7,6 +7,7 @@ use Rattle.numa_requests.specs.declared.host_command.HostCommand.{HostCommand}
 use Rattle.numa_host.specs.Standing.{HostState, HostStandsFor, IsHostApplied}
 use Rattle.numa_requests.specs.declared.host_refusal.HostRefusal.{HostRefusal}
 use Rattle.numa_page_state.specs.Lying.{Lying}
+use Rattle.numa_page_state.specs.Outcomes.{Lack}
 use Rattle.numa_page_state.specs.Standing.{HaveRoom, LiesAs}
 use Rattle.numa_page_state.specs.declared.state.PageState.{PageState}
 use Rattle.numa_host_pages.specs.Homes.{Home, HostLying, Room, lent}
@@ -87,6 +88,6 @@ pub record Obeys (old : HostState) (pages : HostPages) (said : HostCommand)
     (result : Result (Unit {0}) HostRefusal) (new : HostState) (later : HostPages) : Type 0 where
   pub applied : IsHostApplied old said result new
   pub lies : (history : List HostCommand) (at : HostLying) → HostStandsFor old history
-      → HostLies pages at → AreOf at history → (lacks : ℕ → ℕ → Bool)
+      → HostLies pages at → AreOf at history → (lacks : ℕ → ℕ → Lack)
       × LiesAfter result later at (pages_after lacks old.blank.machine history said at)
       × StaysOf result (pages_after lacks old.blank.machine history said at) (said ∷ history)

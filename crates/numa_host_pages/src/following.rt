@@ -2,6 +2,7 @@
 ghost use Rattle.std.specs.Prelude.{◌≡◌, ℕ, Bool, List, Option, reverse};
 ghost use Rattle.numa_host.specs.Groups.{effective_mems};
 ghost use Rattle.numa_page_state.specs.Lying.{Lying};
+ghost use Rattle.numa_page_state.specs.Outcomes.{Lack};
 ghost use Rattle.numa_page_state.specs.Standing.{HaveRoom};
 ghost use Rattle.numa_host_pages.specs.Homes.{FollowEach, Home, HostLying, Room, home_followed};
 ghost use Rattle.numa_host_pages.specs.Homes.{homes_followed, pages_followed};
@@ -24,7 +25,7 @@ fn follow_pages(
     new: &NodeMask,
 )
     ensures { (lying : Option Lying) (room : Room) → Sits pages.old lying
-        → HaveRoom rooms.old room → (lack : Bool)
+        → HaveRoom rooms.old room → (lack : Lack)
         × Sits pages.new (pages_followed lack follows old.now new.now lying room).0
         × HaveRoom rooms.new (pages_followed lack follows old.now new.now lying room).1 }
 {
@@ -44,7 +45,7 @@ pub(crate) fn follow_home(
     nodes: &NodeMask,
 )
     ensures { (home : Home) (room : Room) → IsHome member.old home → HaveRoom rooms.old room
-        → (lack : Bool) × IsHome member.new (home_followed lack follows nodes.now home room).0
+        → (lack : Lack) × IsHome member.new (home_followed lack follows nodes.now home room).0
         × HaveRoom rooms.new (home_followed lack follows nodes.now home room).1 }
 {
     if member.allowed == *nodes {
@@ -64,7 +65,7 @@ fn follow_group(
     nodes: &NodeMask,
 )
     ensures { (homes : List Home) (room : Room) → AreHomes members.old homes
-        → HaveRoom rooms.old room → (lacks : ℕ → Bool)
+        → HaveRoom rooms.old room → (lacks : ℕ → Lack)
         × AreHomes members.new (homes_followed lacks follows group nodes.now homes room).0
         × HaveRoom rooms.new (homes_followed lacks follows group nodes.now homes room).1 }
 {

@@ -2,6 +2,7 @@
 //! each one ensures is a law.
 ghost use Rattle.std.specs.Prelude.{◌≡◌, ℕ, Bool, List, None, Option, false, length};
 ghost use Rattle.numa_page_state.specs.Lying.{Lying};
+ghost use Rattle.numa_page_state.specs.Outcomes.{Lack};
 ghost use Rattle.numa_host_pages.specs.Homes.{FollowEach, Home, HostLying, given_back};
 ghost use Rattle.numa_host_pages.specs.Homes.{homes_followed, pages_followed, pages_in};
 ghost use Rattle.numa_host_pages.specs.Homes.{pages_told, with_pages};
@@ -16,10 +17,10 @@ pub fn others_stay()
 /// that is allowed the same nodes, whatever other processes there are, and no node fills then. No
 /// move wants memory there.
 pub fn free_groups()
-    ensures alone { (lacks : ℕ → Bool) (follows : Bool) (group nodes process : ℕ)
+    ensures alone { (lacks : ℕ → Lack) (follows : Bool) (group nodes process : ℕ)
         (homes : List Home) → pages_in process (homes_followed lacks follows group nodes homes
         None).0 ≡ pages_told follows group nodes process homes }
-    ensures free { (lacks : ℕ → Bool) (follows : Bool) (group nodes : ℕ) (homes : List Home)
+    ensures free { (lacks : ℕ → Lack) (follows : Bool) (group nodes : ℕ) (homes : List Home)
         → (homes_followed lacks follows group nodes homes None).1 ≡ None }
 {}
 

@@ -4,6 +4,7 @@ ghost use Rattle.std.specs.Prelude.{length};
 ghost use Rattle.numa_host.specs.Groups.{effective_mems};
 ghost use Rattle.numa_placed.specs.Shifts.{AreRooms};
 ghost use Rattle.numa_page_state.specs.Lying.{Lying, nothing};
+ghost use Rattle.numa_page_state.specs.Outcomes.{Lack};
 ghost use Rattle.numa_page_state.specs.Standing.{LiesAs};
 ghost use Rattle.numa_host_pages.specs.Homes.{FollowEach, HostLying, empty_host, given_back, lent};
 ghost use Rattle.numa_host_pages.specs.Homes.{other_homes, pages_in, with_attached, with_born};
@@ -171,7 +172,7 @@ impl HostPages {
     /// are there, and its pages follow.
     pub fn attached(&mut self, process: u32, group: u32, old: &NodeMask, nodes: &NodeMask)
         ensures { (at : HostLying) → HostLies self.old at
-            → length (other_homes process at.homes) < 4096 → (lack : Bool)
+            → length (other_homes process at.homes) < 4096 → (lack : Lack)
             × HostLies self.new (with_attached lack process group old.now nodes.now at) }
     {
         let pages = take_pages(&mut self.members, process);

@@ -12,6 +12,7 @@ use Rattle.numa_host_pages.specs.Homes.{pages_lent, with_room}
 use Rattle.numa_host_pages.specs.Standing.{AreOf, HostLies}
 use Rattle.numa_host_pages.specs.declared.pages.HostPages.{HostPages}
 use Rattle.numa_page_state.specs.Lying.{Ground, Lying, ground_in, ground_of, nothing}
+use Rattle.numa_page_state.specs.Outcomes.{Enough, Lack, Starved, is_starved}
 use Rattle.numa_page_state.specs.Standing.{DoesAs, LiesAs}
 use Rattle.numa_page_state.specs.declared.state.PageState.{PageState}
 use Rattle.numa_requests.specs.declared.host_command.HostCommand.{HostCommand}
@@ -27,7 +28,7 @@ use Rattle.numa_script.specs.declared.reply.Reply.{Reply}
 use Rattle.numa_script.specs.declared.reply.Reply.TheVariants as reply
 use Rattle.numa_run.specs.PageLines.{change_of, lack_reply, page_reply}
 use Rattle.numa_run.specs.Replies.{Shown, reply_in}
-use Rattle.numa_host_script.specs.Hosts.{Hosting, Lack, Outcome, plenty, with_reply}
+use Rattle.numa_host_script.specs.Hosts.{Hosting, HostLack, Outcome, plenty, with_reply}
 use Rattle.numa_host_script.specs.Paging.{arrived_text, changed, own_page_outcome, page_outcome}
 use Rattle.numa_host_script.specs.Paging.{page_there, page_where, pages_changed, process_in}
 use Rattle.numa_host_script.specs.Paging.{told_by, with_change}
@@ -57,29 +58,29 @@ begins state lying lies = record {
 module _ (state new : PageState) (answer : Option Reply) (pages : HostPages) (process : ℕ)
     (said : PageLine) (basis : Ground) (at : HostLying)
     (does : DoesAs state answer new (Some (lack_reply said))
-    (λ refused l. change_of refused basis said l))
+    (λ lacked l. change_of lacked basis said l))
     (gives : (done : Lying) → LiesAs new done → HostLies pages (given_back process done at)) where
   -- what it comes to, by the pages that the process has
-  abbrev by_had : Bool → Option Lying → Option Reply × HostLying
-  by_had refused had =
-      if not (is_some had) && refused then (Some (lack_reply said), at)
+  abbrev by_had : Lack → Option Lying → Option Reply × HostLying
+  by_had lacked had =
+      if not (is_some had) && is_starved lacked then (Some (lack_reply said), at)
       else (
-        (change_of refused basis said
+        (change_of lacked basis said
             (record (lent_or_new at.room at.follows had) { begun = true })).0,
-        given_back process (change_of refused basis said
+        given_back process (change_of lacked basis said
             (record (lent_or_new at.room at.follows had) { begun = true })).1 at,
       )
 
   abbrev pub ChangesAt : Type 0
-  ChangesAt = (refused : Bool) × ((pages_changed refused basis process said at).0 ≡ answer)
-      × HostLies pages (pages_changed refused basis process said at).1
+  ChangesAt = (lacked : Lack) × ((pages_changed lacked basis process said at).0 ≡ answer)
+      × HostLies pages (pages_changed lacked basis process said at).1
 
-  changed-by : (refused : Bool) (had : Option Lying) → pages_in process at.homes ≡ had
-      → (by_had refused had).0 ≡ answer → HostLies pages (by_had refused had).1 → ChangesAt
-  changed-by refused had is same lies = (
-    refused,
-    subst (λ (o : Option Lying). (by_had refused o).0 ≡ answer) (sym is) same,
-    subst (λ (o : Option Lying). HostLies pages (by_had refused o).1) (sym is) lies,
+  changed-by : (lacked : Lack) (had : Option Lying) → pages_in process at.homes ≡ had
+      → (by_had lacked had).0 ≡ answer → HostLies pages (by_had lacked had).1 → ChangesAt
+  changed-by lacked had is same lies = (
+    lacked,
+    subst (λ (o : Option Lying). (by_had lacked o).0 ≡ answer) (sym is) same,
+    subst (λ (o : Option Lying). HostLies pages (by_had lacked o).1) (sym is) lies,
   )
 
   -- pages that the process had
@@ -98,47 +99,46 @@ module _ (state new : PageState) (answer : Option Reply) (pages : HostPages) (pr
   changed-first none has serves =
       let from : Lying = lent at.room at.follows nothing in
       let d = does (record from { begun = true }) (begins state from has) in
-      elim (cases_Bool d.0) [
+      let done = change_of d.0 basis said (record from { begun = true }) in
+      let by : Bool → Option Reply × HostLying = λ b.
+      if b then (Some (lack_reply said), at) else (done.0, given_back process done.1 at) in
+      elim (cases_Bool (is_starved d.0)) [
         | inl t ↦ absurd (serves (d.3 t).1)
-        | inr e ↦ changed-by false None none
-            (subst (λ (b : Bool). (change_of b basis said (record from { begun = true })).0
-            ≡ answer) e d.2)
-            (gives (change_of false basis said (record from { begun = true })).1
-            (subst (λ (b : Bool). LiesAs new
-            (change_of b basis said (record from { begun = true })).1) e d.1))
+        | inr e ↦ changed-by d.0 None none (ap (λ (b : Bool). (by b).0) e ∙ d.2)
+            (subst (λ (b : Bool). HostLies pages (by b).1) (sym e) (gives done.1 d.1))
       ]
 
 -- memory lacks for its first ones
 pub changed-starved : (pages : HostPages) (process : ℕ) (said : PageLine) (basis : Ground)
     (at : HostLying) (answer : Option Reply) → pages_in process at.homes ≡ None
     → answer ≡ Some (lack_reply said) → HostLies pages at
-    → (refused : Bool) × ((pages_changed refused basis process said at).0 ≡ answer)
-    × HostLies pages (pages_changed refused basis process said at).1
+    → (lacked : Lack) × ((pages_changed lacked basis process said at).0 ≡ answer)
+    × HostLies pages (pages_changed lacked basis process said at).1
 changed-starved pages process said basis at answer none is lies =
-    let same : pages_changed true basis process said at ≡ (Some (lack_reply said), at) =
+    let same : pages_changed Starved basis process said at ≡ (Some (lack_reply said), at) =
     ap (λ (had : Option Lying).
     if not (is_some had) && true then (Some (lack_reply said), at)
     else (
-      (change_of true basis said
+      (change_of Starved basis said
           (record (lent_or_new at.room at.follows had) { begun = true })).0,
-      given_back process (change_of true basis said
+      given_back process (change_of Starved basis said
           (record (lent_or_new at.room at.follows had) { begun = true })).1 at,
     )) none in (
-      true,
+      Starved,
       ap (λ (d : Option Reply × HostLying). d.0) same ∙ sym is,
       subst (λ (d : Option Reply × HostLying). HostLies pages d.1) (sym same) lies,
     )
 
 -- the processes stay
-changed-are : (refused : Bool) (basis : Ground) (process : ℕ) (said : PageLine) (at : HostLying)
+changed-are : (lacked : Lack) (basis : Ground) (process : ℕ) (said : PageLine) (at : HostLying)
     (history : List HostCommand) → AreOf at history
-    → AreOf (pages_changed refused basis process said at).1 history
-changed-are refused basis process said at history are =
+    → AreOf (pages_changed lacked basis process said at).1 history
+changed-are lacked basis process said at history are =
     let from : Lying = record (pages_lent process at) { begun = true } in
-    let test : Bool = not (is_some (pages_in process at.homes)) && refused in
+    let test : Bool = not (is_some (pages_in process at.homes)) && is_starved lacked in
     elim (cases_Bool test) [
       | inl t ↦ rw t are
-      | inr e ↦ rw e (given-are process (change_of refused basis said from).1 at history are)
+      | inr e ↦ rw e (given-are process (change_of lacked basis said from).1 at history are)
     ]
 
 -- ---- the line
@@ -149,32 +149,32 @@ ChangesTo answer new process at done =
     (done.answer ≡ told_by answer (length done.history) (pages_lent process done.lying))
     × RunsAs new (hosting_with at done)
 
-there-changes : (said : PageLine) → said ≢ page.Moved → (refused : Bool) (at : Hosting)
-    (process : ℕ) → page_there refused at process said ≡ changed refused at process said
-there-changes (page.At start bytes node) moved refused at process = refl
-there-changes (page.Room node pages) moved refused at process = refl
-there-changes (page.MemoryMigrate follows) moved refused at process = refl
-there-changes (page.Migrate from to) moved refused at process = refl
-there-changes (page.Move address node) moved refused at process = refl
-there-changes (page.Populate start bytes task cpu) moved refused at process = refl
-there-changes page.Rooms moved refused at process = refl
-there-changes page.Moved moved refused at process = absurd (moved refl)
+there-changes : (said : PageLine) → said ≢ page.Moved → (lacked : Lack) (at : Hosting)
+    (process : ℕ) → page_there lacked at process said ≡ changed lacked at process said
+there-changes (page.At start bytes node) moved lacked at process = refl
+there-changes (page.Room node pages) moved lacked at process = refl
+there-changes (page.MemoryMigrate follows) moved lacked at process = refl
+there-changes (page.Migrate from to) moved lacked at process = refl
+there-changes (page.Move address node) moved lacked at process = refl
+there-changes (page.Populate start bytes task cpu) moved lacked at process = refl
+there-changes page.Rooms moved lacked at process = refl
+there-changes page.Moved moved lacked at process = absurd (moved refl)
 
-abbrev pub page_by : ℕ → PageLine → Bool → Hosting → Outcome
-page_by process said refused at =
-    page_where (is_there (members_of at.history) process) refused at process said
+abbrev pub page_by : ℕ → PageLine → Lack → Hosting → Outcome
+page_by process said lacked at =
+    page_where (is_there (members_of at.history) process) lacked at process said
 
 -- nobody is there
 pub changed-nobody : (running : RunningHost) (process : ℕ) (said : PageLine)
     → ((history : List HostCommand) → HostStandsFor running.host history
     → is_there (members_of history) process ≡ false)
     → Changes running (Some (reply.HostRefused NoSuchProcess)) running process
-    (λ refused at. page_by process said refused at)
+    (λ lacked at. page_by process said lacked at)
 changed-nobody running process said nobody = λ at stands.
     let done = subst (λ (b : Bool). ChangesTo (Some (reply.HostRefused NoSuchProcess)) running
-    process at (page_where b false at process said)) (sym (nobody at.history stands.stands))
+    process at (page_where b Enough at process said)) (sym (nobody at.history stands.stands))
     (refl, stands) in
-    (false, done.0, done.1)
+    (Enough, done.0, done.1)
 
 pub changed-there : (running : RunningHost) (space : SpaceState) (pages : HostPages)
     (answer : Option Reply) (process : ℕ) (said : PageLine) → said ≢ page.Moved
@@ -183,9 +183,9 @@ pub changed-there : (running : RunningHost) (space : SpaceState) (pages : HostPa
     × IsSpaceOf running.host.blank.machine running.host.blank.bounds
     (commands_of running.host.blank.machine history process) space)
     → ChangesPages running.pages answer pages
-    (λ refused at. pages_changed refused (ground_in space []) process said at)
+    (λ lacked at. pages_changed lacked (ground_in space []) process said at)
     → Changes running answer (record { host = running.host; pages = pages }) process
-    (λ refused at. page_by process said refused at)
+    (λ lacked at. page_by process said lacked at)
 changed-there running space pages answer process said moved owns changes = λ at stands.
     let own = owns at.history stands.stands in
     let d = changes at.lying stands.lies in
@@ -213,24 +213,24 @@ changed-there running space pages answer process said moved owns changes = λ at
 
 pub page-acts : (said : PageLine) → ((node pages : ℕ) → said ≢ page.Room node pages)
     → said ≢ page.Rooms → ((follows : Bool) → said ≢ page.MemoryMigrate follows)
-    → (refused : Bool) (at : Hosting) (process : ℕ)
-    → page_outcome refused at process said ≡ page_by process said refused at
-page-acts (page.At start bytes node) room rooms follow refused at process = refl
-page-acts (page.Room node pages) room rooms follow refused at process =
+    → (lacked : Lack) (at : Hosting) (process : ℕ)
+    → page_outcome lacked at process said ≡ page_by process said lacked at
+page-acts (page.At start bytes node) room rooms follow lacked at process = refl
+page-acts (page.Room node pages) room rooms follow lacked at process =
     absurd (room node pages refl)
-page-acts (page.MemoryMigrate follows) room rooms follow refused at process =
+page-acts (page.MemoryMigrate follows) room rooms follow lacked at process =
     absurd (follow follows refl)
-page-acts (page.Migrate from to) room rooms follow refused at process = refl
-page-acts (page.Move address node) room rooms follow refused at process = refl
-page-acts (page.Populate start bytes task cpu) room rooms follow refused at process = refl
-page-acts page.Rooms room rooms follow refused at process = absurd (rooms refl)
-page-acts page.Moved room rooms follow refused at process = refl
+page-acts (page.Migrate from to) room rooms follow lacked at process = refl
+page-acts (page.Move address node) room rooms follow lacked at process = refl
+page-acts (page.Populate start bytes task cpu) room rooms follow lacked at process = refl
+page-acts page.Rooms room rooms follow lacked at process = absurd (rooms refl)
+page-acts page.Moved room rooms follow lacked at process = refl
 
 module _ (old new : RunningHost) (process : ℕ) (said : PageLine)
-    (acts : (refused : Bool) (at : Hosting)
-    → page_outcome refused at process said ≡ page_by process said refused at) where
+    (acts : (lacked : Lack) (at : Hosting)
+    → page_outcome lacked at process said ≡ page_by process said lacked at) where
   pub acted-told : (answer : Reply)
-      → Changes old (Some answer) new process (λ refused at. page_by process said refused at)
+      → Changes old (Some answer) new process (λ lacked at. page_by process said lacked at)
       → Takes old (told process (line.Pages (Ok said))) (taken.Reply answer) new
   acted-told answer changes = λ at stands.
       let d = changes at stands in
@@ -243,7 +243,7 @@ module _ (old new : RunningHost) (process : ℕ) (said : PageLine)
       )
 
   pub acted-touched :
-      Changes old None new process (λ refused at. page_by process said refused at)
+      Changes old None new process (λ lacked at. page_by process said lacked at)
       → Takes old (told process (line.Pages (Ok said))) (taken.Arrived process) new
   acted-touched changes = λ at stands.
       let d = changes at stands in
@@ -260,7 +260,7 @@ module _ (old new : RunningHost) (process : ℕ) (said : PageLine)
 
 -- a reply that changes nothing
 pub replied-still : (running : RunningHost) (said : ScriptLine) (answer : Reply)
-    → ((lack : Lack) (at : Hosting) → host_outcome lack at said ≡ with_reply answer at)
+    → ((lack : HostLack) (at : Hosting) → host_outcome lack at said ≡ with_reply answer at)
     → Takes running said (taken.Reply answer) running
 replied-still running said answer is =
     still running answer (λ lack at. host_outcome lack at said) plenty

@@ -21,6 +21,7 @@ use Rattle.numa_host_pages.specs.Homes.{pages_lent}
 use Rattle.numa_host_pages.specs.Standing.{HostLies}
 use Rattle.numa_page_state.specs.Lying.{Lying, Process, nothing}
 use Rattle.numa_page_state.specs.Lying.{process_in as process_by}
+use Rattle.numa_page_state.specs.Outcomes.{Enough, Lack, Starved}
 use Rattle.numa_page_state.specs.Sending.{rebinding_in}
 use Rattle.numa_page_state.specs.Strict.{has_astray, held_astray, is_late, judged_of}
 use Rattle.numa_page_state.specs.Strict.{strict_binding_in}
@@ -34,7 +35,7 @@ use Rattle.numa_script.specs.declared.reply.Reply.{Reply}
 use Rattle.numa_script.specs.declared.reply.Reply.TheVariants as reply
 use Rattle.numa_run.specs.Obeying.{bound_command}
 use Rattle.numa_run.specs.Replies.{reply_in}
-use Rattle.numa_host_script.specs.Hosts.{Hosting, Lack, Outcome, process_outcome, with_reply}
+use Rattle.numa_host_script.specs.Hosts.{Hosting, HostLack, Outcome, process_outcome, with_reply}
 use Rattle.numa_host_script.specs.Paging.{astray_outcome, bound_by, bound_outcome, bound_where}
 use Rattle.numa_host_script.specs.Paging.{judged_by, moved_by, own_cause, pages_at}
 use Rattle.numa_host_script.specs.Paging.{pages_reply}
@@ -90,7 +91,7 @@ more-taken at process spent there same = λ i. sym there i && not (same i)
 
 -- where nobody is there, nothing is owed
 pub nobody-replies : (old new : RunningHost) (answer : Reply) (process : ℕ)
-    (outcome : Lack → Hosting → Outcome)
+    (outcome : HostLack → Hosting → Outcome)
     → ((history : List HostCommand) → HostStandsFor old.host history
     → is_there (members_of history) process ≡ false)
     → RepliesThere old answer new process outcome
@@ -100,10 +101,10 @@ nobody-replies old new answer process outcome nobody = λ at stands more.
 -- ---- mbind .. strict
 
 -- what it comes to, by what is known of it
-alike : (answer : Reply) (new : RunningHost) (at : Hosting) (outcome : Lack → Hosting → Outcome)
-    (lack : Lack) (other : Outcome) → outcome lack at ≡ other
+alike : (answer : Reply) (new : RunningHost) (at : Hosting) (outcome : HostLack → Hosting → Outcome)
+    (lack : HostLack) (other : Outcome) → outcome lack at ≡ other
     → Some answer ≡ reply_in other.answer → RunsAs new (hosting_with at other)
-    → (l : Lack) × (Some answer ≡ reply_in (outcome l at).answer)
+    → (l : HostLack) × (Some answer ≡ reply_in (outcome l at).answer)
     × RunsAs new (hosting_with at (outcome l at))
 alike answer new at outcome lack other is told runs = (
   lack,
@@ -117,11 +118,11 @@ late-where rules None late = cc
 late-where rules (Some refusal) late = refl
 
 module _ (old : RunningHost) (process : ℕ) (command : Command) where
-  abbrev pub plainly : Lack → Hosting → Outcome
-  plainly lack at = process_outcome lack.refused at process command
+  abbrev pub plainly : HostLack → Hosting → Outcome
+  plainly lack at = process_outcome lack.lacked at process command
 
-  abbrev pub judges : Lack → Hosting → Outcome
-  judges lack at = judged_by (strict_binding_in command) lack.refused at process command
+  abbrev pub judges : HostLack → Hosting → Outcome
+  judges lack at = judged_by (strict_binding_in command) lack.lacked at process command
 
   -- no page may refuse it
   pub judged-none : (new : RunningHost) (answer : Reply) → strict_binding_in command ≡ None
@@ -129,7 +130,7 @@ module _ (old : RunningHost) (process : ℕ) (command : Command) where
   judged-none new answer none serves = λ at stands more.
       let s = serves at stands in
       alike answer new at judges s.0 (plainly s.0 at)
-      (ap (λ (b : Option Binding). judged_by b s.0.refused at process command) none) s.1 s.2
+      (ap (λ (b : Option Binding). judged_by b s.0.lacked at process command) none) s.1 s.2
 
   module _ (binding : Binding) (sets : strict_binding_in command ≡ Some binding)
       (space : SpaceState)
@@ -147,15 +148,15 @@ module _ (old : RunningHost) (process : ℕ) (command : Command) where
     own-at at stands = own-space old.host at process space stands.machine stands.bounds
         (owns at.history stands.stands).1
 
-    abbrev by_astray : Bool → Bool → Hosting → Outcome
-    by_astray b refused at = if b then astray_outcome refused at process command
-        else process_outcome refused at process command
+    abbrev by_astray : Bool → Lack → Hosting → Outcome
+    by_astray b lacked at = if b then astray_outcome lacked at process command
+        else process_outcome lacked at process command
 
-    judged-is : (refused : Bool) (at : Hosting) → RunsAs old at
-        → judges (flag refused) at ≡ by_astray astray refused at
-    judged-is refused at stands =
-        ap (λ (b : Option Binding). judged_by b refused at process command) sets
-        ∙ ap (λ (b : Bool). by_astray b refused at)
+    judged-is : (lacked : Lack) (at : Hosting) → RunsAs old at
+        → judges (flag lacked) at ≡ by_astray astray lacked at
+    judged-is lacked at stands =
+        ap (λ (b : Option Binding). judged_by b lacked at process command) sets
+        ∙ ap (λ (b : Bool). by_astray b lacked at)
         (ap (λ (p : Process). has_astray p (pages_at at process).spots binding)
         (sym (same-process old.host at process space stands.machine stands.bounds
         (owns at.history stands.stands).1 [] refl))
@@ -167,21 +168,21 @@ module _ (old : RunningHost) (process : ℕ) (command : Command) where
         → Replies old answer new plainly → RepliesThere old answer new process judges
     judged-fair new answer fair serves = λ at stands more.
         let s = serves at stands in
-        alike answer new at judges (flag s.0.refused) (plainly s.0 at)
-        (judged-is s.0.refused at stands ∙ ap (λ (b : Bool). by_astray b s.0.refused at) fair)
+        alike answer new at judges (flag s.0.lacked) (plainly s.0 at)
+        (judged-is s.0.lacked at stands ∙ ap (λ (b : Bool). by_astray b s.0.lacked at) fair)
         s.1 s.2
 
     module _ (is : astray ≡ true) where
-      judged-astray : (refused : Bool) (at : Hosting) → RunsAs old at
-          → judges (flag refused) at ≡ astray_outcome refused at process command
-      judged-astray refused at stands = judged-is refused at stands
-          ∙ ap (λ (b : Bool). by_astray b refused at) is
+      judged-astray : (lacked : Lack) (at : Hosting) → RunsAs old at
+          → judges (flag lacked) at ≡ astray_outcome lacked at process command
+      judged-astray lacked at stands = judged-is lacked at stands
+          ∙ ap (λ (b : Bool). by_astray b lacked at) is
 
       -- memory lacks for the trial
       pub judged-starved : RepliesThere old (pages_reply cause.NoMemory) old process judges
       judged-starved = λ at stands more.
-          alike (pages_reply cause.NoMemory) old at judges (flag true)
-          (with_reply (pages_reply cause.NoMemory) at) (judged-astray true at stands) refl stands
+          alike (pages_reply cause.NoMemory) old at judges (flag Starved)
+          (with_reply (pages_reply cause.NoMemory) at) (judged-astray Starved at stands) refl stands
 
       module _ (late : Bool)
           (tried : (history : List Command) → StandsFor space history
@@ -195,22 +196,22 @@ module _ (old : RunningHost) (process : ℕ) (command : Command) where
             ∙ (λ i. is_late (own.machine i).rules (refusal_of (own.machine i) (own.bounds i)
             (commands_of at.machine at.history process) command)))
 
-        late-is : (at : Hosting) → RunsAs old at → judges (flag false) at
+        late-is : (at : Hosting) → RunsAs old at → judges (flag Enough) at
             ≡ (if late then with_reply (pages_reply cause.Astray) at
-            else process_outcome false at process command)
-        late-is at stands = judged-astray false at stands
+            else process_outcome Enough at process command)
+        late-is at stands = judged-astray Enough at stands
             ∙ ap (λ (b : Bool). if b then with_reply (pages_reply cause.Astray) at
-            else process_outcome false at process command) (is-late at stands)
+            else process_outcome Enough at process command) (is-late at stands)
 
         -- the pages are judged before what stands against the command
         pub judged-late : late ≡ true
             → RepliesThere old (pages_reply cause.Astray) old process judges
         judged-late yes_late = λ at stands more.
-            alike (pages_reply cause.Astray) old at judges (flag false)
+            alike (pages_reply cause.Astray) old at judges (flag Enough)
             (with_reply (pages_reply cause.Astray) at)
             (late-is at stands ∙ ap (λ (b : Bool).
             if b then with_reply (pages_reply cause.Astray) at
-            else process_outcome false at process command) yes_late) refl stands
+            else process_outcome Enough at process command) yes_late) refl stands
 
         pub judged-early : (new : RunningHost) (answer : Reply) → late ≡ false
             → Replies old answer new plainly → RepliesThere old answer new process judges
@@ -219,25 +220,25 @@ module _ (old : RunningHost) (process : ℕ) (command : Command) where
             let some = cause-some at.machine at.bounds at.history process command
             (late-where at.machine.rules (own_cause at process command)
             (is-late at stands ∙ early)) in
-            alike answer new at judges (flag false) (plainly s.0 at)
+            alike answer new at judges (flag Enough) (plainly s.0 at)
             (late-is at stands ∙ ap (λ (b : Bool).
             if b then with_reply (pages_reply cause.Astray) at
-            else process_outcome false at process command) early
-            ∙ sym (cause-alike s.0.refused at process command some)) s.1 s.2
+            else process_outcome Enough at process command) early
+            ∙ sym (cause-alike s.0.lacked at process command some)) s.1 s.2
 
 -- ---- every mbind with words behind its policy
 
 module _ (old : RunningHost) (process : ℕ) (pages : BoundPages) (start bytes : ℕ)
     (policy : Result Specification WordError) (found : Result Command WordError)
     (is : found ≡ bound_command old.host.blank.machine.rules start bytes policy) where
-  abbrev pub binds : Lack → Hosting → Outcome
-  binds lack at = bound_outcome lack.refused at process pages
+  abbrev pub binds : HostLack → Hosting → Outcome
+  binds lack at = bound_outcome lack.lacked at process pages
       (bound_command at.machine.rules start bytes policy)
 
-  bound-is : (lack : Lack) (at : Hosting) → RunsAs old at
-      → binds lack at ≡ bound_outcome lack.refused at process pages found
+  bound-is : (lack : HostLack) (at : Hosting) → RunsAs old at
+      → binds lack at ≡ bound_outcome lack.lacked at process pages found
   bound-is lack at stands =
-      ap (λ (r : Result Command WordError). bound_outcome lack.refused at process pages r)
+      ap (λ (r : Result Command WordError). bound_outcome lack.lacked at process pages r)
       (ap (λ (m : Hardware). bound_command m.rules start bytes policy) (sym stands.machine)
       ∙ sym is)
 
@@ -245,52 +246,52 @@ module _ (old : RunningHost) (process : ℕ) (pages : BoundPages) (start bytes :
   pub bound-fault : (fault : WordError) → found ≡ Err fault
       → Replies old (reply.BadWord fault) old binds
   bound-fault fault fails = λ at stands.
-      alike (reply.BadWord fault) old at binds (flag false) (with_reply (reply.BadWord fault) at)
-      (bound-is (flag false) at stands ∙ ap (λ (r : Result Command WordError).
-      bound_outcome false at process pages r) fails) refl stands
+      alike (reply.BadWord fault) old at binds (flag Enough) (with_reply (reply.BadWord fault) at)
+      (bound-is (flag Enough) at stands ∙ ap (λ (r : Result Command WordError).
+      bound_outcome Enough at process pages r) fails) refl stands
 
   module _ (new : RunningHost) (answer : Reply) (command : Command) (so : found ≡ Ok command)
       (more : Bool) (takes : (at : Hosting) → RunsAs old at → more ≡ takes_more at process)
     where
-      bound-here : (lack : Lack) (at : Hosting) → RunsAs old at
-          → binds lack at ≡ bound_where more pages lack.refused at process command
+      bound-here : (lack : HostLack) (at : Hosting) → RunsAs old at
+          → binds lack at ≡ bound_where more pages lack.lacked at process command
       bound-here lack at stands = bound-is lack at stands
-          ∙ ap (λ (r : Result Command WordError). bound_outcome lack.refused at process pages r) so
-          ∙ ap (λ (b : Bool). bound_where b pages lack.refused at process command)
+          ∙ ap (λ (r : Result Command WordError). bound_outcome lack.lacked at process pages r) so
+          ∙ ap (λ (b : Bool). bound_where b pages lack.lacked at process command)
           (sym (takes at stands))
 
       -- nobody is there, or the host takes no more commands
       pub bound-spent : more ≡ false
-          → Replies old answer new (λ lack at. process_outcome lack.refused at process command)
+          → Replies old answer new (λ lack at. process_outcome lack.lacked at process command)
           → Replies old answer new binds
       bound-spent spent serves = λ at stands.
           let s = serves at stands in
-          alike answer new at binds s.0 (process_outcome s.0.refused at process command)
+          alike answer new at binds s.0 (process_outcome s.0.lacked at process command)
           (bound-here s.0 at stands
-          ∙ ap (λ (b : Bool). bound_where b pages s.0.refused at process command) spent) s.1 s.2
+          ∙ ap (λ (b : Bool). bound_where b pages s.0.lacked at process command) spent) s.1 s.2
 
       bound-there : more ≡ true
           → RepliesThere old answer new process
-          (λ lack at. bound_by pages lack.refused at process command)
+          (λ lack at. bound_by pages lack.lacked at process command)
           → Replies old answer new binds
       bound-there free serves = λ at stands.
           let s = serves at stands (sym (takes at stands) ∙ free) in
-          alike answer new at binds s.0 (bound_by pages s.0.refused at process command)
+          alike answer new at binds s.0 (bound_by pages s.0.lacked at process command)
           (bound-here s.0 at stands
-          ∙ ap (λ (b : Bool). bound_where b pages s.0.refused at process command) free) s.1 s.2
+          ∙ ap (λ (b : Bool). bound_where b pages s.0.lacked at process command) free) s.1 s.2
 
       pub bound-strict : more ≡ true → pages ≡ bound.Strict
           → RepliesThere old answer new process (λ lack at. judged_by (strict_binding_in command)
-          lack.refused at process command)
+          lack.lacked at process command)
           → Replies old answer new binds
       bound-strict free strict serves = bound-there free
           (subst (λ (p : BoundPages). RepliesThere old answer new process
-          (λ lack at. bound_by p lack.refused at process command)) (sym strict) serves)
+          (λ lack at. bound_by p lack.lacked at process command)) (sym strict) serves)
 
       pub bound-moving : (words : MoveWords) → more ≡ true → pages ≡ bound.Move words
           → RepliesThere old answer new process (λ lack at. moved_by (rebinding_in command)
-          lack.refused at process command words)
+          lack.lacked at process command words)
           → Replies old answer new binds
       bound-moving words free moves serves = bound-there free
           (subst (λ (p : BoundPages). RepliesThere old answer new process
-          (λ lack at. bound_by p lack.refused at process command)) (sym moves) serves)
+          (λ lack at. bound_by p lack.lacked at process command)) (sym moves) serves)

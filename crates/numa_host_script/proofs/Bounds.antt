@@ -5,6 +5,7 @@ use Rattle.numa_machine.specs.Machine.{Hardware}
 use Rattle.numa_machine.specs.declared.fault.MachineFault.{MachineFault}
 use Rattle.numa_mask.specs.declared.list.ListFault.{ListFault}
 use Rattle.numa_space.specs.Limited.{Bounds}
+use Rattle.numa_page_state.specs.Outcomes.{Lack}
 use Rattle.numa_script.specs.declared.line.Line.{Line}
 use Rattle.numa_script.specs.declared.line.Line.TheVariants as line
 use Rattle.numa_script.specs.declared.line.MachineLine.{MachineLine}
@@ -36,55 +37,55 @@ unless-kept : (fault : Option MachineFault) (hardware : Hardware) (state : State
 unless-kept None hardware state = refl
 unless-kept (Some fault) hardware state = refl
 
-machine-kept : (refused : Bool) (said : MachineLine) (memory : Result ℕ ListFault)
-    (state : State) → (machine_outcome refused said memory state).state.bounds ≡ state.bounds
-machine-kept refused said (Err fault) state = refl
-machine-kept refused said (Ok memory) state =
+machine-kept : (lacked : Lack) (said : MachineLine) (memory : Result ℕ ListFault)
+    (state : State) → (machine_outcome lacked said memory state).state.bounds ≡ state.bounds
+machine-kept lacked said (Err fault) state = refl
+machine-kept lacked said (Ok memory) state =
     let cpus = nodes_with_cpus said.nodes state.cpus in
     let hardware = hardware_of said memory state.rules cpus in
-    unless-kept (first_fault refused cpus hardware) hardware state
+    unless-kept (first_fault lacked cpus hardware) hardware state
 
-by-machine : (machine : Option Hardware) (refused : Bool) (state : State) (said : Line)
-    → (served_by machine refused state said).state.bounds
+by-machine : (machine : Option Hardware) (lacked : Lack) (state : State) (said : Line)
+    → (served_by machine lacked state said).state.bounds
     ≡ bounds_after machine state.bounds said
-by-machine None refused state line.Silent = refl
-by-machine None refused state line.Malformed = refl
-by-machine None refused state (line.Limits ranges tasks commands) =
+by-machine None lacked state line.Silent = refl
+by-machine None lacked state line.Malformed = refl
+by-machine None lacked state (line.Limits ranges tasks commands) =
     limits-kept (limits_fit ranges tasks)
     (record { max_ranges = ranges; max_tasks = tasks; max_commands = commands }) state
-by-machine None refused state (line.Rules rules) = refl
-by-machine None refused state (line.Cpus said) = cpus-kept said state
-by-machine None refused state (line.Machine said) = machine-kept refused said said.memory state
-by-machine None refused state (line.Command said) = refl
-by-machine None refused state (line.EmptyBind start fault) = refl
-by-machine None refused state (line.Question said) = refl
-by-machine None refused state (line.Maps task) = refl
-by-machine None refused state (line.Work said) = refl
-by-machine None refused state (line.Pages said) = refl
-by-machine None refused state (line.Bind start bytes policy pages) = refl
-by-machine None refused state line.Host = refl
-by-machine None refused state (line.HostCommand said) = refl
-by-machine (Some machine) refused state line.Silent = refl
-by-machine (Some machine) refused state line.Malformed = refl
-by-machine (Some machine) refused state (line.Limits ranges tasks commands) = refl
-by-machine (Some machine) refused state (line.Rules rules) = refl
-by-machine (Some machine) refused state (line.Cpus said) = refl
-by-machine (Some machine) refused state (line.Machine said) = refl
-by-machine (Some machine) refused state (line.Command said) =
-    command-keeps refused machine state said
-by-machine (Some machine) refused state (line.EmptyBind start fault) =
-    command-keeps refused machine state (bind_nothing machine.rules start fault)
-by-machine (Some machine) refused state (line.Question said) = refl
-by-machine (Some machine) refused state (line.Maps task) = refl
-by-machine (Some machine) refused state (line.Work said) = work-keeps refused machine state said
-by-machine (Some machine) refused state (line.Pages said) = pages-keep refused machine state said
-by-machine (Some machine) refused state (line.Bind start bytes policy pages) =
-    bound-keeps pages refused machine state (bound_command machine.rules start bytes policy)
-by-machine (Some machine) refused state line.Host = refl
-by-machine (Some machine) refused state (line.HostCommand said) = refl
+by-machine None lacked state (line.Rules rules) = refl
+by-machine None lacked state (line.Cpus said) = cpus-kept said state
+by-machine None lacked state (line.Machine said) = machine-kept lacked said said.memory state
+by-machine None lacked state (line.Command said) = refl
+by-machine None lacked state (line.EmptyBind start fault) = refl
+by-machine None lacked state (line.Question said) = refl
+by-machine None lacked state (line.Maps task) = refl
+by-machine None lacked state (line.Work said) = refl
+by-machine None lacked state (line.Pages said) = refl
+by-machine None lacked state (line.Bind start bytes policy pages) = refl
+by-machine None lacked state line.Host = refl
+by-machine None lacked state (line.HostCommand said) = refl
+by-machine (Some machine) lacked state line.Silent = refl
+by-machine (Some machine) lacked state line.Malformed = refl
+by-machine (Some machine) lacked state (line.Limits ranges tasks commands) = refl
+by-machine (Some machine) lacked state (line.Rules rules) = refl
+by-machine (Some machine) lacked state (line.Cpus said) = refl
+by-machine (Some machine) lacked state (line.Machine said) = refl
+by-machine (Some machine) lacked state (line.Command said) =
+    command-keeps lacked machine state said
+by-machine (Some machine) lacked state (line.EmptyBind start fault) =
+    command-keeps lacked machine state (bind_nothing machine.rules start fault)
+by-machine (Some machine) lacked state (line.Question said) = refl
+by-machine (Some machine) lacked state (line.Maps task) = refl
+by-machine (Some machine) lacked state (line.Work said) = work-keeps lacked machine state said
+by-machine (Some machine) lacked state (line.Pages said) = pages-keep lacked machine state said
+by-machine (Some machine) lacked state (line.Bind start bytes policy pages) =
+    bound-keeps pages lacked machine state (bound_command machine.rules start bytes policy)
+by-machine (Some machine) lacked state line.Host = refl
+by-machine (Some machine) lacked state (line.HostCommand said) = refl
 
 -- the limits after a line
-pub bounds-after : (refused : Bool) (state : State) (said : Line)
-    → (after refused state said).bounds ≡ bounds_after state.machine state.bounds said
+pub bounds-after : (lacked : Lack) (state : State) (said : Line)
+    → (after lacked state said).bounds ≡ bounds_after state.machine state.bounds said
 unfolding outcome_of
-bounds-after refused state said = by-machine state.machine refused state said
+bounds-after lacked state said = by-machine state.machine lacked state said

@@ -11,6 +11,7 @@ use Rattle.numa_requests.specs.declared.command.Command.{Command}
 use Rattle.numa_requests.specs.declared.event.CoreRefusal.{CoreRefusal}
 use Rattle.numa_requests.specs.declared.host_command.HostCommand.{HostCommand}
 use Rattle.numa_requests.specs.declared.host_refusal.HostRefusal.TheVariants.{NoSuchProcess}
+use Rattle.numa_page_state.specs.Outcomes.{Lack, is_starved}
 use Rattle.numa_script.specs.Replies.{fault_in}
 use Rattle.numa_script.specs.declared.line.Line.TheVariants as line
 use Rattle.numa_script.specs.declared.line.Question.{Question}
@@ -24,7 +25,7 @@ use Rattle.numa_run.specs.declared.running.Taken.TheVariants as own
 use Rattle.numa_run.specs.declared.script.Script.{Script}
 use Rattle.numa_host_script.specs.Hosts.{plenty}
 use Rattle.numa_host_script.specs.Judged.{session_fault}
-use Rattle.numa_host_script.specs.Sessions.{Hosted, Lack, Session, Single, session_after}
+use Rattle.numa_host_script.specs.Sessions.{Hosted, HostLack, Session, Single, session_after}
 use Rattle.numa_host_script.specs.Standing.{StandsIn, told}
 use Rattle.numa_host_script.specs.Taking.{IsLeft, Left, Open, Told, Touched, fault_left}
 use Rattle.numa_host_script.specs.Taking.{left_in, misplaced_reply}
@@ -40,7 +41,7 @@ use Rattle.numa_host_script.proofs.Taken.{lack_of}
 
 -- what was left in a session was judged
 abbrev pub TellsAt : Left → Option Reply → Script → Bounds → Option RunningHost → Session → Type 0
-TellsAt left fault script limits host session = (lack : Lack)
+TellsAt left fault script limits host session = (lack : HostLack)
     × StandsIn script limits host session × (fault ≡ fault_left lack session left)
 
 pub told-own : (old new : Script) (limits : Bounds) (found : Taken) (fault : Option Reply)
@@ -76,7 +77,7 @@ told-early old new limits process fault (Single state) tells stands =
 
 -- a question of a process was judged
 abbrev pub AskedAt : ℕ → Question → Option Reply → Session → Type 0
-AskedAt process asked fault session = (lack : Lack)
+AskedAt process asked fault session = (lack : HostLack)
     × (fault ≡ session_fault lack session (told process (line.Question asked)))
 
 pub told-foreign : (script : Script) (limits : Bounds) (process : ℕ) (asked : Question)
@@ -104,8 +105,8 @@ told-nobody script limits host process asked (Hosted at) gone stands = (
 pub told-there : (script : Script) (limits : Bounds) (host : RunningHost) (process : ℕ)
     (asked : Question) (space : SpaceState) (cause : Option CoreRefusal) (session : Session)
     → IsSpaceOf host.host process space
-    → ((history : List Command) → StandsFor space history → (refused : Bool)
-    × (cause ≡ question_cause refused space.machine history asked))
+    → ((history : List Command) → StandsFor space history → (lacked : Lack)
+    × (cause ≡ question_cause (is_starved lacked) space.machine history asked))
     → StandsIn script limits (Some host) session
     → AskedAt process asked (option_map reply.Refused cause) session
 told-there script limits host process asked space cause (Single state) there judges stands =
@@ -120,7 +121,8 @@ told-there script limits host process asked space cause (Hosted at) there judges
     let why = judges history stood in (
       lack_of why.0,
       ap (option_map reply.Refused)
-          (why.1 ∙ ap (λ (m : Hardware). question_cause why.0 m history asked) machine)
+          (why.1 ∙ ap (λ (m : Hardware). question_cause (is_starved why.0) m history
+          asked) machine)
           ∙ sym (asked-fault_where true (lack_of why.0) at process asked here.0),
     )
 
@@ -182,15 +184,15 @@ moved-well script limits host process space (Hosted at) there stands =
 -- a line was taken, and then judged
 abbrev pub JudgesAt : ScriptLine → Option Reply → Script → Bounds → Option RunningHost → Session
     → Type 0
-JudgesAt said fault script limits host session = (lack : Lack)
+JudgesAt said fault script limits host session = (lack : HostLack)
     × StandsIn script limits host (session_after lack session said)
     × (fault ≡ session_fault lack session said)
 
 module _ (mid : Script) (mid_limits : Bounds) (mid_host : Option RunningHost)
     (new : Script) (new_limits : Bounds) (new_host : Option RunningHost) where
   judged-left : (said : ScriptLine) (left : Left) (fault : Option Reply) (session : Session)
-      → ((lack : Lack) → Stays lack session left)
-      → (lack : Lack) × StandsIn mid mid_limits mid_host (session_after lack session said)
+      → ((lack : HostLack) → Stays lack session left)
+      → (lack : HostLack) × StandsIn mid mid_limits mid_host (session_after lack session said)
       × IsLeft lack session said left
       → ((then : Session) → StandsIn mid mid_limits mid_host then
       → TellsAt left fault new new_limits new_host then)
@@ -209,7 +211,7 @@ module _ (mid : Script) (mid_limits : Bounds) (mid_host : Option RunningHost)
 
   pub judged-line : (said : ScriptLine) (found : HostTaken) (fault : Option Reply)
       (session : Session)
-      → (lack : Lack) × StandsIn mid mid_limits mid_host (session_after lack session said)
+      → (lack : HostLack) × StandsIn mid mid_limits mid_host (session_after lack session said)
       × IsLeft lack session said (left_in found)
       → ((then : Session) → StandsIn mid mid_limits mid_host then
       → TellsAt (left_in found) fault new new_limits new_host then)

@@ -6,7 +6,7 @@ use Rattle.numa_space.specs.Limited.{Bounds}
 use Rattle.numa_space.specs.Standing.{SpaceState, StandsFor}
 use Rattle.numa_host.specs.Processes.{commands_of, is_there, members_of}
 use Rattle.numa_host.specs.Standing.{HostState, HostStandsFor}
-use Rattle.numa_page_state.specs.Outcomes.{rooms_of}
+use Rattle.numa_page_state.specs.Outcomes.{Enough, Lack, rooms_of}
 use Rattle.numa_requests.specs.declared.host_command.HostCommand.{HostCommand}
 use Rattle.numa_script.specs.Lines.{alone}
 use Rattle.numa_script.specs.Replies.{LacksMemory, fault_in}
@@ -30,7 +30,7 @@ use Rattle.numa_host_script.specs.Hosts.{plenty}
 use Rattle.numa_host_script.specs.Judged.{Starves, refused_where, session_fault}
 use Rattle.numa_host_script.specs.Judged.{session_refused}
 use Rattle.numa_host_script.specs.Paging.{page_where}
-use Rattle.numa_host_script.specs.Sessions.{Hosted, Hosting, Lack, Session, Single}
+use Rattle.numa_host_script.specs.Sessions.{Hosted, Hosting, HostLack, Session, Single}
 use Rattle.numa_host_script.specs.Sessions.{asked_where, listed_where, session_after}
 use Rattle.numa_host_script.specs.Sessions.{session_served}
 use Rattle.numa_host_script.specs.Standing.{StandsIn, told}
@@ -42,7 +42,7 @@ use Rattle.numa_host_script.specs.declared.taking.HostTaken.TheVariants as taken
 use Rattle.numa_host_script.proofs.Taken.{asked-still, listed-still, moved-still}
 
 -- an answer that is a reply is the line's, and so is the fault that it tells
-pub told-answer : (lack : Lack) (session : Session) (said : ScriptLine) (answer : Reply)
+pub told-answer : (lack : HostLack) (session : Session) (said : ScriptLine) (answer : Reply)
     → Some answer ≡ reply_in (session_served lack session said).answer
     → Replied answer ≡ (session_served lack session said).answer
 told-answer lack session said answer is =
@@ -52,14 +52,14 @@ told-answer lack session said answer is =
     by_answer (Replied other) e = cc
     by_answer (Shown text) e = cc
 
-pub told-fault : (lack : Lack) (session : Session) (said : ScriptLine) (answer : Reply)
+pub told-fault : (lack : HostLack) (session : Session) (said : ScriptLine) (answer : Reply)
     → Some answer ≡ reply_in (session_served lack session said).answer
     → fault_in answer ≡ session_fault lack session said
 told-fault lack session said answer is =
     ap (λ (o : Option Reply). fault_or o (session_refused lack session said)) is
 
 -- what was touched tells the line's fault
-pub touched-fault : (lack then_lack : Lack) (session : Session) (said : ScriptLine)
+pub touched-fault : (lack then_lack : HostLack) (session : Session) (said : ScriptLine)
     (process : Option ℕ) → IsLeft lack session said (Touched process)
     → fault_left then_lack (session_after lack session said) (Touched process)
     ≡ session_fault lack session said
@@ -71,7 +71,7 @@ malformed-here : (state : State) (said : ScriptLine) (process : ℕ) → said.pr
     → Some reply.BadWords ≡ reply_in (session_served plenty (Single state) said).answer
 unfolding session_served
 malformed-here state said process is =
-    rw is (sym (ap (λ (r : Played). reply_in r.answer) (malformed-is false state)))
+    rw is (sym (ap (λ (r : Played). reply_in r.answer) (malformed-is Enough state)))
 
 pub foreign-asked : (state : State) (process : ℕ) (asked : Question) → Some reply.BadWords
     ≡ reply_in (session_served plenty (Single state) (told process (line.Question asked))).answer
@@ -92,8 +92,8 @@ pub foreign-moved : (state : State) (process : ℕ) → Some reply.BadWords
 foreign-moved state process = malformed-here state (asks_moved process) process refl
 
 -- lines of one process, as that script answers them
-pub own-answer : (lack : Lack) (state : State) (found : Taken)
-    → own_answer_left lack.refused state found
+pub own-answer : (lack : HostLack) (state : State) (found : Taken)
+    → own_answer_left lack.lacked state found
     ≡ answer_left lack (Single state) (left_in (taken.Own found))
 unfolding session_served
 own-answer lack state (own.Reply answer) = refl
@@ -103,8 +103,8 @@ own-answer lack state own.Moved = refl
 own-answer lack state own.Rooms = refl
 own-answer lack state own.Arrived = refl
 
-pub own-fault : (lack : Lack) (state : State) (found : Taken)
-    → own_fault_left lack.refused state found
+pub own-fault : (lack : HostLack) (state : State) (found : Taken)
+    → own_fault_left lack.lacked state found
     ≡ fault_left lack (Single state) (left_in (taken.Own found))
 unfolding session_served
 own-fault lack state (own.Reply answer) = refl
@@ -123,7 +123,7 @@ abbrev pub misplaced_fault : Option Reply → Option Reply
 misplaced_fault (Some answer) = fault_in answer
 misplaced_fault None = None
 
-pub misplaced-answer : (lack : Lack) (at : Hosting) (found : Taken)
+pub misplaced-answer : (lack : HostLack) (at : Hosting) (found : Taken)
     → misplaced_as (misplaced_reply found) at
     ≡ answer_left lack (Hosted at) (left_in (taken.Own found))
 unfolding session_served
@@ -134,7 +134,7 @@ misplaced-answer lack at own.Moved = refl
 misplaced-answer lack at own.Rooms = refl
 misplaced-answer lack at own.Arrived = refl
 
-pub misplaced-fault : (lack : Lack) (at : Hosting) (found : Taken)
+pub misplaced-fault : (lack : HostLack) (at : Hosting) (found : Taken)
     → misplaced_fault (misplaced_reply found)
     ≡ fault_left lack (Hosted at) (left_in (taken.Own found))
 unfolding session_served
@@ -146,60 +146,60 @@ misplaced-fault lack at own.Rooms = refl
 misplaced-fault lack at own.Arrived = refl
 
 -- a question of a process, where it is there or not
-asked-answer : (lack : Lack) (at : Hosting) (process : ℕ) (asked : Question)
+asked-answer : (lack : HostLack) (at : Hosting) (process : ℕ) (asked : Question)
     → (session_served lack (Hosted at) (told process (line.Question asked))).answer
-    ≡ (asked_where (is_there (members_of at.history) process) lack.refused at process asked).answer
+    ≡ (asked_where (is_there (members_of at.history) process) lack.lacked at process asked).answer
 unfolding session_served
 asked-answer lack at process asked = refl
 
-listed-answer : (lack : Lack) (at : Hosting) (process task : ℕ)
+listed-answer : (lack : HostLack) (at : Hosting) (process task : ℕ)
     → (session_served lack (Hosted at) (told process (line.Maps task))).answer
     ≡ (listed_where (is_there (members_of at.history) process) at process task).answer
 unfolding session_served
 listed-answer lack at process task = refl
 
-moved-answer : (lack : Lack) (at : Hosting) (process : ℕ)
+moved-answer : (lack : HostLack) (at : Hosting) (process : ℕ)
     → (session_served lack (Hosted at) (asks_moved process)).answer
-    ≡ (page_where (is_there (members_of at.history) process) lack.refused at process
+    ≡ (page_where (is_there (members_of at.history) process) lack.lacked at process
     page.Moved).answer
 unfolding session_served
 moved-answer lack at process = refl
 
-pub asked-answer_where : (there : Bool) (lack : Lack) (at : Hosting) (process : ℕ)
+pub asked-answer_where : (there : Bool) (lack : HostLack) (at : Hosting) (process : ℕ)
     (asked : Question) → is_there (members_of at.history) process ≡ there
     → (session_served lack (Hosted at) (told process (line.Question asked))).answer
-    ≡ (asked_where there lack.refused at process asked).answer
+    ≡ (asked_where there lack.lacked at process asked).answer
 asked-answer_where there lack at process asked is = asked-answer lack at process asked
-    ∙ ap (λ (b : Bool). (asked_where b lack.refused at process asked).answer) is
+    ∙ ap (λ (b : Bool). (asked_where b lack.lacked at process asked).answer) is
 
-pub listed-answer_where : (there : Bool) (lack : Lack) (at : Hosting) (process task : ℕ)
+pub listed-answer_where : (there : Bool) (lack : HostLack) (at : Hosting) (process task : ℕ)
     → is_there (members_of at.history) process ≡ there
     → (session_served lack (Hosted at) (told process (line.Maps task))).answer
     ≡ (listed_where there at process task).answer
 listed-answer_where there lack at process task is = listed-answer lack at process task
     ∙ ap (λ (b : Bool). (listed_where b at process task).answer) is
 
-pub moved-answer_where : (there : Bool) (lack : Lack) (at : Hosting) (process : ℕ)
+pub moved-answer_where : (there : Bool) (lack : HostLack) (at : Hosting) (process : ℕ)
     → is_there (members_of at.history) process ≡ there
     → (session_served lack (Hosted at) (asks_moved process)).answer
-    ≡ (page_where there lack.refused at process page.Moved).answer
+    ≡ (page_where there lack.lacked at process page.Moved).answer
 moved-answer_where there lack at process is = moved-answer lack at process
-    ∙ ap (λ (b : Bool). (page_where b lack.refused at process page.Moved).answer) is
+    ∙ ap (λ (b : Bool). (page_where b lack.lacked at process page.Moved).answer) is
 
-pub asked-fault_where : (there : Bool) (lack : Lack) (at : Hosting) (process : ℕ)
+pub asked-fault_where : (there : Bool) (lack : HostLack) (at : Hosting) (process : ℕ)
     (asked : Question) → is_there (members_of at.history) process ≡ there
     → session_fault lack (Hosted at) (told process (line.Question asked))
-    ≡ fault_or (reply_in (asked_where there lack.refused at process asked).answer)
-    (refused_where there lack.refused at process asked)
+    ≡ fault_or (reply_in (asked_where there lack.lacked at process asked).answer)
+    (refused_where there lack.lacked at process asked)
 asked-fault_where there lack at process asked is =
     ap (λ (a : Answer). fault_or (reply_in a)
-    (refused_where (is_there (members_of at.history) process) lack.refused at process asked))
+    (refused_where (is_there (members_of at.history) process) lack.lacked at process asked))
     (asked-answer_where there lack at process asked is)
     ∙ ap (λ (b : Bool).
-    fault_or (reply_in (asked_where there lack.refused at process asked).answer)
-    (refused_where b lack.refused at process asked)) is
+    fault_or (reply_in (asked_where there lack.lacked at process asked).answer)
+    (refused_where b lack.lacked at process asked)) is
 
-pub listed-fault_where : (there : Bool) (lack : Lack) (at : Hosting) (process task : ℕ)
+pub listed-fault_where : (there : Bool) (lack : HostLack) (at : Hosting) (process task : ℕ)
     → is_there (members_of at.history) process ≡ there
     → session_fault lack (Hosted at) (told process (line.Maps task))
     ≡ fault_or (reply_in (listed_where there at process task).answer) None
@@ -207,24 +207,24 @@ listed-fault_where there lack at process task is =
     ap (λ (a : Answer). fault_or (reply_in a) None)
     (listed-answer_where there lack at process task is)
 
-pub moved-fault_where : (there : Bool) (lack : Lack) (at : Hosting) (process : ℕ)
+pub moved-fault_where : (there : Bool) (lack : HostLack) (at : Hosting) (process : ℕ)
     → is_there (members_of at.history) process ≡ there
     → session_fault lack (Hosted at) (asks_moved process)
-    ≡ fault_or (reply_in (page_where there lack.refused at process page.Moved).answer) None
+    ≡ fault_or (reply_in (page_where there lack.lacked at process page.Moved).answer) None
 moved-fault_where there lack at process is =
     ap (λ (a : Answer). fault_or (reply_in a) None) (moved-answer_where there lack at process is)
 
 -- ---- a line whose answer is still open changes nothing
 
-abbrev pub Stays : Lack → Session → Left → Type 0
+abbrev pub Stays : HostLack → Session → Left → Type 0
 Stays lack session (Told answer) = Unit {0}
 Stays lack session (Open said) = session_after lack session said ≡ session
 Stays lack session (Touched process) = Unit {0}
 
-malformed-same : (refused : Bool) (state : State) → after refused state line.Malformed ≡ state
-malformed-same refused state = ap (λ (r : Played). r.state) (malformed-is refused state)
+malformed-same : (lacked : Lack) (state : State) → after lacked state line.Malformed ≡ state
+malformed-same lacked state = ap (λ (r : Played). r.state) (malformed-is lacked state)
 
-pub stays : (lack : Lack) (session : Session) (found : HostTaken)
+pub stays : (lack : HostLack) (session : Session) (found : HostTaken)
     → Stays lack session (left_in found)
 unfolding session_served
 stays lack session (taken.Reply answer) = tt
@@ -232,37 +232,37 @@ stays lack session (taken.Arrived process) = tt
 stays lack session (taken.Own (own.Reply answer)) = tt
 stays lack session (taken.Own own.Arrived) = tt
 stays lack (Single state) (taken.Own (own.Question asked)) =
-    ap Single (question-same lack.refused state asked)
+    ap Single (question-same lack.lacked state asked)
 stays lack (Single state) (taken.Own (own.Maps task)) =
-    ap Single (maps-same lack.refused state task)
+    ap Single (maps-same lack.lacked state task)
 stays lack (Single state) (taken.Own own.Moved) =
-    ap Single (text-same page.Moved last_text moved-text lack.refused state)
+    ap Single (text-same page.Moved last_text moved-text lack.lacked state)
 stays lack (Single state) (taken.Own own.Rooms) =
-    ap Single (text-same page.Rooms rooms_left rooms-text lack.refused state)
+    ap Single (text-same page.Rooms rooms_left rooms-text lack.lacked state)
 stays lack (Single state) (taken.Asked process asked) =
-    ap Single (malformed-same lack.refused state)
+    ap Single (malformed-same lack.lacked state)
 stays lack (Single state) (taken.Listed process task) =
-    ap Single (malformed-same lack.refused state)
-stays lack (Single state) (taken.Moved process) = ap Single (malformed-same lack.refused state)
+    ap Single (malformed-same lack.lacked state)
+stays lack (Single state) (taken.Moved process) = ap Single (malformed-same lack.lacked state)
 stays lack (Single state) taken.Rooms =
-    ap Single (text-same page.Rooms rooms_left rooms-text lack.refused state)
+    ap Single (text-same page.Rooms rooms_left rooms-text lack.lacked state)
 stays lack (Hosted at) (taken.Own (own.Question asked)) = refl
 stays lack (Hosted at) (taken.Own (own.Maps task)) = refl
 stays lack (Hosted at) (taken.Own own.Moved) = refl
 stays lack (Hosted at) (taken.Own own.Rooms) = refl
 stays lack (Hosted at) (taken.Asked process asked) = ap Hosted
-    (asked-still (is_there (members_of at.history) process) lack.refused at process asked)
+    (asked-still (is_there (members_of at.history) process) lack.lacked at process asked)
 stays lack (Hosted at) (taken.Listed process task) =
     ap Hosted (listed-still (is_there (members_of at.history) process) at process task)
 stays lack (Hosted at) (taken.Moved process) =
-    ap Hosted (moved-still (is_there (members_of at.history) process) lack.refused at process)
+    ap Hosted (moved-still (is_there (members_of at.history) process) lack.lacked at process)
 stays lack (Hosted at) taken.Rooms = refl
 
 -- a question of a line that names no process is left as it is
 pub asked-left : (script : Script) (limits : Bounds) (host : Option RunningHost)
     (session : Session) (said : ScriptLine) (asked : Question)
     → said ≡ alone (line.Question asked)
-    → StandsIn script limits host session → (lack : Lack)
+    → StandsIn script limits host session → (lack : HostLack)
     × StandsIn script limits host (session_after lack session said)
     × IsLeft lack session said (left_in (taken.Own (own.Question asked)))
 asked-left script limits host session said asked is stands =
@@ -301,7 +301,7 @@ moved-unstarved (Hosted at) process starves =
     (moved-fault_where (is_there (members_of at.history) process) plenty at process refl) starves)
   where
     by_there : (there : Bool) → IsSomeAnd
-        (fault_or (reply_in (page_where there false at process page.Moved).answer) None)
+        (fault_or (reply_in (page_where there Enough at process page.Moved).answer) None)
         LacksMemory → ⊥
     by_there true s = s
     by_there false s = cc

@@ -2,10 +2,9 @@
 use Rattle.std.proofs.Common.{◌≡◌, ℕ, suc, Bool, true, false, Option, Some, None, Result, Ok, Err}
 use Rattle.std.proofs.Common.{List, [], ◌∷◌, length, refl, sym, ap, subst, ◌∙◌, inl, inr, is_some}
 use Rattle.std.proofs.lemmas.Bool.{cases_Bool}
-use Rattle.std.specs.Prelude.{Box}
+use Rattle.std.specs.Prelude.{Box, if◌then◌else◌}
 use Rattle.std.specs.Global.{Global}
 use Rattle.numa_space.specs.Standing.{SpaceState, StandsFor}
-use Rattle.numa_placed.specs.Spots.{too_many}
 use Rattle.numa_placed.specs.declared.spot.Spot.{Spot}
 use Rattle.numa_requests.specs.declared.command.Command.{Command}
 use Rattle.numa_requests.specs.declared.host_command.HostCommand.{HostCommand}
@@ -22,7 +21,7 @@ use Rattle.numa_host_pages.specs.Standing.{AreOf, HostLies, IsLent}
 use Rattle.numa_host_pages.specs.declared.pages.HostPages.{HostPages}
 use Rattle.numa_page_state.specs.Lying.{Lying, Process, nothing}
 use Rattle.numa_page_state.specs.Lying.{process_in as process_by}
-use Rattle.numa_page_state.specs.Outcomes.{is_no_memory, lack_of}
+use Rattle.numa_page_state.specs.Outcomes.{Enough, Lack, Starved, is_starved, lack_told}
 use Rattle.numa_page_state.specs.Sending.{asked_of, command_of, rebinding_in, sent_in, sent_spots}
 use Rattle.numa_page_state.specs.Sending.{tells_left, with_sent}
 use Rattle.numa_page_state.specs.Standing.{LiesAs, Sends}
@@ -36,10 +35,10 @@ use Rattle.numa_script.specs.declared.reply.Reply.{Reply}
 use Rattle.numa_script.specs.declared.reply.Reply.TheVariants as reply
 use Rattle.numa_run.specs.Obeying.{toucher_of}
 use Rattle.numa_run.specs.Replies.{Replied, reply_in}
-use Rattle.numa_host_script.specs.Hosts.{Hosting, Lack, Outcome, process_outcome, with_reply}
+use Rattle.numa_host_script.specs.Hosts.{Hosting, HostLack, Outcome, process_outcome, with_reply}
 use Rattle.numa_host_script.specs.Paging.{lying_with, moved_by, own_cause, pages_at}
 use Rattle.numa_host_script.specs.Paging.{pages_reply, process_in, sent_outcome, sent_unless}
-use Rattle.numa_host_script.specs.Paging.{takes_more, unless_pages}
+use Rattle.numa_host_script.specs.Paging.{sent_where, takes_more, unless_pages}
 use Rattle.numa_host_script.specs.Standing.{Answers, HostRuns, IsSentTo, Replies, RepliesThere}
 use Rattle.numa_host_script.specs.Standing.{RunsAs, SendsIn, SendsLent, hosting_with}
 use Rattle.numa_host_script.specs.declared.running.RunningHost.{RunningHost}
@@ -51,7 +50,7 @@ use Rattle.numa_host_script.proofs.Unmapped.{cause-some, flag, refused-plain}
 
 -- ---- mbind .. move, of pages that were lent
 
-starved-why : (why : PlacedRefusal) → is_no_memory why ≡ true → why ≡ cause.NoMemory
+starved-why : (why : PlacedRefusal) → is_starved (lack_told why) ≡ true → why ≡ cause.NoMemory
 starved-why cause.NoMemory is = refl
 starved-why cause.Unaligned is = cc
 starved-why cause.OutOfSpace is = cc
@@ -63,9 +62,6 @@ starved-why cause.BadCpu is = cc
 starved-why cause.Unmapped is = cc
 starved-why cause.NoRoom is = cc
 starved-why cause.TooManyRuns is = cc
-
-enough : (spots : ℕ → Spot) → too_many spots ≡ false → lack_of false spots ≡ None
-enough spots few = rw few refl
 
 -- where nobody is there, nothing is owed
 pub nobody-sends : (host new : HostState) (state after : PageState) (answer : Reply)
@@ -106,8 +102,8 @@ module _ (host : HostState) (state : PageState) (process : ℕ) (said : Rebindin
       (own-space host at process space runs.machine runs.bounds own.1).stands lies)
 
   passes : (first : Option Refusal) (at : Hosting) → is_some first ≡ true
-      → sent_unless false first at process said words
-      ≡ process_outcome false at process (command_of said)
+      → sent_unless Enough first at process said words
+      ≡ process_outcome Enough at process (command_of said)
   passes None at some = cc
   passes (Some refusal) at some = refl
 
@@ -119,7 +115,7 @@ module _ (host : HostState) (state : PageState) (process : ℕ) (said : Rebindin
       let some = finds-here (Ok None) all at runs lies in
       let plain = refused-plain host new at process (command_of said) answer runs
       (cause-some at.machine at.bounds at.history process (command_of said) some) answers in (
-        false,
+        Enough,
         passes (own_cause at process (command_of said)) at some ∙ plain.0,
         plain.1,
         refl,
@@ -129,17 +125,21 @@ module _ (host : HostState) (state : PageState) (process : ℕ) (said : Rebindin
   pub send-denied : (why : PlacedRefusal) → FindsSent (Err why)
       → SendsIn host state (Err (pages_reply why)) host state process said words
   send-denied why all = λ at runs more lies.
-      elim (cases_Bool (is_no_memory why)) [
+      elim (cases_Bool (is_starved (lack_told why))) [
         | inl t ↦ (
-          true,
+          Starved,
           ap (λ (w : PlacedRefusal). with_reply (pages_reply w) at) (sym (starved-why why t)),
           runs,
           refl,
         )
         | inr e ↦
-            let so = finds-here (Err why) all at runs lies e in (
-              false,
-              ap (λ (o : Option Refusal). sent_unless false o at process said words) so.0
+            let so = finds-here (Err why) all at runs lies e in
+            let it : Lack = lack_told why in (
+              it,
+              ap (λ (b : Bool). if b then with_reply (pages_reply cause.NoMemory) at
+                  else sent_where (own_cause at process (command_of said)) it at process said
+                  words) e
+                  ∙ ap (λ (o : Option Refusal). sent_where o it at process said words) so.0
                   ∙ ap (λ (o : Option PlacedRefusal).
                   unless_pages o at (sent_outcome at process said words)) so.1,
               runs,
@@ -152,7 +152,7 @@ module _ (host : HostState) (state : PageState) (process : ℕ) (said : Rebindin
       → IsHostApplied host command (Err why) new
       → SendsIn host state (Err (pages_reply cause.NoMemory)) new state process said words
   send-starved new why applied = λ at runs more lies. (
-    true,
+    Starved,
     refl,
     subst (λ (h : HostState). HostRuns h at) (sym applied.unchanged) runs,
     refl,
@@ -198,10 +198,7 @@ module _ (host : HostState) (state : PageState) (process : ℕ) (said : Rebindin
         lying = lying_with at process lying;
       } in (
         lying,
-        ap (λ (o : Option Refusal). sent_unless false o at process said words) so.0
-            ∙ ap (λ (o : Option PlacedRefusal).
-            unless_pages o at (sent_outcome at process said words))
-            (enough (sent_spots asked from) so.1.few) ∙ told,
+        ap (λ (o : Option Refusal). sent_unless Enough o at process said words) so.0 ∙ told,
         record {
           machine = applied.machine ∙ runs.machine;
           bounds = applied.bounds ∙ runs.bounds;
@@ -231,7 +228,7 @@ module _ (host : HostState) (pages pages_then : HostPages) (state after : PageSt
   sent-given answer sends gives at runs are more lies out =
       let d = sends at runs more lies in
       let kept = given-are process d.0 at.lying at.history are in (
-        flag false,
+        flag Enough,
         sym (ap (λ (o : Outcome). reply_in o.answer) d.1),
         subst (λ (o : Outcome). RunsAs given (hosting_with at o)) (sym d.1) (record {
           machine = d.2.machine;
@@ -317,15 +314,15 @@ module _ (host : HostState) (pages pages_then : HostPages) (state after : PageSt
 pub first-starved : (running : RunningHost) (process : ℕ) (said : Rebinding) (words : MoveWords)
     (at : Hosting) → RunsAs running at
     → IsSentTo (pages_reply cause.NoMemory) running at process said words
-first-starved running process said words at stands = (flag true, refl, stands)
+first-starved running process said words at stands = (flag Starved, refl, stands)
 
 -- ---- mbind .. move
 
 module _ (old : RunningHost) (process : ℕ) (said : Rebinding) (words : MoveWords)
     (pages : HostPages) (new : RunningHost) (answer : Reply) where
-  abbrev pub sends : Lack → Hosting → Outcome
+  abbrev pub sends : HostLack → Hosting → Outcome
   sends lack at =
-      sent_unless lack.refused (own_cause at process (command_of said)) at process said words
+      sent_unless lack.lacked (own_cause at process (command_of said)) at process said words
 
   pub send-some : (state : Box PageState Global)
       → ((at : HostLying) → HostLies old.pages at
@@ -363,20 +360,20 @@ module _ (old : RunningHost) (process : ℕ) (said : Rebinding) (words : MoveWor
 -- by the policy that the command sets
 pub moved-some : (old new : RunningHost) (answer : Reply) (process : ℕ) (command : Command)
     (words : MoveWords) (said : Rebinding) → Some said ≡ rebinding_in command
-    → RepliesThere old answer new process (λ lack at. sent_unless lack.refused
+    → RepliesThere old answer new process (λ lack at. sent_unless lack.lacked
     (own_cause at process (command_of said)) at process said words)
     → RepliesThere old answer new process (λ lack at. moved_by (rebinding_in command)
-    lack.refused at process command words)
+    lack.lacked at process command words)
 moved-some old new answer process command words said is serves =
     subst (λ (o : Option Rebinding). RepliesThere old answer new process
-    (λ lack at. moved_by o lack.refused at process command words)) is serves
+    (λ lack at. moved_by o lack.lacked at process command words)) is serves
 
 pub moved-none : (old new : RunningHost) (answer : Reply) (process : ℕ) (command : Command)
     (words : MoveWords) → None ≡ rebinding_in command
-    → Replies old answer new (λ lack at. process_outcome lack.refused at process command)
+    → Replies old answer new (λ lack at. process_outcome lack.lacked at process command)
     → RepliesThere old answer new process (λ lack at. moved_by (rebinding_in command)
-    lack.refused at process command words)
+    lack.lacked at process command words)
 moved-none old new answer process command words is serves =
     subst (λ (o : Option Rebinding). RepliesThere old answer new process
-    (λ lack at. moved_by o lack.refused at process command words)) is
+    (λ lack at. moved_by o lack.lacked at process command words)) is
     (λ at stands more. serves at stands)

@@ -15,6 +15,7 @@ use Rattle.numa_requests.specs.declared.host_command.HostCommand.{HostCommand}
 use Rattle.numa_requests.specs.declared.host_command.HostCommand.TheVariants as command
 use Rattle.numa_requests.specs.declared.host_refusal.HostRefusal.{HostRefusal}
 use Rattle.numa_requests.specs.declared.host_refusal.HostRefusal.TheVariants.{NoMemory}
+use Rattle.numa_page_state.specs.Outcomes.{Enough, Lack, Starved}
 use Rattle.numa_script.specs.declared.reply.Reply.{Reply}
 use Rattle.numa_script.specs.declared.reply.Reply.TheVariants as reply
 use Rattle.numa_run.specs.Replies.{reply_in}
@@ -22,7 +23,7 @@ use Rattle.numa_run.specs.Work.{needs_room}
 use Rattle.numa_host_pages.specs.Homes.{HostLying}
 use Rattle.numa_host_pages.specs.Obeying.{pages_after}
 use Rattle.numa_host_pages.specs.Standing.{AreOf, HostLies, Obeys}
-use Rattle.numa_host_script.specs.Hosts.{Hosting, Lack, Outcome, command_outcome, command_unless}
+use Rattle.numa_host_script.specs.Hosts.{Hosting, HostLack, Outcome, command_outcome, command_unless}
 use Rattle.numa_host_script.specs.Hosts.{host_needs_room, with_reply}
 use Rattle.numa_host_script.specs.declared.running.RunningHost.{RunningHost}
 use Rattle.numa_host_script.specs.Standing.{Replies, RunsAs, hosting_with}
@@ -68,8 +69,8 @@ cause-here running at said stands =
     ∙ ap (λ (b : Bounds). host_refusal_of at.machine b at.history said) stands.bounds
 
 -- a reply that changes nothing
-pub still : (running : RunningHost) (answer : Reply) (outcome : Lack → Hosting → Outcome)
-    (lack : Lack)
+pub still : (running : RunningHost) (answer : Reply) (outcome : HostLack → Hosting → Outcome)
+    (lack : HostLack)
     → ((at : Hosting) → RunsAs running at → outcome lack at ≡ with_reply answer at)
     → Replies running answer running outcome
 still running answer outcome lack is = λ at stands.
@@ -80,8 +81,8 @@ still running answer outcome lack is = λ at stands.
     )
 
 -- what memory lacked for, where it lacked for moves alone
-abbrev moves-lack : Bool → (ℕ → ℕ → Bool) → Lack
-moves-lack refused moves = record { refused = refused; moves = moves }
+abbrev moves-lack : Lack → (ℕ → ℕ → Lack) → HostLack
+moves-lack lacked moves = record { lacked = lacked; moves = moves }
 
 -- a command that was accepted
 pub carried : (old new : RunningHost) (said : HostCommand) (version : ℕ)
@@ -93,7 +94,7 @@ carried old new said version obeys counts = λ at stands.
     let did = obeys.lies at.history at.lying stands.stands stands.lies stands.are in
     let none : host_refusal_of at.machine at.bounds at.history said ≡ None =
     sym (cause-here old at said stands) ∙ ok.0 in
-    let lack : Lack = moves-lack false did.0 in
+    let lack : HostLack = moves-lack Enough did.0 in
     let after : HostLying = pages_after did.0 at.machine at.history said at.lying in
     let is : command_outcome lack at said ≡ command_unless None after at said =
     ap (λ (c : Option HostRefusal). command_unless (first_of c None) after at said) none in
@@ -120,7 +121,7 @@ denied old new said refusal obeys = λ at stands.
     let first = subst
     (λ (c : Option HostRefusal). MatchOption c (refusal ≡ NoMemory) (λ f. refusal ≡ f))
     (cause-here old at said stands) (obeys.applied.err at.history stands.stands) in
-    let lack : Lack = moves-lack true did.0 in
+    let lack : HostLack = moves-lack Starved did.0 in
     let is : command_outcome lack at said ≡ with_reply (reply.HostRefused refusal) at =
     ap (λ (c : Option HostRefusal). command_unless c
     (pages_after did.0 at.machine at.history said at.lying) at said)

@@ -13,6 +13,7 @@ use Rattle.numa_host_pages.specs.Standing.{HostLies}
 use Rattle.numa_requests.specs.declared.command.Command.{Command}
 use Rattle.numa_requests.specs.declared.host_command.HostCommand.{HostCommand}
 use Rattle.numa_requests.specs.declared.host_refusal.HostRefusal.TheVariants.{NoMemory}
+use Rattle.numa_page_state.specs.Outcomes.{Enough, Lack, Starved}
 use Rattle.numa_script.specs.Lines.{alone}
 use Rattle.numa_script.specs.declared.line.Line.{Line}
 use Rattle.numa_script.specs.declared.line.Line.TheVariants as line
@@ -33,7 +34,7 @@ use Rattle.numa_run.specs.declared.running.Taken.TheVariants as own
 use Rattle.numa_run.specs.declared.script.Script.{Script}
 use Rattle.numa_host_script.specs.Hosts.{Outcome, plenty}
 use Rattle.numa_host_script.specs.Paging.{page_where}
-use Rattle.numa_host_script.specs.Sessions.{Hosted, Hosting, Lack, Served, Session, Single}
+use Rattle.numa_host_script.specs.Sessions.{Hosted, Hosting, HostLack, Served, Session, Single}
 use Rattle.numa_host_script.specs.Sessions.{asked_where, begun, begun_on, begun_where}
 use Rattle.numa_host_script.specs.Sessions.{bounds_after, host_command_of, host_outcome, is_begin}
 use Rattle.numa_host_script.specs.Sessions.{is_fresh, listed_where, own_outcome, own_where, served}
@@ -47,37 +48,37 @@ use Rattle.numa_host_script.specs.declared.taking.HostTaken.TheVariants as taken
 use Rattle.numa_run.proofs.Taking.{malformed-is}
 use Rattle.numa_host_script.proofs.Bounds.{bounds-after}
 
-pub begins : (lack : Lack) (session : Session) (said : ScriptLine) → is_begin said ≡ true
-    → session_served lack session said ≡ begun lack.refused session
+pub begins : (lack : HostLack) (session : Session) (said : ScriptLine) → is_begin said ≡ true
+    → session_served lack session said ≡ begun lack.lacked session
 unfolding session_served
 begins lack session said is = rw is refl
 
-pub goes-on : (lack : Lack) (session : Session) (said : ScriptLine) → is_begin said ≡ false
+pub goes-on : (lack : HostLack) (session : Session) (said : ScriptLine) → is_begin said ≡ false
     → session_served lack session said ≡ served lack session said
 unfolding session_served
 goes-on lack session said is = rw is refl
 
--- memory lacked for what the line itself wanted, or for nothing
-abbrev pub lack_of : Bool → Lack
-lack_of refused = record { refused = refused; moves = λ group process. false }
+-- the line itself lacked this, and no move of pages lacked anything
+abbrev pub lack_of : Lack → HostLack
+lack_of lacked = record { lacked = lacked; moves = λ group process. Enough }
 
 -- ---- lines of a host
 
 -- a line that is answered a text, or by a refusal, changes nothing
-pub asked-still : (there refused : Bool) (at : Hosting) (process : ℕ) (asked : Question)
-    → hosting_with at (asked_where there refused at process asked) ≡ at
-asked-still true refused at process asked = refl
-asked-still false refused at process asked = refl
+pub asked-still : (there : Bool) (lacked : Lack) (at : Hosting) (process : ℕ) (asked : Question)
+    → hosting_with at (asked_where there lacked at process asked) ≡ at
+asked-still true lacked at process asked = refl
+asked-still false lacked at process asked = refl
 
 pub listed-still : (there : Bool) (at : Hosting) (process task : ℕ)
     → hosting_with at (listed_where there at process task) ≡ at
 listed-still true at process task = refl
 listed-still false at process task = refl
 
-pub moved-still : (there refused : Bool) (at : Hosting) (process : ℕ)
-    → hosting_with at (page_where there refused at process page.Moved) ≡ at
-moved-still true refused at process = refl
-moved-still false refused at process = refl
+pub moved-still : (there : Bool) (lacked : Lack) (at : Hosting) (process : ℕ)
+    → hosting_with at (page_where there lacked at process page.Moved) ≡ at
+moved-still true lacked at process = refl
+moved-still false lacked at process = refl
 
 pub asked-taken : (running : RunningHost) (process : ℕ) (asked : Question)
     → Takes running (told process (line.Question asked)) (taken.Asked process asked) running
@@ -85,7 +86,7 @@ asked-taken running process asked = λ at stands. (
   plenty,
   refl,
   subst (RunsAs running)
-      (sym (asked-still (is_there (members_of at.history) process) false at process asked)) stands,
+      (sym (asked-still (is_there (members_of at.history) process) Enough at process asked)) stands,
 )
 
 pub listed-taken : (running : RunningHost) (process task : ℕ)
@@ -103,7 +104,7 @@ moved-taken running process = λ at stands. (
   plenty,
   refl,
   subst (RunsAs running)
-      (sym (moved-still (is_there (members_of at.history) process) false at process)) stands,
+      (sym (moved-still (is_there (members_of at.history) process) Enough at process)) stands,
 )
 
 pub rooms-taken : (running : RunningHost)
@@ -112,8 +113,8 @@ rooms-taken running = λ at stands. (plenty, refl, stands)
 
 -- the reply of a line that a process is told, by what the line says
 pub reply-taken : (old new : RunningHost) (said : ScriptLine) (answer : Reply)
-    (outcome : Lack → Hosting → Outcome)
-    → ((lack : Lack) (at : Hosting) → outcome lack at ≡ host_outcome lack at said)
+    (outcome : HostLack → Hosting → Outcome)
+    → ((lack : HostLack) (at : Hosting) → outcome lack at ≡ host_outcome lack at said)
     → Replies old answer new outcome → Takes old said (taken.Reply answer) new
 reply-taken old new said answer outcome same replies = λ at stands.
     let done = replies at stands in (
@@ -168,7 +169,7 @@ abbrev pub IsOther : Line → Type 0
 IsOther (line.Pages (Ok said)) = ⊥
 IsOther said = Unit {0}
 
-own-is : (said : Line) → IsOther said → (lack : Lack) (at : Hosting)
+own-is : (said : Line) → IsOther said → (lack : HostLack) (at : Hosting)
     → own_where (host_command_of said) lack at said ≡ own_outcome lack at said
 own-is line.Silent other lack at = refl
 own-is line.Malformed other lack at = refl
@@ -240,9 +241,9 @@ module _ (script : Script) (limits : Bounds) where
 
   -- the line `host` was carried out in a state
   abbrev pub BeginsAt : Reply → Script → Bounds → Option RunningHost → Session → Type 0
-  BeginsAt answer script_then limits_then host_then session = (lack : Lack)
-      × StandsIn script_then limits_then host_then (begun lack.refused session).session
-      × (Some answer ≡ reply_in (begun lack.refused session).answer)
+  BeginsAt answer script_then limits_then host_then session = (lack : HostLack)
+      × StandsIn script_then limits_then host_then (begun lack.lacked session).session
+      × (Some answer ≡ reply_in (begun lack.lacked session).answer)
 
   pub begun-already : (host : RunningHost) (session : Session)
       → StandsIn script limits (Some host) session
@@ -255,8 +256,8 @@ module _ (script : Script) (limits : Bounds) where
       → BeginsAt reply.BadState script limits None session
   begun-early (Hosted at) stands early = absurd stands
   begun-early (Single state) stands early =
-      let is : begun false (Single state) ≡ begun_where false false state =
-      ap (λ (b : Bool). begun_where b false state) (early state stands.0) in (
+      let is : begun Enough (Single state) ≡ begun_where false Enough state =
+      ap (λ (b : Bool). begun_where b Enough state) (early state stands.0) in (
         plenty,
         subst (λ (s : Served). StandsIn script limits None s.session) (sym is) stands,
         sym (ap (λ (s : Served). reply_in s.answer) is),
@@ -266,12 +267,12 @@ module _ (script : Script) (limits : Bounds) where
   IsFresh machine = (state : State) → ScriptStandsFor script state
       → (state.machine ≡ Some machine) × (is_fresh state ≡ true)
 
-  begun-fresh : (refused : Bool) (state : State) (machine : Hardware)
+  begun-fresh : (lacked : Lack) (state : State) (machine : Hardware)
       → state.machine ≡ Some machine → is_fresh state ≡ true
-      → begun refused (Single state) ≡ begun_on (Some machine) refused state
-  begun-fresh refused state machine ready fresh =
-      ap (λ (b : Bool). begun_where b refused state) fresh
-      ∙ ap (λ (m : Option Hardware). begun_on m refused state) ready
+      → begun lacked (Single state) ≡ begun_on (Some machine) lacked state
+  begun-fresh lacked state machine ready fresh =
+      ap (λ (b : Bool). begun_where b lacked state) fresh
+      ∙ ap (λ (m : Option Hardware). begun_on m lacked state) ready
 
   pub begun-starved : (machine : Hardware) (session : Session)
       → StandsIn script limits None session → IsFresh machine
@@ -279,8 +280,8 @@ module _ (script : Script) (limits : Bounds) where
   begun-starved machine (Hosted at) stands fresh = absurd stands
   begun-starved machine (Single state) stands fresh =
       let here = fresh state stands.0 in
-      let is = begun-fresh true state machine here.0 here.1 in (
-        lack_of true,
+      let is = begun-fresh Starved state machine here.0 here.1 in (
+        lack_of Starved,
         subst (λ (s : Served). StandsIn script limits None s.session) (sym is) stands,
         sym (ap (λ (s : Served). reply_in s.answer) is),
       )
@@ -293,7 +294,7 @@ module _ (script : Script) (limits : Bounds) where
   begun-now machine host (Hosted at) stands fresh same bounds empty lies = absurd stands
   begun-now machine host (Single state) stands fresh same bounds empty lies =
       let here = fresh state stands.0 in
-      let is = begun-fresh false state machine here.0 here.1 in (
+      let is = begun-fresh Enough state machine here.0 here.1 in (
         plenty,
         subst (λ (s : Served). StandsIn script limits (Some host) s.session) (sym is) (record {
           machine = same;
@@ -310,7 +311,7 @@ module _ (script : Script) (limits : Bounds) where
   -- a line was taken in a state
   abbrev pub TakesAt : ScriptLine → HostTaken → Script → Bounds → Option RunningHost → Session
       → Type 0
-  TakesAt said found script_then limits_then host_then session = (lack : Lack)
+  TakesAt said found script_then limits_then host_then session = (lack : HostLack)
       × StandsIn script_then limits_then host_then (session_after lack session said)
       × IsLeft lack session said (left_in found)
 
@@ -327,7 +328,7 @@ module _ (script : Script) (limits : Bounds) where
       )
 
   -- a line of a host
-  left-hosted : (lack : Lack) (at : Hosting) (said : ScriptLine) (found : HostTaken)
+  left-hosted : (lack : HostLack) (at : Hosting) (said : ScriptLine) (found : HostTaken)
       → session_served lack (Hosted at) said ≡ served lack (Hosted at) said
       → IsTakenIn lack at said found → IsLeft lack (Hosted at) said (left_in found)
   left-hosted lack at said (taken.Own found) same left = absurd left
@@ -363,9 +364,9 @@ module _ (script : Script) (limits : Bounds) where
   says-alone None said shown other is = ap alone is
   says-alone (Some process) said shown other is = absurd (other is)
 
-  left-alone : (lack : Lack) (state : State) (said : ScriptLine) (found : Taken)
+  left-alone : (lack : HostLack) (state : State) (said : ScriptLine) (found : Taken)
       → session_served lack (Single state) said ≡ served lack (Single state) said
-      → IsTaken lack.refused state (own_line said) found
+      → IsTaken lack.lacked state (own_line said) found
       → IsLeft lack (Single state) said (left_in (taken.Own found))
   left-alone lack state said (own.Reply answer) same left =
       left ∙ sym (ap (λ (s : Served). reply_in s.answer) same)
@@ -388,8 +389,8 @@ module _ (script : Script) (limits : Bounds) where
   taken-foreign said process (Single state) other told_so stands =
       let malformed : own_line said ≡ line.Malformed =
       ap (λ (p : Option ℕ). if is_some p then line.Malformed else said.line) told_so in
-      let is : outcome_of false state (own_line said) ≡ state_reply reply.BadWords state =
-      ap (outcome_of false state) malformed ∙ malformed-is false state in
+      let is : outcome_of Enough state (own_line said) ≡ state_reply reply.BadWords state =
+      ap (outcome_of Enough state) malformed ∙ malformed-is Enough state in
       let same = goes-on plenty (Single state) said other in (
         plenty,
         subst (λ (s : Served). StandsIn script limits None s.session) (sym same)

@@ -9,7 +9,6 @@ use Rattle.std.specs.Option.{option_map}
 use Rattle.numa_machine.specs.Machine.{Hardware}
 use Rattle.numa_space.specs.Limited.{Bounds}
 use Rattle.numa_space.specs.Refusals.{refusal_of}
-use Rattle.numa_ranges.specs.declared.run.Run.{Run}
 use Rattle.numa_requests.specs.declared.command.Command.{Command}
 use Rattle.numa_requests.specs.declared.command.Command.TheVariants as own
 use Rattle.numa_requests.specs.declared.host_command.HostCommand.{HostCommand}
@@ -32,17 +31,19 @@ use Rattle.numa_host_pages.specs.Standing.{AreOf, HostLies, LiesApart, Obeys}
 use Rattle.numa_host_pages.specs.declared.pages.HostPages.{HostPages}
 use Rattle.numa_host_pages.proofs.Obeyed.{stays}
 use Rattle.numa_page_state.specs.Lying.{Lying, with_spots}
-use Rattle.numa_page_state.specs.Outcomes.{forgotten, has_stated, is_no_memory, lack_of}
+use Rattle.numa_page_state.specs.Outcomes.{Enough, Lack, Starved, forgotten, has_stated, is_starved}
+use Rattle.numa_page_state.specs.Outcomes.{lack_told}
 use Rattle.numa_page_state.specs.Standing.{Forgets, LiesAs}
 use Rattle.numa_page_state.specs.declared.state.PageState.{PageState}
 use Rattle.numa_page_state.proofs.Unmapping.{nothing-stated}
+use Rattle.numa_placed.specs.Laid.{Laid}
 use Rattle.numa_placed.specs.Spots.{spot_at}
 use Rattle.numa_placed.specs.declared.spot.Spot.{Spot}
 use Rattle.numa_placed.specs.declared.spot.Spot.TheVariants.{Nowhere}
 use Rattle.numa_script.specs.declared.reply.Reply.{Reply}
 use Rattle.numa_script.specs.declared.reply.Reply.TheVariants as reply
 use Rattle.numa_run.specs.Replies.{reply_in}
-use Rattle.numa_host_script.specs.Hosts.{Hosting, Lack, Outcome, command_unless, host_needs_room}
+use Rattle.numa_host_script.specs.Hosts.{Hosting, HostLack, Outcome, command_unless, host_needs_room}
 use Rattle.numa_host_script.specs.Hosts.{plenty, process_outcome, with_reply}
 use Rattle.numa_host_script.specs.Paging.{lying_with, obeyed, pages_at, pages_reply, unmap_outcome}
 use Rattle.numa_host_script.specs.Standing.{Answers, ForgetsIn, HostRuns, IsReplyTo, Replies}
@@ -51,9 +52,9 @@ use Rattle.numa_host_script.specs.declared.running.RunningHost.{RunningHost}
 use Rattle.numa_host_script.proofs.Lent.{given-are, lent-some}
 use Rattle.numa_host_script.proofs.Obeyed.{carried, cause-here, denied}
 
--- whether a growth was refused
-abbrev pub flag : Bool → Lack
-flag refused = record { refused = refused; moves = plenty.moves }
+-- what the line itself lacked
+abbrev pub flag : Lack → HostLack
+flag lacked = record { lacked = lacked; moves = plenty.moves }
 
 -- ---- a command that leaves pages where they lie
 
@@ -72,20 +73,20 @@ module _ (old : RunningHost) (host : HostState) (process : ℕ) (said : Command)
 
     by-done : (done : Result (Unit {0}) HostRefusal)
         → IsHostApplied old.host (In process said) done host → IsReplyTo done host answer
-        → Replies old answer then_host (λ lack at. process_outcome lack.refused at process said)
+        → Replies old answer then_host (λ lack at. process_outcome lack.lacked at process said)
     by-done (Ok done) applied is =
         subst (λ (r : Reply). Replies old r then_host
-        (λ lack at. process_outcome lack.refused at process said)) (sym is)
+        (λ lack at. process_outcome lack.lacked at process said)) (sym is)
         (carried old then_host (In process said) host.version
         (process-obeys old process said (Ok done) host applied) (λ history stands. stands.version))
     by-done (Err why) applied is =
         subst (λ (r : Reply). Replies old r then_host
-        (λ lack at. process_outcome lack.refused at process said)) (sym is)
+        (λ lack at. process_outcome lack.lacked at process said)) (sym is)
         (denied old then_host (In process said) why
         (process-obeys old process said (Err why) host applied))
 
     pub answered : Answers old.host (In process said) answer host
-        → Replies old answer then_host (λ lack at. process_outcome lack.refused at process said)
+        → Replies old answer then_host (λ lack at. process_outcome lack.lacked at process said)
     answered answers = by-done answers.0 answers.1 answers.2
 
 -- ---- a command that something stands against
@@ -96,13 +97,13 @@ first-only None one other some = absurd (both_ways false refl some)
 first-only (Some why) one other some = refl
 
 -- lack of memory shows only where nothing else refuses it
-pub cause-alike : (refused : Bool) (at : Hosting) (process : ℕ) (said : Command)
+pub cause-alike : (lacked : Lack) (at : Hosting) (process : ℕ) (said : Command)
     → is_some (host_refusal_of at.machine at.bounds at.history (In process said)) ≡ true
-    → process_outcome refused at process said ≡ process_outcome false at process said
-cause-alike refused at process said some =
+    → process_outcome lacked at process said ≡ process_outcome Enough at process said
+cause-alike lacked at process said some =
     ap (λ (c : Option HostRefusal). command_unless c at.lying at (In process said))
     (first-only (host_refusal_of at.machine at.bounds at.history (In process said))
-    (when (refused && host_needs_room (In process said)) NoMemory)
+    (when (is_starved lacked && host_needs_room (In process said)) NoMemory)
     (when (false && host_needs_room (In process said)) NoMemory) some)
 
 either-some : (first other : Option HostRefusal) → is_some other ≡ true
@@ -151,7 +152,7 @@ module _ (host new : HostState) (at : Hosting) (process : ℕ) (said : Command) 
   where
     refused-by : (done : Result (Unit {0}) HostRefusal)
         → IsHostApplied host (In process said) done new → IsReplyTo done new answer
-        → (process_outcome false at process said ≡ with_reply answer at) × HostRuns new at
+        → (process_outcome Enough at process said ≡ with_reply answer at) × HostRuns new at
     refused-by (Ok done) applied is =
         let none = sym (runs-cause host at (In process said) runs)
         ∙ (applied.ok at.history runs.stands).0 in
@@ -168,22 +169,22 @@ module _ (host new : HostState) (at : Hosting) (process : ℕ) (said : Command) 
         )
 
     pub refused-plain : Answers host (In process said) answer new
-        → (process_outcome false at process said ≡ with_reply answer at) × HostRuns new at
+        → (process_outcome Enough at process said ≡ with_reply answer at) × HostRuns new at
     refused-plain answers = refused-by answers.0 answers.1 answers.2
 
 -- ---- unmap
 
 -- what is forgotten of the pages of a process
 module _ (process start bytes : ℕ) (at : HostLying) where
-  abbrev ForgetsOf : Result (Option (List (Run Spot))) PlacedRefusal → Type 0
+  abbrev ForgetsOf : Result (Option Laid) PlacedRefusal → Type 0
   ForgetsOf found = ForgetsIn (pages_in process at.homes) (pages_lent process at).spots start
       bytes found
 
-  abbrev ForgetsBy : Result (Option (List (Run Spot))) PlacedRefusal → Option Lying → Type 0
+  abbrev ForgetsBy : Result (Option Laid) PlacedRefusal → Option Lying → Type 0
   ForgetsBy found None = ForgetsIn None (λ page. Nowhere) start bytes found
   ForgetsBy found (Some lying) = ForgetsIn (Some lying) lying.spots start bytes found
 
-  forgets-by : (found : Result (Option (List (Run Spot))) PlacedRefusal) (had : Option Lying)
+  forgets-by : (found : Result (Option Laid) PlacedRefusal) (had : Option Lying)
       → pages_in process at.homes ≡ had → ForgetsBy found had → ForgetsOf found
   forgets-by found None is forgets =
       subst (λ (o : Option Lying). ForgetsIn o (lent_or_new at.room at.follows o).spots start
@@ -196,21 +197,21 @@ module _ (process start bytes : ℕ) (at : HostLying) where
   forgets-nothing none = forgets-by (Ok None) None none (nothing-stated start bytes)
 
   forgets-as : (state : PageState) (lying shown : Lying) → LiesAs state shown
-      → shown.spots ≡ lying.spots → (found : Result (Option (List (Run Spot))) PlacedRefusal)
+      → shown.spots ≡ lying.spots → (found : Result (Option Laid) PlacedRefusal)
       → Forgets (Some state) start bytes found → ForgetsBy found (Some lying)
   forgets-as state lying shown lies same (Ok None) forgets =
       subst (λ (s : ℕ → Spot). has_stated s start bytes ≡ false) same (forgets shown lies)
   forgets-as state lying shown lies same (Ok (Some after)) forgets =
       let f = forgets shown lies in
       subst (λ (s : ℕ → Spot). ForgetsIn (Some lying) s start bytes (Ok (Some after))) same
-      (f.0, refl, f.2, f.3)
+      (f.0, refl, f.2)
   forgets-as state lying shown lies same (Err why) forgets =
       subst (λ (s : ℕ → Spot). ForgetsIn (Some lying) s start bytes (Err why)) same
       (forgets shown lies)
 
   pub forgets-there : (state : PageState) (lying : Lying)
       → pages_in process at.homes ≡ Some lying → LiesApart state lying
-      → (found : Result (Option (List (Run Spot))) PlacedRefusal)
+      → (found : Result (Option Laid) PlacedRefusal)
       → Forgets (Some state) start bytes found → ForgetsOf found
   forgets-there state lying is lies found forgets = forgets-by found (Some lying) is
       (forgets-as state lying (lent lies.0 lies.1 lying) lies.2 refl found forgets)
@@ -219,10 +220,10 @@ module _ (old : RunningHost) (process start bytes : ℕ) where
   abbrev said : HostCommand
   said = In process (own.Unmap start bytes)
 
-  abbrev pub unmaps : Lack → Hosting → Outcome
-  unmaps lack at = unmap_outcome lack.refused at process start bytes
+  abbrev pub unmaps : HostLack → Hosting → Outcome
+  unmaps lack at = unmap_outcome lack.lacked at process start bytes
 
-  abbrev pub ForgetsAll : Result (Option (List (Run Spot))) PlacedRefusal → Type 0
+  abbrev pub ForgetsAll : Result (Option Laid) PlacedRefusal → Type 0
   ForgetsAll found = (at : HostLying) → HostLies old.pages at
       → ForgetsIn (pages_in process at.homes) (pages_lent process at).spots start bytes found
 
@@ -231,40 +232,40 @@ module _ (old : RunningHost) (process start bytes : ℕ) where
       → Replies old (pages_reply why) old unmaps
   unmap-denied why forgets = λ at stands.
       let f = forgets at.lying stands.lies in
-      let is : unmaps (flag (is_no_memory why)) at ≡ with_reply (pages_reply why) at =
+      let is : unmaps (flag (lack_told why)) at ≡ with_reply (pages_reply why) at =
       rw (f.0, f.1) refl in (
-        flag (is_no_memory why),
+        flag (lack_told why),
         sym (ap (λ (o : Outcome). reply_in o.answer) is),
         subst (λ (o : Outcome). RunsAs old (hosting_with at o)) (sym is) stands,
       )
 
   -- nothing was stated of the span
   pub unmap-plain : (new : RunningHost) (answer : Reply) → ForgetsAll (Ok None)
-      → Replies old answer new (λ lack at. process_outcome lack.refused at process
+      → Replies old answer new (λ lack at. process_outcome lack.lacked at process
       (own.Unmap start bytes))
       → Replies old answer new unmaps
   unmap-plain new answer forgets serves = λ at stands.
       let s = serves at stands in
-      let is : unmaps s.0 at ≡ process_outcome s.0.refused at process (own.Unmap start bytes) =
+      let is : unmaps s.0 at ≡ process_outcome s.0.lacked at process (own.Unmap start bytes) =
       rw (forgets at.lying stands.lies) refl in (
         s.0,
         s.1 ∙ sym (ap (λ (o : Outcome). reply_in o.answer) is),
         subst (λ (o : Outcome). RunsAs new (hosting_with at o)) (sym is) s.2,
       )
 
-  module _ (after : List (Run Spot)) (forgets : ForgetsAll (Ok (Some after))) where
+  module _ (after : Laid) (forgets : ForgetsAll (Ok (Some after))) where
     abbrev lying_then : Hosting → HostLying
     lying_then at = lying_with at process (with_spots
         (forgotten start bytes (pages_at at process).spots) (pages_at at process))
 
     enough : (at : Hosting) → RunsAs old at
-        → unmaps (flag false) at ≡ command_unless (first_of
+        → unmaps (flag Enough) at ≡ command_unless (first_of
         (host_refusal_of at.machine at.bounds at.history said) None) (lying_then at) at said
     enough at stands =
-        let f = forgets at.lying stands.lies in rw (f.0, f.2) refl
+        let f = forgets at.lying stands.lies in rw f.0 refl
 
     lacks : (at : Hosting) → RunsAs old at
-        → unmaps (flag true) at ≡ with_reply (pages_reply cause.NoMemory) at
+        → unmaps (flag Starved) at ≡ with_reply (pages_reply cause.NoMemory) at
     lacks at stands =
         let f = forgets at.lying stands.lies in rw f.0 refl
 
@@ -285,18 +286,18 @@ module _ (old : RunningHost) (process start bytes : ℕ) where
         (subst (λ (c : Option HostRefusal). MatchOption c (why ≡ NoMemory) (λ f. why ≡ f))
         (cause-here old at said stands) (applied.err at.history stands.stands))) [
           | inl first ↦
-              let is : unmaps (flag false) at ≡ with_reply (reply.HostRefused why) at =
+              let is : unmaps (flag Enough) at ≡ with_reply (reply.HostRefused why) at =
               enough at stands ∙ ap (λ (c : Option HostRefusal).
               command_unless (first_of c None) (lying_then at) at said) first in (
-                flag false,
+                flag Enough,
                 sym (ap (λ (o : Outcome). reply_in o.answer) is),
                 subst (λ (o : Outcome). RunsAs new (hosting_with at o)) (sym is) runs,
               )
           | inr lack ↦
-              let is : unmaps (flag true) at ≡ with_reply (reply.HostRefused why) at =
+              let is : unmaps (flag Starved) at ≡ with_reply (reply.HostRefused why) at =
               lacks at stands ∙ ap (λ (w : HostRefusal). with_reply (reply.HostRefused w) at)
               (sym lack) in (
-                flag true,
+                flag Starved,
                 sym (ap (λ (o : Outcome). reply_in o.answer) is),
                 subst (λ (o : Outcome). RunsAs new (hosting_with at o)) (sym is) runs,
               )
@@ -315,13 +316,13 @@ module _ (old : RunningHost) (process start bytes : ℕ) where
         let ok = applied.ok at.history stands.stands in
         let none : host_refusal_of at.machine at.bounds at.history said ≡ None =
         sym (cause-here old at said stands) ∙ ok.0 in
-        let is : unmaps (flag false) at ≡ command_unless None (lying_then at) at said =
+        let is : unmaps (flag Enough) at ≡ command_unless None (lying_then at) at said =
         enough at stands ∙ ap (λ (c : Option HostRefusal).
         command_unless (first_of c None) (lying_then at) at said) none in
         let are = given-are process (with_spots
         (forgotten start bytes (pages_at at process).spots) (pages_at at process)) at.lying
         at.history stands.are in (
-          flag false,
+          flag Enough,
           ap (λ (n : ℕ). Some (reply.Accepted n)) (counts (said ∷ at.history) ok.1)
               ∙ sym (ap (λ (o : Outcome). reply_in o.answer) is),
           subst (λ (o : Outcome). RunsAs new (hosting_with at o)) (sym is) (record {
@@ -329,7 +330,7 @@ module _ (old : RunningHost) (process start bytes : ℕ) where
             bounds = applied.bounds ∙ stands.bounds;
             stands = ok.1;
             lies = replaces at.lying (forgotten start bytes (pages_at at process).spots)
-                stands.lies f.1 f.3;
+                stands.lies f.1 f.2;
             are = record { order = are.order; same = are.same };
           }),
         )
@@ -338,8 +339,8 @@ module _ (old : RunningHost) (process start bytes : ℕ) where
 
 pub obeyed-plain : (old new : RunningHost) (answer : Reply) (process : ℕ) (said : Command)
     → ((start bytes : ℕ) → said ≢ own.Unmap start bytes)
-    → Replies old answer new (λ lack at. process_outcome lack.refused at process said)
-    → Replies old answer new (λ lack at. obeyed lack.refused at process said)
+    → Replies old answer new (λ lack at. process_outcome lack.lacked at process said)
+    → Replies old answer new (λ lack at. obeyed lack.lacked at process said)
 obeyed-plain old new answer process (own.Unmap start bytes) other serves =
     absurd (other start bytes refl)
 obeyed-plain old new answer process (own.Map start bytes offset) other serves = serves

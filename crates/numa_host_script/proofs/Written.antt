@@ -4,7 +4,7 @@ use Rattle.std.proofs.Common.{refl, sym, ap, subst, ◌∙◌}
 use Rattle.std.specs.Prelude.{◌↔◌, IsSomeAnd, IsTrue, length}
 use Rattle.numa_machine.specs.Machine.{Hardware}
 use Rattle.numa_page_state.specs.Lying.{Process}
-use Rattle.numa_page_state.specs.Outcomes.{rooms_of}
+use Rattle.numa_page_state.specs.Outcomes.{Enough, Lack, Starved, is_starved, rooms_of}
 use Rattle.numa_space.specs.Limited.{Bounds}
 use Rattle.numa_space.specs.Standing.{SpaceState, StandsFor}
 use Rattle.numa_host.specs.Processes.{commands_of, is_there, members_of}
@@ -37,7 +37,7 @@ use Rattle.numa_run.proofs.JudgeLemmas.{cause-starved, reply-starved}
 use Rattle.numa_host_script.specs.Hosts.{plenty}
 use Rattle.numa_host_script.specs.Judged.{Starves}
 use Rattle.numa_host_script.specs.Paging.{arrived_text, pages_at, process_in}
-use Rattle.numa_host_script.specs.Sessions.{Hosted, Hosting, Lack, Session, Single}
+use Rattle.numa_host_script.specs.Sessions.{Hosted, Hosting, HostLack, Session, Single}
 use Rattle.numa_host_script.specs.Sessions.{session_after, session_answer, session_served}
 use Rattle.numa_host_script.specs.Standing.{RunsAs, StandsIn, told}
 use Rattle.numa_host_script.specs.Taking.{IsLeft, Left, Open, Told, Touched, answer_left}
@@ -57,7 +57,7 @@ use Rattle.numa_host_script.proofs.Taken.{lack_of}
 module _ {W : Type 0} (contents : W → Option (List ℕ)) (output output_then : Watched W) where
   -- what was left in a session was written
   abbrev pub WritesAt : Left → Bool → Script → Bounds → Option RunningHost → Session → Type 0
-  WritesAt left lacks script limits host session = (lack : Lack)
+  WritesAt left lacks script limits host session = (lack : HostLack)
       × StandsIn script limits host session
       × Said contents output output_then (bytes_of (answer_left lack session left))
       × (IsTrue lacks ↔ IsSomeAnd (fault_left lack session left) LacksMemory)
@@ -148,7 +148,7 @@ module _ {W : Type 0} (contents : W → Option (List ℕ)) (output output_then :
 
   -- a question of a process was answered
   abbrev pub AsksAt : ℕ → Question → Bool → Session → Type 0
-  AsksAt process asked lacks session = (lack : Lack)
+  AsksAt process asked lacks session = (lack : HostLack)
       × Said contents output output_then
       (session_answer lack session (told process (line.Question asked)))
       × (IsTrue lacks ↔ Starves lack session (told process (line.Question asked)))
@@ -184,6 +184,36 @@ module _ {W : Type 0} (contents : W → Option (List ℕ)) (output output_then :
             (sym (asked-fault_where false plenty at process asked no)) (λ e. cc, λ s. cc),
       )
 
+  asked-by : (script : Script) (limits : Bounds) (host : RunningHost) (process : ℕ)
+      (asked : Question) (space : SpaceState) (lacked : Lack) (session : Session)
+      → IsSpaceOf host.host process space
+      → ((history : List Command) → StandsFor space history → Said contents output output_then
+      (question_text (is_starved lacked) space.machine history asked))
+      → (asked ≡ question.Ranges → is_starved lacked ≡ false)
+      → StandsIn script limits (Some host) session
+      → AsksAt process asked (is_starved lacked) session
+  asked-by script limits host process asked space lacked (Single state) there answers ranges
+      stands = absurd stands
+  asked-by script limits host process asked space lacked (Hosted at) there answers ranges
+      stands =
+      let here = there at.history stands.stands in
+      let machine : space.machine ≡ at.machine = here.1 ∙ stands.machine in
+      let stood : StandsFor space (commands_of at.machine at.history process) =
+      subst (λ (m : Hardware). StandsFor space (commands_of m at.history process)) stands.machine
+      here.2 in
+      let lack = lack_of lacked in (
+        lack,
+        said_same contents output output_then _ _
+            (ap (λ (m : Hardware). question_text (is_starved lacked) m
+            (commands_of at.machine at.history process) asked) machine
+            ∙ sym (ap bytes_of (asked-answer_where true lack at process asked here.0)))
+            (answers (commands_of at.machine at.history process) stood),
+        subst (λ (o : Option Reply). IsTrue (is_starved lacked) ↔ IsSomeAnd o LacksMemory)
+            (sym (asked-fault_where true lack at process asked here.0))
+            (cause-starved (is_starved lacked) at.machine
+            (commands_of at.machine at.history process) asked ranges),
+      )
+
   pub asked-there : (script : Script) (limits : Bounds) (host : RunningHost) (process : ℕ)
       (asked : Question) (space : SpaceState) (lacks : Bool) (session : Session)
       → IsSpaceOf host.host process space
@@ -191,27 +221,10 @@ module _ {W : Type 0} (contents : W → Option (List ℕ)) (output output_then :
       → Said contents output output_then (question_text lacks space.machine history asked))
       → (asked ≡ question.Ranges → lacks ≡ false)
       → StandsIn script limits (Some host) session → AsksAt process asked lacks session
-  asked-there script limits host process asked space lacks (Single state) there answers ranges
-      stands = absurd stands
-  asked-there script limits host process asked space lacks (Hosted at) there answers ranges
-      stands =
-      let here = there at.history stands.stands in
-      let machine : space.machine ≡ at.machine = here.1 ∙ stands.machine in
-      let stood : StandsFor space (commands_of at.machine at.history process) =
-      subst (λ (m : Hardware). StandsFor space (commands_of m at.history process)) stands.machine
-      here.2 in
-      let lack = lack_of lacks in (
-        lack,
-        said_same contents output output_then _ _
-            (ap (λ (m : Hardware). question_text lacks m
-            (commands_of at.machine at.history process) asked) machine
-            ∙ sym (ap bytes_of (asked-answer_where true lack at process asked here.0)))
-            (answers (commands_of at.machine at.history process) stood),
-        subst (λ (o : Option Reply). IsTrue lacks ↔ IsSomeAnd o LacksMemory)
-            (sym (asked-fault_where true lack at process asked here.0))
-            (cause-starved lacks at.machine (commands_of at.machine at.history process) asked
-            ranges),
-      )
+  asked-there script limits host process asked space false session =
+      asked-by script limits host process asked space Enough session
+  asked-there script limits host process asked space true session =
+      asked-by script limits host process asked space Starved session
 
   pub written-asked : (script : Script) (limits : Bounds) (host : Option RunningHost)
       (process : ℕ) (asked : Question) (lacks : Bool) (session : Session)
@@ -327,7 +340,7 @@ module _ {W : Type 0} (contents : W → Option (List ℕ)) (output output_then :
 
   -- a line was taken, and then its answer was written
   abbrev pub ServesAt : ScriptLine → Bool → Script → Bounds → Option RunningHost → Session → Type 0
-  ServesAt said lacks script limits host session = (lack : Lack)
+  ServesAt said lacks script limits host session = (lack : HostLack)
       × StandsIn script limits host (session_after lack session said)
       × Said contents output output_then (session_answer lack session said)
       × (IsTrue lacks ↔ Starves lack session said)
@@ -335,8 +348,8 @@ module _ {W : Type 0} (contents : W → Option (List ℕ)) (output output_then :
   module _ (mid : Script) (mid_limits : Bounds) (mid_host : Option RunningHost)
       (new : Script) (new_limits : Bounds) (new_host : Option RunningHost) where
     served-left : (said : ScriptLine) (left : Left) (lacks : Bool) (session : Session)
-        → ((lack : Lack) → Stays lack session left)
-        → (lack : Lack) × StandsIn mid mid_limits mid_host (session_after lack session said)
+        → ((lack : HostLack) → Stays lack session left)
+        → (lack : HostLack) × StandsIn mid mid_limits mid_host (session_after lack session said)
         × IsLeft lack session said left
         → ((then : Session) → StandsIn mid mid_limits mid_host then
         → WritesAt left lacks new new_limits new_host then)
@@ -369,7 +382,7 @@ module _ {W : Type 0} (contents : W → Option (List ℕ)) (output output_then :
         )
 
     pub served-line : (said : ScriptLine) (found : HostTaken) (lacks : Bool) (session : Session)
-        → (lack : Lack) × StandsIn mid mid_limits mid_host (session_after lack session said)
+        → (lack : HostLack) × StandsIn mid mid_limits mid_host (session_after lack session said)
         × IsLeft lack session said (left_in found)
         → ((then : Session) → StandsIn mid mid_limits mid_host then
         → WritesAt (left_in found) lacks new new_limits new_host then)

@@ -11,6 +11,7 @@ use Rattle.numa_requests.specs.declared.host_command.HostCommand.{HostCommand}
 use Rattle.numa_requests.specs.declared.host_command.HostCommand.TheVariants as command
 use Rattle.numa_requests.specs.declared.host_refusal.HostRefusal.{HostRefusal}
 use Rattle.numa_requests.specs.declared.host_refusal.HostRefusal.TheVariants.{NoMemory}
+use Rattle.numa_page_state.specs.Outcomes.{Enough, Lack, is_starved}
 use Rattle.numa_script.specs.declared.policy.WordError.{WordError}
 use Rattle.numa_script.specs.declared.reply.Reply.{Reply}
 use Rattle.numa_script.specs.declared.reply.Reply.TheVariants as reply
@@ -25,16 +26,15 @@ pub record Hosting : Type 0 where
   pub history : List HostCommand
   pub lying : HostLying
 
--- what memory lacked for while a line was served: whether a growth was refused that the line itself
--- wanted; and, where groups are told their nodes, by the place of a group and of a process, whether
--- its pages stayed for want of memory
-pub record Lack : Type 0 where
-  pub refused : Bool
-  pub moves : ℕ → ℕ → Bool
+-- what lacked while a line was served: what the line itself lacked; and, where groups are told
+-- their nodes, by the place of a group and of a process, what the move of its pages lacked
+pub record HostLack : Type 0 where
+  pub lacked : Lack
+  pub moves : ℕ → ℕ → Lack
 
 -- it lacked for nothing
-abbrev pub plenty : Lack
-plenty = record { refused = false; moves = λ group process. false }
+abbrev pub plenty : HostLack
+plenty = record { lacked = Enough; moves = λ group process. Enough }
 
 -- what a line comes to: its answer, and the accepted commands and the pages after it
 pub record Outcome : Type 0 where
@@ -70,9 +70,9 @@ host_needs_room (command.In process said) = needs_room said
 host_needs_room (command.SetWeight node weight) = false
 
 -- the first cause of all; lack of memory is the last
-abbrev pub cause_by : Bool → Hosting → HostCommand → Option HostRefusal
-cause_by refused at said = first_of (host_refusal_of at.machine at.bounds at.history said)
-    (when (refused && host_needs_room said) NoMemory)
+abbrev pub cause_by : Lack → Hosting → HostCommand → Option HostRefusal
+cause_by lacked at said = first_of (host_refusal_of at.machine at.bounds at.history said)
+    (when (is_starved lacked && host_needs_room said) NoMemory)
 
 -- it is accepted unless a cause stands against it, and pages lie so then
 abbrev pub command_unless : Option HostRefusal → HostLying → Hosting → HostCommand → Outcome
@@ -83,16 +83,16 @@ command_unless None lying at said = record {
 }
 command_unless (Some cause) lying at said = with_reply (reply.HostRefused cause) at
 
-abbrev pub command_outcome : Lack → Hosting → HostCommand → Outcome
-command_outcome lack at said = command_unless (cause_by lack.refused at said)
+abbrev pub command_outcome : HostLack → Hosting → HostCommand → Outcome
+command_outcome lack at said = command_unless (cause_by lack.lacked at said)
     (pages_after lack.moves at.machine at.history said at.lying) at said
 
 -- a command that a process is told, and that leaves its pages where they lie
-abbrev pub process_outcome : Bool → Hosting → ℕ → Command → Outcome
-process_outcome refused at process said = command_unless
-    (cause_by refused at (command.In process said)) at.lying at (command.In process said)
+abbrev pub process_outcome : Lack → Hosting → ℕ → Command → Outcome
+process_outcome lacked at process said = command_unless
+    (cause_by lacked at (command.In process said)) at.lying at (command.In process said)
 
 -- a fault of a list or a policy comes before every refusal
-abbrev pub said_outcome : Lack → Hosting → Result HostCommand WordError → Outcome
+abbrev pub said_outcome : HostLack → Hosting → Result HostCommand WordError → Outcome
 said_outcome lack at (Err fault) = with_reply (reply.BadWord fault) at
 said_outcome lack at (Ok said) = command_outcome lack at said

@@ -1,14 +1,15 @@
 -- What lines about pages are answered in a host, and where the pages of its processes lie after
 -- them: each as in a script of one process that has accepted the commands of the process, but that
--- versions are the host's, and the rooms are all processes'. `refused` says whether a growth was
--- refused while the line was served.
+-- versions are the host's, and the rooms are all processes'. `lacked` says what a line lacked
+-- while it was served.
 use Rattle.std.specs.Prelude.{ℕ, suc, ◌&&◌, nat_le, not, Bool, true, false, Option, Some, None}
 use Rattle.std.specs.Prelude.{List, [], ◌∷◌, length, if◌then◌else◌, Result, Ok, Err, is_some}
 use Rattle.numa_host.specs.Processes.{commands_of, is_there, members_of}
 use Rattle.numa_host_pages.specs.Homes.{HostLying, given_back, pages_in, pages_lent, with_room}
 use Rattle.numa_mask.specs.declared.list.ListFault.{ListFault}
 use Rattle.numa_page_state.specs.Lying.{Ground, Lying, Process, ground_of, with_spots}
-use Rattle.numa_page_state.specs.Outcomes.{forgotten, has_stated, lack_of, rooms_of}
+use Rattle.numa_page_state.specs.Outcomes.{Enough, Lack, forgotten, has_stated, is_starved, lack_of}
+use Rattle.numa_page_state.specs.Outcomes.{rooms_of}
 use Rattle.numa_page_state.specs.Sending.{asked_of, command_of, rebinding_in, sent_in, sent_spots}
 use Rattle.numa_page_state.specs.Sending.{tells_left, with_sent}
 use Rattle.numa_page_state.specs.Strict.{has_astray, is_late, strict_binding_in}
@@ -76,41 +77,42 @@ with_change at process done =
 
 -- what a line changes, and its reply, if it has one; the first change of a process wants memory,
 -- whatever it is
-abbrev pub pages_changed : Bool → Ground → ℕ → PageLine → HostLying → Option Reply × HostLying
-pages_changed refused basis process said at =
-    if not (is_some (pages_in process at.homes)) && refused then (Some (lack_reply said), at)
+abbrev pub pages_changed : Lack → Ground → ℕ → PageLine → HostLying → Option Reply × HostLying
+pages_changed lacked basis process said at =
+    if not (is_some (pages_in process at.homes)) && is_starved lacked
+    then (Some (lack_reply said), at)
     else (
-      (change_of refused basis said (record (pages_lent process at) { begun = true })).0,
+      (change_of lacked basis said (record (pages_lent process at) { begun = true })).0,
       given_back process
-          (change_of refused basis said (record (pages_lent process at) { begun = true })).1 at,
+          (change_of lacked basis said (record (pages_lent process at) { begun = true })).1 at,
     )
 
-abbrev pub changed : Bool → Hosting → ℕ → PageLine → Outcome
-changed refused at process said = with_change at process
-    (pages_changed refused (ground_of (process_in at process)) process said at.lying)
+abbrev pub changed : Lack → Hosting → ℕ → PageLine → Outcome
+changed lacked at process said = with_change at process
+    (pages_changed lacked (ground_of (process_in at process)) process said at.lying)
 
-abbrev pub page_there : Bool → Hosting → ℕ → PageLine → Outcome
-page_there refused at process page.Moved =
+abbrev pub page_there : Lack → Hosting → ℕ → PageLine → Outcome
+page_there lacked at process page.Moved =
     with_text (last_line (length at.history) (pages_at at process).last) at
-page_there refused at process said = changed refused at process said
+page_there lacked at process said = changed lacked at process said
 
-abbrev pub page_where : Bool → Bool → Hosting → ℕ → PageLine → Outcome
-page_where false refused at process said = with_reply (reply.HostRefused NoSuchProcess) at
-page_where true refused at process said = page_there refused at process said
+abbrev pub page_where : Bool → Lack → Hosting → ℕ → PageLine → Outcome
+page_where false lacked at process said = with_reply (reply.HostRefused NoSuchProcess) at
+page_where true lacked at process said = page_there lacked at process said
 
 -- the rooms, and whether pages follow, are the host's
-abbrev pub page_outcome : Bool → Hosting → ℕ → PageLine → Outcome
-page_outcome refused at process (page.Room node pages) = with_reply reply.BadWords at
-page_outcome refused at process page.Rooms = with_reply reply.BadWords at
-page_outcome refused at process (page.MemoryMigrate follows) = with_reply reply.BadWords at
-page_outcome refused at process said =
-    page_where (is_there (members_of at.history) process) refused at process said
+abbrev pub page_outcome : Lack → Hosting → ℕ → PageLine → Outcome
+page_outcome lacked at process (page.Room node pages) = with_reply reply.BadWords at
+page_outcome lacked at process page.Rooms = with_reply reply.BadWords at
+page_outcome lacked at process (page.MemoryMigrate follows) = with_reply reply.BadWords at
+page_outcome lacked at process said =
+    page_where (is_there (members_of at.history) process) lacked at process said
 
 -- what is wrong with a list of nodes comes before every refusal
-abbrev pub pages_outcome : Bool → Hosting → ℕ → Result PageLine ListFault → Outcome
-pages_outcome refused at process (Err wrong) =
+abbrev pub pages_outcome : Lack → Hosting → ℕ → Result PageLine ListFault → Outcome
+pages_outcome lacked at process (Err wrong) =
     with_reply (reply.BadWord (word_fault.List wrong)) at
-pages_outcome refused at process (Ok said) = page_outcome refused at process said
+pages_outcome lacked at process (Ok said) = page_outcome lacked at process said
 
 -- ---- room, memory-migrate
 
@@ -139,23 +141,23 @@ unless_pages (Some why) at done = with_reply (pages_reply why) at
 unless_pages None at done = done
 
 -- nothing is stated any more of pages that were unmapped, and their room is given back
-abbrev pub unmap_outcome : Bool → Hosting → ℕ → ℕ → ℕ → Outcome
-unmap_outcome refused at process start bytes =
+abbrev pub unmap_outcome : Lack → Hosting → ℕ → ℕ → ℕ → Outcome
+unmap_outcome lacked at process start bytes =
     let spots = forgotten start bytes (pages_at at process).spots in
     if has_stated (pages_at at process).spots start bytes
-    then unless_pages (lack_of refused spots) at (command_unless
-    (cause_by refused at (In process (Unmap start bytes)))
+    then unless_pages (lack_of lacked spots) at (command_unless
+    (cause_by lacked at (In process (Unmap start bytes)))
     (lying_with at process (with_spots spots (pages_at at process))) at
     (In process (Unmap start bytes)))
-    else process_outcome refused at process (Unmap start bytes)
+    else process_outcome lacked at process (Unmap start bytes)
 
-abbrev pub obeyed : Bool → Hosting → ℕ → Command → Outcome
-obeyed refused at process (Unmap start bytes) = unmap_outcome refused at process start bytes
-obeyed refused at process said = process_outcome refused at process said
+abbrev pub obeyed : Lack → Hosting → ℕ → Command → Outcome
+obeyed lacked at process (Unmap start bytes) = unmap_outcome lacked at process start bytes
+obeyed lacked at process said = process_outcome lacked at process said
 
-abbrev pub given_outcome : Bool → Hosting → ℕ → Result Command WordError → Outcome
-given_outcome refused at process (Err fault) = with_reply (reply.BadWord fault) at
-given_outcome refused at process (Ok said) = obeyed refused at process said
+abbrev pub given_outcome : Lack → Hosting → ℕ → Result Command WordError → Outcome
+given_outcome lacked at process (Err fault) = with_reply (reply.BadWord fault) at
+given_outcome lacked at process (Ok said) = obeyed lacked at process said
 
 -- ---- mbind .. strict
 
@@ -164,19 +166,19 @@ abbrev pub own_cause : Hosting → ℕ → Command → Option Refusal
 own_cause at process said =
     refusal_of at.machine at.bounds (commands_of at.machine at.history process) said
 
-abbrev pub astray_outcome : Bool → Hosting → ℕ → Command → Outcome
-astray_outcome true at process said = with_reply (pages_reply cause.NoMemory) at
-astray_outcome false at process said =
-    if is_late at.machine.rules (own_cause at process said)
+abbrev pub astray_outcome : Lack → Hosting → ℕ → Command → Outcome
+astray_outcome lacked at process said =
+    if is_starved lacked then with_reply (pages_reply cause.NoMemory) at
+    else if is_late at.machine.rules (own_cause at process said)
     then with_reply (pages_reply cause.Astray) at
-    else process_outcome false at process said
+    else process_outcome Enough at process said
 
-abbrev pub judged_by : Option Binding → Bool → Hosting → ℕ → Command → Outcome
-judged_by None refused at process said = process_outcome refused at process said
-judged_by (Some binding) refused at process said =
+abbrev pub judged_by : Option Binding → Lack → Hosting → ℕ → Command → Outcome
+judged_by None lacked at process said = process_outcome lacked at process said
+judged_by (Some binding) lacked at process said =
     if has_astray (process_in at process) (pages_at at process).spots binding
-    then astray_outcome refused at process said
-    else process_outcome refused at process said
+    then astray_outcome lacked at process said
+    else process_outcome lacked at process said
 
 -- ---- mbind .. move
 
@@ -193,35 +195,40 @@ sent_outcome at process said words =
     }
 
 -- what refuses the policy is answered as without the words; then lack of runs or memory
-abbrev pub sent_unless : Bool → Option Refusal → Hosting → ℕ → Rebinding → MoveWords → Outcome
-sent_unless true first at process said words = with_reply (pages_reply cause.NoMemory) at
-sent_unless false (Some refusal) at process said words =
-    process_outcome false at process (command_of said)
-sent_unless false None at process said words =
-    unless_pages (lack_of false (sent_spots (asked_of (process_in at process) said
+abbrev pub sent_where : Option Refusal → Lack → Hosting → ℕ → Rebinding → MoveWords → Outcome
+sent_where (Some refusal) lacked at process said words =
+    process_outcome Enough at process (command_of said)
+sent_where None lacked at process said words =
+    unless_pages (lack_of lacked (sent_spots (asked_of (process_in at process) said
     (toucher_of words)) (pages_at at process))) at (sent_outcome at process said words)
 
-abbrev pub moved_by : Option Rebinding → Bool → Hosting → ℕ → Command → MoveWords → Outcome
-moved_by None refused at process command words = process_outcome refused at process command
-moved_by (Some said) refused at process command words = sent_unless refused
+-- memory that lacks for the trial comes before all
+abbrev pub sent_unless : Lack → Option Refusal → Hosting → ℕ → Rebinding → MoveWords → Outcome
+sent_unless lacked first at process said words =
+    if is_starved lacked then with_reply (pages_reply cause.NoMemory) at
+    else sent_where first lacked at process said words
+
+abbrev pub moved_by : Option Rebinding → Lack → Hosting → ℕ → Command → MoveWords → Outcome
+moved_by None lacked at process command words = process_outcome lacked at process command
+moved_by (Some said) lacked at process command words = sent_unless lacked
     (own_cause at process (command_of said)) at process said words
 
-abbrev pub bound_by : BoundPages → Bool → Hosting → ℕ → Command → Outcome
-bound_by bound.Strict refused at process said =
-    judged_by (strict_binding_in said) refused at process said
-bound_by (bound.Move words) refused at process said =
-    moved_by (rebinding_in said) refused at process said words
+abbrev pub bound_by : BoundPages → Lack → Hosting → ℕ → Command → Outcome
+bound_by bound.Strict lacked at process said =
+    judged_by (strict_binding_in said) lacked at process said
+bound_by (bound.Move words) lacked at process said =
+    moved_by (rebinding_in said) lacked at process said words
 
 -- the process is there, and the host takes more commands
 abbrev pub takes_more : Hosting → ℕ → Bool
 takes_more at process = is_there (members_of at.history) process
     && not (nat_le at.bounds.max_commands (length at.history))
 
-abbrev pub bound_where : Bool → BoundPages → Bool → Hosting → ℕ → Command → Outcome
-bound_where false pages refused at process said = process_outcome refused at process said
-bound_where true pages refused at process said = bound_by pages refused at process said
+abbrev pub bound_where : Bool → BoundPages → Lack → Hosting → ℕ → Command → Outcome
+bound_where false pages lacked at process said = process_outcome lacked at process said
+bound_where true pages lacked at process said = bound_by pages lacked at process said
 
-abbrev pub bound_outcome : Bool → Hosting → ℕ → BoundPages → Result Command WordError → Outcome
-bound_outcome refused at process pages (Err fault) = with_reply (reply.BadWord fault) at
-bound_outcome refused at process pages (Ok said) =
-    bound_where (takes_more at process) pages refused at process said
+abbrev pub bound_outcome : Lack → Hosting → ℕ → BoundPages → Result Command WordError → Outcome
+bound_outcome lacked at process pages (Err fault) = with_reply (reply.BadWord fault) at
+bound_outcome lacked at process pages (Ok said) =
+    bound_where (takes_more at process) pages lacked at process said

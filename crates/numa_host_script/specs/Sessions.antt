@@ -1,6 +1,6 @@
 -- What each line is answered, and the state after it. Until a line `host` is accepted, all is as in
--- a script of one process. `lack` says what
--- memory lacked for while the line was served, `refused` whether a growth was refused.
+-- a script of one process. `lack` says what lacked while the line was served, `lacked` what the line
+-- itself did.
 use Rattle.std.specs.Prelude.{ℕ, ◌==◌, ◌&&◌, not, Bool, true, false, Option, Some, None, List}
 use Rattle.std.specs.Prelude.{[], ◌∷◌, length, if◌then◌else◌, Result, Ok, Err, is_some}
 use Rattle.numa_machine.specs.Machine.{Hardware}
@@ -13,6 +13,7 @@ use Rattle.numa_requests.specs.declared.host_refusal.HostRefusal.TheVariants.{No
 use Rattle.numa_host.specs.Processes.{commands_of, is_there, members_of}
 use Rattle.numa_host_pages.specs.Homes.{empty_host}
 use Rattle.numa_space.specs.Limited.{Bounds}
+use Rattle.numa_page_state.specs.Outcomes.{Lack, is_starved}
 use Rattle.numa_script.specs.Lines.{line_of}
 use Rattle.numa_script.specs.declared.line.Line.{Line}
 use Rattle.numa_script.specs.declared.line.Line.TheVariants as line
@@ -27,7 +28,7 @@ use Rattle.numa_run.specs.Listings.{there_listing}
 use Rattle.numa_run.specs.Obeying.{bound_command}
 use Rattle.numa_run.specs.Questions.{question_text}
 use Rattle.numa_run.specs.Replies.{Answer, Replied, bind_nothing, bytes_of, outcome_of}
-pub use Rattle.numa_host_script.specs.Hosts.{Hosting, Lack, Outcome, command_outcome, said_outcome}
+pub use Rattle.numa_host_script.specs.Hosts.{Hosting, HostLack, Outcome, command_outcome, said_outcome}
 pub use Rattle.numa_host_script.specs.Hosts.{cause_by, command_unless, with_reply, with_text}
 pub use Rattle.numa_host_script.specs.Hosts.{host_needs_room}
 use Rattle.numa_host_script.specs.Paging.{bound_outcome, own_page_outcome, pages_at}
@@ -45,11 +46,11 @@ session_by rules = Single (start_by rules)
 
 -- ---- what a process answers: as a script of one process that has accepted its commands
 
-abbrev pub asked_where : Bool → Bool → Hosting → ℕ → Question → Outcome
-asked_where false refused at process asked = with_reply (reply.HostRefused NoSuchProcess) at
-asked_where true refused at process asked =
-    with_text (question_text refused at.machine (commands_of at.machine at.history process) asked)
-    at
+abbrev pub asked_where : Bool → Lack → Hosting → ℕ → Question → Outcome
+asked_where false lacked at process asked = with_reply (reply.HostRefused NoSuchProcess) at
+asked_where true lacked at process asked =
+    with_text (question_text (is_starved lacked) at.machine
+    (commands_of at.machine at.history process) asked) at
 
 abbrev pub listed_where : Bool → Hosting → ℕ → ℕ → Outcome
 listed_where false at process task = with_reply (reply.HostRefused NoSuchProcess) at
@@ -57,18 +58,18 @@ listed_where true at process task =
     with_text (there_listing (process_in at process) (pages_at at process).spots task) at
 
 -- a line that a process is told
-abbrev pub in_outcome : Bool → Hosting → ℕ → Line → Outcome
-in_outcome refused at process (line.Command said) = given_outcome refused at process said
-in_outcome refused at process (line.EmptyBind start fault) =
-    given_outcome refused at process (bind_nothing at.machine.rules start fault)
-in_outcome refused at process (line.Question asked) =
-    asked_where (is_there (members_of at.history) process) refused at process asked
-in_outcome refused at process (line.Maps task) =
+abbrev pub in_outcome : Lack → Hosting → ℕ → Line → Outcome
+in_outcome lacked at process (line.Command said) = given_outcome lacked at process said
+in_outcome lacked at process (line.EmptyBind start fault) =
+    given_outcome lacked at process (bind_nothing at.machine.rules start fault)
+in_outcome lacked at process (line.Question asked) =
+    asked_where (is_there (members_of at.history) process) lacked at process asked
+in_outcome lacked at process (line.Maps task) =
     listed_where (is_there (members_of at.history) process) at process task
-in_outcome refused at process (line.Pages said) = pages_outcome refused at process said
-in_outcome refused at process (line.Bind start bytes policy pages) =
-    bound_outcome refused at process pages (bound_command at.machine.rules start bytes policy)
-in_outcome refused at process _ = with_reply reply.BadState at
+in_outcome lacked at process (line.Pages said) = pages_outcome lacked at process said
+in_outcome lacked at process (line.Bind start bytes policy pages) =
+    bound_outcome lacked at process pages (bound_command at.machine.rules start bytes policy)
+in_outcome lacked at process _ = with_reply reply.BadState at
 
 -- ---- every line of a host
 
@@ -85,20 +86,20 @@ plain_reply line.Silent = reply.Silent
 plain_reply line.Malformed = reply.BadWords
 plain_reply _ = reply.BadState
 
-abbrev pub own_where : Option (Result HostCommand WordError) → Lack → Hosting → Line → Outcome
+abbrev pub own_where : Option (Result HostCommand WordError) → HostLack → Hosting → Line → Outcome
 own_where None lack at said = with_reply (plain_reply said) at
 own_where (Some told) lack at said = said_outcome lack at told
 
-abbrev pub own_outcome : Lack → Hosting → Line → Outcome
+abbrev pub own_outcome : HostLack → Hosting → Line → Outcome
 own_outcome lack at (line.Pages (Ok said)) = own_page_outcome at said
 own_outcome lack at said = own_where (host_command_of said) lack at said
 
 -- a line of the host, or of one of its processes
-abbrev pub outcome_by : Option ℕ → Lack → Hosting → Line → Outcome
+abbrev pub outcome_by : Option ℕ → HostLack → Hosting → Line → Outcome
 outcome_by None lack at said = own_outcome lack at said
-outcome_by (Some process) lack at said = in_outcome lack.refused at process said
+outcome_by (Some process) lack at said = in_outcome lack.lacked at process said
 
-abbrev pub host_outcome : Lack → Hosting → ScriptLine → Outcome
+abbrev pub host_outcome : HostLack → Hosting → ScriptLine → Outcome
 host_outcome lack at said = outcome_by said.process lack at said.line
 
 -- ---- before a host
@@ -126,24 +127,24 @@ abbrev pub is_fresh : State → Bool
 is_fresh state = is_some state.machine && length state.world.history == 0
 
 -- `host`, behind `machine` and before every command: all that follows is a host's
-abbrev pub begun_on : Option Hardware → Bool → State → Served
-begun_on None refused state = replied reply.BadState (Single state)
-begun_on (Some machine) true state = replied (reply.HostRefused NoMemory) (Single state)
-begun_on (Some machine) false state = replied reply.HostReady
-    (Hosted (record {
+abbrev pub begun_on : Option Hardware → Lack → State → Served
+begun_on None lacked state = replied reply.BadState (Single state)
+begun_on (Some machine) lacked state =
+    if is_starved lacked then replied (reply.HostRefused NoMemory) (Single state)
+    else replied reply.HostReady (Hosted (record {
       machine = machine;
       bounds = state.bounds;
       history = [];
       lying = empty_host;
     }))
 
-abbrev pub begun_where : Bool → Bool → State → Served
-begun_where false refused state = replied reply.BadState (Single state)
-begun_where true refused state = begun_on state.machine refused state
+abbrev pub begun_where : Bool → Lack → State → Served
+begun_where false lacked state = replied reply.BadState (Single state)
+begun_where true lacked state = begun_on state.machine lacked state
 
-abbrev pub begun : Bool → Session → Served
-begun refused (Single state) = begun_where (is_fresh state) refused state
-begun refused (Hosted at) = replied reply.BadState (Hosted at)
+abbrev pub begun : Lack → Session → Served
+begun lacked (Single state) = begun_where (is_fresh state) lacked state
+begun lacked (Hosted at) = replied reply.BadState (Hosted at)
 
 abbrev pub with_outcome : Hosting → Outcome → Served
 with_outcome at outcome = record {
@@ -156,10 +157,10 @@ with_outcome at outcome = record {
   });
 }
 
-abbrev pub served : Lack → Session → ScriptLine → Served
+abbrev pub served : HostLack → Session → ScriptLine → Served
 served lack (Single state) said = record {
-  answer = (outcome_of lack.refused state (own_line said)).answer;
-  session = Single (after lack.refused state (own_line said));
+  answer = (outcome_of lack.lacked state (own_line said)).answer;
+  session = Single (after lack.lacked state (own_line said));
 }
 served lack (Hosted at) said = with_outcome at (host_outcome lack at said)
 
@@ -172,19 +173,19 @@ abbrev pub is_begin : ScriptLine → Bool
 is_begin said = not (is_some said.process) && is_host said.line
 
 -- what serving a line in a session comes to
-unfoldable pub session_served : Lack → Session → ScriptLine → Served
+unfoldable pub session_served : HostLack → Session → ScriptLine → Served
 session_served lack session said =
-    if is_begin said then begun lack.refused session else served lack session said
+    if is_begin said then begun lack.lacked session else served lack session said
 
-abbrev pub session_answer : Lack → Session → ScriptLine → List ℕ
+abbrev pub session_answer : HostLack → Session → ScriptLine → List ℕ
 session_answer lack session said = bytes_of (session_served lack session said).answer
 
-abbrev pub session_after : Lack → Session → ScriptLine → Session
+abbrev pub session_after : HostLack → Session → ScriptLine → Session
 session_after lack session said = (session_served lack session said).session
 
 -- the same of a line that is given as bytes
-abbrev pub session_answer_to : Lack → Session → List ℕ → List ℕ
+abbrev pub session_answer_to : HostLack → Session → List ℕ → List ℕ
 session_answer_to lack session bytes = session_answer lack session (line_of bytes)
 
-abbrev pub session_after_bytes : Lack → Session → List ℕ → Session
+abbrev pub session_after_bytes : HostLack → Session → List ℕ → Session
 session_after_bytes lack session bytes = session_after lack session (line_of bytes)

@@ -1,5 +1,5 @@
 -- Which states a running script of a host stands for, and what it does with lines.
-use Rattle.std.specs.Prelude.{◌≡◌, ℕ, Bool, true, false, Option, Some, None, IsSome, List, Result}
+use Rattle.std.specs.Prelude.{◌≡◌, ℕ, Bool, true, false, Option, Some, None, IsSome, Result}
 use Rattle.std.specs.Prelude.{◌∷◌, Ok, Err, length}
 use Rattle.numa_space.specs.Limited.{Bounds}
 use Rattle.numa_host.specs.Standing.{HostState, HostStandsFor, IsHostApplied}
@@ -7,14 +7,14 @@ use Rattle.numa_host_pages.specs.Homes.{HostLying, lent, pages_in, pages_lent, w
 use Rattle.numa_host_pages.specs.Standing.{AreOf, HostLies}
 use Rattle.numa_host_pages.specs.declared.pages.HostPages.{HostPages}
 use Rattle.numa_page_state.specs.Lying.{Lying}
-use Rattle.numa_page_state.specs.Outcomes.{forgotten, has_stated, is_no_memory, lack_of}
+use Rattle.numa_page_state.specs.Outcomes.{Enough, Lack, forgotten, has_stated, lack_of, lack_told}
 use Rattle.numa_page_state.specs.Sending.{command_of}
 use Rattle.numa_page_state.specs.Standing.{LiesAs}
 use Rattle.numa_page_state.specs.declared.sending.Rebinding.{Rebinding}
 use Rattle.numa_page_state.specs.declared.state.PageState.{PageState}
+use Rattle.numa_placed.specs.Laid.{Laid}
 use Rattle.numa_placed.specs.Spots.{spot_at}
 use Rattle.numa_placed.specs.declared.spot.Spot.{Spot}
-use Rattle.numa_ranges.specs.declared.run.Run.{Run}
 use Rattle.numa_requests.specs.declared.page_refusal.PlacedRefusal.{PlacedRefusal}
 use Rattle.numa_page_state.specs.Standing.{LieThere}
 use Rattle.numa_page_state.specs.declared.state.PageState.{PageState}
@@ -36,7 +36,7 @@ use Rattle.numa_run.specs.declared.script.Script.{Script}
 use Rattle.numa_host_script.specs.Judged.{refused_by}
 use Rattle.numa_host_script.specs.Paging.{arrived_text, lying_with, own_cause, pages_at}
 use Rattle.numa_host_script.specs.Paging.{sent_unless, takes_more, told_by}
-use Rattle.numa_host_script.specs.Sessions.{Hosting, Lack, Session, Single, Hosted, Outcome}
+use Rattle.numa_host_script.specs.Sessions.{Hosting, HostLack, Session, Single, Hosted, Outcome}
 use Rattle.numa_host_script.specs.Sessions.{host_outcome, with_reply}
 use Rattle.numa_host_script.specs.declared.running.RunningHost.{RunningHost}
 use Rattle.numa_host_script.specs.declared.taking.HostTaken.{HostTaken}
@@ -101,43 +101,42 @@ abbrev pub hosting_with : Hosting → Outcome → Hosting
 hosting_with at done = record at { history = done.history; lying = done.lying }
 
 -- the line was answered by a reply, as the outcome says, and all is as it says
-abbrev pub Replies : RunningHost → Reply → RunningHost → (Lack → Hosting → Outcome) → Type 0
+abbrev pub Replies : RunningHost → Reply → RunningHost → (HostLack → Hosting → Outcome) → Type 0
 Replies old answer new outcome = (at : Hosting) → RunsAs old at
-    → (lack : Lack) × (Some answer ≡ reply_in (outcome lack at).answer)
+    → (lack : HostLack) × (Some answer ≡ reply_in (outcome lack at).answer)
     × RunsAs new (hosting_with at (outcome lack at))
 
 -- the same where the process is there, and the host takes more commands
-abbrev pub RepliesThere : RunningHost → Reply → RunningHost → ℕ → (Lack → Hosting → Outcome)
+abbrev pub RepliesThere : RunningHost → Reply → RunningHost → ℕ → (HostLack → Hosting → Outcome)
     → Type 0
 RepliesThere old answer new process outcome = (at : Hosting) → RunsAs old at
     → takes_more at process ≡ true
-    → (lack : Lack) × (Some answer ≡ reply_in (outcome lack at).answer)
+    → (lack : HostLack) × (Some answer ≡ reply_in (outcome lack at).answer)
     × RunsAs new (hosting_with at (outcome lack at))
 
 -- the same of a line that may have no reply, and then tells what pages of a process did
-abbrev pub Changes : RunningHost → Option Reply → RunningHost → ℕ → (Bool → Hosting → Outcome)
+abbrev pub Changes : RunningHost → Option Reply → RunningHost → ℕ → (Lack → Hosting → Outcome)
     → Type 0
 Changes old told new process outcome = (at : Hosting) → RunsAs old at
-    → (refused : Bool) × ((outcome refused at).answer ≡ told_by told
-    (length (outcome refused at).history) (pages_lent process (outcome refused at).lying))
-    × RunsAs new (hosting_with at (outcome refused at))
+    → (lacked : Lack) × ((outcome lacked at).answer ≡ told_by told
+    (length (outcome lacked at).history) (pages_lent process (outcome lacked at).lying))
+    × RunsAs new (hosting_with at (outcome lacked at))
 
 -- the same of the pages alone
 abbrev pub ChangesPages : HostPages → Option Reply → HostPages
-    → (Bool → HostLying → Option Reply × HostLying) → Type 0
+    → (Lack → HostLying → Option Reply × HostLying) → Type 0
 ChangesPages old told new outcome = (at : HostLying) → HostLies old at
-    → (refused : Bool) × ((outcome refused at).0 ≡ told) × HostLies new (outcome refused at).1
+    → (lacked : Lack) × ((outcome lacked at).0 ≡ told) × HostLies new (outcome lacked at).1
 
 -- nothing is stated any more of a span of a process that has such pages, where something was
 abbrev pub ForgetsIn : Option Lying → (ℕ → Spot) → ℕ → ℕ
-    → Result (Option (List (Run Spot))) PlacedRefusal → Type 0
+    → Result (Option Laid) PlacedRefusal → Type 0
 ForgetsIn had spots start bytes (Ok None) = has_stated spots start bytes ≡ false
 ForgetsIn had spots start bytes (Ok (Some after)) =
     (has_stated spots start bytes ≡ true) × IsSome had
-    × (lack_of false (forgotten start bytes spots) ≡ None)
     × ((page : ℕ) → spot_at after page ≡ forgotten start bytes spots page)
 ForgetsIn had spots start bytes (Err why) = (has_stated spots start bytes ≡ true)
-    × (lack_of (is_no_memory why) (forgotten start bytes spots) ≡ Some why)
+    × (lack_of (lack_told why) (forgotten start bytes spots) ≡ Some why)
 
 -- ---- mbind .. move
 
@@ -153,7 +152,7 @@ abbrev pub SendsIn : HostState → PageState → Result Reply Reply → HostStat
     → Rebinding → MoveWords → Type 0
 SendsIn old before (Ok answer) new after process said words = (at : Hosting) → HostRuns old at
     → takes_more at process ≡ true → LiesAs before (pages_at at process) → (done : Lying)
-    × (sent_unless false (own_cause at process (command_of said)) at process said words ≡ record {
+    × (sent_unless Enough (own_cause at process (command_of said)) at process said words ≡ record {
       answer = Replied answer;
       history = In process (command_of said) ∷ at.history;
       lying = lying_with at process done;
@@ -161,17 +160,17 @@ SendsIn old before (Ok answer) new after process said words = (at : Hosting) →
     × HostRuns new (record at { history = In process (command_of said) ∷ at.history })
     × LiesAs after done
 SendsIn old before (Err answer) new after process said words = (at : Hosting) → HostRuns old at
-    → takes_more at process ≡ true → LiesAs before (pages_at at process) → (refused : Bool)
-    × (sent_unless refused (own_cause at process (command_of said)) at process said words
+    → takes_more at process ≡ true → LiesAs before (pages_at at process) → (lacked : Lack)
+    × (sent_unless lacked (own_cause at process (command_of said)) at process said words
     ≡ with_reply answer at)
     × HostRuns new at × (after ≡ before)
 
 -- it was answered so, and all is as the definition says
 abbrev pub IsSentTo : Reply → RunningHost → Hosting → ℕ → Rebinding → MoveWords → Type 0
-IsSentTo answer new at process said words = (lack : Lack)
-    × (Some answer ≡ reply_in (sent_unless lack.refused (own_cause at process (command_of said))
+IsSentTo answer new at process said words = (lack : HostLack)
+    × (Some answer ≡ reply_in (sent_unless lack.lacked (own_cause at process (command_of said))
     at process said words).answer)
-    × RunsAs new (hosting_with at (sent_unless lack.refused
+    × RunsAs new (hosting_with at (sent_unless lack.lacked
     (own_cause at process (command_of said)) at process said words))
 
 -- the same of all that runs, once the pages of the process were lent
@@ -194,7 +193,7 @@ Answers old said answer new = (done : Result (Unit {0}) HostRefusal)
 
 -- what was taken is the reply that the definition says, or the line itself, which changes nothing;
 -- of `populate` it is the answer, which the pages after it tell
-abbrev pub IsTakenIn : Lack → Hosting → ScriptLine → HostTaken → Type 0
+abbrev pub IsTakenIn : HostLack → Hosting → ScriptLine → HostTaken → Type 0
 IsTakenIn lack at said (taken.Reply answer) =
     Some answer ≡ reply_in (host_outcome lack at said).answer
 IsTakenIn lack at said (taken.Asked process asked) = said ≡ told process (line.Question asked)
@@ -204,10 +203,10 @@ IsTakenIn lack at said taken.Rooms = said ≡ alone (line.Pages (Ok page.Rooms))
 IsTakenIn lack at said (taken.Arrived process) =
     (Shown (arrived_text (hosting_with at (host_outcome lack at said)) process)
     ≡ (host_outcome lack at said).answer)
-    × (None ≡ refused_by said.process lack.refused at said.line)
+    × (None ≡ refused_by said.process lack.lacked at said.line)
 IsTakenIn lack at said (taken.Own found) = ⊥
 
 abbrev pub Takes : RunningHost → ScriptLine → HostTaken → RunningHost → Type 0
 Takes old said found new = (at : Hosting) → RunsAs old at
-    → (lack : Lack) × IsTakenIn lack at said found
+    → (lack : HostLack) × IsTakenIn lack at said found
     × RunsAs new (hosting_with at (host_outcome lack at said))

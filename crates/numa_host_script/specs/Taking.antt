@@ -15,7 +15,7 @@ use Rattle.numa_run.specs.Scripts.{arrived_answer}
 use Rattle.numa_run.specs.declared.running.Taken.{Taken}
 use Rattle.numa_run.specs.declared.running.Taken.TheVariants as own
 use Rattle.numa_host_script.specs.Judged.{Starves, session_fault, session_refused}
-use Rattle.numa_host_script.specs.Sessions.{Hosted, Hosting, Lack, Session, Single, session_after}
+use Rattle.numa_host_script.specs.Sessions.{Hosted, Hosting, HostLack, Session, Single, session_after}
 use Rattle.numa_host_script.specs.Sessions.{session_answer}
 use Rattle.numa_host_script.specs.Sessions.{session_served}
 use Rattle.numa_host_script.specs.Paging.{arrived_text}
@@ -56,7 +56,7 @@ touched_answer (Single state) process = arrived_answer state
 touched_answer (Hosted at) process = touched_by process at
 
 -- the reply is the one that the definition says, or the line is left as it is
-abbrev pub IsLeft : Lack → Session → ScriptLine → Left → Type 0
+abbrev pub IsLeft : HostLack → Session → ScriptLine → Left → Type 0
 IsLeft lack session said (Told answer) =
     Some answer ≡ reply_in (session_served lack session said).answer
 IsLeft lack session said (Open same) = said ≡ same
@@ -66,12 +66,12 @@ IsLeft lack session said (Touched process) =
     × (None ≡ session_refused lack session said)
 
 -- the answer of what is left, and its fault or refusal
-abbrev pub answer_left : Lack → Session → Left → Answer
+abbrev pub answer_left : HostLack → Session → Left → Answer
 answer_left lack session (Told answer) = Replied answer
 answer_left lack session (Open said) = (session_served lack session said).answer
 answer_left lack session (Touched process) = touched_answer session process
 
-abbrev pub fault_left : Lack → Session → Left → Option Reply
+abbrev pub fault_left : HostLack → Session → Left → Option Reply
 fault_left lack session (Told answer) = fault_in answer
 fault_left lack session (Open said) = session_fault lack session said
 fault_left lack session (Touched process) =
@@ -95,7 +95,7 @@ SessionStandsFor script session = StandsIn script.script script.limits script.ho
 -- the line was carried out, and the session that the definition says is reached
 abbrev pub SessionTakes : HostScript → ScriptLine → HostTaken → HostScript → Type 0
 SessionTakes old said found new =
-    (session : Session) → SessionStandsFor old session → (lack : Lack)
+    (session : Session) → SessionStandsFor old session → (lack : HostLack)
     × SessionStandsFor new (session_after lack session said)
     × IsLeft lack session said (left_in found)
 
@@ -103,7 +103,7 @@ SessionTakes old said found new =
 abbrev pub SessionWrites : {W : Type 0} → (W → Option (List ℕ)) → HostScript → Watched W
     → HostTaken → Bool → HostScript → Watched W → Type 0
 SessionWrites contents old output found starved new output_then =
-    (session : Session) → SessionStandsFor old session → (lack : Lack)
+    (session : Session) → SessionStandsFor old session → (lack : HostLack)
     × SessionStandsFor new session
     × Said contents output output_then (bytes_of (answer_left lack session (left_in found)))
     × (IsTrue starved ↔ IsSomeAnd (fault_left lack session (left_in found)) LacksMemory)
@@ -111,14 +111,14 @@ SessionWrites contents old output found starved new output_then =
 -- the fault or the refusal was told, and nothing changed
 abbrev pub SessionTells : HostScript → HostTaken → Option Reply → HostScript → Type 0
 SessionTells old found fault new =
-    (session : Session) → SessionStandsFor old session → (lack : Lack)
+    (session : Session) → SessionStandsFor old session → (lack : HostLack)
     × SessionStandsFor new session × (fault ≡ fault_left lack session (left_in found))
 
 -- the line was served, and whether its answer tells lack of memory
 abbrev pub SessionServes : {W : Type 0} → (W → Option (List ℕ)) → HostScript → Watched W
     → ScriptLine → Bool → HostScript → Watched W → Type 0
 SessionServes contents old output said starved new output_then =
-    (session : Session) → SessionStandsFor old session → (lack : Lack)
+    (session : Session) → SessionStandsFor old session → (lack : HostLack)
     × SessionStandsFor new (session_after lack session said)
     × Said contents output output_then (session_answer lack session said)
     × (IsTrue starved ↔ Starves lack session said)
@@ -126,6 +126,6 @@ SessionServes contents old output said starved new output_then =
 -- the line was judged: its fault or its refusal is given, or none where its answer is neither
 abbrev pub SessionJudges : HostScript → ScriptLine → Option Reply → HostScript → Type 0
 SessionJudges old said fault new =
-    (session : Session) → SessionStandsFor old session → (lack : Lack)
+    (session : Session) → SessionStandsFor old session → (lack : HostLack)
     × SessionStandsFor new (session_after lack session said)
     × (fault ≡ session_fault lack session said)

@@ -5,6 +5,7 @@ ghost use Rattle.numa_run.specs.Judged.{question_cause};
 ghost use Rattle.numa_run.specs.Questions.{question_text};
 ghost use Rattle.numa_run.specs.Listings.{there_listing};
 ghost use Rattle.numa_page_state.specs.Lying.{Process};
+ghost use Rattle.numa_page_state.specs.Outcomes.{Lack, is_starved};
 ghost use Rattle.numa_page_state.specs.Standing.{LieThere};
 ghost use Rattle.numa_placed.specs.declared.spot.Spot.{Spot};
 ghost use Rattle.numa_placed.specs.declared.spot.Spot.TheVariants.{Nowhere};
@@ -73,8 +74,8 @@ pub fn list<W: Write>(
 
 /// The first cause that refuses a question about a space.
 pub fn question_cause(alloc: Global, space: &Space, question: Question) -> Option<CoreRefusal>
-    ensures { (history : List Command) → StandsFor space.now history → (refused : Bool)
-        × (result ≡ question_cause refused space.now.machine history question) }
+    ensures { (history : List Command) → StandsFor space.now history → (lacked : Lack)
+        × (result ≡ question_cause (is_starved lacked) space.now.machine history question) }
 {
     if let Question::Ranges = question {
         return None;

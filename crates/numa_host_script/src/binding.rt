@@ -53,7 +53,7 @@ fn has_astray(
 /// list.
 fn bind_strictly(running: &mut RunningHost, alloc: Global, process: u32, command: &Command) -> Reply
     ensures { RepliesThere running.old result running.new process (λ lack at. judged_by
-        (strict_binding_in command.now) lack.refused at process command.now) }
+        (strict_binding_in command.now) lack.lacked at process command.now) }
 {
     let Some(binding) = strict_binding_in(command) else {
         return obey_in(&mut running.host, process, command);
@@ -172,7 +172,7 @@ fn send(
     words: &MoveWords,
 ) -> Reply
     ensures { RepliesThere running.old result running.new process (λ lack at. sent_unless
-        lack.refused (own_cause at process (command_of said.now)) at process said.now words.now) }
+        lack.lacked (own_cause at process (command_of said.now)) at process said.now words.now) }
 {
     match running.pages.lend(process) {
         Some(state) => send_lent(running, alloc, process, said, words, state),
@@ -190,7 +190,7 @@ fn bind_moving(
     words: &MoveWords,
 ) -> Reply
     ensures { RepliesThere running.old result running.new process (λ lack at. moved_by
-        (rebinding_in command.now) lack.refused at process command.now words.now) }
+        (rebinding_in command.now) lack.lacked at process command.now words.now) }
 {
     match rebinding_in(command) {
         Some(said) => send(running, alloc, process, &said, words),
@@ -220,7 +220,7 @@ pub(crate) fn bind(
     policy: &Result<PolicySpec, WordError>,
     pages: &BoundPages,
 ) -> Reply
-    ensures { Replies running.old result running.new (λ lack at. bound_outcome lack.refused at
+    ensures { Replies running.old result running.new (λ lack at. bound_outcome lack.lacked at
         process pages.now (bound_command at.machine.rules start length policy.now)) }
 {
     let rules = running.host.machine().rules();

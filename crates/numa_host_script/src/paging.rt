@@ -9,6 +9,7 @@ ghost use Rattle.numa_host_script.specs.Paging.{pages_reply, unmap_outcome};
 ghost use Rattle.numa_host_script.specs.Standing.{Answers, Changes, ChangesPages, ForgetsIn};
 ghost use Rattle.numa_host_script.specs.Standing.{Replies, Takes, told};
 ghost use Rattle.numa_page_state.specs.Lying.{Lying, ground_in, with_spots};
+ghost use Rattle.numa_page_state.specs.Outcomes.{Lack};
 ghost use Rattle.numa_page_state.specs.Standing.{LiesAs};
 ghost use Rattle.numa_placed.specs.Spots.{spot_at};
 ghost use Rattle.numa_placed.specs.declared.spot.Spot.{Spot};
@@ -54,9 +55,9 @@ fn change_lent(
     ensures { (at : HostLying) (lying : Lying) → pages_in process at.homes ≡ Some lying
         → HostLies pages.old (record at { homes = with_pages process None at.homes })
         → LiesAs state.value (lent at.room at.follows lying)
-        → (refused : Bool)
-        × ((pages_changed refused (ground_in space.now []) process line.now at).0 ≡ result)
-        × HostLies pages.new (pages_changed refused (ground_in space.now []) process line.now
+        → (lacked : Lack)
+        × ((pages_changed lacked (ground_in space.now []) process line.now at).0 ≡ result)
+        × HostLies pages.new (pages_changed lacked (ground_in space.now []) process line.now
         at).1 }
 {
     let mut state = state;
@@ -77,9 +78,9 @@ fn change_first(
     requires moved { line.now ≢ PageLine.Moved }
     requires rooms { line.now ≢ PageLine.Rooms }
     ensures { (at : HostLying) → pages_in process at.homes ≡ None → HostLies pages.old at
-        → (refused : Bool)
-        × ((pages_changed refused (ground_in space.now []) process line.now at).0 ≡ result)
-        × HostLies pages.new (pages_changed refused (ground_in space.now []) process line.now
+        → (lacked : Lack)
+        × ((pages_changed lacked (ground_in space.now []) process line.now at).0 ≡ result)
+        × HostLies pages.new (pages_changed lacked (ground_in space.now []) process line.now
         at).1 }
 {
     let Ok(mut state) = pages.begin(alloc) else {
@@ -105,8 +106,8 @@ fn change_pages(
 ) -> Option<Reply>
     requires moved { line.now ≢ PageLine.Moved }
     requires rooms { line.now ≢ PageLine.Rooms }
-    ensures { ChangesPages pages.old result pages.new (λ refused at.
-        pages_changed refused (ground_in space.now []) process line.now at) }
+    ensures { ChangesPages pages.old result pages.new (λ lacked at.
+        pages_changed lacked (ground_in space.now []) process line.now at) }
 {
     match pages.lend(process) {
         Some(state) => change_lent(pages, alloc, process, space, line, state),
@@ -123,8 +124,8 @@ fn change_in(
 ) -> Option<Reply>
     requires moved { line.now ≢ PageLine.Moved }
     requires rooms { line.now ≢ PageLine.Rooms }
-    ensures { Changes running.old result running.new process (λ refused at. page_where
-        (is_there (members_of at.history) process) refused at process line.now) }
+    ensures { Changes running.old result running.new process (λ lacked at. page_where
+        (is_there (members_of at.history) process) lacked at process line.now) }
 {
     let Some(space) = space_of(&running.host, process) else {
         return Some(Reply::HostRefused(HostRefusal::NoSuchProcess));
@@ -243,7 +244,7 @@ fn replace(pages: &mut HostPages, process: u32, after: Placed)
 
 /// Unmaps pages of a process; if the host accepts that, nothing is stated of them any more.
 fn unmap(running: &mut RunningHost, process: u32, start: u64, length: u64) -> Reply
-    ensures { Replies running.old result running.new (λ lack at. unmap_outcome lack.refused at
+    ensures { Replies running.old result running.new (λ lack at. unmap_outcome lack.lacked at
         process start length) }
 {
     let command = Command::Unmap { start, length };
@@ -269,7 +270,7 @@ fn unmap(running: &mut RunningHost, process: u32, start: u64, length: u64) -> Re
 
 /// Carries out a command of a process.
 fn obeyed(running: &mut RunningHost, process: u32, command: &Command) -> Reply
-    ensures { Replies running.old result running.new (λ lack at. obeyed lack.refused at process
+    ensures { Replies running.old result running.new (λ lack at. obeyed lack.lacked at process
         command.now) }
 {
     match command {
@@ -284,7 +285,7 @@ pub(crate) fn give(
     process: u32,
     said: Result<Command, WordError>,
 ) -> Reply
-    ensures { Replies running.old result running.new (λ lack at. given_outcome lack.refused at
+    ensures { Replies running.old result running.new (λ lack at. given_outcome lack.lacked at
         process said) }
 {
     match said {

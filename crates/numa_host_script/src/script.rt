@@ -1,7 +1,8 @@
 //! Running scripts that may become a host's.
 ghost use Rattle.std.specs.Prelude.{◌≡◌, ◌↔◌, ℕ, IsTrue, MatchOption, None, Ok, Some, false};
 ghost use Rattle.numa_lines.specs.Written.{Said};
-ghost use Rattle.numa_host_script.specs.Hosts.{Lack, plenty};
+ghost use Rattle.numa_page_state.specs.Outcomes.{Lack};
+ghost use Rattle.numa_host_script.specs.Hosts.{HostLack, plenty};
 ghost use Rattle.numa_host_script.specs.Judged.{Starves, session_fault};
 ghost use Rattle.numa_host_script.specs.Sessions.{Session, begun, is_begin, session_answer};
 ghost use Rattle.numa_host_script.specs.Sessions.{session_by};
@@ -69,9 +70,9 @@ impl HostScript {
     #[cold]
     #[inline(never)]
     fn begin(&mut self, alloc: Global) -> Reply
-        ensures { (session : Session) → SessionStandsFor self.old session → (lack : Lack)
-            × SessionStandsFor self.new (begun lack.refused session).session
-            × (Some result ≡ reply_in (begun lack.refused session).answer) }
+        ensures { (session : Session) → SessionStandsFor self.old session → (lack : HostLack)
+            × SessionStandsFor self.new (begun lack.lacked session).session
+            × (Some result ≡ reply_in (begun lack.lacked session).answer) }
     {
         if let Some(_) = &self.host {
             return Reply::BadState;
@@ -199,7 +200,7 @@ impl HostScript {
         question: Question,
         output: &mut Watched<W>,
     ) -> bool
-        ensures { (session : Session) → SessionStandsFor self.now session → (lack : Lack)
+        ensures { (session : Session) → SessionStandsFor self.now session → (lack : HostLack)
             × Said W.contents output.old output.new
             (session_answer lack session (told process (Line.Question question)))
             × (IsTrue result ↔ (Starves lack session (told process (Line.Question question)))) }
@@ -311,7 +312,7 @@ impl HostScript {
 
     /// The error or the refusal of a question of a process.
     fn asked_fault(&self, alloc: Global, process: u32, question: Question) -> Option<Reply>
-        ensures { (session : Session) → SessionStandsFor self.now session → (lack : Lack)
+        ensures { (session : Session) → SessionStandsFor self.now session → (lack : HostLack)
             × (result ≡ session_fault lack session (told process (Line.Question question))) }
     {
         let Some(running) = &self.host else {
@@ -422,14 +423,14 @@ impl HostScript {
 }
 
 impl Serve for HostScript {
-    ghost use Rattle.numa_host_script.specs.Hosts.{Lack, plenty};
+    ghost use Rattle.numa_host_script.specs.Hosts.{HostLack, plenty};
     ghost use Rattle.numa_host_script.specs.Sessions.{Session, session_after_bytes};
     ghost use Rattle.numa_host_script.specs.Sessions.{session_answer_to};
     ghost use Rattle.numa_host_script.specs.Taking.{SessionStandsFor};
 
     ghost State = { Session };
 
-    ghost Lack = { Lack };
+    ghost Lack = { HostLack };
 
     ghost plenty = { plenty };
 

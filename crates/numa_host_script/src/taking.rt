@@ -48,7 +48,7 @@ fn obey_host(running: &mut RunningHost, command: &HostCommand) -> Reply
 
 /// Carries out an `mbind` of length 0 whose mode, flag and nodes are refused together.
 fn bind_nothing(running: &mut RunningHost, process: u32, start: u64, fault: WordError) -> Reply
-    ensures { Replies running.old result running.new (λ lack at. given_outcome lack.refused at
+    ensures { Replies running.old result running.new (λ lack at. given_outcome lack.lacked at
         process (bind_nothing at.machine.rules start fault)) }
 {
     if running.host.machine().rules().is_linux() {

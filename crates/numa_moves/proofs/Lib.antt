@@ -1,4 +1,3 @@
-pub mod Clipped
 pub mod Counted
 pub mod Lists
 pub mod PageMoves

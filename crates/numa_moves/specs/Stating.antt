@@ -1,11 +1,11 @@
 -- Where pages lie before the first line that moves them: as scripts have left them, and then as
 -- lines state it.
-use Rattle.std.specs.Prelude.{◌≡◌, ℕ, ◌==◌, Bool, false, not, List, [], ◌∷◌, Option, Some}
+use Rattle.std.specs.Prelude.{◌≡◌, ℕ, suc, ◌==◌, Bool, false, not, List, [], ◌∷◌, Option, Some}
 use Rattle.std.specs.Prelude.{None, MatchOption, is_some, map, unwrap_or, if◌then◌else◌}
 use Rattle.numa_host.specs.declared.process.Process.{Process}
 use Rattle.numa_maps.specs.Residents.{Kept}
 use Rattle.numa_page_state.specs.Lying.{Ground, Lying, ground_in, nothing}
-use Rattle.numa_page_state.specs.Outcomes.{at_outcome, rooms_of}
+use Rattle.numa_page_state.specs.Outcomes.{Lack, at_outcome, rooms_of}
 use Rattle.numa_page_state.specs.Standing.{LiesAs}
 use Rattle.numa_reports.specs.Mapped.{span_of}
 use Rattle.numa_sheets.specs.declared.asked.FreePages.{FreePages}
@@ -53,7 +53,7 @@ kept_in (Own space there) = there.resident.now
 kept_in (One process space) = []
 kept_in (Each host) = []
 
--- ---- lines
+-- ---- lines. What each lacked says whether it was refused for its runs
 
 -- whether a line names a process
 abbrev pub names : Option ℕ → ℕ → Bool
@@ -67,23 +67,24 @@ is_of (One own space) process named = unwrap_or named own == own
 is_of (Each host) process named = names named process
 
 -- once a line is heeded, unless it is refused
-abbrev pub line_stated : Ground → AtLine → Lying → Lying
-line_stated basis line at = (at_outcome false basis line.start line.length line.node at).1
+abbrev pub line_stated : Lack → Ground → AtLine → Lying → Lying
+line_stated lack basis line at = (at_outcome lack basis line.start line.length line.node at).1
 
 -- the same, if it is of this process
-abbrev pub line_heeded : Scene → ℕ → Ground → AtLine → Lying → Lying
-line_heeded scene process basis line at =
-    if is_of scene process line.process then line_stated basis line at else at
+abbrev pub line_heeded : Lack → Scene → ℕ → Ground → AtLine → Lying → Lying
+line_heeded lack scene process basis line at =
+    if is_of scene process line.process then line_stated lack basis line at else at
 
 -- once all lines are
-abbrev pub lines_stated : Scene → ℕ → Ground → List AtLine → Lying → Lying
-lines_stated scene process basis [] at = at
-lines_stated scene process basis (line ∷ lines) at =
-    lines_stated scene process basis lines (line_heeded scene process basis line at)
+abbrev pub lines_stated : (ℕ → Lack) → Scene → ℕ → Ground → List AtLine → Lying → Lying
+lines_stated lacks scene process basis [] at = at
+lines_stated lacks scene process basis (line ∷ lines) at =
+    lines_stated (λ k. lacks (suc k)) scene process basis lines
+    (line_heeded (lacks 0) scene process basis line at)
 
 -- where the pages of a process lie once lines state it
-abbrev pub stated_by : Scene → List AtLine → Lying → Told → Lying
-stated_by scene lines at told = lines_stated scene told.process
+abbrev pub stated_by : (ℕ → Lack) → Scene → List AtLine → Lying → Told → Lying
+stated_by lacks scene lines at told = lines_stated lacks scene told.process
     (ground_in told.space (kept_in scene)) lines at
 
 -- pages lie where these lines say
@@ -111,12 +112,20 @@ held_in holding = record {
   shares = holding.shares.items;
 }
 
-abbrev pub held_by : Scene → List AtLine → Lying → Told → Held
-held_by scene lines at told = record {
+abbrev pub held_by : (ℕ → Lack) → Scene → List AtLine → Lying → Told → Held
+held_by lacks scene lines at told = record {
   process = told.process;
   allowed = told.space.allowed;
-  shares = shares_at told.space (stated_by scene lines at told);
+  shares = shares_at told.space (stated_by lacks scene lines at told);
 }
+
+-- what each of these processes holds
+abbrev pub AreHeld : Scene → List AtLine → Lying → List Held → List Told → Type 0
+AreHeld scene lines at [] [] = Unit {0}
+AreHeld scene lines at (held ∷ helds) (told ∷ procs) =
+    ((lacks : ℕ → Lack) × (held ≡ held_by lacks scene lines at told))
+    × AreHeld scene lines at helds procs
+AreHeld scene lines at _ _ = ⊥
 
 -- named nodes take so many more pages
 abbrev pub limited_by : List FreePages → (ℕ → ℕ) → ℕ → ℕ
@@ -125,5 +134,5 @@ limited_by (one ∷ free) room =
     limited_by free (λ node. if node == one.node then one.pages else room node)
 
 -- how many more pages each node takes once lines state where pages of the one process lie
-abbrev pub rooms_left : Scene → List AtLine → Lying → Told → ℕ → ℕ
-rooms_left scene lines at told = rooms_of (stated_by scene lines at told).room
+abbrev pub rooms_left : (ℕ → Lack) → Scene → List AtLine → Lying → Told → ℕ → ℕ
+rooms_left lacks scene lines at told = rooms_of (stated_by lacks scene lines at told).room

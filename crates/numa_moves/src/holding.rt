@@ -1,16 +1,16 @@
 //! Where the pages of processes lie, and what becomes of them.
 ghost use Rattle.std.specs.Prelude.{◌≡◌, ◌<◌, ◌^◌, ◌++◌, ◌∷◌, ℕ, List, [], IfOk, OnOk, map};
 ghost use Rattle.numa_page_state.specs.Lying.{Lying};
-ghost use Rattle.numa_page_state.specs.Outcomes.{rooms_of};
+ghost use Rattle.numa_page_state.specs.Outcomes.{Lack, rooms_of};
 ghost use Rattle.numa_page_state.specs.Standing.{LiesAs};
 ghost use Rattle.numa_placed.specs.Shifts.{AreRooms};
 ghost use Rattle.numa_moves.specs.Moving.{AreCounted, AreLeft, Follows, IsStep, Sends};
 ghost use Rattle.numa_moves.specs.Moving.{migrates_to};
 ghost use Rattle.numa_moves.specs.Moving.{moves_of, shares_behind, shift_by};
 ghost use Rattle.numa_moves.specs.Shares.{pages_on};
-ghost use Rattle.numa_moves.specs.Stating.{IsLeft, IsStated, Told, held_by, held_in, limited_by};
-ghost use Rattle.numa_moves.specs.Stating.{processes_in, rooms_left, shares_at, stated_by};
-ghost use Rattle.numa_moves.specs.Stating.{told_of};
+ghost use Rattle.numa_moves.specs.Stating.{AreHeld, Held, IsLeft, IsStated, Told, held_by, held_in};
+ghost use Rattle.numa_moves.specs.Stating.{limited_by, processes_in, rooms_left, shares_at};
+ghost use Rattle.numa_moves.specs.Stating.{stated_by, told_of};
 ghost use Rattle.numa_moves.specs.declared.at_lines.AtLine.{AtLine};
 ghost use Rattle.numa_moves.specs.declared.holding.Holding.{Holding};
 
@@ -88,10 +88,12 @@ fn stated(
     rooms: &mut Rooms,
 ) -> Result<Vec<Share>, AllocError>
     ensures shares { (at : Lying) → IsLeft member.entry.scene at
-        → IfOk result (λ shares. shares.items ≡ shares_at member.entry.space.now
-        (stated_by member.entry.scene lines.now at (told_of member.entry))) }
+        → IfOk result (λ shares. (lacks : ℕ → Lack) × (shares.items
+        ≡ shares_at member.entry.space.now
+        (stated_by lacks member.entry.scene lines.now at (told_of member.entry)))) }
     ensures rooms { (at : Lying) → IsLeft member.entry.scene at → OnOk result
-        (AreRooms rooms.new (rooms_left member.entry.scene lines.now at (told_of member.entry))) }
+        ((lacks : ℕ → Lack) × AreRooms rooms.new
+        (rooms_left lacks member.entry.scene lines.now at (told_of member.entry))) }
 {
     let pages = pages_of(alloc, member, lines, refused)?;
     *rooms = rooms_in(&pages);
@@ -110,11 +112,12 @@ fn shares_by(
 ) -> Result<Vec<Share>, ReportError>
     ensures shares { (at : Lying) (lines : List AtLine) → IsLeft member.entry.scene at
         → IsStated origin.entry lines
-        → IfOk result (λ shares. shares.items ≡ shares_at member.entry.space.now
-        (stated_by member.entry.scene lines at (told_of member.entry))) }
+        → IfOk result (λ shares. (lacks : ℕ → Lack) × (shares.items
+        ≡ shares_at member.entry.space.now
+        (stated_by lacks member.entry.scene lines at (told_of member.entry)))) }
     ensures rooms { (at : Lying) (lines : List AtLine) → IsLeft member.entry.scene at
-        → IsStated origin.entry lines → OnOk result
-        (AreRooms rooms.new (rooms_left member.entry.scene lines at (told_of member.entry))) }
+        → IsStated origin.entry lines → OnOk result ((lacks : ℕ → Lack) × AreRooms rooms.new
+        (rooms_left lacks member.entry.scene lines at (told_of member.entry))) }
 {
     match origin {
         Origin::Touched(touch) => touched(alloc, member.space, touch),
@@ -135,12 +138,12 @@ fn add_one(
     holdings: &mut Vec<Holding>,
 ) -> Result<(), ReportError>
     ensures held { (at : Lying) (lines : List AtLine) → IsLeft member.entry.scene at
-        → IsStated origin.entry lines → OnOk result (map held_in holdings.new.items
-        ≡ map held_in holdings.old.items
-        ++ held_by member.entry.scene lines at (told_of member.entry) ∷ []) }
+        → IsStated origin.entry lines → OnOk result ((lacks : ℕ → Lack)
+        × (map held_in holdings.new.items ≡ map held_in holdings.old.items
+        ++ held_by lacks member.entry.scene lines at (told_of member.entry) ∷ [])) }
     ensures rooms { (at : Lying) (lines : List AtLine) → IsLeft member.entry.scene at
-        → IsStated origin.entry lines → OnOk result
-        (AreRooms rooms.new (rooms_left member.entry.scene lines at (told_of member.entry))) }
+        → IsStated origin.entry lines → OnOk result ((lacks : ℕ → Lack) × AreRooms rooms.new
+        (rooms_left lacks member.entry.scene lines at (told_of member.entry))) }
 {
     let shares = shares_by(alloc, member, origin, refused, rooms)?;
     let holding = Holding {
@@ -165,12 +168,13 @@ fn add_all(
     holdings: &mut Vec<Holding>,
 ) -> Result<(), ReportError>
     ensures held { (at : Lying) (lines : List AtLine) → IsLeft scene.entry at
-        → IsStated origin.entry lines → OnOk result (map held_in holdings.new.items
-        ≡ map held_in holdings.old.items
-        ++ map (held_by scene.entry lines at) (processes_in scene.entry)) }
+        → IsStated origin.entry lines → OnOk result ((added : List Held)
+        × (map held_in holdings.new.items ≡ map held_in holdings.old.items ++ added)
+        × AreHeld scene.entry lines at added (processes_in scene.entry)) }
     ensures rooms { (at : Lying) (lines : List AtLine) (told : Told) → IsLeft scene.entry at
         → IsStated origin.entry lines → processes_in scene.entry ≡ told ∷ []
-        → OnOk result (AreRooms rooms.new (rooms_left scene.entry lines at told)) }
+        → OnOk result ((lacks : ℕ → Lack)
+        × AreRooms rooms.new (rooms_left lacks scene.entry lines at told)) }
 {
     if let Origin::Stated(lines) = origin {
         if note_lacking(scene, lines, refused).is_err() {
@@ -323,12 +327,12 @@ impl Holdings {
     ) -> Result<Holdings, ReportError>
         ensures held { (at : Lying) (lines : List AtLine) → IsLeft scene.entry at
             → IsStated origin.entry lines → IfOk result (λ holdings.
-            map held_in holdings.list.items
-            ≡ map (held_by scene.entry lines at) (processes_in scene.entry)) }
+            AreHeld scene.entry lines at (map held_in holdings.list.items)
+            (processes_in scene.entry)) }
         ensures rooms { (at : Lying) (lines : List AtLine) (told : Told) → IsLeft scene.entry at
             → IsStated origin.entry lines → processes_in scene.entry ≡ told ∷ []
-            → IfOk result (λ holdings. AreRooms holdings.rooms
-            (limited_by free.now (rooms_left scene.entry lines at told))) }
+            → IfOk result (λ holdings. (lacks : ℕ → Lack) × AreRooms holdings.rooms
+            (limited_by free.now (rooms_left lacks scene.entry lines at told))) }
     {
         let mut list = Vec::new(alloc);
         let mut rooms = Rooms::endless();

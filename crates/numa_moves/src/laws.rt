@@ -4,7 +4,7 @@ ghost use Rattle.std.specs.Prelude.{◌≡◌, ℕ, List, None, Some, false, tru
 ghost use Rattle.numa_mask.specs.NodeSet.{both};
 ghost use Rattle.numa_maps.specs.Residents.{Kept};
 ghost use Rattle.numa_page_state.specs.Lying.{Ground, Lying, motion};
-ghost use Rattle.numa_page_state.specs.Outcomes.{followed, lack_in, migrate_outcome};
+ghost use Rattle.numa_page_state.specs.Outcomes.{Lack, followed, lack_in, migrate_outcome};
 ghost use Rattle.numa_placed.specs.Refusals.{migrate_cause};
 ghost use Rattle.numa_placed.specs.Shifts.{stated_on};
 ghost use Rattle.numa_placed.specs.declared.spot.Spot.{Spot};
@@ -33,17 +33,17 @@ pub fn shares_go_as_pages()
         (room : ℕ → ℕ) → HaveAll spots nodes spans
         → (motion (Some room) spots old new).told.from
         ≡ (shift_by (shares_over (stated_in spots) nodes spans) old new room).gone }
-    ensures migrated { (basis : Ground) (from to : ℕ) (nodes : ℕ) (spans : List PageSpan)
-        (at : Lying) (room : ℕ → ℕ) → HaveAll at.spots nodes spans → at.room ≡ Some room
+    ensures migrated { (lack : Lack) (basis : Ground) (from to : ℕ) (nodes : ℕ)
+        (spans : List PageSpan) (at : Lying) (room : ℕ → ℕ) → HaveAll at.spots nodes spans → at.room ≡ Some room
         → migrate_cause basis.allowed to ≡ None
-        → lack_in at.room false (motion at.room at.spots from (both to basis.allowed)).spots ≡ None
-        → (migrate_outcome false basis from to at).1.room
+        → lack_in at.room lack (motion at.room at.spots from (both to basis.allowed)).spots ≡ None
+        → (migrate_outcome lack basis from to at).1.room
         ≡ Some (shift_by (shares_over (stated_in at.spots) nodes spans) from
         (both to basis.allowed) room).room }
-    ensures followed { (kept : Kept) (old new : ℕ) (nodes : ℕ) (spans : List PageSpan)
-        (at : Lying) (room : ℕ → ℕ) → HaveAll at.spots nodes spans → at.room ≡ Some room
+    ensures followed { (lack : Lack) (kept : Kept) (old new : ℕ) (nodes : ℕ)
+        (spans : List PageSpan) (at : Lying) (room : ℕ → ℕ) → HaveAll at.spots nodes spans → at.room ≡ Some room
         → at.follows ≡ true
-        → lack_in at.room false (motion at.room at.spots old new).spots ≡ None
-        → (followed false old new kept at).room
+        → lack_in at.room lack (motion at.room at.spots old new).spots ≡ None
+        → (followed lack old new kept at).room
         ≡ Some (shift_by (shares_over (stated_in at.spots) nodes spans) old new room).room }
 {}

@@ -2,6 +2,7 @@
 ghost use Rattle.std.specs.Prelude.{◌≡◌, ◌<◌, ℕ, IfOk, OnOk, MatchOption, Some, length};
 ghost use Rattle.std.specs.Prelude.{slice_get};
 ghost use Rattle.numa_page_state.specs.Lying.{Lying, ground_in, nothing};
+ghost use Rattle.numa_page_state.specs.Outcomes.{Lack};
 ghost use Rattle.numa_page_state.specs.Standing.{LiesAs};
 ghost use Rattle.numa_placed.specs.Spots.{spot_at};
 ghost use Rattle.numa_moves.specs.Moving.{Allows};
@@ -184,8 +185,8 @@ fn state_line(
     line: &AtLine,
     refused: &mut Vec<RefusedAt>,
 ) -> Result<(), AllocError>
-    ensures { (at : Lying) → LiesAs pages.old at → OnOk result (LiesAs pages.new
-        (line_stated (ground_in space.now resident.now) line.now at)) }
+    ensures { (at : Lying) → LiesAs pages.old at → OnOk result ((lack : Lack) × LiesAs
+        pages.new (line_stated lack (ground_in space.now resident.now) line.now at)) }
 {
     match pages.at(space, resident, line.start, line.length, line.node) {
         Ok(()) => Ok(()),
@@ -208,8 +209,8 @@ fn heed_line(
     line: &AtLine,
     refused: &mut Vec<RefusedAt>,
 ) -> Result<(), AllocError>
-    ensures { (at : Lying) → LiesAs pages.old at → OnOk result (LiesAs pages.new
-        (line_heeded member.entry.scene member.entry.process
+    ensures { (at : Lying) → LiesAs pages.old at → OnOk result ((lack : Lack) × LiesAs
+        pages.new (line_heeded lack member.entry.scene member.entry.process
         (ground_in member.entry.space.now resident.now) line.now at)) }
 {
     if member.scene.is_of(member.process, line) {
@@ -226,8 +227,8 @@ fn state_lines(
     lines: &[AtLine],
     refused: &mut Vec<RefusedAt>,
 ) -> Result<(), AllocError>
-    ensures { (at : Lying) → LiesAs pages.old at → OnOk result (LiesAs pages.new
-        (lines_stated member.entry.scene member.entry.process
+    ensures { (at : Lying) → LiesAs pages.old at → OnOk result ((lacks : ℕ → Lack) × LiesAs
+        pages.new (lines_stated lacks member.entry.scene member.entry.process
         (ground_in member.entry.space.now resident.now) lines.now at)) }
 {
     for line in lines {
@@ -272,8 +273,8 @@ fn heed_lines(
     lines: &[AtLine],
     refused: &mut Vec<RefusedAt>,
 ) -> Result<(), AllocError>
-    ensures { (at : Lying) → LiesAs pages.old at → OnOk result (LiesAs pages.new
-        (stated_by member.entry.scene lines.now at (told_of member.entry))) }
+    ensures { (at : Lying) → LiesAs pages.old at → OnOk result ((lacks : ℕ → Lack) × LiesAs
+        pages.new (stated_by lacks member.entry.scene lines.now at (told_of member.entry))) }
 {
     if let Scene::Own(_, there) = member.scene {
         return state_lines(pages, member, there.resident, lines, refused);
@@ -291,8 +292,9 @@ pub(crate) fn pages_of(
     lines: &[AtLine],
     refused: &mut Vec<RefusedAt>,
 ) -> Result<PageState, AllocError>
-    ensures { (at : Lying) → IsLeft member.entry.scene at → IfOk result (λ pages. LiesAs pages
-        (stated_by member.entry.scene lines.now at (told_of member.entry))) }
+    ensures { (at : Lying) → IsLeft member.entry.scene at → IfOk result (λ pages.
+        (lacks : ℕ → Lack) × LiesAs pages
+        (stated_by lacks member.entry.scene lines.now at (told_of member.entry))) }
 {
     let mut pages = pages_before(alloc, member)?;
     match heed_lines(alloc, &mut pages, member, lines, refused) {
@@ -311,9 +313,9 @@ fn placed_of(
     lines: &[AtLine],
     refused: &mut Vec<RefusedAt>,
 ) -> Result<Placed, AllocError>
-    ensures { (at : Lying) → IsLeft member.entry.scene at → IfOk result (λ placed. (page : ℕ)
-        → spot_at placed page
-        ≡ (stated_by member.entry.scene lines.now at (told_of member.entry)).spots page) }
+    ensures { (at : Lying) → IsLeft member.entry.scene at → IfOk result (λ placed.
+        (lacks : ℕ → Lack) × ((page : ℕ) → spot_at placed page
+        ≡ (stated_by lacks member.entry.scene lines.now at (told_of member.entry)).spots page)) }
 {
     let pages = pages_of(alloc, member, lines, refused)?;
     let placed = pages.placed().copy();

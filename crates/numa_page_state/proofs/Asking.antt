@@ -9,7 +9,6 @@ use Rattle.numa_machine.specs.Machine.{Hardware}
 use Rattle.numa_machine.specs.declared.rules.Rules.{Rules}
 use Rattle.numa_machine.specs.declared.rules.Rules.TheVariants.{Document, Linux}
 use Rattle.numa_ranges.specs.Runs.{page_at}
-use Rattle.numa_ranges.specs.declared.run.Run.{Run}
 use Rattle.numa_space.specs.History.{page_of, page_count}
 use Rattle.numa_space.specs.Limited.{Bounds}
 use Rattle.numa_space.specs.Lists.{node_list}
@@ -26,15 +25,16 @@ use Rattle.numa_placed.specs.Binds.{Asked, IsBound, asked_of as asked_by, bound_
 use Rattle.numa_placed.specs.Binds.{goals as goals_by, list_unless}
 use Rattle.numa_placed.specs.Binds.{is_kept, nodes_in, room_before, span_below, strays}
 use Rattle.numa_placed.proofs.Shared.{count-le}
+use Rattle.numa_placed.specs.Laid.{Laid}
 use Rattle.numa_placed.specs.Refusals.{IsRefusal, first_of, span_cause}
 use Rattle.numa_placed.specs.Shifts.{AreRooms, room_of}
-use Rattle.numa_placed.specs.Spots.{spot_at, too_many}
+use Rattle.numa_placed.specs.Spots.{spot_at}
 use Rattle.numa_placed.specs.declared.bound.Bound.{Bound}
 use Rattle.numa_requests.specs.declared.page_refusal.PlacedRefusal.{PlacedRefusal}
 use Rattle.numa_placed.specs.declared.rooms.Rooms.{Rooms}
 use Rattle.numa_placed.specs.declared.spot.Spot.{Spot}
 use Rattle.numa_page_state.specs.Lying.{Lying, Process}
-use Rattle.numa_page_state.specs.Outcomes.{cause_by, is_no_memory, lack_of, rooms_of}
+use Rattle.numa_page_state.specs.Outcomes.{cause_by, is_starved, lack_of, lack_told, rooms_of}
 use Rattle.numa_page_state.specs.Sending.{asked_of, command_of, goals_in, held_kept, lacks_room}
 use Rattle.numa_page_state.specs.Sending.{flow_between, nodes_of, rooms_sent}
 use Rattle.numa_page_state.specs.Sending.{below_end, sent_spots, with_sent}
@@ -167,14 +167,14 @@ room-sent asked spots (Some rooms) after None have are = absurd have
 room-sent asked spots (Some rooms) after (Some room) have are = are
 
 module _ (state : PageState) (lying : Lying) (lies : LiesAs state lying) (asked : Asked)
-    (kept : Kept) (copy new : List (Run Spot)) (same : copy ≡ state.placed) where
+    (kept : Kept) (copy new : Laid) (same : copy ≡ state.placed) where
   alike : spot_at copy ≡ lying.spots
   alike = ap spot_at same ∙ (λ i page. lies.spots page i)
 
-  pub sent-so : (again : List (Run Spot)) (rooms : Rooms) (kept_rooms : Option Rooms)
+  pub sent-so : (again : Laid) (rooms : Rooms) (kept_rooms : Option Rooms)
       (told : Bound) (held : ℕ) → kept_rooms ≡ (if is_some state.rooms then Some rooms else None)
       → IsBound asked (spot_at copy) (rooms_of lying.room) (spot_at new) rooms told
-      → too_many (spot_at new) ≡ false → again ≡ new
+      → again ≡ new
       → held ≡ held_kept kept asked (goals_in asked lying)
       → HasSent (record {
         placed = new;
@@ -183,11 +183,10 @@ module _ (state : PageState) (lying : Lying) (lies : LiesAs state lying) (asked 
         moved = told.moved;
         left = told.left + held;
       }) kept asked lying
-  sent-so again rooms kept_rooms told held these bound few twice counted =
+  sent-so again rooms kept_rooms told held these bound twice counted =
       let is : IsBound asked lying.spots (rooms_of lying.room) (spot_at new) rooms told =
       subst (λ (s : ℕ → Spot). IsBound asked s (rooms_of lying.room) (spot_at new) rooms told)
       alike bound in
-      let after : spot_at new ≡ sent_spots asked lying = λ i page. is.pages page i in
       record {
         spots = is.pages;
         copy = twice;
@@ -196,16 +195,13 @@ module _ (state : PageState) (lying : Lying) (lies : LiesAs state lying) (asked 
             (room-sent asked lying.spots state.rooms rooms lying.room lies.room is.room);
         moved = is.moved;
         left = omega (arith, is.left, counted);
-        few = sym (ap too_many after) ∙ few;
       }
 
   pub sent-refused : (why : PlacedRefusal) (first : Option PlacedRefusal)
       → IsRefusal first (bound_spots asked (spot_at copy) (rooms_of lying.room)) why
-      → is_no_memory why ≡ false
-      → cause_by false first (sent_spots asked lying) ≡ Some why
-  sent-refused why first is room =
-      ap (λ (b : Bool). cause_by b first (sent_spots asked lying)) (sym room)
-      ∙ cause-told first (sent_spots asked lying) why
+      → cause_by (lack_told why) first (sent_spots asked lying) ≡ Some why
+  sent-refused why first is =
+      cause-told first (sent_spots asked lying) why
       (subst (λ (s : ℕ → Spot). IsRefusal first (bound_spots asked s (rooms_of lying.room)) why)
       alike is)
 
@@ -220,9 +216,10 @@ held-same state lying kept asked held lies is =
 
 -- what stands against the runs, where nothing refuses the policy
 pub lack-so : (first : Option PlacedRefusal) (after : ℕ → Spot) (why : PlacedRefusal)
-    → first ≡ None → cause_by false first after ≡ Some why → lack_of false after ≡ Some why
+    → first ≡ None → cause_by (lack_told why) first after ≡ Some why
+    → lack_of (lack_told why) after ≡ Some why
 lack-so first after why none is =
-    sym (ap (λ (c : Option PlacedRefusal). first_of c (lack_of false after)) none) ∙ is
+    sym (ap (λ (c : Option PlacedRefusal). first_of c (lack_of (lack_told why) after)) none) ∙ is
 
 module _ (space copy : SpaceState) (history : List Command) (said : Rebinding)
     (same : copy ≡ space) where
@@ -285,7 +282,8 @@ module _ (space : SpaceState) (history : List Command) (kept : Kept) (said : Reb
   )
 
   pub sends-err : (why : PlacedRefusal) (part : Rebinding) → part ≡ below_end said
-      → (is_no_memory why ≡ false → cause_by false (span_cause part.start part.length)
+      → (is_starved (lack_told why) ≡ false
+      → cause_by (lack_told why) (span_cause part.start part.length)
       (sent_spots (asked_for after part toucher) lying) ≡ Some why)
       → Sends here said toucher lying (Err why)
   sends-err why part cut is = λ room. (
@@ -293,7 +291,7 @@ module _ (space : SpaceState) (history : List Command) (kept : Kept) (said : Reb
     lack-so (span_cause part.start part.length) (sent_spots (asked_of here said toucher) lying) why
         (ap (λ (r : Rebinding). span_cause r.start r.length) cut
         ∙ free-span space.machine space.bounds history said has.free)
-        (ap (λ (a : Asked). cause_by false (span_cause part.start part.length)
+        (ap (λ (a : Asked). cause_by (lack_told why) (span_cause part.start part.length)
         (sent_spots a lying)) (sym (ap (λ (r : Rebinding). asked_for after r toucher) cut
         ∙ same-asked)) ∙ is room),
   )

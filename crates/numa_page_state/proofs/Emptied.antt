@@ -1,13 +1,12 @@
 -- Rooms that pages leave which are gone.
 use Rattle.std.proofs.Common.{◌≡◌, ◌∙◌, ℕ, List, Option, Some, refl, sym, subst}
-use Rattle.std.specs.Prelude.{slice_index, ◌^◌, replicate}
+use Rattle.std.specs.Prelude.{◌^◌, replicate}
 use Rattle.std.proofs.lemmas.Simd.{get_or-replicate}
 use Rattle.numa_placed.specs.Shifts.{ArePages, AreRooms, is_stated, rooms_between, stated_on}
 use Rattle.numa_placed.specs.Spots.{spot_at}
 use Rattle.numa_placed.specs.declared.rooms.Rooms.{Rooms}
 use Rattle.numa_placed.specs.declared.spot.Spot.{Spot}
 use Rattle.numa_placed.specs.declared.spot.Spot.TheVariants.{Nowhere}
-use Rattle.numa_ranges.specs.Counts.{count_pages}
 use Rattle.numa_ranges.proofs.Counted.{count-none}
 use Rattle.numa_page_state.specs.Lying.{Lying, with_spots}
 use Rattle.numa_page_state.specs.Standing.{HaveRoom, LiesAs}

@@ -1,16 +1,15 @@
 -- Pages that follow the allowed nodes.
-use Rattle.std.proofs.Common.{◌≡◌, ℕ, Bool, true, false, Option, Some, None, List, sym}
+use Rattle.std.proofs.Common.{◌≡◌, ℕ, Bool, true, Option, Some, None, sym}
 use Rattle.std.proofs.Common.{ap, subst, ◌∙◌}
-use Rattle.numa_ranges.specs.declared.run.Run.{Run}
+use Rattle.numa_placed.specs.Laid.{Laid}
 use Rattle.numa_placed.specs.Spots.{spot_at}
 use Rattle.numa_placed.specs.declared.moved.Moved.{Moved}
 use Rattle.numa_requests.specs.declared.page_refusal.PlacedRefusal.{PlacedRefusal}
 use Rattle.numa_placed.specs.declared.rooms.Rooms.{Rooms}
-use Rattle.numa_placed.specs.declared.spot.Spot.{Spot}
 use Rattle.numa_page_state.specs.Lying.{Lying, OfNodes, motion, still, with_held, with_motion}
 use Rattle.numa_maps.specs.Residents.{Kept}
-use Rattle.numa_page_state.specs.Outcomes.{follow_unless, followed, followed_where, is_no_memory}
-use Rattle.numa_page_state.specs.Outcomes.{lack_in}
+use Rattle.numa_page_state.specs.Outcomes.{Enough, Lack, follow_unless, followed, followed_where}
+use Rattle.numa_page_state.specs.Outcomes.{lack_in, lack_told}
 use Rattle.numa_page_state.specs.Standing.{ArrivedAs, HaveRoom, LastAs, LiesAs, Moves}
 use Rattle.numa_page_state.specs.Standing.{TellsOf}
 use Rattle.numa_page_state.specs.declared.arrived.Arrived.{Arrived}
@@ -22,7 +21,7 @@ module _ (old new : PageState) (lying : Lying) (lies : LiesAs old lying) (from t
     (kept : Kept) where
   -- the pages followed so
   abbrev pub Follows : Type 0
-  Follows = (refused : Bool) × LiesAs new (followed refused from to kept lying)
+  Follows = (lack : Lack) × LiesAs new (followed lack from to kept lying)
 
   arrived-so : new.arrived ≡ old.arrived → ArrivedAs new.arrived lying.arrived
   arrived-so same =
@@ -32,32 +31,32 @@ module _ (old new : PageState) (lying : Lying) (lies : LiesAs old lying) (from t
       → new.follows ≡ old.follows → new.arrived ≡ old.arrived → TellsOf moved still
       → new.last ≡ went.Nodes moved → LiesAs new (record lying { last = OfNodes still })
   still-so moved placed rooms follows arrived tells last = record {
-    spots = λ page. ap (λ (runs : List (Run Spot)). spot_at runs page) placed ∙ lies.spots page;
+    spots = λ page. ap (λ (runs : Laid). spot_at runs page) placed ∙ lies.spots page;
     room = subst (λ (r : Option Rooms). HaveRoom r lying.room) (sym rooms) lies.room;
     follows = follows ∙ lies.follows;
     last = subst (λ (m : Last). LastAs m (OfNodes still)) (sym last) tells;
     arrived = arrived-so arrived;
   }
 
-  follows-on : (b refused : Bool) → b ≡ true → followed_where b refused from to kept lying
+  follows-on : (b : Bool) (lack : Lack) → b ≡ true → followed_where b lack from to kept lying
       ≡ follow_unless
-      (lack_in lying.room refused (motion lying.room lying.spots from to).spots) kept
+      (lack_in lying.room lack (motion lying.room lying.spots from to).spots) kept
       (motion lying.room lying.spots from to) lying
-  follows-on b refused on = ap (λ (c : Bool). followed_where c refused from to kept lying) on
+  follows-on b lack on = ap (λ (c : Bool). followed_where c lack from to kept lying) on
 
   module _ (on : old.follows ≡ true) where
     pub follow-done : (before moved : Moved)
-        → lack_in lying.room false (motion lying.room lying.spots from to).spots ≡ None
+        → lack_in lying.room Enough (motion lying.room lying.spots from to).spots ≡ None
         → Moves new.placed new.rooms before (motion lying.room lying.spots from to)
         → TellsOf moved (with_held kept (motion lying.room lying.spots from to).told)
         → new.follows ≡ old.follows → new.arrived ≡ old.arrived → new.last ≡ went.Nodes moved
         → Follows
     follow-done before moved none moves tells follows arrived last =
         let here = motion lying.room lying.spots from to in
-        let is : followed false from to kept lying ≡ with_motion kept lying here =
-        follows-on lying.follows false (sym lies.follows ∙ on)
+        let is : followed Enough from to kept lying ≡ with_motion kept lying here =
+        follows-on lying.follows Enough (sym lies.follows ∙ on)
         ∙ ap (λ (c : Option PlacedRefusal). follow_unless c kept here lying) none in (
-          false,
+          Enough,
           subst (LiesAs new) (sym is) (record {
             spots = moves.spots;
             room = moves.room;
@@ -69,16 +68,16 @@ module _ (old new : PageState) (lying : Lying) (lies : LiesAs old lying) (from t
         )
 
     pub follow-lacks : (refusal : PlacedRefusal) (moved : Moved)
-        → lack_in lying.room (is_no_memory refusal)
+        → lack_in lying.room (lack_told refusal)
         (motion lying.room lying.spots from to).spots ≡ Some refusal
         → new.placed ≡ old.placed → new.rooms ≡ old.rooms → new.follows ≡ old.follows
         → new.arrived ≡ old.arrived → TellsOf moved still → new.last ≡ went.Nodes moved → Follows
     follow-lacks refusal moved lack placed rooms follows arrived tells last =
         let here = motion lying.room lying.spots from to in
-        let is : followed (is_no_memory refusal) from to kept lying
+        let is : followed (lack_told refusal) from to kept lying
         ≡ record lying { last = OfNodes still } =
-        follows-on lying.follows (is_no_memory refusal) (sym lies.follows ∙ on)
+        follows-on lying.follows (lack_told refusal) (sym lies.follows ∙ on)
         ∙ ap (λ (c : Option PlacedRefusal). follow_unless c kept here lying) lack in (
-          is_no_memory refusal,
+          lack_told refusal,
           subst (LiesAs new) (sym is) (still-so moved placed rooms follows arrived tells last),
         )

@@ -1,9 +1,8 @@
 -- How far nodes are filled when a page of a span is reached.
 use Rattle.std.proofs.Common.{◌≡◌, ℕ, zero, suc, ◌+◌, ◌-◌, ◌*◌, ◌<◌, ◌≤◌, ◌^◌, Bool, false}
-use Rattle.std.proofs.Common.{List, refl, sym, ap, ◌∙◌, arith, subst, inl, inr, true}
+use Rattle.std.proofs.Common.{refl, sym, ap, ◌∙◌, arith, subst, inl, inr, true}
 use Rattle.std.specs.Prelude.{if◌then◌else◌, ◌&&◌, nat_lt}
 use Rattle.std.proofs.lemmas.Bool.{both_ways, cases_lt, le-ltb, lt-ltb}
-use Rattle.numa_ranges.specs.declared.run.Run.{Run}
 use Rattle.numa_ranges.proofs.Apart.{in_pages-true, in_pages-below, in_pages-above}
 use Rattle.numa_space.specs.History.{page_of, page_count}
 use Rattle.numa_space.specs.Standing.{SpaceState}
@@ -14,6 +13,7 @@ use Rattle.numa_placed.specs.Spots.{pages_if, spot_at}
 use Rattle.numa_placed.specs.declared.rooms.Rooms.{Rooms}
 use Rattle.numa_placed.specs.declared.spot.Spot.{Spot}
 use Rattle.numa_placed.proofs.Binding.{before-next, before-none, rooms-same}
+use Rattle.numa_placed.specs.Laid.{Laid}
 use Rattle.numa_page_state.specs.Standing.{IsFront, asked_for}
 use Rattle.numa_page_state.specs.declared.sending.Toucher.{Toucher}
 use Rattle.numa_page_state.specs.declared.sending.Rebinding.{Rebinding}
@@ -114,7 +114,7 @@ front-here asked spots room front given page are is =
 
 -- the rooms that trying the pages below one gives
 pub reached : (space : SpaceState) (said : Rebinding) (toucher : Toucher)
-    (placed copy : List (Run Spot)) (room : ℕ → ℕ) (from to : ℕ)
+    (placed copy : Laid) (room : ℕ → ℕ) (from to : ℕ)
     → page_of said.start ≤ from → from ≤ to → to ≤ page_of said.start + page_count said.length
     → page_of said.start + page_count said.length ≤ 2 ^ 35 → copy ≡ placed → (list : ℕ)
     → list ≡ said.spec.mask → (rooms : Rooms)

@@ -1,23 +1,22 @@
 -- Which cause a change of pages is refused for.
-use Rattle.std.proofs.Common.{◌≡◌, ℕ, false, Option, Some, None, refl, sym, ap}
+use Rattle.std.proofs.Common.{◌≡◌, ℕ, Option, Some, None, refl, sym, ap}
 use Rattle.numa_placed.specs.Refusals.{IsLack, IsRefusal, IsMoveLack, IsMoveRefusal}
 use Rattle.numa_placed.specs.Shifts.{first_of as first_move}
-use Rattle.numa_placed.specs.Spots.{too_many}
 use Rattle.numa_requests.specs.declared.page_refusal.MoveRefusal.{MoveRefusal}
 use Rattle.numa_requests.specs.declared.page_refusal.MoveRefusal.TheVariants as move
 use Rattle.numa_requests.specs.declared.page_refusal.PlacedRefusal.{PlacedRefusal}
 use Rattle.numa_requests.specs.declared.page_refusal.PlacedRefusal.TheVariants as cause
 use Rattle.numa_placed.specs.declared.spot.Spot.{Spot}
-use Rattle.numa_page_state.specs.Outcomes.{cause_by, is_lack, is_no_memory, lack_of}
-use Rattle.numa_page_state.specs.Outcomes.{move_lack_of}
+use Rattle.numa_page_state.specs.Outcomes.{Enough, cause_by, lack_of, lack_told, move_lack_of}
+use Rattle.numa_page_state.specs.Outcomes.{move_lack_told}
 
 -- nothing stands against a call
 pub cause-none : (first : Option PlacedRefusal) (after : ℕ → Spot) → first ≡ None
-    → too_many after ≡ false → cause_by false first after ≡ None
-cause-none first after none few = rw (none, few) refl
+    → cause_by Enough first after ≡ None
+cause-none first after none = rw none refl
 
 pub lack-told : (after : ℕ → Spot) (refusal : PlacedRefusal) → IsLack after refusal
-    → lack_of (is_no_memory refusal) after ≡ Some refusal
+    → lack_of (lack_told refusal) after ≡ Some refusal
 lack-told after cause.Unaligned lack = absurd lack
 lack-told after cause.OutOfSpace lack = absurd lack
 lack-told after cause.NoSuchNode lack = absurd lack
@@ -32,12 +31,12 @@ lack-told after cause.NoMemory lack = refl
 
 -- the refusal is the first cause of all
 pub cause-told : (first : Option PlacedRefusal) (after : ℕ → Spot) (refusal : PlacedRefusal)
-    → IsRefusal first after refusal → cause_by (is_no_memory refusal) first after ≡ Some refusal
+    → IsRefusal first after refusal → cause_by (lack_told refusal) first after ≡ Some refusal
 cause-told None after refusal lack = lack-told after refusal lack
 cause-told (Some first) after refusal is = ap Some (sym is)
 
 move-lack-told : (after : ℕ → Spot) (refusal : MoveRefusal) → IsMoveLack after refusal
-    → move_lack_of (is_lack refusal) after ≡ Some refusal
+    → move_lack_of (move_lack_told refusal) after ≡ Some refusal
 move-lack-told after move.NoSuchNode lack = absurd lack
 move-lack-told after move.NodesNotAllowed lack = absurd lack
 move-lack-told after move.Unmapped lack = absurd lack
@@ -48,10 +47,10 @@ move-lack-told after move.NoMemory lack = refl
 
 pub move-told : (first : Option MoveRefusal) (after : ℕ → Spot) (refusal : MoveRefusal)
     → IsMoveRefusal first after refusal
-    → first_move first (move_lack_of (is_lack refusal) after) ≡ Some refusal
+    → first_move first (move_lack_of (move_lack_told refusal) after) ≡ Some refusal
 move-told None after refusal lack = move-lack-told after refusal lack
 move-told (Some first) after refusal is = ap Some (sym is)
 
 pub move-none : (first : Option MoveRefusal) (after : ℕ → Spot) → first ≡ None
-    → too_many after ≡ false → first_move first (move_lack_of false after) ≡ None
-move-none first after none few = rw (none, few) refl
+    → first_move first (move_lack_of Enough after) ≡ None
+move-none first after none = rw none refl

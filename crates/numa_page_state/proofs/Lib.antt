@@ -2,6 +2,7 @@ pub mod Answered
 pub mod Asking
 pub mod Begun
 pub mod Emptied
+pub mod Flows
 pub mod Follows
 pub mod Fronts
 pub mod HeldPages
@@ -13,7 +14,6 @@ pub mod Migrating
 pub mod Moving
 pub mod Populating
 mod Rows
-pub mod RunFlows
 pub mod Served
 pub mod Singles
 pub mod Stating

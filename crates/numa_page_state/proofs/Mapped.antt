@@ -28,7 +28,7 @@ use Rattle.numa_placed.specs.declared.spot.Spot.{Spot}
 use Rattle.numa_placed.specs.declared.spot.Spot.TheVariants.{Nowhere, Stated}
 use Rattle.numa_page_state.specs.Lying.{AreMapped, Ground, IsMapped, Lying, Process, motion}
 use Rattle.numa_page_state.specs.Lying.{with_held, with_motion, with_spots}
-use Rattle.numa_page_state.specs.Outcomes.{Done, at_cause, at_outcome, at_spots, done_with}
+use Rattle.numa_page_state.specs.Outcomes.{Done, Lack, at_cause, at_outcome, at_spots, done_with}
 use Rattle.numa_page_state.specs.Outcomes.{follow_unless, followed_where, forgotten}
 use Rattle.numa_page_state.specs.Outcomes.{held_cause, held_move_unless, lack_in, move_cause_by}
 use Rattle.numa_page_state.specs.Outcomes.{move_outcome, move_unless, move_where, moved_outcome}
@@ -109,32 +109,32 @@ module _ (basis : Ground) (start bytes task cpu page : ℕ) (at : Lying) where
   abbrev touched : Done (Unit {0}) PlacedRefusal
   touched = (Ok tt, with_touched (touched_by basis start bytes task cpu) at)
 
-  pub touches-placed : (node : ℕ) → touch_cause false basis start bytes task cpu at ≡ None
+  pub touches-placed : (lack : Lack) (node : ℕ) → touch_cause lack basis start bytes task cpu at ≡ None
       → in_pages (page_of start) (page_count bytes) page ≡ true → at.spots page ≡ Nowhere
       → placed_at basis.kept page ≡ None → goal ≡ Some node
-      → (populate_outcome false basis start bytes task cpu at).1.spots page ≡ Stated node
-  touches-placed node free within is none goes =
+      → (populate_outcome lack basis start bytes task cpu at).1.spots page ≡ Stated node
+  touches-placed lack node free within is none goes =
       ap (λ (c : Option PlacedRefusal). (unless_refused c at touched).1.spots page) free
       ∙ goes-there basis.kept (page_of start) (page_count bytes) page node goal (at.spots page)
       within is none goes
 
-  pub touches-exhausted : (refused : Bool) → goal ≡ None
-      → (populate_outcome refused basis start bytes task cpu at).1.spots page ≡ at.spots page
-  touches-exhausted refused none =
-      outcome-spot (touch_cause refused basis start bytes task cpu at) at touched page
+  pub touches-exhausted : (lack : Lack) → goal ≡ None
+      → (populate_outcome lack basis start bytes task cpu at).1.spots page ≡ at.spots page
+  touches-exhausted lack none =
+      outcome-spot (touch_cause lack basis start bytes task cpu at) at touched page
       (stays-full (touched_by basis start bytes task cpu) goal page (at.spots page) none)
 
-  pub touches-there : (refused : Bool) → is_placed (at.spots page) ≡ true
-      → (populate_outcome refused basis start bytes task cpu at).1.spots page ≡ at.spots page
-  touches-there refused t =
-      outcome-spot (touch_cause refused basis start bytes task cpu at) at touched page
+  pub touches-there : (lack : Lack) → is_placed (at.spots page) ≡ true
+      → (populate_outcome lack basis start bytes task cpu at).1.spots page ≡ at.spots page
+  touches-there lack t =
+      outcome-spot (touch_cause lack basis start bytes task cpu at) at touched page
       (stays-out (touched_by basis start bytes task cpu) goal page (at.spots page)
       (there basis.kept page (at.spots page) t))
 
-  pub touches-framed : (refused : Bool) → is_some (placed_at basis.kept page) ≡ true
-      → (populate_outcome refused basis start bytes task cpu at).1.spots page ≡ at.spots page
-  touches-framed refused t =
-      outcome-spot (touch_cause refused basis start bytes task cpu at) at touched page
+  pub touches-framed : (lack : Lack) → is_some (placed_at basis.kept page) ≡ true
+      → (populate_outcome lack basis start bytes task cpu at).1.spots page ≡ at.spots page
+  touches-framed lack t =
+      outcome-spot (touch_cause lack basis start bytes task cpu at) at touched page
       (stays-out (touched_by basis start bytes task cpu) goal page (at.spots page)
       (in-frame basis.kept page (at.spots page) t))
 
@@ -206,11 +206,11 @@ stated-are mapped kept first pages node spots are page =
     if-mapped (in_pages first pages page && is_some (placed_at kept page)) (mapped page)
     (forgotten_spot later) later (λ t. forgotten-mapped (mapped page) later is) is
 
-pub at-mapped : (refused : Bool) (basis : Ground) (start bytes node : ℕ) (at : Lying)
+pub at-mapped : (lack : Lack) (basis : Ground) (start bytes node : ℕ) (at : Lying)
     → AreMapped basis.mapped at.spots
-    → AreMapped basis.mapped (at_outcome refused basis start bytes node at).1.spots
-at-mapped refused basis start bytes node at are =
-    outcome-mapped basis.mapped (at_cause refused basis start bytes node at) at
+    → AreMapped basis.mapped (at_outcome lack basis start bytes node at).1.spots
+at-mapped lack basis start bytes node at are =
+    outcome-mapped basis.mapped (at_cause lack basis start bytes node at) at
     (done_with (with_spots (at_spots basis start bytes node at.spots) at)) are
     (λ none. stated-are basis.mapped basis.kept (page_of start) (page_count bytes) node at.spots
     are)
@@ -225,12 +225,12 @@ bound-mapped mapped asked goal spots are gone page =
     (sent_spot (goal page) (spots page)) (spots page)
     (λ t. sent-mapped (mapped page) (goal page) (spots page) (gone page t) (are page)) (are page)
 
-pub populate-mapped : (refused : Bool) (basis : Ground) (start bytes task cpu : ℕ) (at : Lying)
+pub populate-mapped : (lack : Lack) (basis : Ground) (start bytes task cpu : ℕ) (at : Lying)
     → AreMapped basis.mapped at.spots
-    → AreMapped basis.mapped (populate_outcome refused basis start bytes task cpu at).1.spots
-populate-mapped refused basis start bytes task cpu at are =
+    → AreMapped basis.mapped (populate_outcome lack basis start bytes task cpu at).1.spots
+populate-mapped lack basis start bytes task cpu at are =
     let asked = touched_by basis start bytes task cpu in
-    outcome-mapped basis.mapped (touch_cause refused basis start bytes task cpu at) at
+    outcome-mapped basis.mapped (touch_cause lack basis start bytes task cpu at) at
     (done_with (with_touched asked at)) are (λ none.
     let free = second-none (span_cause start bytes) _
     (first-none (populate_cause basis.machine basis.mapped start bytes cpu) _ none) in
@@ -269,13 +269,13 @@ held-mapped : (first : Option MoveRefusal) (mapped : ℕ → Bool) (at : Lying)
 held-mapped (Some why) mapped at are = are
 held-mapped None mapped at are = are
 
-where-mapped : (placement : Option Placement) (refused : Bool) (basis : Ground) (page node : ℕ)
+where-mapped : (placement : Option Placement) (lack : Lack) (basis : Ground) (page node : ℕ)
     (at : Lying) → AreMapped basis.mapped at.spots
-    → AreMapped basis.mapped (move_where placement refused basis page node at).1.spots
-where-mapped (Some placement) refused basis page node at are =
+    → AreMapped basis.mapped (move_where placement lack basis page node at).1.spots
+where-mapped (Some placement) lack basis page node at are =
     held-mapped (held_cause basis page node placement.node) basis.mapped at are
-where-mapped None refused basis page node at are =
-    moved-mapped (move_cause_by refused basis page node at) basis.mapped page node at are
+where-mapped None lack basis page node at are =
+    moved-mapped (move_cause_by lack basis page node at) basis.mapped page node at are
     (λ none.
     let free = first-free (move_cause basis.machine basis.allowed node (basis.mapped page)
     (at.spots page)) _ (first-free _ _ none) in
@@ -284,11 +284,11 @@ where-mapped None refused basis page node at are =
     let there = if-none (not (basis.mapped page)) move.Unmapped _ allowed.1 in
     lies-mapped (basis.mapped page) node (at.spots page) there.1 (are page))
 
-pub move-mapped : (refused : Bool) (basis : Ground) (address node : ℕ) (at : Lying)
+pub move-mapped : (lack : Lack) (basis : Ground) (address node : ℕ) (at : Lying)
     → AreMapped basis.mapped at.spots
-    → AreMapped basis.mapped (move_outcome refused basis address node at).1.spots
-move-mapped refused basis address node at are =
-    where-mapped (placed_at basis.kept (page_of address)) refused basis (page_of address) node at
+    → AreMapped basis.mapped (move_outcome lack basis address node at).1.spots
+move-mapped lack basis address node at are =
+    where-mapped (placed_at basis.kept (page_of address)) lack basis (page_of address) node at
     are
 
 -- ---- pages that go by their node
@@ -312,23 +312,23 @@ motion-mapped mapped (Some room) spots old new are page =
     shifted-mapped (moved_node old new) (shift_of spots old new room).gone
     (stated_below spots page) (mapped page) (spots page) (are page)
 
-pub follow-mapped : (b refused : Bool) (kept : Kept) (mapped : ℕ → Bool) (old new : ℕ) (at : Lying)
-    → AreMapped mapped at.spots → AreMapped mapped (followed_where b refused old new kept at).spots
-follow-mapped false refused kept mapped old new at are = are
-follow-mapped true refused kept mapped old new at are =
-    followed-mapped (lack_in at.room refused (motion at.room at.spots old new).spots) where
-      followed-mapped : (lack : Option PlacedRefusal) → AreMapped mapped
-          (follow_unless lack kept (motion at.room at.spots old new) at).spots
+pub follow-mapped : (b : Bool) (lack : Lack) (kept : Kept) (mapped : ℕ → Bool) (old new : ℕ) (at : Lying)
+    → AreMapped mapped at.spots → AreMapped mapped (followed_where b lack old new kept at).spots
+follow-mapped false lack kept mapped old new at are = are
+follow-mapped true lack kept mapped old new at are =
+    followed-mapped (lack_in at.room lack (motion at.room at.spots old new).spots) where
+      followed-mapped : (first : Option PlacedRefusal) → AreMapped mapped
+          (follow_unless first kept (motion at.room at.spots old new) at).spots
       followed-mapped None = motion-mapped mapped at.room at.spots old new are
       followed-mapped (Some why) = are
 
-pub shift-mapped : (refused : Bool) (kept : Kept) (mapped : ℕ → Bool)
+pub shift-mapped : (lack : Lack) (kept : Kept) (mapped : ℕ → Bool)
     (first : Option PlacedRefusal) (old new : ℕ) (at : Lying) → AreMapped mapped at.spots
     → AreMapped mapped
-    (moved_outcome refused kept (motion at.room at.spots old new) first at).1.spots
-shift-mapped refused kept mapped first old new at are =
+    (moved_outcome lack kept (motion at.room at.spots old new) first at).1.spots
+shift-mapped lack kept mapped first old new at are =
     let done = motion at.room at.spots old new in
-    outcome-mapped mapped (first_of first (lack_in at.room refused done.spots)) at
+    outcome-mapped mapped (first_of first (lack_in at.room lack done.spots)) at
     (Ok (shift_told (with_held kept done.told)), with_motion kept at done) are
     (λ none. motion-mapped mapped at.room at.spots old new are)
 

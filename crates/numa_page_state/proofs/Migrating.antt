@@ -1,17 +1,17 @@
 -- Pages that leave a set of nodes for another, with rooms or without.
-use Rattle.std.proofs.Common.{◌≡◌, ℕ, zero, suc, ◌+◌, ◌*◌, ◌<◌, ◌≤◌, ◌^◌, ◌==◌, Bool, false}
-use Rattle.std.proofs.Common.{Option, Some, None, List, refl}
-use Rattle.std.proofs.Common.{sym, ap, subst, ◌∙◌, arith, inl, inr}
+use Rattle.std.proofs.Common.{◌≡◌, ℕ, zero, suc, ◌*◌, ◌<◌, ◌≤◌, ◌^◌, ◌==◌, Bool}
+use Rattle.std.proofs.Common.{Option, Some, None, refl}
+use Rattle.std.proofs.Common.{ap, subst, ◌∙◌, arith, inl, inr}
 use Rattle.std.proofs.lemmas.Bool.{cases_Bool}
 use Rattle.numa_placed.proofs.Shared.{count-le}
+use Rattle.numa_placed.specs.Laid.{Laid}
 use Rattle.numa_placed.specs.Shifts.{is_stated, room_of}
 use Rattle.std.specs.Prelude.{Result, Ok, Err, IfErr, IfOk, OnErr, OnOk}
-use Rattle.numa_ranges.specs.declared.run.Run.{Run}
 use Rattle.numa_placed.specs.Moves.{IsMove, goes, goes_from, moved_node, moved_spot}
 use Rattle.numa_placed.specs.Refusals.{IsRefusal, first_of}
 use Rattle.numa_placed.specs.Shifts.{AreRooms, IsShift, shift_of, shifted, stated_on, stay_on}
 use Rattle.numa_placed.specs.Shifts.{sum_below}
-use Rattle.numa_placed.specs.Spots.{pages_where, spot_at, too_many}
+use Rattle.numa_placed.specs.Spots.{pages_where, spot_at}
 use Rattle.numa_placed.specs.declared.moved.Moved.{Moved}
 use Rattle.numa_requests.specs.declared.page_refusal.PlacedRefusal.{PlacedRefusal}
 use Rattle.numa_placed.specs.declared.rooms.Rooms.{Rooms}
@@ -54,7 +54,7 @@ few-filling go gone spots left is =
     (stay-le go (stated_on spots) gone (λ node. where-le (is_stated node) spots)) in
     omega (arith, is, stay)
 
-module _ (old new : List (Run Spot)) (from to : ℕ) (first : Option PlacedRefusal) where
+module _ (old new : Laid) (from to : ℕ) (first : Option PlacedRefusal) where
   -- ---- no node fills
 
   moves-freely : (spots : ℕ → Spot) (moved : Moved) → ((page : ℕ) → spot_at old page ≡ spots page)
@@ -120,12 +120,8 @@ module _ (old new : List (Run Spot)) (from to : ℕ) (first : Option PlacedRefus
   migrates-filling rooms rooms_then result free ok err same kept spots None alike have = absurd have
   migrates-filling rooms rooms_then (Ok moved) free ok err same kept spots (Some room) alike have =
       let all : spot_at old ≡ spots = λ i page. alike page i in
-      let is = ok room have in
-      let after : spot_at new ≡ shifted spots from to room = λ i page.
-      (is.pages page ∙ ap (λ (s : ℕ → Spot). shifted s from to room page) all) i in
-      let few : too_many (shifted spots from to room) ≡ false =
-      sym (ap too_many after) ∙ is.few in (
-        cause-none first (shifted spots from to room) free few,
+      let is = ok room have in (
+        cause-none first (shifted spots from to room) free,
         moves-filling spots room rooms_then moved all is,
       )
   migrates-filling rooms rooms_then (Err refusal) free ok err same kept spots (Some room) alike
@@ -137,7 +133,7 @@ module _ (old new : List (Run Spot)) (from to : ℕ) (first : Option PlacedRefus
       (cause-told first (shifted spots from to room) refusal is, same, ap Some kept)
 
 -- few pages stay in every move that was done
-pub few-left : (old new : List (Run Spot)) (rooms rooms_then : Option Rooms) (from to : ℕ)
+pub few-left : (old new : Laid) (rooms rooms_then : Option Rooms) (from to : ℕ)
     (first : Option PlacedRefusal) (moved : Moved)
     → Migrates old rooms from to first (Ok moved) new rooms_then → moved.left < 2 ^ 62
 few-left old new None rooms_then from to first moved is =
@@ -146,7 +142,7 @@ few-left old new (Some rooms) rooms_then from to first moved is =
     (is (spot_at old) (Some (room_of rooms)) (λ page. refl) (λ node small. refl)).1.few
 
 -- nothing has changed by one that was refused
-pub denied-still : (old new : List (Run Spot)) (rooms rooms_then : Option Rooms) (from to : ℕ)
+pub denied-still : (old new : Laid) (rooms rooms_then : Option Rooms) (from to : ℕ)
     (first : Option PlacedRefusal) (refusal : PlacedRefusal)
     → Migrates old rooms from to first (Err refusal) new rooms_then
     → (new ≡ old) × (rooms_then ≡ rooms)

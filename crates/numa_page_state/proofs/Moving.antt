@@ -1,13 +1,13 @@
 -- One page that goes to a node.
-use Rattle.std.proofs.Common.{◌≡◌, ℕ, ◌<◌, ◌≤◌, Bool, true, false, Option, Some, None, List, refl}
+use Rattle.std.proofs.Common.{◌≡◌, ℕ, ◌<◌, ◌≤◌, Bool, true, Option, Some, None, refl}
 use Rattle.std.proofs.Common.{sym, ap, subst, ◌∙◌, inl, inr, arith}
 use Rattle.std.specs.Prelude.{Result, Ok, Err, IfErr, OnErr, OnOk}
 use Rattle.std.proofs.lemmas.Bool.{cases_lt, le-leb}
 use Rattle.numa_machine.specs.Machine.{Hardware}
-use Rattle.numa_ranges.specs.declared.run.Run.{Run}
+use Rattle.numa_placed.specs.Laid.{Laid}
 use Rattle.numa_placed.specs.Refusals.{IsMoveRefusal, lacks_node, move_cause}
 use Rattle.numa_placed.specs.Shifts.{AreRooms, first_of, room_cause, room_moved, room_of}
-use Rattle.numa_placed.specs.Spots.{spot_at, too_many}
+use Rattle.numa_placed.specs.Spots.{spot_at}
 use Rattle.numa_requests.specs.declared.page_refusal.MoveRefusal.{MoveRefusal}
 use Rattle.numa_requests.specs.declared.page_refusal.MoveRefusal.TheVariants as move
 use Rattle.numa_placed.specs.declared.rooms.Rooms.{Rooms}
@@ -51,7 +51,7 @@ pub room-some : (rooms : Rooms) (room : Option (ℕ → ℕ)) → HaveRoom (Some
 room-some rooms None have = absurd have
 room-some rooms (Some room) have = (room, refl, have)
 
-module _ (old new : List (Run Spot)) (basis : Ground) (page node : ℕ)
+module _ (old new : Laid) (basis : Ground) (page node : ℕ)
     (few : basis.machine.nodes ≤ 256) where
   abbrev cause_at : (ℕ → Spot) → Option MoveRefusal
   cause_at spots = move_cause basis.machine basis.allowed node (basis.mapped page) (spots page)
@@ -59,10 +59,9 @@ module _ (old new : List (Run Spot)) (basis : Ground) (page node : ℕ)
   pub moves-freely : (result : Result (Unit {0}) MoveRefusal)
       → OnOk result (cause_at (spot_at old) ≡ None)
       → OnOk result ((other : ℕ) → spot_at new other ≡ move_spots page node (spot_at old) other)
-      → OnOk result (too_many (spot_at new) ≡ false)
       → IfErr result (IsMoveRefusal (cause_at (spot_at old)) (move_spots page node (spot_at old)))
       → OnErr result (new ≡ old) → MovesPage old None basis page node result new None
-  moves-freely (Ok done) free ok few_then err same at alike have =
+  moves-freely (Ok done) free ok err same at alike have =
       let all : spot_at old ≡ at.spots = λ i other. alike other i in
       let none = room-none at.room have in
       let after : spot_at new ≡ move_spots page node at.spots = λ i other.
@@ -72,13 +71,13 @@ module _ (old new : List (Run Spot)) (basis : Ground) (page node : ℕ)
       let first = ap (λ (c : Option MoveRefusal).
       first_of c (room_cause_in at.room node (at.spots page))) cause ∙ roomless in (
         move-none (first_of (cause_at at.spots) (room_cause_in at.room node (at.spots page)))
-            (move_spots page node at.spots) first (sym (ap too_many after) ∙ few_then),
+            (move_spots page node at.spots) first,
         λ other. ap (λ (s : ℕ → Spot). s other) after,
         subst (λ (r : Option (ℕ → ℕ)). HaveRoom None (room_moved_in r node (at.spots page)))
             (sym none) tt,
         below basis.machine basis.allowed node (basis.mapped page) (at.spots page) cause few,
       )
-  moves-freely (Err refusal) free ok few_then err same at alike have =
+  moves-freely (Err refusal) free ok err same at alike have =
       let all : spot_at old ≡ at.spots = λ i other. alike other i in
       let none = room-none at.room have in
       let roomless = ap (λ (r : Option (ℕ → ℕ)). room_cause_in r node (at.spots page)) none in
@@ -103,13 +102,12 @@ module _ (old new : List (Run Spot)) (basis : Ground) (page node : ℕ)
       → OnOk result ((other : ℕ) → spot_at new other ≡ move_spots page node (spot_at old) other)
       → ((room : ℕ → ℕ) → AreRooms rooms room → OnOk result
       (AreRooms rooms_then (room_moved room node (spot_at old page))))
-      → OnOk result (too_many (spot_at new) ≡ false)
       → ((room : ℕ → ℕ) → AreRooms rooms room → IfErr result (IsMoveRefusal
       (first_of (cause_at (spot_at old)) (room_cause room node (spot_at old page)))
       (move_spots page node (spot_at old))))
       → OnErr result (new ≡ old) → OnErr result (rooms_then ≡ rooms)
       → MovesPage old (Some rooms) basis page node result new (Some rooms_then)
-  moves-filling rooms rooms_then (Ok done) free ok taken few_then err same kept at alike have =
+  moves-filling rooms rooms_then (Ok done) free ok taken err same kept at alike have =
       let all : spot_at old ≡ at.spots = λ i other. alike other i in
       let has = room-some rooms at.room have in
       let after : spot_at new ≡ move_spots page node at.spots = λ i other.
@@ -123,7 +121,7 @@ module _ (old new : List (Run Spot)) (basis : Ground) (page node : ℕ)
       subst (λ (s : ℕ → Spot). AreRooms rooms_then (room_moved has.0 node (s page))) all
       (taken has.0 has.2) in (
         move-none (first_of (cause_at at.spots) (room_cause_in at.room node (at.spots page)))
-            (move_spots page node at.spots) first (sym (ap too_many after) ∙ few_then),
+            (move_spots page node at.spots) first,
         λ other. ap (λ (s : ℕ → Spot). s other) after,
         subst (λ (r : Option (ℕ → ℕ)). HaveRoom (Some rooms_then)
             (room_moved_in r node (at.spots page))) (sym has.1) moved,
@@ -131,7 +129,7 @@ module _ (old new : List (Run Spot)) (basis : Ground) (page node : ℕ)
             (first-free (cause_at at.spots) (room_cause_in at.room node (at.spots page)) first)
             few,
       )
-  moves-filling rooms rooms_then (Err refusal) free ok taken few_then err same kept at alike
+  moves-filling rooms rooms_then (Err refusal) free ok taken err same kept at alike
       have =
       let all : spot_at old ≡ at.spots = λ i other. alike other i in
       let has = room-some rooms at.room have in
@@ -149,7 +147,7 @@ module _ (old new : List (Run Spot)) (basis : Ground) (page node : ℕ)
       )
 
 -- nothing has changed by one that was refused
-pub move-denied-still : (old new : List (Run Spot)) (rooms rooms_then : Option Rooms)
+pub move-denied-still : (old new : Laid) (rooms rooms_then : Option Rooms)
     (basis : Ground) (page node : ℕ) (refusal : MoveRefusal)
     → MovesPage old rooms basis page node (Err refusal) new rooms_then
     → (new ≡ old) × (rooms_then ≡ rooms)

@@ -1,12 +1,12 @@
 -- Pages of a span that a task touches first.
-use Rattle.std.proofs.Common.{◌≡◌, ℕ, ◌-◌, ◌<◌, false, Option, Some, None, List, refl}
+use Rattle.std.proofs.Common.{◌≡◌, ℕ, ◌-◌, ◌<◌, Option, Some, None, List, refl}
 use Rattle.std.proofs.Common.{sym, ap, subst, ◌∙◌, slice_index, is_some}
 use Rattle.std.specs.Prelude.{if◌then◌else◌, Ok, Err}
-use Rattle.numa_ranges.specs.declared.run.Run.{Run}
 use Rattle.numa_placed.specs.Binds.{IsBound, bound_spots}
+use Rattle.numa_placed.specs.Laid.{Laid}
 use Rattle.numa_placed.specs.Refusals.{IsRefusal, populate_cause}
 use Rattle.numa_placed.specs.Shifts.{ArePages, room_of, stated_on}
-use Rattle.numa_placed.specs.Spots.{spot_at, too_many}
+use Rattle.numa_placed.specs.Spots.{spot_at}
 use Rattle.numa_placed.specs.declared.bound.Bound.{Bound}
 use Rattle.numa_requests.specs.declared.page_refusal.PlacedRefusal.{PlacedRefusal}
 use Rattle.numa_placed.specs.declared.rooms.Rooms.{Rooms}
@@ -19,7 +19,7 @@ use Rattle.numa_page_state.specs.Touching.{touched_by}
 use Rattle.numa_page_state.proofs.Asking.{room-sent}
 use Rattle.numa_page_state.proofs.Judged.{cause-none, cause-told}
 
-module _ (old new : List (Run Spot)) (rooms : Option Rooms) (basis : Ground)
+module _ (old new : Laid) (rooms : Option Rooms) (basis : Ground)
     (start bytes task cpu : ℕ) where
   abbrev first : Option PlacedRefusal
   first = populate_cause basis.machine basis.mapped start bytes cpu
@@ -32,7 +32,6 @@ module _ (old new : List (Run Spot)) (rooms : Option Rooms) (basis : Ground)
   pub touches : (left : Rooms) (rooms_then : Option Rooms) (told : Bound) (before after on : List ℕ)
       → first ≡ None
       → ((room : Option (ℕ → ℕ)) → HaveRoom rooms room → Binds (rooms_of room) left told)
-      → too_many (spot_at new) ≡ false
       → rooms_then ≡ (if is_some rooms then Some left else None)
       → ArePages before (stated_on (spot_at old)) → ArePages after (stated_on (spot_at new))
       → ((node : ℕ) → node < 256
@@ -42,14 +41,14 @@ module _ (old new : List (Run Spot)) (rooms : Option Rooms) (basis : Ground)
         exhausted = told.left;
         on = on;
       })) new rooms_then
-  touches left rooms_then told before after on free bound few these was now more at alike have =
+  touches left rooms_then told before after on free bound these was now more at alike have =
       let asked = touched_by basis start bytes task cpu in
       let all : spot_at old ≡ at.spots = λ i page. alike page i in
       let is : IsBound asked at.spots (rooms_of at.room) (spot_at new) left told =
       subst (λ (s : ℕ → Spot). IsBound asked s (rooms_of at.room) (spot_at new) left told) all
       (bound at.room have) in
       let later : spot_at new ≡ sent_spots asked at = λ i page. is.pages page i in (
-        cause-none first (sent_spots asked at) free (sym (ap too_many later) ∙ few),
+        cause-none first (sent_spots asked at) free,
         is.pages,
         subst (λ (r : Option Rooms). HaveRoom r (rooms_sent asked at.spots at.room)) (sym these)
             (room-sent asked at.spots rooms left at.room have is.room),
@@ -79,7 +78,7 @@ module _ (old new : List (Run Spot)) (rooms : Option Rooms) (basis : Ground)
       )
 
 -- nothing has changed by one that was refused
-pub touches-still : (old new : List (Run Spot)) (rooms rooms_then : Option Rooms) (basis : Ground)
+pub touches-still : (old new : Laid) (rooms rooms_then : Option Rooms) (basis : Ground)
     (start bytes task cpu : ℕ) (refusal : PlacedRefusal)
     → Touches old rooms basis start bytes task cpu (Err refusal) new rooms_then
     → (new ≡ old) × (rooms_then ≡ rooms)

@@ -1,18 +1,18 @@
 -- A span that is stated to lie on a node, with rooms or without.
-use Rattle.std.proofs.Common.{◌≡◌, ℕ, Bool, true, false, Option, Some, None, List, refl}
+use Rattle.std.proofs.Common.{◌≡◌, ℕ, Bool, true, false, Option, Some, None, refl}
 use Rattle.std.proofs.Common.{sym, ap, subst, ◌∙◌}
 use Rattle.std.specs.Prelude.{Result, Ok, Err, IfErr, OnErr, OnOk}
-use Rattle.numa_ranges.specs.declared.run.Run.{Run}
+use Rattle.numa_placed.specs.Laid.{Laid}
 use Rattle.numa_placed.specs.Refusals.{IsFull, IsRefusal, IsRefusalWithin, first_of, state_cause}
 use Rattle.numa_placed.specs.Shifts.{AreRooms, is_short, room_of, rooms_between}
-use Rattle.numa_placed.specs.Spots.{spot_at, too_many}
+use Rattle.numa_placed.specs.Spots.{spot_at}
 use Rattle.numa_requests.specs.declared.page_refusal.PlacedRefusal.{PlacedRefusal}
 use Rattle.numa_requests.specs.declared.page_refusal.PlacedRefusal.TheVariants as cause
 use Rattle.numa_placed.specs.declared.rooms.Rooms.{Rooms}
 use Rattle.numa_placed.specs.declared.spot.Spot.{Spot}
 use Rattle.numa_page_state.specs.Lying.{Ground, nothing, with_spots}
-use Rattle.numa_page_state.specs.Outcomes.{at_spots, is_no_memory, is_short_in, lack_of}
-use Rattle.numa_page_state.specs.Outcomes.{short_or_lack}
+use Rattle.numa_page_state.specs.Outcomes.{Crowded, Enough, Lack, Starved, at_spots}
+use Rattle.numa_page_state.specs.Outcomes.{is_short_in, lack_of, lack_told, short_or_lack}
 use Rattle.numa_page_state.specs.Standing.{HaveRoom, States}
 use Rattle.numa_page_state.proofs.Judged.{lack-told}
 use Rattle.numa_page_state.proofs.Moving.{room-none, room-some}
@@ -20,7 +20,7 @@ use Rattle.numa_page_state.proofs.Moving.{room-none, room-some}
 -- ---- why it is refused
 
 full-told : (after : ℕ → Spot) (refusal : PlacedRefusal) → IsFull refusal
-    → short_or_lack (is_no_memory refusal) true after ≡ Some refusal
+    → short_or_lack (lack_told refusal) true after ≡ Some refusal
 full-told after cause.Unaligned full = absurd full
 full-told after cause.OutOfSpace full = absurd full
 full-told after cause.NoSuchNode full = absurd full
@@ -34,18 +34,19 @@ full-told after cause.TooManyRuns full = absurd full
 full-told after cause.NoMemory full = refl
 
 -- where room doesn't lack
-pub lack-alone : (refused : Bool) (after : ℕ → Spot)
-    → short_or_lack refused false after ≡ lack_of refused after
-lack-alone true after = refl
-lack-alone false after = refl
+pub lack-alone : (lack : Lack) (after : ℕ → Spot)
+    → short_or_lack lack false after ≡ lack_of lack after
+lack-alone Enough after = refl
+lack-alone Crowded after = refl
+lack-alone Starved after = refl
 
 within-told : (first : Option PlacedRefusal) (short : Bool) (after : ℕ → Spot)
     (refusal : PlacedRefusal) → IsRefusalWithin first short after refusal
-    → first_of first (short_or_lack (is_no_memory refusal) short after) ≡ Some refusal
+    → first_of first (short_or_lack (lack_told refusal) short after) ≡ Some refusal
 within-told (Some first) short after refusal is = ap Some (sym is)
 within-told None true after refusal is = full-told after refusal is
 within-told None false after refusal is =
-    lack-alone (is_no_memory refusal) after ∙ lack-told after refusal is
+    lack-alone (lack_told refusal) after ∙ lack-told after refusal is
 
 -- as where no room is said
 without-room : (first : Option PlacedRefusal) (after : ℕ → Spot) (refusal : PlacedRefusal)
@@ -54,13 +55,12 @@ without-room None after refusal is = is
 without-room (Some first) after refusal is = is
 
 within-none : (first : Option PlacedRefusal) (short : Bool) (after : ℕ → Spot) → first ≡ None
-    → short ≡ false → too_many after ≡ false
-    → first_of first (short_or_lack false short after) ≡ None
-within-none first short after none fits few = rw (none, fits, few) refl
+    → short ≡ false → first_of first (short_or_lack Enough short after) ≡ None
+within-none first short after none fits = rw (none, fits) refl
 
 -- ---- what comes of it
 
-module _ (old new : List (Run Spot)) (basis : Ground) (start bytes node : ℕ) where
+module _ (old new : Laid) (basis : Ground) (start bytes node : ℕ) where
   abbrev first : Option PlacedRefusal
   first = state_cause basis.machine start bytes node
 
@@ -69,22 +69,20 @@ module _ (old new : List (Run Spot)) (basis : Ground) (start bytes node : ℕ) w
 
   pub states-freely : (result : Result (Unit {0}) PlacedRefusal) → OnOk result (first ≡ None)
       → OnOk result ((page : ℕ) → spot_at new page ≡ after (spot_at old) page)
-      → OnOk result (too_many (spot_at new) ≡ false)
       → IfErr result (IsRefusal first (after (spot_at old))) → OnErr result (new ≡ old)
       → States old None basis start bytes node result new None
-  states-freely (Ok so) free ok few err same at alike have =
+  states-freely (Ok so) free ok err same at alike have =
       let all : spot_at old ≡ at.spots = λ i page. alike page i in
       let none = room-none at.room have in
       let later : spot_at new ≡ after at.spots = λ i page.
       (ok page ∙ ap (λ (s : ℕ → Spot). after s page) all) i in (
         within-none first (is_short_in at.room at.spots (after at.spots) node) (after at.spots) free
-            (ap (λ (r : Option (ℕ → ℕ)). is_short_in r at.spots (after at.spots) node) none)
-            (sym (ap too_many later) ∙ few),
+            (ap (λ (r : Option (ℕ → ℕ)). is_short_in r at.spots (after at.spots) node) none),
         λ page. ap (λ (s : ℕ → Spot). s page) later,
         subst (λ (r : Option (ℕ → ℕ)). HaveRoom None
             (with_spots (after at.spots) (record at { room = r })).room) (sym none) tt,
       )
-  states-freely (Err refusal) free ok few err same at alike have =
+  states-freely (Err refusal) free ok err same at alike have =
       let all : spot_at old ≡ at.spots = λ i page. alike page i in
       let none = room-none at.room have in
       let is : IsRefusalWithin first (is_short_in at.room at.spots (after at.spots) node)
@@ -102,7 +100,6 @@ module _ (old new : List (Run Spot)) (basis : Ground) (start bytes node : ℕ) w
   pub states-filling : (rooms rooms_then : Rooms) (result : Result (Unit {0}) PlacedRefusal)
       → OnOk result (first ≡ None)
       → OnOk result ((page : ℕ) → spot_at new page ≡ after (spot_at old) page)
-      → OnOk result (too_many (spot_at new) ≡ false)
       → ((room : ℕ → ℕ) → AreRooms rooms room → OnOk result
       (is_short room (spot_at old) (spot_at new) node ≡ false))
       → ((room : ℕ → ℕ) → AreRooms rooms room → OnOk result
@@ -111,7 +108,7 @@ module _ (old new : List (Run Spot)) (basis : Ground) (start bytes node : ℕ) w
       (is_short room (spot_at old) (after (spot_at old)) node) (after (spot_at old))))
       → OnErr result (new ≡ old) → OnErr result (rooms_then ≡ rooms)
       → States old (Some rooms) basis start bytes node result new (Some rooms_then)
-  states-filling rooms rooms_then (Ok so) free ok few fits taken err same kept at alike have =
+  states-filling rooms rooms_then (Ok so) free ok fits taken err same kept at alike have =
       let all : spot_at old ≡ at.spots = λ i page. alike page i in
       let has = room-some rooms at.room have in
       let later : spot_at new ≡ after at.spots = λ i page.
@@ -120,7 +117,7 @@ module _ (old new : List (Run Spot)) (basis : Ground) (start bytes node : ℕ) w
       ap (λ (r : Option (ℕ → ℕ)). is_short_in r at.spots (after at.spots) node) has.1
       ∙ (λ i. is_short has.0 (sym all i) (sym later i) node) ∙ fits has.0 has.2 in (
         within-none first (is_short_in at.room at.spots (after at.spots) node) (after at.spots) free
-            fit (sym (ap too_many later) ∙ few),
+            fit,
         λ page. ap (λ (s : ℕ → Spot). s page) later,
         subst (λ (r : Option (ℕ → ℕ)). HaveRoom (Some rooms_then)
             (with_spots (after at.spots) (record at { room = r })).room) (sym has.1)
@@ -129,7 +126,7 @@ module _ (old new : List (Run Spot)) (basis : Ground) (start bytes node : ℕ) w
             (subst (λ (s : ℕ → Spot). AreRooms rooms_then
             (rooms_between has.0 (spot_at old) s)) later (taken has.0 has.2))),
       )
-  states-filling rooms rooms_then (Err refusal) free ok few fits taken err same kept at alike
+  states-filling rooms rooms_then (Err refusal) free ok fits taken err same kept at alike
       have =
       let all : spot_at old ≡ at.spots = λ i page. alike page i in
       let has = room-some rooms at.room have in
@@ -146,7 +143,7 @@ module _ (old new : List (Run Spot)) (basis : Ground) (start bytes node : ℕ) w
       )
 
 -- nothing has changed by one that was refused
-pub states-still : (old new : List (Run Spot)) (rooms rooms_then : Option Rooms) (basis : Ground)
+pub states-still : (old new : Laid) (rooms rooms_then : Option Rooms) (basis : Ground)
     (start bytes node : ℕ) (refusal : PlacedRefusal)
     → States old rooms basis start bytes node (Err refusal) new rooms_then
     → (new ≡ old) × (rooms_then ≡ rooms)

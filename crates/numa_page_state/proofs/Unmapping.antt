@@ -4,19 +4,19 @@ use Rattle.std.proofs.Common.{sym, ap, subst, ◌∙◌, inl, inr, is_some}
 use Rattle.std.specs.Prelude.{if◌then◌else◌, Ok, Err, not, nat_lt, ◌%◌, ◌*◌, ◌+◌, ◌^◌, ◌==◌}
 use Rattle.std.proofs.lemmas.Bool.{cases_Bool, both_ways}
 use Rattle.numa_ranges.proofs.Pages.{any_page-false}
-use Rattle.numa_ranges.specs.declared.run.Run.{Run}
 use Rattle.numa_space.specs.History.{page_of, page_count}
+use Rattle.numa_placed.specs.Laid.{Laid}
 use Rattle.numa_placed.specs.Refusals.{IsRefusal, first_of, span_cause}
 use Rattle.numa_placed.specs.Shifts.{ArePages, AreRooms, rooms_between, stated_on}
-use Rattle.numa_placed.specs.Spots.{spot_at, too_many}
+use Rattle.numa_placed.specs.Spots.{spot_at}
 use Rattle.numa_placed.specs.declared.rooms.Rooms.{Rooms}
 use Rattle.numa_requests.specs.declared.page_refusal.PlacedRefusal.{PlacedRefusal}
 use Rattle.numa_requests.specs.declared.page_refusal.PlacedRefusal.TheVariants as cause
 use Rattle.numa_placed.specs.declared.spot.Spot.{Spot}
 use Rattle.numa_placed.specs.declared.spot.Spot.TheVariants.{Nowhere}
 use Rattle.numa_page_state.specs.Lying.{Lying, with_spots}
-use Rattle.numa_page_state.specs.Outcomes.{forgotten, has_stated, is_astray_cause, is_no_memory}
-use Rattle.numa_page_state.specs.Outcomes.{lack_of}
+use Rattle.numa_page_state.specs.Outcomes.{forgotten, has_stated, is_astray_cause, lack_of}
+use Rattle.numa_page_state.specs.Outcomes.{lack_told}
 use Rattle.numa_page_state.specs.Standing.{Forgets, HaveRoom, LiesAs}
 use Rattle.numa_page_state.specs.declared.state.PageState.{PageState}
 use Rattle.numa_page_state.proofs.Judged.{lack-told}
@@ -67,59 +67,49 @@ module _ (kept : PageState) (start bytes : ℕ) where
   forgets-still is lying lies =
       ap (λ (s : ℕ → Spot). has_stated s start bytes) (sym (alike lying lies)) ∙ is
 
-  pub forgets-some : (after : List (Run Spot))
+  pub forgets-some : (after : Laid)
       → has_stated (spot_at kept.placed) start bytes ≡ true
-      → lack_of false (forgotten start bytes (spot_at kept.placed)) ≡ None
       → ((page : ℕ) → spot_at after page ≡ forgotten start bytes (spot_at kept.placed) page)
       → Forgets (Some kept) start bytes (Ok (Some after))
-  forgets-some after is free spots lying lies =
+  forgets-some after is spots lying lies =
       let same = alike lying lies in (
         ap (λ (s : ℕ → Spot). has_stated s start bytes) (sym same) ∙ is,
         refl,
-        ap (λ (s : ℕ → Spot). lack_of false (forgotten start bytes s)) (sym same) ∙ free,
         λ page. spots page ∙ ap (λ (s : ℕ → Spot). forgotten start bytes s page) same,
       )
 
   pub forgets-lacks : (why : PlacedRefusal)
       → has_stated (spot_at kept.placed) start bytes ≡ true
-      → lack_of (is_no_memory why) (forgotten start bytes (spot_at kept.placed)) ≡ Some why
+      → lack_of (lack_told why) (forgotten start bytes (spot_at kept.placed)) ≡ Some why
       → Forgets (Some kept) start bytes (Err why)
   forgets-lacks why is lack lying lies =
       let same = alike lying lies in (
         ap (λ (s : ℕ → Spot). has_stated s start bytes) (sym same) ∙ is,
-        ap (λ (s : ℕ → Spot). lack_of (is_no_memory why) (forgotten start bytes s)) (sym same)
+        ap (λ (s : ℕ → Spot). lack_of (lack_told why) (forgotten start bytes s)) (sym same)
             ∙ lack,
       )
 
 -- the copy of the pages with nothing stated of the span
-pub forgets-free : (old copy after : List (Run Spot)) (start bytes : ℕ) → copy ≡ old
+pub forgets-free : (old copy after : Laid) (start bytes : ℕ) → copy ≡ old
     → ((page : ℕ) → spot_at after page ≡ forgotten start bytes (spot_at copy) page)
-    → too_many (spot_at after) ≡ false
-    → (lack_of false (forgotten start bytes (spot_at old)) ≡ None)
-    × ((page : ℕ) → spot_at after page ≡ forgotten start bytes (spot_at old) page)
-forgets-free old copy after start bytes same spots few =
-    let all : (page : ℕ) → spot_at after page ≡ forgotten start bytes (spot_at old) page =
-    λ page. spots page ∙ ap (λ (runs : List (Run Spot)). forgotten start bytes (spot_at runs) page)
-    same in
-    let is : spot_at after ≡ forgotten start bytes (spot_at old) = λ i page. all page i in
-    let fits : too_many (forgotten start bytes (spot_at old)) ≡ false =
-    sym (ap too_many is) ∙ few in
-    (rw fits refl, all)
+    → (page : ℕ) → spot_at after page ≡ forgotten start bytes (spot_at old) page
+forgets-free old copy after start bytes same spots page =
+    spots page ∙ ap (λ (runs : Laid). forgotten start bytes (spot_at runs) page) same
 
 refused-lack : (first : Option PlacedRefusal) (after : ℕ → Spot) (why : PlacedRefusal)
-    → first ≡ None → IsRefusal first after why → lack_of (is_no_memory why) after ≡ Some why
+    → first ≡ None → IsRefusal first after why → lack_of (lack_told why) after ≡ Some why
 refused-lack None after why none is = lack-told after why is
 refused-lack (Some first) after why none is =
     let odd : true ≡ false = ap is_some none in absurd (both_ways true odd refl)
 
-pub forgets-refused : (old copy : List (Run Spot)) (why : PlacedRefusal) (start bytes : ℕ)
+pub forgets-refused : (old copy : Laid) (why : PlacedRefusal) (start bytes : ℕ)
     → copy ≡ old → has_stated (spot_at old) start bytes ≡ true
     → IsRefusal (span_cause start bytes) (forgotten start bytes (spot_at copy)) why
-    → lack_of (is_no_memory why) (forgotten start bytes (spot_at old)) ≡ Some why
+    → lack_of (lack_told why) (forgotten start bytes (spot_at old)) ≡ Some why
 forgets-refused old copy why start bytes same stated is =
     refused-lack (span_cause start bytes) (forgotten start bytes (spot_at old)) why
     (stated-span (spot_at old) start bytes stated)
-    (subst (λ (runs : List (Run Spot)). IsRefusal (span_cause start bytes)
+    (subst (λ (runs : Laid). IsRefusal (span_cause start bytes)
     (forgotten start bytes (spot_at runs)) why) same is)
 
 -- ---- the rooms keep pace
@@ -130,7 +120,7 @@ paced-none lying spots have =
     subst (λ (r : Option (ℕ → ℕ)). HaveRoom None
     (with_spots spots (record lying { room = r })).room) (sym (room-none lying.room have)) tt
 
-pub paced-some : (before after : List (Run Spot)) (rooms left : Rooms) (lay lie : List ℕ)
+pub paced-some : (before after : Laid) (rooms left : Rooms) (lay lie : List ℕ)
     (lying : Lying) (spots : ℕ → Spot) → ArePages lay (stated_on (spot_at before))
     → ArePages lie (stated_on (spot_at after))
     → ((room : ℕ → ℕ) (old new : ℕ → Spot) → AreRooms rooms room → ArePages lay (stated_on old)

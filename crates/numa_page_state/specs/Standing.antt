@@ -1,27 +1,28 @@
 -- What is kept beside a script, and which pages it stands for.
-use Rattle.std.specs.Prelude.{◌≡◌, ℕ, ◌<◌, ◌^◌, Bool, true, false, List, ◌∷◌, Option, Some}
+use Rattle.std.specs.Prelude.{◌≡◌, ℕ, ◌<◌, ◌^◌, true, false, List, ◌∷◌, Option, Some}
 use Rattle.std.specs.Prelude.{None}
 use Rattle.std.specs.Prelude.{slice_index}
 use Rattle.std.specs.Prelude.{IsSome, MatchResult, Result, Ok, Err, is_some}
 use Rattle.numa_maps.specs.Residents.{Kept}
 use Rattle.numa_placed.specs.Binds.{Asked, asked_of as asked_by, room_before}
+use Rattle.numa_placed.specs.Laid.{Laid}
 use Rattle.numa_placed.specs.Refusals.{first_of}
 use Rattle.numa_placed.specs.Shifts.{ArePages, AreRooms}
-use Rattle.numa_placed.specs.Spots.{spot_at, too_many}
+use Rattle.numa_placed.specs.Spots.{spot_at}
 use Rattle.numa_placed.specs.declared.moved.Moved.{Moved}
 use Rattle.numa_placed.specs.declared.rooms.Rooms.{Rooms}
 use Rattle.numa_requests.specs.declared.page_refusal.MoveRefusal.{MoveRefusal}
 use Rattle.numa_requests.specs.declared.page_refusal.PlacedRefusal.{PlacedRefusal}
 use Rattle.numa_placed.specs.declared.spot.Spot.{Spot}
-use Rattle.numa_ranges.specs.declared.run.Run.{Run}
 use Rattle.numa_space.specs.Refusals.{refusal_of}
 use Rattle.numa_space.specs.Standing.{SpaceState, StandsFor}
 use Rattle.numa_requests.specs.declared.command.Command.{Command}
 use Rattle.numa_page_state.specs.Lying.{Arrival, Ground, LastMove, Lying, Motion, OfNodes}
 use Rattle.numa_page_state.specs.Lying.{OfPages, Process, Sent}
 use Rattle.numa_page_state.specs.Lying.{Told, motion, nothing, with_spots}
-use Rattle.numa_page_state.specs.Outcomes.{at_cause, at_spots, forgotten, has_stated, is_lack}
-use Rattle.numa_page_state.specs.Outcomes.{is_no_memory, lack_in, lack_of}
+use Rattle.numa_page_state.specs.Outcomes.{at_cause, at_spots, forgotten, has_stated}
+use Rattle.numa_page_state.specs.Outcomes.{Enough, Lack, is_starved, lack_in, lack_of, lack_told}
+use Rattle.numa_page_state.specs.Outcomes.{move_lack_told}
 use Rattle.numa_page_state.specs.Outcomes.{move_cause_by, move_spots, room_moved_in}
 use Rattle.numa_page_state.specs.Sending.{asked_of, command_of, flow_between, rooms_sent}
 use Rattle.numa_page_state.specs.Sending.{sent_in}
@@ -117,7 +118,7 @@ LieThere beside spots = (page : ℕ) → spot_at beside.placed page ≡ spots pa
 -- ---- moves
 
 -- pages moved from one set of nodes to another
-pub record Moves (new : List (Run Spot)) (rooms : Option Rooms) (moved : Moved)
+pub record Moves (new : Laid) (rooms : Option Rooms) (moved : Moved)
     (done : Motion) : Type 0 where
   pub spots : (page : ℕ) → spot_at new page ≡ done.spots page
   pub room : HaveRoom rooms done.room
@@ -125,52 +126,52 @@ pub record Moves (new : List (Run Spot)) (rooms : Option Rooms) (moved : Moved)
   pub few : moved.left < 2 ^ 62
 
 -- they did, unless this stands against it or memory lacks; then all is as it was
-abbrev pub Migrates : List (Run Spot) → Option Rooms → ℕ → ℕ → Option PlacedRefusal
-    → Result Moved PlacedRefusal → List (Run Spot) → Option Rooms → Type 0
+abbrev pub Migrates : Laid → Option Rooms → ℕ → ℕ → Option PlacedRefusal
+    → Result Moved PlacedRefusal → Laid → Option Rooms → Type 0
 Migrates old rooms from to first result new rooms_then = (spots : ℕ → Spot)
     (room : Option (ℕ → ℕ)) → ((page : ℕ) → spot_at old page ≡ spots page)
     → HaveRoom rooms room → MatchResult result
-    (λ moved. (first_of first (lack_in room false (motion room spots from to).spots) ≡ None)
+    (λ moved. (first_of first (lack_in room Enough (motion room spots from to).spots) ≡ None)
     × Moves new rooms_then moved (motion room spots from to))
-    (λ refusal. (first_of first (lack_in room (is_no_memory refusal)
+    (λ refusal. (first_of first (lack_in room (lack_told refusal)
     (motion room spots from to).spots) ≡ Some refusal) × (new ≡ old) × (rooms_then ≡ rooms))
 
 -- a span was stated to lie on a node, unless something stands against it or memory lacks
-abbrev pub States : List (Run Spot) → Option Rooms → Ground → ℕ → ℕ → ℕ
-    → Result (Unit {0}) PlacedRefusal → List (Run Spot) → Option Rooms → Type 0
+abbrev pub States : Laid → Option Rooms → Ground → ℕ → ℕ → ℕ
+    → Result (Unit {0}) PlacedRefusal → Laid → Option Rooms → Type 0
 States old rooms basis start bytes node result new rooms_then = (at : Lying)
     → ((page : ℕ) → spot_at old page ≡ at.spots page) → HaveRoom rooms at.room
     → MatchResult result
-    (λ done. (at_cause false basis start bytes node at ≡ None)
+    (λ done. (at_cause Enough basis start bytes node at ≡ None)
     × ((page : ℕ) → spot_at new page ≡ at_spots basis start bytes node at.spots page)
     × HaveRoom rooms_then (with_spots (at_spots basis start bytes node at.spots) at).room)
-    (λ refusal. (at_cause (is_no_memory refusal) basis start bytes node at ≡ Some refusal)
+    (λ refusal. (at_cause (lack_told refusal) basis start bytes node at ≡ Some refusal)
     × (new ≡ old) × (rooms_then ≡ rooms))
 
 -- pages of a span were touched first, unless something stands against it or memory lacks
-abbrev pub Touches : List (Run Spot) → Option Rooms → Ground → ℕ → ℕ → ℕ → ℕ
-    → Result Arrived PlacedRefusal → List (Run Spot) → Option Rooms → Type 0
+abbrev pub Touches : Laid → Option Rooms → Ground → ℕ → ℕ → ℕ → ℕ
+    → Result Arrived PlacedRefusal → Laid → Option Rooms → Type 0
 Touches old rooms basis start bytes task cpu result new rooms_then = (at : Lying)
     → ((page : ℕ) → spot_at old page ≡ at.spots page) → HaveRoom rooms at.room
     → MatchResult result
-    (λ arrived. (touch_cause false basis start bytes task cpu at ≡ None)
+    (λ arrived. (touch_cause Enough basis start bytes task cpu at ≡ None)
     × ((page : ℕ) → spot_at new page
     ≡ sent_spots (touched_by basis start bytes task cpu) at page)
     × HaveRoom rooms_then (rooms_sent (touched_by basis start bytes task cpu) at.spots at.room)
     × ArrivedAs arrived (arrival_of (touched_by basis start bytes task cpu) at))
-    (λ refusal. (touch_cause (is_no_memory refusal) basis start bytes task cpu at ≡ Some refusal)
+    (λ refusal. (touch_cause (lack_told refusal) basis start bytes task cpu at ≡ Some refusal)
     × (new ≡ old) × (rooms_then ≡ rooms))
 
 -- a page moved to a node, unless something stands against it or memory lacks
-abbrev pub MovesPage : List (Run Spot) → Option Rooms → Ground → ℕ → ℕ
-    → Result (Unit {0}) MoveRefusal → List (Run Spot) → Option Rooms → Type 0
+abbrev pub MovesPage : Laid → Option Rooms → Ground → ℕ → ℕ
+    → Result (Unit {0}) MoveRefusal → Laid → Option Rooms → Type 0
 MovesPage old rooms basis page node result new rooms_then = (at : Lying)
     → ((other : ℕ) → spot_at old other ≡ at.spots other) → HaveRoom rooms at.room
     → MatchResult result
-    (λ done. (move_cause_by false basis page node at ≡ None)
+    (λ done. (move_cause_by Enough basis page node at ≡ None)
     × ((other : ℕ) → spot_at new other ≡ move_spots page node at.spots other)
     × HaveRoom rooms_then (room_moved_in at.room node (at.spots page)) × (node < 256))
-    (λ refusal. (move_cause_by (is_lack refusal) basis page node at ≡ Some refusal)
+    (λ refusal. (move_cause_by (move_lack_told refusal) basis page node at ≡ Some refusal)
     × (new ≡ old) × (rooms_then ≡ rooms))
 
 -- ---- mbind .. move
@@ -199,7 +200,6 @@ pub record HasSent (done : Sending) (kept : Kept) (asked : Asked) (at : Lying) :
   pub room : HaveRoom done.rooms (rooms_sent asked at.spots at.room)
   pub moved : done.moved ≡ (sent_in kept asked at).moved
   pub left : done.left ≡ (sent_in kept asked at).left
-  pub few : too_many (sent_spots asked at) ≡ false
 
 -- where pages go with a policy, or why they don't
 abbrev pub Sends : Process → Rebinding → Toucher → Lying
@@ -209,9 +209,9 @@ Sends process said toucher at (Ok None) = is_some (refusal_of process.machine pr
 Sends process said toucher at (Ok (Some done)) = (refusal_of process.machine process.bounds
     process.history (command_of said) ≡ None)
     × HasSent done process.kept (asked_of process said toucher) at
-Sends process said toucher at (Err why) = is_no_memory why ≡ false
+Sends process said toucher at (Err why) = is_starved (lack_told why) ≡ false
     → (refusal_of process.machine process.bounds process.history (command_of said) ≡ None)
-    × (lack_of false (sent_spots (asked_of process said toucher) at) ≡ Some why)
+    × (lack_of (lack_told why) (sent_spots (asked_of process said toucher) at) ≡ Some why)
 
 -- ---- what is kept
 
@@ -221,28 +221,27 @@ Lies None lying = lying ≡ nothing
 Lies (Some beside) lying = LiesAs beside lying
 
 -- nothing is stated any more of a span, where something was; else all stays
-abbrev pub Forgets : Option PageState → ℕ → ℕ → Result (Option (List (Run Spot))) PlacedRefusal
+abbrev pub Forgets : Option PageState → ℕ → ℕ → Result (Option Laid) PlacedRefusal
     → Type 0
 Forgets beside start bytes (Ok None) =
     (lying : Lying) → Lies beside lying → has_stated lying.spots start bytes ≡ false
 Forgets beside start bytes (Ok (Some after)) = (lying : Lying) → Lies beside lying
     → (has_stated lying.spots start bytes ≡ true) × IsSome beside
-    × (lack_of false (forgotten start bytes lying.spots) ≡ None)
     × ((page : ℕ) → spot_at after page ≡ forgotten start bytes lying.spots page)
 Forgets beside start bytes (Err why) = (lying : Lying) → Lies beside lying
     → (has_stated lying.spots start bytes ≡ true)
-    × (lack_of (is_no_memory why) (forgotten start bytes lying.spots) ≡ Some why)
+    × (lack_of (lack_told why) (forgotten start bytes lying.spots) ≡ Some why)
 
 -- the pages lie so now, the rooms kept pace, and all else is as it was
-abbrev pub Replaces : Option PageState → List (Run Spot) → Option PageState → Type 0
+abbrev pub Replaces : Option PageState → Laid → Option PageState → Type 0
 Replaces old after new = (lying : Lying) (spots : ℕ → Spot) → Lies old lying → IsSome old
     → ((page : ℕ) → spot_at after page ≡ spots page) → Lies new (with_spots spots lying)
 
 -- a change comes to what is done, or to why it is refused, as the outcome says, and the pages lie
 -- as it says; where memory lacked, this came of it, and nothing has changed
-abbrev pub DoesAs : {A : Type 0} → PageState → A → PageState → A → (Bool → Lying → A × Lying)
+abbrev pub DoesAs : {A : Type 0} → PageState → A → PageState → A → (Lack → Lying → A × Lying)
     → Type 0
-DoesAs old done new lack outcome = (lying : Lying) → LiesAs old lying → (refused : Bool)
-    × LiesAs new (outcome refused lying).1
-    × ((outcome refused lying).0 ≡ done)
-    × (refused ≡ true → (new ≡ old) × (done ≡ lack))
+DoesAs old done new starved outcome = (lying : Lying) → LiesAs old lying → (lack : Lack)
+    × LiesAs new (outcome lack lying).1
+    × ((outcome lack lying).0 ≡ done)
+    × (is_starved lack ≡ true → (new ≡ old) × (done ≡ starved))

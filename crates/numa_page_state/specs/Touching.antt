@@ -1,13 +1,13 @@
 -- `populate`: a task touches the pages of a span for the first time, the lowest first, each that is
 -- nowhere yet (madvise(2), MADV_POPULATE_WRITE).
-use Rattle.std.specs.Prelude.{ℕ, ◌-◌, Bool, Option}
+use Rattle.std.specs.Prelude.{ℕ, ◌-◌, Option}
 use Rattle.numa_space.specs.History.{page_of, page_count}
 use Rattle.numa_placed.specs.Binds.{Asked, astray_pages, is_absent, is_kept, is_sent}
 use Rattle.numa_placed.specs.Refusals.{populate_cause}
 use Rattle.numa_placed.specs.Shifts.{stated_on}
 use Rattle.numa_requests.specs.declared.page_refusal.PlacedRefusal.{PlacedRefusal}
 use Rattle.numa_page_state.specs.Lying.{Arrival, Ground, Lying}
-use Rattle.numa_page_state.specs.Outcomes.{Done, cause_by, done_with, unless_refused}
+use Rattle.numa_page_state.specs.Outcomes.{Done, Lack, cause_by, done_with, unless_refused}
 use Rattle.numa_page_state.specs.Sending.{goals_in, rooms_sent, sent_spots}
 
 -- the pages of the span that are nowhere, and the nodes of each for a fault of the task on the node
@@ -35,13 +35,13 @@ with_touched asked at = record at {
   arrived = arrival_of asked at;
 }
 
-abbrev pub touch_cause : Bool → Ground → ℕ → ℕ → ℕ → ℕ → Lying → Option PlacedRefusal
-touch_cause refused basis start bytes task cpu at =
-    cause_by refused (populate_cause basis.machine basis.mapped start bytes cpu)
+abbrev pub touch_cause : Lack → Ground → ℕ → ℕ → ℕ → ℕ → Lying → Option PlacedRefusal
+touch_cause lack basis start bytes task cpu at =
+    cause_by lack (populate_cause basis.machine basis.mapped start bytes cpu)
     (sent_spots (touched_by basis start bytes task cpu) at)
 
-abbrev pub populate_outcome : Bool → Ground → ℕ → ℕ → ℕ → ℕ → Lying
+abbrev pub populate_outcome : Lack → Ground → ℕ → ℕ → ℕ → ℕ → Lying
     → Done (Unit {0}) PlacedRefusal
-populate_outcome refused basis start bytes task cpu at = unless_refused
-    (touch_cause refused basis start bytes task cpu at) at
+populate_outcome lack basis start bytes task cpu at = unless_refused
+    (touch_cause lack basis start bytes task cpu at) at
     (done_with (with_touched (touched_by basis start bytes task cpu) at))

@@ -1,12 +1,11 @@
 //! How many pages went from each node to each, by where they lay and lie.
-ghost use Rattle.std.specs.Prelude.{◌≡◌, ◌==◌, ◌+◌, ◌<◌, ◌≤◌, ◌^◌, ℕ, if◌then◌else◌, slice_index};
+ghost use Rattle.std.specs.Prelude.{◌≡◌, ◌==◌, ◌+◌, ◌-◌, ◌<◌, ◌≤◌, ◌^◌, ℕ, if◌then◌else◌};
+ghost use Rattle.std.specs.Prelude.{slice_index};
 ghost use Rattle.numa_placed.specs.Spots.{is_on, pages_if, pages_within, spot_at};
 ghost use Rattle.numa_page_state.specs.Sending.{flow_between};
-ghost use Rattle.numa_ranges.specs.Runs.{end_of};
 
 use crate::counts::add;
-use numa_placed::{Placed, Spot};
-use numa_ranges::Run;
+use numa_placed::{Placed, Spot, Stay};
 
 /// Whether pages that lie here lie on a node.
 fn is_on(spot: Spot, node: u8) -> bool
@@ -18,18 +17,19 @@ fn is_on(spot: Spot, node: u8) -> bool
     }
 }
 
-/// Adds the pages of a run that lie on each node, if the run's pages lay on one.
-fn add_run(flow: &mut [u64; 256], run: &Run<Spot>, after: &Placed, from: u8)
-    requires run { end_of run.now ≤ 2 ^ 35 }
+/// Adds the pages from one on that lie on each node, of those that lay alike, if they lay on one.
+fn add_stay(flow: &mut [u64; 256], first: u64, stay: Stay, after: &Placed, from: u8)
+    requires rises { first ≤ stay.end }
+    requires within { stay.end ≤ 2 ^ 35 }
     requires room { (to : ℕ) → to < 256 → slice_index flow.old to < 2 ^ 63 }
     ensures { (to : ℕ) → to < 256 → slice_index flow.new to ≡ slice_index flow.old to
-        + pages_if (is_on from run.now.value)
-        (pages_within (is_on to) (spot_at after.now) run.now.first run.now.pages) }
+        + pages_if (is_on from stay.spot)
+        (pages_within (is_on to) (spot_at after.now) first (stay.end - first)) }
 {
-    if !is_on(run.value, from) {
+    if !is_on(stay.spot, from) {
         return;
     }
-    let counts = after.counts_in(run.first, run.pages);
+    let counts = after.counts_in(first, stay.end - first);
     let sum = add(*flow, &counts);
     *flow = sum;
 }
@@ -50,8 +50,11 @@ pub fn flow_from(before: &Placed, after: &Placed, from: u8) -> [u64; 256]
         ≡ flow_between (spot_at before.now) (spot_at after.now) from to }
 {
     let mut flow = [0; 256];
-    for run in before.iter() {
-        add_run(&mut flow, &run, after, from);
+    let mut page = 0;
+    while page < 1 << 35 {
+        let stay = before.stay_at(page);
+        add_stay(&mut flow, page, stay, after, from);
+        page = stay.end;
     }
     without(flow, from)
 }

@@ -1,7 +1,7 @@
 //! Pages that are unmapped: nothing is stated any more of them.
-ghost use Rattle.std.specs.Prelude.{◌≡◌, ℕ, IfErr, IfOk, None, Some, false, true};
+ghost use Rattle.std.specs.Prelude.{◌≡◌, ℕ, IfErr, IfOk, Some, true};
 ghost use Rattle.numa_placed.specs.Spots.{spot_at};
-ghost use Rattle.numa_page_state.specs.Outcomes.{forgotten, has_stated, is_no_memory, lack_of};
+ghost use Rattle.numa_page_state.specs.Outcomes.{forgotten, has_stated, lack_of, lack_told};
 ghost use Rattle.numa_placed.specs.declared.spot.Spot.{Spot};
 ghost use Rattle.numa_page_state.specs.Lying.{Lying, with_spots};
 ghost use Rattle.numa_page_state.specs.Standing.{Forgets, HaveRoom, Replaces};
@@ -26,10 +26,9 @@ fn has_stated(placed: &Placed, start: u64, length: u64) -> bool
 /// `TooManyRuns`, `NoMemory`: as [`Placed::forget`] says.
 fn forgotten(placed: &Placed, start: u64, length: u64) -> Result<Placed, PlacedRefusal>
     requires { has_stated (spot_at placed.now) start length ≡ true }
-    ensures ok { IfOk result (λ after. (lack_of false (forgotten start length (spot_at placed.now))
-        ≡ None) × ((page : ℕ) → spot_at after page ≡ forgotten start length (spot_at placed.now)
-        page)) }
-    ensures err { IfErr result (λ why. lack_of (is_no_memory why)
+    ensures ok { IfOk result (λ after. (page : ℕ)
+        → spot_at after page ≡ forgotten start length (spot_at placed.now) page) }
+    ensures err { IfErr result (λ why. lack_of (lack_told why)
         (forgotten start length (spot_at placed.now)) ≡ Some why) }
 {
     let Ok(mut after) = placed.copy() else {

@@ -5,7 +5,7 @@ ghost use Rattle.numa_maps.specs.Residents.{Kept};
 ghost use Rattle.numa_placed.specs.Binds.{Asked};
 ghost use Rattle.numa_placed.specs.Refusals.{span_cause};
 ghost use Rattle.numa_page_state.specs.Lying.{Lying, process_in};
-ghost use Rattle.numa_page_state.specs.Outcomes.{cause_by, is_no_memory};
+ghost use Rattle.numa_page_state.specs.Outcomes.{cause_by, is_starved, lack_told};
 ghost use Rattle.numa_page_state.specs.Sending.{below_end, command_of, lacks_room};
 ghost use Rattle.numa_page_state.specs.Sending.{rebinding_in};
 ghost use Rattle.numa_page_state.specs.Sending.{sent_spots, tells_left};
@@ -147,8 +147,9 @@ fn sent_in(
     ensures ok { (lying : Lying) → LiesAs state.now lying → IfOk result
         (λ sent. HasSent sent resident.now (asked_for space.now said.now toucher) lying) }
     ensures err { (lying : Lying) → LiesAs state.now lying → IfErr result (λ why.
-        is_no_memory why ≡ false → cause_by false (span_cause said.now.start said.now.length)
-        (sent_spots (asked_for space.now said.now toucher) lying) ≡ Some why) }
+        is_starved (lack_told why) ≡ false → cause_by (lack_told why)
+        (span_cause said.now.start said.now.length) (sent_spots (asked_for space.now said.now toucher)
+        lying) ≡ Some why) }
 {
     let Ok(mut placed) = state.placed.copy() else {
         return Err(PlacedRefusal::NoMemory);

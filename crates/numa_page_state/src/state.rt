@@ -9,7 +9,7 @@ ghost use Rattle.numa_ranges.specs.Runs.{page_at};
 ghost use Rattle.numa_placed.specs.Shifts.{AreRooms};
 ghost use Rattle.numa_placed.specs.Spots.{is_placed, spot_at};
 ghost use Rattle.numa_page_state.specs.Lying.{Lying, ground_in, nothing, still};
-ghost use Rattle.numa_page_state.specs.Outcomes.{along_outcome, at_outcome, followed};
+ghost use Rattle.numa_page_state.specs.Outcomes.{Lack, along_outcome, at_outcome, followed};
 ghost use Rattle.numa_page_state.specs.Outcomes.{held_cause, held_move_unless};
 ghost use Rattle.numa_page_state.specs.Outcomes.{migrate_outcome, move_cause_by, move_outcome};
 ghost use Rattle.numa_page_state.specs.Outcomes.{move_unless, room_outcome, rooms_of, told_of};
@@ -233,8 +233,8 @@ impl PageState {
         length: u64,
         node: u32,
     ) -> Result<(), PlacedRefusal>
-        ensures does { DoesAs self.old result self.new (Err PlacedRefusal.NoMemory) (λ refused at.
-            at_outcome refused (ground_in space.now resident.now) start length node at) }
+        ensures does { DoesAs self.old result self.new (Err PlacedRefusal.NoMemory) (λ lack at.
+            at_outcome lack (ground_in space.now resident.now) start length node at) }
         ensures unchanged { OnErr result (self.new ≡ self.old) }
     {
         state(
@@ -253,7 +253,7 @@ impl PageState {
     /// # Errors
     /// `NoSuchNode`: the machine lacks the node, or it has no memory.
     pub fn limit(&mut self, space: &Space, node: u32, pages: u64) -> Result<(), PlacedRefusal>
-        ensures does { DoesAs self.old result self.new (Err PlacedRefusal.NoMemory) (λ refused at.
+        ensures does { DoesAs self.old result self.new (Err PlacedRefusal.NoMemory) (λ lack at.
             room_outcome space.now.machine node pages at) }
         ensures unchanged { OnErr result (self.new ≡ self.old) }
     {
@@ -284,8 +284,8 @@ impl PageState {
         from: &NodeMask,
         to: &NodeMask,
     ) -> Result<Shift, PlacedRefusal>
-        ensures does { DoesAs self.old result self.new (Err PlacedRefusal.NoMemory) (λ refused at.
-            migrate_outcome refused (ground_in space.now resident.now) from.now to.now at) }
+        ensures does { DoesAs self.old result self.new (Err PlacedRefusal.NoMemory) (λ lack at.
+            migrate_outcome lack (ground_in space.now resident.now) from.now to.now at) }
         ensures last { IfOk result (IsLastShift self.new.last) }
         ensures unchanged { OnErr result (self.new ≡ self.old) }
     {
@@ -299,7 +299,7 @@ impl PageState {
 
     /// A page that keeps a frame stays there, and has moved if its node is the one asked for.
     fn stay(&mut self, space: &Space, page: u64, node: u32, from: u8) -> Result<(), MoveRefusal>
-        ensures does { DoesAs self.old result self.new (Err MoveRefusal.NoMemory) (λ refused at.
+        ensures does { DoesAs self.old result self.new (Err MoveRefusal.NoMemory) (λ lack at.
             held_move_unless (held_cause (ground_in space.now []) page node from) at) }
         ensures unchanged { OnErr result (self.new ≡ self.old) }
     {
@@ -320,8 +320,8 @@ impl PageState {
         address: u64,
         node: u32,
     ) -> Result<(), MoveRefusal>
-        ensures does { DoesAs self.old result self.new (Err MoveRefusal.NoMemory) (λ refused at.
-            move_outcome refused (ground_in space.now resident.now) address node at) }
+        ensures does { DoesAs self.old result self.new (Err MoveRefusal.NoMemory) (λ lack at.
+            move_outcome lack (ground_in space.now resident.now) address node at) }
         ensures unchanged { OnErr result (self.new ≡ self.old) }
     {
         let page = address / PAGE_BYTES;
@@ -333,8 +333,8 @@ impl PageState {
 
     /// A page that keeps no frame goes to a node.
     fn send(&mut self, space: &Space, page: u64, node: u32) -> Result<(), MoveRefusal>
-        ensures does { DoesAs self.old result self.new (Err MoveRefusal.NoMemory) (λ refused at.
-            move_unless (move_cause_by refused (ground_in space.now []) page node at) page node
+        ensures does { DoesAs self.old result self.new (Err MoveRefusal.NoMemory) (λ lack at.
+            move_unless (move_cause_by lack (ground_in space.now []) page node at) page node
             at) }
         ensures unchanged { OnErr result (self.new ≡ self.old) }
     {
@@ -380,8 +380,8 @@ impl PageState {
         new: &NodeMask,
         resident: &Resident,
     ) -> Result<Shift, PlacedRefusal>
-        ensures does { DoesAs self.old result self.new (Err PlacedRefusal.NoMemory) (λ refused at.
-            along_outcome refused resident.now old.now new.now at) }
+        ensures does { DoesAs self.old result self.new (Err PlacedRefusal.NoMemory) (λ lack at.
+            along_outcome lack resident.now old.now new.now at) }
         ensures last { IfOk result (IsLastShift self.new.last) }
         ensures unchanged { OnErr result (self.new ≡ self.old) }
     {
@@ -397,7 +397,7 @@ impl PageState {
     pub fn follow(&mut self, old: &NodeMask, new: &NodeMask, resident: Option<&Resident>)
         ensures { (lying : Lying) (kept : Kept) → LiesAs self.old lying → MatchOption resident.entry
             (kept ≡ []) (λ held. held.now ≡ kept)
-            → (refused : Bool) × LiesAs self.new (followed refused old.now new.now kept lying) }
+            → (lack : Lack) × LiesAs self.new (followed lack old.now new.now kept lying) }
     {
         if !self.follows {
             keep(&mut self.last, Last::Nodes(still()));
@@ -451,7 +451,7 @@ pub fn follow_where(
 )
     ensures { (lying : Lying) (kept : Kept) → Lies state.old lying → MatchOption resident.entry
         (kept ≡ []) (λ held. held.now ≡ kept)
-        → (refused : Bool) × Lies state.new (followed refused old.now new.now kept lying) }
+        → (lack : Lack) × Lies state.new (followed lack old.now new.now kept lying) }
 {
     if let Some(kept) = state {
         kept.follow(old, new, resident);

@@ -61,8 +61,8 @@ impl PageState {
         task: u32,
         cpu: u32,
     ) -> Result<(), PlacedRefusal>
-        ensures does { DoesAs self.old result self.new (Err PlacedRefusal.NoMemory) (λ refused at.
-            populate_outcome refused (ground_in space.now resident.now) start length task cpu at) }
+        ensures does { DoesAs self.old result self.new (Err PlacedRefusal.NoMemory) (λ lack at.
+            populate_outcome lack (ground_in space.now resident.now) start length task cpu at) }
         ensures unchanged { OnErr result (self.new ≡ self.old) }
     {
         let done = touch(

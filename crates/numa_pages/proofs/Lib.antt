@@ -1,3 +1,4 @@
 pub mod Commands
+pub mod Listed
 pub mod Moves
 pub mod Refusing

@@ -69,7 +69,6 @@ module _ (moving : Moving) (strict : Bool) (before after : PagesState) where
     pages = λ history lying of lies.
         let has = (found history lying of lies).1 in
         record {
-          few = rw has.few refl;
           lies = settles before.state done after.state lying []
               (asked_of (process_of before history) moving.said moving.toucher) settled lies has;
           moved = moved ∙ has.moved;
@@ -130,14 +129,14 @@ pub goes-so : (before : PagesState) (core : CoreState) (kept : Kept) (old new : 
     (answer : Result Shift PlacedRefusal) (after : PageState) → kept ≡ []
     → old ≡ before.core.space.allowed → new ≡ core.space.allowed
     → DoesAs before.state answer after lacking
-    (λ refused at. along_outcome refused kept old new at) → GoAlong before core answer after
+    (λ lack at. along_outcome lack kept old new at) → GoAlong before core answer after
 goes-so before core kept old new answer after none from to does =
     subst (λ n. DoesAs before.state answer after lacking
-    (λ refused at. along_outcome refused [] before.core.space.allowed n at)) to
+    (λ lack at. along_outcome lack [] before.core.space.allowed n at)) to
     (subst (λ n. DoesAs before.state answer after lacking
-    (λ refused at. along_outcome refused [] n new at)) from
+    (λ lack at. along_outcome lack [] n new at)) from
     (subst (λ (k : Kept). DoesAs before.state answer after lacking
-    (λ refused at. along_outcome refused k old new at)) none does))
+    (λ lack at. along_outcome lack k old new at)) none does))
 
 module _ (mask : ℕ) (before after : PagesState) (core : CoreState)
     (accepted : Accepted before.core (SetMems mask) core) where

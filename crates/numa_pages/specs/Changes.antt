@@ -21,9 +21,9 @@ use Rattle.numa_requests.specs.declared.refusal.Refusal.{Refusal}
 use Rattle.numa_space.specs.Refusals.{refusal_of}
 use Rattle.numa_space.specs.Standing.{StandsFor}
 use Rattle.numa_page_state.specs.Lying.{Ground, Lying, Process, ground_in, process_in, with_spots}
-use Rattle.numa_page_state.specs.Outcomes.{Done, along_outcome, at_outcome, forgotten}
-use Rattle.numa_page_state.specs.Outcomes.{has_stated, is_no_memory, lack_of, migrate_outcome}
-use Rattle.numa_page_state.specs.Outcomes.{move_outcome, room_outcome}
+use Rattle.numa_page_state.specs.Outcomes.{Done, Lack, along_outcome, at_outcome, forgotten}
+use Rattle.numa_page_state.specs.Outcomes.{has_stated, lack_of, lack_told as lacked_by}
+use Rattle.numa_page_state.specs.Outcomes.{migrate_outcome, move_outcome, room_outcome}
 use Rattle.numa_page_state.specs.Sending.{asked_of, command_of, sent_in, sent_spots, tells_left}
 use Rattle.numa_page_state.specs.Sending.{with_sent}
 use Rattle.numa_page_state.specs.Touching.{populate_outcome}
@@ -88,36 +88,29 @@ unmaps (SetWeight node weight) = false
 unmaps (SetMems mask) = false
 
 -- why pages stand against a command: what is stated of those that are unmapped can't be taken away.
--- `refused` says whether a growth was refused meanwhile
-abbrev pub cause_of_pages : Bool → Command → Lying → Option PlacedRefusal
-cause_of_pages refused (Unmap start bytes) at = if has_stated at.spots start bytes
-    then lack_of refused (forgotten start bytes at.spots) else None
-cause_of_pages refused (Map start bytes offset) at = None
-cause_of_pages refused (Mbind start bytes spec) at = None
-cause_of_pages refused (SetTask task spec) at = None
-cause_of_pages refused (Inherit task from) at = None
-cause_of_pages refused (SetHome start bytes node) at = None
-cause_of_pages refused (SetWeight node weight) at = None
-cause_of_pages refused (SetMems mask) at = None
+-- `lack` says what was lacked for that
+abbrev pub cause_of_pages : Lack → Command → Lying → Option PlacedRefusal
+cause_of_pages lack (Unmap start bytes) at = if has_stated at.spots start bytes
+    then lack_of lack (forgotten start bytes at.spots) else None
+cause_of_pages lack (Map start bytes offset) at = None
+cause_of_pages lack (Mbind start bytes spec) at = None
+cause_of_pages lack (SetTask task spec) at = None
+cause_of_pages lack (Inherit task from) at = None
+cause_of_pages lack (SetHome start bytes node) at = None
+cause_of_pages lack (SetWeight node weight) at = None
+cause_of_pages lack (SetMems mask) at = None
 
--- pages don't stand against it
-abbrev pub ArePassed : Command → PageState → Type 0
-ArePassed command state = (lying : Lying) → LiesAs state lying
-    → cause_of_pages false command lying ≡ None
-
--- why a command is refused: the pages refuse it; or they don't, and the core does
+-- why a command is refused: the pages refuse it, or the core does
 abbrev pub IsCause : Command → PagesState → ChangeRefusal → Type 0
 IsCause command pages (OfSpace refusal) = Answers pages.core command (Err refusal) pages.core
-    × ArePassed command pages.state
 IsCause command pages (OfPages cause) = (lying : Lying) → LiesAs pages.state lying
-    → cause_of_pages (is_no_memory cause) command lying ≡ Some cause
+    → cause_of_pages (lacked_by cause) command lying ≡ Some cause
 IsCause command pages NoMemory = Unit {0}
 
 -- a command was accepted by the core and the pages, or by neither
 pub record Accepts (command : Command) (before : PagesState) (answer : Result ℕ ChangeRefusal)
     (after : PagesState) : Type 0 where
   pub core : IfOk answer (λ version. Answers before.core command (Ok version) after.core)
-  pub passed : OnOk answer (ArePassed command before.state)
   pub pages : OnOk answer ((lying : Lying) → LiesAs before.state lying
       → LiesAs after.state (lying_after command lying))
   pub setup : setup_of after.core ≡ setup_of before.core
@@ -191,8 +184,6 @@ late_errno strict spec left = if tells_left strict spec left then 5 else 0
 -- each page went as far as there was room, and this is told of it
 pub record HaveMoved (moving : Moving) (before : PagesState) (told : Rebound) (after : PagesState)
     (history : List Command) (lying : Lying) : Type 0 where
-  pub few : lack_of false (sent_spots (asked_of (process_of before history) moving.said
-      moving.toucher) lying) ≡ None
   pub lies : LiesAs after.state (with_sent [] (asked_of (process_of before history)
       moving.said moving.toucher) lying)
   pub moved : told.bound.moved ≡ (sent_in [] (asked_of (process_of before history)
@@ -213,7 +204,7 @@ IsMovingCause moving pages (OfSpace refusal) =
 IsMovingCause moving pages (OfPages why) = (history : List Command)
     (lying : Lying) → StandsFor pages.core.space history → LiesAs pages.state lying
     → (refusal_of pages.core.space.machine pages.core.space.bounds history
-    (command_of moving.said) ≡ None) × (lack_of false (sent_spots (asked_of
+    (command_of moving.said) ≡ None) × (lack_of (lacked_by why) (sent_spots (asked_of
     (process_of pages history) moving.said moving.toucher) lying) ≡ Some why)
 IsMovingCause moving pages NoMemory = Unit {0}
 
@@ -257,8 +248,8 @@ lacking = Err cause.NoMemory
 -- pages went along from the allowed nodes of the one core to those of the other, or it is told why
 -- not
 abbrev pub GoAlong : PagesState → CoreState → Result Shift PlacedRefusal → PageState → Type 0
-GoAlong before core answer after = DoesAs before.state answer after lacking (λ refused at.
-    along_outcome refused [] before.core.space.allowed core.space.allowed at)
+GoAlong before core answer after = DoesAs before.state answer after lacking (λ lack at.
+    along_outcome lack [] before.core.space.allowed core.space.allowed at)
 
 -- why they are refused: by the core; or it would accept them, and the pages' runs lack
 abbrev pub IsMemsCause : ℕ → PagesState → PageState → ChangeRefusal → Type 0
@@ -281,38 +272,38 @@ pub record MovesMems (mask : ℕ) (before : PagesState) (answer : Result Moved C
 -- ---- pages alone
 
 -- pages were changed as the outcome says, beside the core, or nothing has changed
-pub record Changes {A Cause : Type 0} (lack : Result A Cause)
-    (outcome : Bool → Lying → Done A Cause) (before : PagesState) (answer : Result A Cause)
+pub record Changes {A Cause : Type 0} (starved : Result A Cause)
+    (outcome : Lack → Lying → Done A Cause) (before : PagesState) (answer : Result A Cause)
     (after : PagesState) : Type 0 where
-  pub does : DoesAs before.state answer after.state lack outcome
+  pub does : DoesAs before.state answer after.state starved outcome
   pub core : after.core ≡ before.core
   pub unchanged : OnErr answer (after ≡ before)
 
 -- the mapped pages of a span were stated to lie on a node, or it is told why not
 abbrev pub Places : ℕ → ℕ → ℕ → PagesState → Result (Unit {0}) PlacedRefusal → PagesState → Type 0
 Places start bytes node before = Changes lacking
-    (λ refused at. at_outcome refused (ground_of before) start bytes node at) before
+    (λ lack at. at_outcome lack (ground_of before) start bytes node at) before
 
 -- a task touched the pages of a span first, or it is told why not
 abbrev pub Populates : ℕ → ℕ → ℕ → ℕ → PagesState → Result (Unit {0}) PlacedRefusal → PagesState
     → Type 0
-Populates start bytes task cpu before = Changes lacking (λ refused at.
-    populate_outcome refused (ground_of before) start bytes task cpu at) before
+Populates start bytes task cpu before = Changes lacking (λ lack at.
+    populate_outcome lack (ground_of before) start bytes task cpu at) before
 
 -- a node was given room, or it has no memory
 abbrev pub Limits : ℕ → ℕ → PagesState → Result (Unit {0}) PlacedRefusal → PagesState → Type 0
 Limits node pages before = Changes lacking
-    (λ refused at. room_outcome before.core.space.machine node pages at) before
+    (λ lack at. room_outcome before.core.space.machine node pages at) before
 
 -- a page moved to a node, or it is told why not. The address is any byte's of the page
 abbrev pub MovesPage : ℕ → ℕ → PagesState → Result (Unit {0}) MoveRefusal → PagesState → Type 0
 MovesPage address node before = Changes (Err move.NoMemory)
-    (λ refused at. move_outcome refused (ground_of before) address node at) before
+    (λ lack at. move_outcome lack (ground_of before) address node at) before
 
 -- pages left one set of nodes for the allowed nodes of another, as far as there was room, or it is
 -- told why not
 pub record Migrates (from to : ℕ) (before : PagesState) (answer : Result Moved PlacedRefusal)
     (after : PagesState) : Type 0 where
-  pub does : Changes lacking (λ refused at. migrate_outcome refused (ground_of before) from to at)
+  pub does : Changes lacking (λ lack at. migrate_outcome lack (ground_of before) from to at)
       before (shift_in answer) after
   pub told : IfOk answer (IsLast after.state)

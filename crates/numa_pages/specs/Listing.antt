@@ -1,20 +1,23 @@
 -- The runs of pages that lie somewhere, as a list.
-use Rattle.std.specs.Prelude.{ℕ, Option, Some, None, List, [], ◌∷◌, ◌++◌}
-use Rattle.numa_ranges.specs.declared.run.Run.{Run}
-use Rattle.numa_placed.specs.Spots.{node_of}
+use Rattle.std.specs.Prelude.{◌≡◌, ◌≢◌, ℕ, ◌+◌, ◌<◌, ◌≤◌, ◌^◌, List, [], ◌∷◌}
 use Rattle.numa_placed.specs.declared.spot.Spot.{Spot}
+use Rattle.numa_placed.specs.declared.spot.Spot.TheVariants.{Nowhere, Stated}
 use Rattle.numa_pages.specs.declared.listing.PageRun.{PageRun}
 
--- pages, if they lie on a node
-abbrev pub run_on : ℕ → ℕ → Option ℕ → List PageRun
-run_on first pages None = []
-run_on first pages (Some node) = record { first = first; pages = pages; node = node } ∷ []
+-- pages that lie on one node, of which the one behind, if there is any, doesn't
+pub record IsMaximal (spots : ℕ → Spot) (run : PageRun) : Type 0 where
+  pub some : 0 < run.pages
+  pub within : run.first + run.pages ≤ 2 ^ 35
+  pub alike : (page : ℕ) → run.first ≤ page → page < run.first + run.pages
+      → spots page ≡ Stated run.node
+  pub ends : run.first + run.pages < 2 ^ 35 → spots (run.first + run.pages) ≢ Stated run.node
 
--- a run, where its pages lie somewhere
-abbrev pub listed_run : Run Spot → List PageRun
-listed_run run = run_on run.first run.pages (node_of run.value)
+-- the pages from one up to another all lie nowhere
+abbrev pub AreNowhere : (ℕ → Spot) → ℕ → ℕ → Type 0
+AreNowhere spots from end = (page : ℕ) → from ≤ page → page < end → spots page ≡ Nowhere
 
--- those of all runs
-abbrev pub listed : List (Run Spot) → List PageRun
-listed [] = []
-listed (run ∷ runs) = listed_run run ++ listed runs
+-- the runs of the pages from one on that lie somewhere, in ascending order
+abbrev pub AreListed : (ℕ → Spot) → ℕ → List PageRun → Type 0
+AreListed spots from [] = AreNowhere spots from (2 ^ 35)
+AreListed spots from (run ∷ runs) = (from ≤ run.first) × AreNowhere spots from run.first
+    × IsMaximal spots run × AreListed spots (run.first + run.pages) runs

@@ -15,7 +15,7 @@ ghost use Rattle.numa_page_state.specs.Strict.{strict_binding_in};
 ghost use Rattle.numa_pages.specs.Changes.{Accepted, Accepts, BindsBy, BindsMoving, BindsStrictly};
 ghost use Rattle.numa_pages.specs.Changes.{Limits, Migrates, MovesMems, MovesPage, Places};
 ghost use Rattle.numa_pages.specs.Changes.{Populates};
-ghost use Rattle.numa_pages.specs.Changes.{cause_of_pages, lies_astray, lying_after, process_of};
+ghost use Rattle.numa_pages.specs.Changes.{lies_astray, lying_after, process_of};
 ghost use Rattle.numa_pages.specs.Changes.{stands_astray, unmaps};
 
 use crate::binding::{Rebound, late_errno};
@@ -165,8 +165,7 @@ impl Pages {
     /// Carries out a command that no page stands against, and that changes none.
     fn pass(&mut self, command: &Command) -> Result<u64, ChangeRefusal>
         requires { (lying : Lying) → LiesAs self.old.state lying
-            → (cause_of_pages false command.now lying ≡ None)
-            × (lying_after command.now lying ≡ lying) }
+            → lying_after command.now lying ≡ lying }
         ensures { Accepts command.now self.old result self.new }
     {
         match self.core.accept(command) {

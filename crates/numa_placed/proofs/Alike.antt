@@ -50,14 +50,14 @@ taken : (ℕ → ℕ) → ℕ → ℕ → ℕ → ℕ
 taken room node pages other =
     if other == node then less_room (room other) pages else room other
 
-less-none : (room : ℕ) → less_room room 0 ≡ room
+pub less-none : (room : ℕ) → less_room room 0 ≡ room
 less-none room = elim (cases_Bool (room == endless)) [
   | inl t ↦ rw t refl
   | inr e ↦ rw e (omega arith)
 ]
 
 -- one more
-less-next : (room pages : ℕ) → room ≤ endless → pages < room
+pub less-next : (room pages : ℕ) → room ≤ endless → pages < room
     → less_room (less_room room pages) 1 ≡ less_room room (pages + 1)
 less-next room pages most fits = elim (cases_eq room endless) [
   | inl is ↦
@@ -76,7 +76,7 @@ less-next room pages most fits = elim (cases_eq room endless) [
       ap (λ (r : ℕ). less_room r 1) once ∙ one ∙ omega arith ∙ sym more
 ]
 
-less-some : (room pages : ℕ) → pages < room → (less_room room pages == 0) ≡ false
+pub less-some : (room pages : ℕ) → pages < room → (less_room room pages == 0) ≡ false
 less-some room pages fits = elim (cases_Bool (room == endless)) [
   | inl t ↦ rw t (ne_eqb room 0 (λ is. omega arith))
   | inr e ↦ rw e (ne_eqb (room - pages) 0 (λ is. omega arith))

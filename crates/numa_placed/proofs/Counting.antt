@@ -112,7 +112,7 @@ module _ {T : Type 0} (same : T → T → Bool) (exact : (a b : T) → same a b 
   some-changed None h = h
   some-changed (Some p) h = refl
 
-  start-changed : (at : ℕ → Option (ℕ × T)) (page : ℕ)
+  pub start-changed : (at : ℕ → Option (ℕ × T)) (page : ℕ)
       → is_start same (λ p. changed_page change (at p)) page ≡ true
       → is_start same at page ≡ true
   start-changed at zero h = some-changed (at zero) h

@@ -1,74 +1,24 @@
 -- Which pages go: all, or the lowest of each node.
 use Rattle.std.proofs.Common.{◌≡◌, ℕ, ◌+◌, ◌-◌, ◌<◌, ◌≤◌, ◌^◌, Bool, true, false, refl, sym, ap, ◌∙◌}
-use Rattle.std.proofs.Common.{arith, inl, inr, List, Option, Some, None, slice_index, subst}
+use Rattle.std.proofs.Common.{arith, inl, inr, List, slice_index, subst}
 use Rattle.std.specs.Prelude.{nat_lt, if◌then◌else◌}
-use Rattle.std.proofs.lemmas.Bool.{and_cases, cases_Bool, cases_eq, cases_lt, eq-eqb, le-ltb}
+use Rattle.std.proofs.lemmas.Bool.{and_cases, cases_Bool, cases_eq, eq-eqb, le-ltb}
 use Rattle.std.proofs.lemmas.Bool.{lt-ltb, ltb-false, ltb-true, ne_eqb}
 use Rattle.numa_ranges.specs.Counts.{count_pages}
-use Rattle.numa_ranges.specs.Maps.{changed_page}
-use Rattle.numa_ranges.specs.Runs.{AreApart}
-use Rattle.numa_ranges.specs.declared.run.Run.{Run}
-use Rattle.numa_ranges.proofs.Apart.{in_pages-true, in_pages-below, in_pages-above}
 use Rattle.numa_ranges.proofs.Counted.{count-split}
 use Rattle.numa_ranges.proofs.Joined.{and_split}
 use Rattle.numa_placed.specs.Moves.{moved_spot}
 use Rattle.numa_placed.specs.Shifts.{ArePages, is_stated, shifted_spot, shifted_spots, stated_below}
 use Rattle.numa_placed.specs.Shifts.{stated_on, stay_on}
-use Rattle.numa_placed.specs.Spots.{changed_spots, pages_if, spot_at, spot_in}
+use Rattle.numa_placed.specs.Spots.{pages_if}
 use Rattle.numa_placed.specs.Standing.{AreOnNodes, IsCut, is_split, target_from}
 use Rattle.numa_placed.specs.declared.spot.Spot.{Spot}
 use Rattle.numa_placed.specs.declared.spot.Spot.TheVariants.{Nowhere, Stated}
-use Rattle.numa_placed.proofs.Filtered.{page_at-far}
 use Rattle.numa_placed.proofs.Shared.{count-more}
 use Rattle.numa_placed.proofs.ShiftRows.{same-target}
 use Rattle.numa_placed.proofs.Sources.{same-split}
 
 -- ---- where all find room
-
--- a changed page, if its node is one of all nodes
-abbrev pub checked_spot : (ℕ → ℕ) → Spot → Spot
-checked_spot go Nowhere = Nowhere
-checked_spot go (Stated node) = if nat_lt node 256 then Stated (go node) else Nowhere
-
-pub moved-checked : (go : ℕ → ℕ) (spot made : Spot) → made ≡ moved_spot go spot
-    → ((node : ℕ) → spot ≡ Stated node → node < 256) → made ≡ checked_spot go spot
-moved-checked go Nowhere made is within = is
-moved-checked go (Stated node) made is within =
-    is ∙ rw (lt-ltb node 256 (within node refl)) refl
-
-in-changed : (f : Spot → Spot) (o : Option (ℕ × Spot)) → f Nowhere ≡ Nowhere
-    → spot_in (changed_page f o) ≡ f (spot_in o)
-in-changed f None none = sym none
-in-changed f (Some p) none = refl
-
--- so a page that can be said to change in both ways lies on one of all nodes
-pub node-small : (go : ℕ → ℕ) (old new : Option (ℕ × Spot)) (node : ℕ)
-    → new ≡ changed_page (moved_spot go) old → new ≡ changed_page (checked_spot go) old
-    → spot_in old ≡ Stated node → node < 256
-node-small go old new node moved checked is =
-    elim (cases_lt node 256) [
-      | inl l ↦ l
-      | inr l ↦
-          let one : spot_in new ≡ Stated (go node) = ap spot_in moved
-          ∙ in-changed (moved_spot go) old refl ∙ ap (moved_spot go) is in
-          let other : spot_in new ≡ Nowhere = ap spot_in checked
-          ∙ in-changed (checked_spot go) old refl ∙ ap (checked_spot go) is
-          ∙ rw (le-ltb node 256 l) refl in
-          let odd : Stated (go node) ≡ Nowhere = sym one ∙ other in
-          absurd (cc)
-    ]
-
--- a page that is stated to lie somewhere is below the last
-pub stated-near : (runs : List (Run Spot)) (page node : ℕ) → AreApart 0 runs
-    → spot_at runs page ≡ Stated node → page < 2 ^ 35
-stated-near runs page node apart is =
-    elim (cases_lt page (2 ^ 35)) [
-      | inl l ↦ l
-      | inr l ↦
-          let odd : Stated node ≡ Nowhere =
-          sym is ∙ ap spot_in (page_at-far 0 runs page apart l) in
-          absurd (cc)
-    ]
 
 -- fewer pages of a node are below one that lies there than below a later page
 pub below-less : (spots : ℕ → Spot) (page low node : ℕ) → page < low → spots page ≡ Stated node
@@ -109,6 +59,14 @@ either-way : (first : Bool) (one other node : ℕ) → one ≡ node → other �
     → Stated (if first then one else other) ≡ Stated node
 either-way true one other node is is' = ap Stated is
 either-way false one other node is is' = ap Stated is'
+
+either-moved : (first : Bool) (one other : ℕ → ℕ) (spot : Spot)
+    → (if first then moved_spot one spot else moved_spot other spot)
+    ≡ moved_spot (λ node. if first then one node else other node) spot
+either-moved true one other Nowhere = refl
+either-moved true one other (Stated node) = refl
+either-moved false one other Nowhere = refl
+either-moved false one other (Stated node) = refl
 
 module _ (go gone : ℕ → ℕ) (spots : ℕ → Spot) (cut : ℕ)
     (nodes : (page node : ℕ) → page < 2 ^ 35 → spots page ≡ Stated node → node < 256)
@@ -168,35 +126,18 @@ module _ (go gone : ℕ → ℕ) (spots : ℕ → Spot) (cut : ℕ)
         | inr e ↦ goes-whole page node is e
       ]
 
-  stays-far : (page : ℕ) (spot : Spot) → spots page ≡ spot → 2 ^ 35 ≤ page
-      → spot ≡ shifted_spot go gone (stated_below spots page) spot
-  stays-far page Nowhere is far = refl
-  stays-far page (Stated node) is far = absurd (omega (arith, near page node is, far))
+  -- the pages below the cut go as far as any of their node go, the others where all go
+  pub sent-apart : cut ≤ 2 ^ 35 → (page : ℕ)
+      → (if nat_lt page cut then moved_spot below (spots page) else moved_spot behind (spots page))
+      ≡ shifted_spots go gone spots page
+  sent-apart within page = either-moved (nat_lt page cut) below behind (spots page)
+      ∙ goes-where page (spots page) refl
 
-  -- the pages below the cut were sent as far as any of their node go, the others where all go
-  pub sent-lowest : cut ≤ 2 ^ 35 → (page : ℕ)
-      → changed_spots cut (2 ^ 35 - cut) (moved_spot behind)
-      (changed_spots 0 cut (moved_spot below) spots) page ≡ shifted_spots go gone spots page
-  sent-lowest within page =
-      elim (cases_lt page cut) [
-        | inl l ↦
-            let out = in_pages-below cut (2 ^ 35 - cut) page l in
-            let here = in_pages-true 0 cut page (omega arith) (omega (arith, l)) in
-            rw (out, here) (ap (λ b. moved_spot (λ node. if b then below node else behind node)
-            (spots page)) (sym (lt-ltb page cut l))) ∙ goes-where page (spots page) refl
-        | inr l ↦
-            let out = in_pages-above 0 cut page (omega (arith, l)) in
-            elim (cases_lt page (2 ^ 35)) [
-              | inl m ↦
-                  let here = in_pages-true cut (2 ^ 35 - cut) page l (omega (arith, m, within)) in
-                  rw (here, out) (ap (λ b. moved_spot
-                  (λ node. if b then below node else behind node) (spots page))
-                  (sym (le-ltb page cut l))) ∙ goes-where page (spots page) refl
-              | inr m ↦
-                  let beyond = in_pages-above cut (2 ^ 35 - cut) page (omega (arith, m, within)) in
-                  rw (beyond, out) (stays-far page (spots page) refl m)
-            ]
-      ]
+-- where the pages of a node go, by lists
+pub target-same : (go go' least least' gone gone' : ℕ → ℕ) (node : ℕ) → go node ≡ go' node
+    → least node ≡ least' node → gone node ≡ gone' node
+    → target_from go least gone node ≡ target_from go' least' gone' node
+target-same go go' least least' gone gone' node same same' same'' = rw (same, same', same'') refl
 
 -- a cut by lists of how many pages lie on each node and how many went
 pub listed-cut : (spots : ℕ → Spot) (cut : ℕ) (counts many : List ℕ) (gone : ℕ → ℕ)

@@ -43,6 +43,25 @@ count-more test a n page is =
     ∙ ap (λ (k : ℕ). count_pages test a n + k) (one-page test (a + n)
     ∙ ap (λ (p : ℕ). pages_if (test p) 1) is)
 
+-- where no page of some passes, none of them does
+pub zero-none : (test : ℕ → Bool) (a n page : ℕ) → count_pages test a n ≡ 0 → a ≤ page
+    → page < a + n → test page ≡ false
+zero-none test a n page none low high =
+    let front = page - a in
+    let rest = n - front in
+    let cut1 = count-split test a front rest n (omega (arith, low, high)) in
+    let seam : a + front ≡ page = omega (arith, low) in
+    let moved : count_pages test (a + front) rest ≡ count_pages test page rest =
+    ap (λ (p : ℕ). count_pages test p rest) seam in
+    let cut2 = count-split test page 1 (rest - 1) rest (omega (arith, low, high)) in
+    elim (cases_Bool (test page)) [
+      | inl t ↦
+          let one : count_pages test page 1 ≡ 1 = one-page test page
+          ∙ ap (λ (b : Bool). pages_if b 1) t in
+          absurd (omega (arith, none, cut1, moved, cut2, one))
+      | inr e ↦ e
+    ]
+
 -- the pages that a run and a span share
 pub record IsShared (first pages a n from to : ℕ) : Type 0 where
   pub low : first ≤ from

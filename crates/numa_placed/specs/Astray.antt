@@ -6,7 +6,6 @@ use Rattle.numa_machine.specs.declared.rules.Rules.{Rules}
 use Rattle.numa_machine.specs.declared.rules.Rules.TheVariants.{Document, Linux}
 use Rattle.numa_ranges.specs.Counts.{is_start}
 use Rattle.numa_ranges.specs.Maps.{any_page}
-use Rattle.numa_ranges.specs.declared.run.Run.{Run}
 use Rattle.numa_space.specs.History.{page_of, page_count}
 use Rattle.numa_space.specs.Refusals.{PageMap}
 use Rattle.numa_space.specs.Same.{same_record}
@@ -20,6 +19,10 @@ use Rattle.numa_requests.specs.declared.page_refusal.PlacedRefusal.TheVariants.{
 abbrev pub is_astray : ℕ → Spot → Bool
 is_astray list Nowhere = false
 is_astray list (Stated node) = not (has list node)
+
+-- whether a node isn't in a list, and has pages
+abbrev pub is_other : ℕ → (ℕ → ℕ) → ℕ → Bool
+is_other list count node = not (has list node) && nat_lt 0 (count node)
 
 -- whether some of the n pages from `first` on does
 abbrev pub astray_cause : (ℕ → Spot) → ℕ → ℕ → ℕ → Option PlacedRefusal
@@ -58,10 +61,3 @@ abbrev pub strict_cause_by : Rules → PageMap → (ℕ → Spot) → ℕ → �
 strict_cause_by rules map spots start bytes list = first_of (strict_span_cause rules start bytes)
     (astray_cause spots (page_of start)
     (judged_pages rules map (page_of start) (page_count bytes)) list)
-
--- ---- run by run
-
--- whether a run reaches into the pages from `first` up to `end`, and its pages lie astray
-abbrev pub reaches : ℕ → ℕ → ℕ → Run Spot → Bool
-reaches list first end run = nat_lt run.first end
-    && (nat_lt (first - run.first) run.pages && is_astray list run.value)

@@ -1,9 +1,16 @@
 pub mod Astray
 pub mod Binds
+pub mod Cuts
 pub mod Exact
+pub mod Laid
 pub mod Moves
+pub mod Periods
 pub mod Refusals
+pub mod Renames
 pub mod Shifts
 pub mod Spots
 pub mod Standing
-pub mod Wholes
+pub mod Stored
+pub mod Tallies
+pub mod Turns
+pub mod Walks

@@ -7,7 +7,7 @@ use Rattle.std.specs.Prelude.{if◌then◌else◌}
 use Rattle.numa_mask.specs.NodeSet.{has}
 use Rattle.numa_ranges.specs.Counts.{count_pages}
 use Rattle.numa_placed.specs.Moves.{AreTargets, moved_node}
-use Rattle.numa_placed.specs.Spots.{is_on, pages_where, too_many}
+use Rattle.numa_placed.specs.Spots.{is_on, pages_where}
 use Rattle.numa_placed.specs.declared.moved.Moved.{Moved}
 use Rattle.numa_placed.specs.declared.rooms.Rooms.{Rooms}
 use Rattle.numa_requests.specs.declared.page_refusal.MoveRefusal.{MoveRefusal}
@@ -162,7 +162,6 @@ pub record IsShiftTally (spots : ℕ → Spot) (old new : ℕ) (gone : ℕ → �
 pub record IsShift (spots : ℕ → Spot) (old new : ℕ) (given : ℕ → ℕ) (after : ℕ → Spot)
     (rooms : Rooms) (told : Moved) : Type 0 where
   pub pages : (page : ℕ) → after page ≡ shifted spots old new given page
-  pub few : too_many after ≡ false
   pub room : AreRooms rooms (shift_of spots old new given).room
   pub tally : IsShiftTally spots old new (shift_of spots old new given).gone told
 

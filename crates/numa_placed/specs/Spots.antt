@@ -1,11 +1,11 @@
 -- Where each page lies, what each call makes of that, and how many runs there are.
-use Rattle.std.specs.Prelude.{ℕ, ◌-◌, ◌^◌, ◌&&◌, min, max, ◌==◌, Bool, true, false}
+use Rattle.std.specs.Prelude.{ℕ, ◌^◌, ◌&&◌, ◌==◌, Bool, true, false}
 use Rattle.std.specs.Prelude.{Option, Some, None}
-use Rattle.std.specs.Prelude.{List, is_some, nat_lt, if◌then◌else◌}
+use Rattle.std.specs.Prelude.{is_some, nat_le, nat_lt, if◌then◌else◌}
 use Rattle.numa_maps.specs.Residents.{Kept, placed_at}
-use Rattle.numa_ranges.specs.Runs.{end_of, in_pages, page_at}
+use Rattle.numa_ranges.specs.Runs.{in_pages}
 use Rattle.numa_ranges.specs.Counts.{count_pages, range_count}
-use Rattle.numa_ranges.specs.declared.run.Run.{Run}
+pub use Rattle.numa_placed.specs.Laid.{spot_at}
 use Rattle.numa_placed.specs.declared.spot.Spot.{Spot}
 use Rattle.numa_placed.specs.declared.spot.Spot.TheVariants.{Nowhere, Stated}
 use Rattle.numa_placed.specs.declared.change.Change.{Change}
@@ -41,15 +41,6 @@ changed_spot (State node) spot = stated_spot node spot
 changed_spot Forget spot = forgotten_spot spot
 
 -- ---- all pages
-
--- where a page lies, by what a map says of it
-abbrev pub spot_in : Option (ℕ × Spot) → Spot
-spot_in None = Nowhere
-spot_in (Some p) = p.1
-
--- where a page lies, by a list of runs
-abbrev pub spot_at : List (Run Spot) → ℕ → Spot
-spot_at runs page = spot_in (page_at runs page)
 
 -- the pages of a span changed
 abbrev pub changed_spots : ℕ → ℕ → (Spot → Spot) → (ℕ → Spot) → ℕ → Spot
@@ -96,6 +87,11 @@ abbrev pub is_on : ℕ → Spot → Bool
 is_on node Nowhere = false
 is_on node (Stated other) = other == node
 
+-- whether a page lies on a node that isn't one of 256
+abbrev pub is_off : Spot → Bool
+is_off Nowhere = false
+is_off (Stated node) = nat_le 256 node
+
 -- a number of pages, where they pass
 abbrev pub pages_if : Bool → ℕ → ℕ
 pages_if passes pages = if passes then pages else 0
@@ -107,7 +103,3 @@ pages_where test spots = count_pages (λ page. test (spots page)) 0 (2 ^ 35)
 -- how many pages of a span lie where the test holds
 abbrev pub pages_within : (Spot → Bool) → (ℕ → Spot) → ℕ → ℕ → ℕ
 pages_within test spots first pages = count_pages (λ page. test (spots page)) first pages
-
--- how many pages a run has from `first` up to `end`
-abbrev pub part_pages : Run Spot → ℕ → ℕ → ℕ
-part_pages run first end = min end (end_of run) - max first run.first

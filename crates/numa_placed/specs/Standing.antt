@@ -1,20 +1,16 @@
 -- What a move that is on its way stands for.
 use Rattle.std.specs.Prelude.{◌≡◌, ℕ, ◌+◌, ◌-◌, ◌<◌, ◌≤◌, ◌&&◌, Bool, true, false, List, Option, Some}
-use Rattle.std.specs.Prelude.{None, nat_lt, slice_index, if◌then◌else◌, Result, OnOk, IfErr}
+use Rattle.std.specs.Prelude.{None, nat_lt, slice_index, if◌then◌else◌}
 use Rattle.numa_mode.specs.Policy.{PolicyRecord}
 use Rattle.numa_mode.specs.declared.modes.Mode.{Mode}
 use Rattle.numa_mode.specs.declared.modes.Mode.TheVariants.{Interleave, WeightedInterleave}
 use Rattle.numa_ranges.specs.Counts.{count_pages}
-use Rattle.numa_requests.specs.declared.page_refusal.PlacedRefusal.{PlacedRefusal}
 use Rattle.numa_placed.specs.Binds.{goal_at, is_kept, is_sent, room_sent, sent_spot}
-use Rattle.numa_placed.specs.Refusals.{IsShort}
-use Rattle.numa_placed.specs.Shifts.{ArePages, AreRooms, Going, is_short, rooms_between}
+use Rattle.numa_placed.specs.Shifts.{ArePages, AreRooms, Going}
 use Rattle.numa_placed.specs.Shifts.{stated_below}
-use Rattle.numa_placed.specs.Spots.{too_many}
 use Rattle.numa_placed.specs.declared.bind.Walk.{Walk}
 use Rattle.numa_placed.specs.declared.bound.Bound.{Bound}
 use Rattle.numa_placed.specs.declared.course.Course.{Course}
-use Rattle.numa_placed.specs.declared.rooms.Rooms.{Rooms}
 use Rattle.numa_placed.specs.declared.spot.Spot.{Spot}
 use Rattle.numa_placed.specs.declared.spot.Spot.TheVariants.{Stated}
 
@@ -96,15 +92,3 @@ takes_turns _ = false
 abbrev pub turns : Option PolicyRecord → Bool
 turns None = false
 turns (Some r) = takes_turns r.spec.mode
-
--- ---- as far as there is room
-
--- the pages lie as they are to, and the rooms are those behind it, unless the node lacks room for
--- pages that would come to it, or that makes too many runs, or memory lacks
-pub record IsEditWithin (old after : ℕ → Spot) (node : ℕ) (room : ℕ → ℕ)
-    (result : Result (Unit {0}) PlacedRefusal) (new : ℕ → Spot) (rooms : Rooms) : Type 0 where
-  pub ok : OnOk result ((page : ℕ) → new page ≡ after page)
-  pub few : OnOk result (too_many new ≡ false)
-  pub fits : OnOk result (is_short room old new node ≡ false)
-  pub taken : OnOk result (AreRooms rooms (rooms_between room old new))
-  pub lack : IfErr result (IsShort (is_short room old after node) after)

@@ -1,12 +1,13 @@
 //! Pages that lie on other nodes than those of a list.
-ghost use Rattle.std.specs.Prelude.{◌≡◌, ◌+◌, ◌<◌, ◌^◌, MatchResult, None, Some};
+ghost use Rattle.std.specs.Prelude.{◌≡◌, ◌+◌, ◌<◌, ◌^◌, IfNone, IfSome, MatchResult, None, Some, ℕ};
+ghost use Rattle.std.specs.Prelude.{false, slice_index, true};
 ghost use Rattle.numa_ranges.specs.Maps.{any_page};
-ghost use Rattle.numa_placed.specs.Astray.{astray_cause, is_astray, reaches};
-ghost use Rattle.numa_placed.specs.Spots.{spot_at};
+ghost use Rattle.numa_placed.specs.Astray.{astray_cause, is_astray, is_other};
+ghost use Rattle.numa_placed.specs.Turns.{AreKept, spots_of};
 
+use crate::places::{Places, count_places};
 use crate::spot::Spot;
 use numa_mask::NodeMask;
-use numa_ranges::{RangeMap, Run};
 use numa_requests::PlacedRefusal;
 
 /// Whether a page lies on a node that isn't in the list.
@@ -19,46 +20,63 @@ pub(crate) fn is_astray(spot: Spot, list: &NodeMask) -> bool
     }
 }
 
-/// Whether a run reaches into the pages from `first` up to `end`, and its pages lie astray.
-fn reaches(run: &Run<Spot>, first: u64, end: u64, list: &NodeMask) -> bool
-    ensures { result ≡ reaches list.now first end run.now }
+/// Whether a node isn't in the list, and has pages.
+fn is_other(list: &NodeMask, counts: &[u64; 256], node: u8) -> bool
+    ensures { result ≡ is_other list.now (slice_index counts.now) node }
 {
-    let passed = first.saturating_sub(run.first);
-    let astray = is_astray(run.value, list);
-    run.first < end && passed < run.pages && astray
+    !list.has(node) && 0 < counts[node as usize]
 }
 
-/// Whether some page of a span lies on a node that isn't in the list.
-fn has_astray(map: &RangeMap<Spot>, first: u64, pages: u64, list: &NodeMask) -> bool
-    requires fits { first + pages < 2 ^ 64 }
-    ensures { result ≡ any_page (λ page. is_astray list.now (spot_at map.now.runs page)) first
-        pages }
+/// A node that isn't in the list, and has pages.
+fn other_node(list: &NodeMask, counts: &[u64; 256]) -> Option<u8>
+    ensures some { IfSome result (λ node. is_other list.now (slice_index counts.now) node ≡ true) }
+    ensures none { IfNone result ((node : ℕ) → node < 256
+        → is_other list.now (slice_index counts.now) node ≡ false) }
 {
-    if pages == 0 {
-        return false;
-    }
-    let end = first + pages;
-    for run in map.iter() {
-        if reaches(&run, first, end, list) {
-            return true;
+    for node in 0..256usize {
+        let node = node as u8;
+        if is_other(list, counts, node) {
+            return Some(node);
         }
     }
-    false
+    None
+}
+
+/// Whether some page of a span lies on a node that isn't in the list: by the nodes on which pages
+/// of the span lie.
+fn has_astray(places: &Places, first: u64, pages: u64, list: &NodeMask) -> bool
+    requires kept { AreKept places.now }
+    requires fits { first + pages < 2 ^ 64 }
+    ensures { result ≡ any_page (λ page. is_astray list.now (spots_of places.now page)) first
+        pages }
+{
+    // Tells the proof that no page from 2^35 on lies anywhere.
+    let _ = places.map.iter();
+    let end = (first + pages).min(1 << 35);
+    if first >= end {
+        return false;
+    }
+    let counts = count_places(places, first, end - first);
+    match other_node(list, &counts) {
+        Some(_node) => true,
+        None => false,
+    }
 }
 
 /// Refuses a list if some page of a span lies on a node that isn't in it.
-pub(crate) fn judge_pages(
-    map: &RangeMap<Spot>,
+pub(crate) fn judge_places(
+    places: &Places,
     first: u64,
     pages: u64,
     list: &NodeMask,
 ) -> Result<(), PlacedRefusal>
+    requires kept { AreKept places.now }
     requires fits { first + pages < 2 ^ 64 }
     ensures { MatchResult result
-        (λ done. astray_cause (spot_at map.now.runs) first pages list.now ≡ None)
-        (λ cause. astray_cause (spot_at map.now.runs) first pages list.now ≡ Some cause) }
+        (λ done. astray_cause (spots_of places.now) first pages list.now ≡ None)
+        (λ cause. astray_cause (spots_of places.now) first pages list.now ≡ Some cause) }
 {
-    if has_astray(map, first, pages, list) {
+    if has_astray(places, first, pages, list) {
         return Err(PlacedRefusal::Astray);
     }
     Ok(())

@@ -1,52 +1,50 @@
 //! Putting pages elsewhere as far as nodes have room for them.
 ghost use Rattle.std.specs.Prelude.{◌≡◌, ℕ, OnErr};
 ghost use Rattle.numa_placed.specs.Shifts.{AreRooms, rooms_between};
-ghost use Rattle.numa_placed.specs.Spots.{spot_at};
-ghost use Rattle.numa_placed.specs.Standing.{IsEditWithin};
-ghost use Rattle.numa_placed.specs.Wholes.{AreWhole, IsKept};
+ghost use Rattle.numa_placed.specs.Stored.{IsStored, IsStoredWithin};
+ghost use Rattle.numa_placed.specs.Turns.{AreKept, spots_of};
 
-use crate::edit::{let_go, put};
-use crate::filling::stated_counts;
+use crate::edit::{let_go_places, put_places};
+use crate::places::{Places, count_each};
 use crate::rooms::Rooms;
-use crate::spot::Spot;
-use numa_ranges::RangeMap;
 use numa_requests::PlacedRefusal;
 
 /// The rooms where no page goes elsewhere.
-pub(crate) fn keep_rooms(map: &RangeMap<Spot>, rooms: &mut Rooms)
+pub(crate) fn keep_all_rooms(places: &Places, rooms: &mut Rooms)
+    requires kept { AreKept places.now }
     ensures { (room : ℕ → ℕ) → AreRooms rooms.old room → AreRooms rooms.new
-        (rooms_between room (spot_at map.now.runs) (spot_at map.now.runs)) }
+        (rooms_between room (spots_of places.now) (spots_of places.now)) }
 {
-    let counts = stated_counts(map);
+    let counts = count_each(places);
     let left = rooms.between(&counts, &counts);
     *rooms = left;
 }
 
-/// Puts another map in the place of this one, unless more pages come to the node than have room or
-/// it has too many runs.
-pub(crate) fn put_within(
-    map: &mut RangeMap<Spot>,
-    next: RangeMap<Spot>,
+/// Puts other places where these are, unless more pages come to the node than have room or there
+/// are too many runs.
+pub(crate) fn put_places_within(
+    places: &mut Places,
+    next: Places,
     node: u8,
     rooms: &mut Rooms,
 ) -> Result<(), PlacedRefusal>
-    requires whole { AreWhole next.runs }
-    requires kept { IsKept map.old }
-    requires limit { next.max_ranges ≡ map.old.max_ranges }
-    ensures kept { IsKept map.new }
-    ensures edit { (room : ℕ → ℕ) → AreRooms rooms.old room → IsEditWithin (spot_at map.old.runs)
-        (spot_at next.runs) node room result (spot_at map.new.runs) rooms.new }
-    ensures unchanged { OnErr result (map.new ≡ map.old) }
+    requires kept { AreKept next }
+    requires stored { IsStored places.old }
+    requires limit { next.map.max_ranges ≡ places.old.map.max_ranges }
+    ensures stored { IsStored places.new }
+    ensures edit { (room : ℕ → ℕ) → AreRooms rooms.old room → IsStoredWithin (spots_of places.old)
+        (spots_of next) node room result (spots_of places.new) rooms.new }
+    ensures unchanged { OnErr result (places.new ≡ places.old) }
     ensures kept_rooms { OnErr result (rooms.new ≡ rooms.old) }
 {
-    let before = stated_counts(map);
-    let after = stated_counts(&next);
+    let before = count_each(places);
+    let after = count_each(&next);
     if rooms.is_short(&before, &after, node) {
-        let_go(next);
+        let_go_places(next);
         return Err(PlacedRefusal::NoRoom);
     }
     let left = rooms.between(&before, &after);
-    match put(map, next) {
+    match put_places(places, next) {
         Ok(()) => {
             *rooms = left;
             Ok(())

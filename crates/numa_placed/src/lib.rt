@@ -18,8 +18,11 @@
 //! **First touches.** A task that touches the pages of a span puts each that is nowhere on the first
 //! node of its node list that has room, the lowest page first. (`populate`)
 //!
-//! **Runs.** A run is a maximal run of pages that lie alike, and there may be 1,048,576 of them.
-//! `follow` and `migrate` never make more, and take no memory.
+//! **Runs.** Pages in a row that lie alike are kept as one run, and so are pages in a row that one
+//! policy placed on its nodes in turn, however many they are. Of pages that lie somewhere there may
+//! be 1,048,576 runs: one counts where its first page doesn't lie as the page before it. Moves,
+//! statements and unmapping of a part split a run. `follow` and `migrate` never make more runs, and
+//! take no memory.
 //!
 //! **Rooms.** A node never fills unless [`Rooms`] says how many more pages it takes. Moves by rooms
 //! (`follow_within`, `migrate_within`, `move_page_within`) go node by node, as Linux does: each
@@ -36,21 +39,30 @@ pub mod bind;
 pub mod bound;
 mod change;
 mod course;
+mod cut;
+mod cycle;
 mod edit;
 mod filling;
 mod fitting;
+mod in_turn;
 pub mod judge;
 pub mod laws;
 pub mod leaving;
 pub mod moved;
+pub mod period;
 pub mod placed;
+mod places;
 pub mod rooms;
 mod shift;
 mod spans;
 pub mod spot;
+pub mod stay;
 mod stretch;
 mod tally;
 mod targets;
+mod tidy;
+mod touched;
+mod turn;
 mod wants;
 
 pub use areas::judged_pages;
@@ -59,8 +71,10 @@ pub use bound::Bound;
 pub use judge::{judge_move, lacks_node};
 pub use leaving::{Leaving, departures};
 pub use moved::Moved;
+pub use period::period_in;
 pub use placed::Placed;
 pub use rooms::Rooms;
 pub use spans::span_below;
 pub use spot::Spot;
+pub use stay::Stay;
 pub use targets::moved_node;

@@ -1,39 +1,41 @@
 //! Where pages lie.
-ghost use Rattle.std.specs.Prelude.{◌≡◌, ◌≤◌, ◌<◌, ◌+◌, ◌^◌, ℕ, OnOk, OnErr, IfOk, IfErr};
-ghost use Rattle.std.specs.Prelude.{Some, None, false, is_some, slice_index, MatchResult};
+ghost use Rattle.std.specs.Prelude.{◌≡◌, ◌≢◌, ◌≤◌, ◌<◌, ◌+◌, ◌^◌, ℕ, OnOk, OnErr, IfOk, IfErr};
+ghost use Rattle.std.specs.Prelude.{Some, None, is_some, slice_index};
 ghost use Rattle.numa_mask.specs.NodeSet.{both};
-ghost use Rattle.numa_ranges.specs.Runs.{AreApart, AreMaximal, page_at};
+ghost use Rattle.numa_ranges.specs.Runs.{page_at};
 ghost use Rattle.numa_space.specs.History.{page_of, page_count};
 ghost use Rattle.numa_placed.specs.Binds.{IsBound, asked_of, bound_spots};
 ghost use Rattle.numa_placed.specs.Moves.{IsMove, moved_node};
 ghost use Rattle.numa_placed.specs.Refusals.{IsLack, IsRefusal, IsMoveRefusal, state_cause};
 ghost use Rattle.numa_placed.specs.Refusals.{span_cause};
 ghost use Rattle.numa_placed.specs.Refusals.{migrate_cause, move_cause};
-ghost use Rattle.numa_placed.specs.Spots.{spot_at, is_on, pages_where, pages_within, run_count};
-ghost use Rattle.numa_placed.specs.Spots.{stated_beside, too_many};
+ghost use Rattle.numa_placed.specs.Spots.{is_on, pages_where, pages_within, spot_at};
+ghost use Rattle.numa_placed.specs.Spots.{stated_beside};
 ghost use Rattle.numa_placed.specs.Spots.{changed_spots, stated_spots, stated_spot, forgotten_spot};
 ghost use Rattle.numa_placed.specs.Shifts.{AreRooms, IsShift, first_of, room_cause, room_moved};
 ghost use Rattle.numa_placed.specs.Shifts.{shifted};
-ghost use Rattle.numa_placed.specs.Wholes.{AreWhole};
 ghost use Rattle.numa_placed.specs.declared.spot.Spot.TheVariants.{Nowhere};
 
-use crate::bind::{FaultingTask, bind_span};
+use crate::bind::FaultingTask;
 use crate::bound::Bound;
 use crate::change::{Change, SpanChange};
-use crate::edit::{edit, placed_runs};
-use crate::filling::fill;
+use crate::edit::{copy_places, edit_places};
+use crate::filling::fill_places;
 use crate::judge::{judge_move, judge_room, move_outcome};
 use crate::moved::Moved;
+use crate::places::{Places, count_each, count_places, spot_of};
 use crate::rooms::Rooms;
-use crate::shift::shift;
+use crate::shift::shift_places;
 use crate::spans::{span_of, state_others, state_span, stated_span};
 use crate::spot::Spot;
-use crate::tally::counts_within;
+use crate::stay::{Stay, stay_of};
+use crate::touched::touch_span;
+use crate::turn::Slot;
 use crate::wants::Wants;
 use numa_machine::NoMemory;
 use numa_maps::Resident;
 use numa_mask::NodeMask;
-use numa_ranges::{RangeIter, RangeMap};
+use numa_ranges::RangeMap;
 use numa_requests::{MoveRefusal, PlacedRefusal};
 use numa_space::Space;
 use std::alloc::Global;
@@ -45,20 +47,18 @@ mod within;
 /// Where each page lies.
 #[derive(Drop)]
 pub struct Placed {
-    map: RangeMap<Spot>,
+    places: Places,
 }
 
 impl Model for Placed {
-    ghost use Rattle.std.specs.Prelude.{List};
-    ghost use Rattle.numa_ranges.specs.declared.run.Run.{Run};
-    ghost use Rattle.numa_placed.specs.declared.spot.Spot.{Spot};
-    ghost use Rattle.numa_placed.specs.Wholes.{IsKept};
+    ghost use Rattle.numa_placed.specs.Laid.{Laid};
+    ghost use Rattle.numa_placed.specs.Stored.{IsStored};
 
-    ghost Value = { List (Run Spot) };
+    ghost Value = { Laid };
 
-    ghost view = { λ a. a.map.runs };
+    ghost view = { λ a. record { runs = a.places.map.runs; nodes = a.places.nodes.items } };
 
-    ghost invariant = { λ a. IsKept a.map };
+    ghost invariant = { λ a. IsStored a.places };
 }
 
 impl Placed {
@@ -70,10 +70,13 @@ impl Placed {
         ensures { IfOk result (λ placed. (page : ℕ) → spot_at placed page ≡ Nowhere) }
     {
         let mut map = RangeMap::new(alloc, u32::MAX);
-        let Ok(()) = map.map_span(0, 1 << 35, 0, Spot::Nowhere) else {
+        let Ok(()) = map.map_span(0, 1 << 35, 0, Slot::Lies(Spot::Nowhere)) else {
             return Err(NoMemory);
         };
-        Ok(Placed { map })
+        let nodes = Vec::new(alloc);
+        Ok(Placed {
+            places: Places { map, nodes },
+        })
     }
 
     /// Returns a copy. Later changes of one of the two don't affect the other.
@@ -83,48 +86,30 @@ impl Placed {
     pub fn copy(&self) -> Result<Placed, NoMemory>
         ensures { IfOk result (λ copy. copy ≡ self.now) }
     {
-        let Ok(map) = self.map.copy() else {
+        let Ok(places) = copy_places(&self.places) else {
             return Err(NoMemory);
         };
-        Ok(Placed { map })
+        Ok(Placed { places })
     }
 
     /// Where a page lies, by a binary search. A page from 2^35 on lies nowhere.
     pub fn at(&self, page: u64) -> Spot
         ensures { result ≡ spot_at self.now page }
     {
-        match self.map.at(page) {
-            Some((_, spot)) => spot,
-            None => Spot::Nowhere,
-        }
+        spot_of(&self.places, page)
     }
 
-    /// The maximal runs of pages that lie alike, in ascending order. They have all pages below
-    /// 2^35, those that lie nowhere too, each with its own number as its index.
-    pub fn iter(&self) -> RangeIter<'_, Spot>
-        ensures runs { result ≡ self.now }
-        ensures rising { AreApart 0 self.now }
-        ensures maximal { AreMaximal self.now }
-        ensures whole { AreWhole self.now }
+    /// Where a page lies, and up to where those behind it lie there too: the maximal runs of pages
+    /// that lie alike are found by this, each from the end of the one before.
+    pub fn stay_at(&self, page: u64) -> Stay
+        requires near { page < 2 ^ 35 }
+        ensures spot { result.spot ≡ spot_at self.now page }
+        ensures rises { page < result.end }
+        ensures within { result.end ≤ 2 ^ 35 }
+        ensures alike { (p : ℕ) → page ≤ p → p < result.end → spot_at self.now p ≡ result.spot }
+        ensures ends { result.end < 2 ^ 35 → spot_at self.now result.end ≢ result.spot }
     {
-        self.map.iter()
-    }
-
-    /// The runs in ascending order, from the last that starts at page `first` or before it, which
-    /// is found by one search. They have every page from `first` on.
-    pub fn iter_from(&self, first: u64) -> RangeIter<'_, Spot>
-        ensures spots { (page : ℕ) → first ≤ page → spot_at result page ≡ spot_at self.now page }
-        ensures rising { AreApart 0 result }
-    {
-        self.map.iter_from(first)
-    }
-
-    /// The number of runs of pages that lie somewhere.
-    pub fn runs(&self) -> usize
-        ensures runs { result ≡ run_count (spot_at self.now) }
-        ensures at_most { result ≤ 1048576 }
-    {
-        placed_runs(&self.map)
+        stay_of(&self.places, page)
     }
 
     /// The number of pages that lie on each node.
@@ -132,7 +117,7 @@ impl Placed {
         ensures { (node : ℕ) → node < 256
             → slice_index result node ≡ pages_where (is_on node) (spot_at self.now) }
     {
-        counts_within(&self.map, 0, 1 << 35)
+        count_each(&self.places)
     }
 
     /// The number of pages that lie on each node, of the `pages` pages from `first` on.
@@ -141,7 +126,7 @@ impl Placed {
         ensures { (node : ℕ) → node < 256
             → slice_index result node ≡ pages_within (is_on node) (spot_at self.now) first pages }
     {
-        counts_within(&self.map, first, pages)
+        count_places(&self.places, first, pages)
     }
 
     /// States that the mapped pages of a span lie on a node. Start and length are in bytes, as those
@@ -163,19 +148,16 @@ impl Placed {
         ensures ok { OnOk result ((page : ℕ) → spot_at self.new page
             ≡ stated_spots (λ p. is_some (page_at space.now.ranges p)) (page_of start)
             (page_count length) node (spot_at self.old) page) }
-        ensures few { OnOk result (too_many (spot_at self.new) ≡ false) }
         ensures err { IfErr result (IsRefusal (state_cause space.now.machine start length node)
             (stated_spots (λ p. is_some (page_at space.now.ranges p)) (page_of start)
             (page_count length) node (spot_at self.old))) }
         ensures unchanged { OnErr result (self.new ≡ self.old) }
     {
-        // Tells the proof that there are few runs.
-        let _ = &self.map;
         let said = stated_span(space, start, length, node)?;
         if said.pages == 0 {
             return Ok(());
         }
-        state_span(&mut self.map, space, said)
+        state_span(&mut self.places, space, said)
     }
 
     /// States it, as `state` does, but of no page that keeps a frame: of such pages of the span
@@ -196,19 +178,16 @@ impl Placed {
         ensures ok { OnOk result ((page : ℕ) → spot_at self.new page
             ≡ stated_beside (λ p. is_some (page_at space.now.ranges p)) resident.now
             (page_of start) (page_count length) node (spot_at self.old) page) }
-        ensures few { OnOk result (too_many (spot_at self.new) ≡ false) }
         ensures err { IfErr result (IsRefusal (state_cause space.now.machine start length node)
             (stated_beside (λ p. is_some (page_at space.now.ranges p)) resident.now
             (page_of start) (page_count length) node (spot_at self.old))) }
         ensures unchanged { OnErr result (self.new ≡ self.old) }
     {
-        // Tells the proof that there are few runs.
-        let _ = &self.map;
         let said = stated_span(space, start, length, node)?;
         if said.pages == 0 {
             return Ok(());
         }
-        state_others(&mut self.map, space, said, resident)
+        state_others(&mut self.places, space, said, resident)
     }
 
     /// Takes away what was stated of the pages of a span, as is done when they are unmapped.
@@ -222,14 +201,11 @@ impl Placed {
         ensures ok { OnOk result ((page : ℕ) → spot_at self.new page
             ≡ changed_spots (page_of start) (page_count length) forgotten_spot (spot_at self.old)
             page) }
-        ensures few { OnOk result (too_many (spot_at self.new) ≡ false) }
         ensures err { IfErr result (IsRefusal (span_cause start length)
             (changed_spots (page_of start) (page_count length) forgotten_spot
             (spot_at self.old))) }
         ensures unchanged { OnErr result (self.new ≡ self.old) }
     {
-        // Tells the proof that there are few runs.
-        let _ = &self.map;
         let (first, pages) = span_of(start, length)?;
         if pages == 0 {
             return Ok(());
@@ -239,7 +215,7 @@ impl Placed {
             pages,
             change: Change::Forget,
         };
-        edit(&mut self.map, change)
+        edit_places(&mut self.places, change)
     }
 
     /// Moves the pages of a span that lie on other nodes than those of a list, as mbind(2) does
@@ -266,7 +242,6 @@ impl Placed {
         ensures ok { (room : ℕ → ℕ) → AreRooms rooms.old room → IfOk result (IsBound
             (asked_of space.now start length list.now task cpu) (spot_at self.old) room
             (spot_at self.new) rooms.new) }
-        ensures few { OnOk result (too_many (spot_at self.new) ≡ false) }
         ensures err { (room : ℕ → ℕ) → AreRooms rooms.old room → IfErr result (IsRefusal
             (span_cause start length) (bound_spots
             (asked_of space.now start length list.now task cpu) (spot_at self.old) room)) }
@@ -275,8 +250,8 @@ impl Placed {
     {
         let (first, pages) = span_of(start, length)?;
         let touch = FaultingTask { task, cpu };
-        bind_span(
-            &mut self.map,
+        touch_span(
+            &mut self.places,
             space,
             first,
             pages,
@@ -296,7 +271,6 @@ impl Placed {
             (is_some (page_at space.now.ranges page)) (spot_at self.old page) ≡ None) }
         ensures ok { OnOk result ((other : ℕ) → spot_at self.new other
             ≡ changed_spots page 1 (stated_spot node) (spot_at self.old) other) }
-        ensures few { OnOk result (too_many (spot_at self.new) ≡ false) }
         ensures err { IfErr result (IsMoveRefusal (move_cause space.now.machine space.now.allowed
             node (is_some (page_at space.now.ranges page)) (spot_at self.old page))
             (changed_spots page 1 (stated_spot node) (spot_at self.old))) }
@@ -308,7 +282,7 @@ impl Placed {
             pages: 1,
             change: Change::State(node as u8),
         };
-        let outcome = edit(&mut self.map, change);
+        let outcome = edit_places(&mut self.places, change);
         move_outcome(outcome)
     }
 
@@ -319,7 +293,7 @@ impl Placed {
         ensures { IsMove (spot_at self.old) (moved_node old.now new.now) (spot_at self.new)
             result }
     {
-        shift(&mut self.map, old, new)
+        shift_places(&mut self.places, old, new)
     }
 
     /// Moves pages from one set of nodes to the allowed nodes of another, as migrate_pages(2) does.
@@ -365,7 +339,7 @@ impl Placed {
         ensures unchanged { OnErr result (self.new ≡ self.old) }
         ensures rooms { OnErr result (rooms.new ≡ rooms.old) }
     {
-        fill(&mut self.map, old, new, rooms)
+        fill_places(&mut self.places, old, new, rooms)
     }
 
     /// Moves pages as `migrate` does, as far as there is room.
@@ -417,7 +391,6 @@ impl Placed {
             ≡ changed_spots page 1 (stated_spot node) (spot_at self.old) other) }
         ensures taken { (room : ℕ → ℕ) → AreRooms rooms.old room → OnOk result
             (AreRooms rooms.new (room_moved room node (spot_at self.old page))) }
-        ensures few { OnOk result (too_many (spot_at self.new) ≡ false) }
         ensures err { (room : ℕ → ℕ) → AreRooms rooms.old room → IfErr result (IsMoveRefusal
             (first_of (move_cause space.now.machine space.now.allowed node (is_some
             (page_at space.now.ranges page)) (spot_at self.old page))
@@ -434,7 +407,7 @@ impl Placed {
             pages: 1,
             change: Change::State(node as u8),
         };
-        let outcome = edit(&mut self.map, change);
+        let outcome = edit_places(&mut self.places, change);
         if let Err(refusal) = move_outcome(outcome) {
             return Err(refusal);
         }

@@ -15,7 +15,7 @@ pub struct Rooms {
 }
 
 /// A room that pages take.
-fn less_room(room: u64, pages: u64) -> u64
+pub(crate) fn less_room(room: u64, pages: u64) -> u64
     requires { pages ≤ room }
     ensures { result ≡ less_room room pages }
 {

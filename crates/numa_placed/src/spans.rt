@@ -7,21 +7,21 @@ ghost use Rattle.numa_space.specs.History.{page_of, page_count};
 ghost use Rattle.numa_placed.specs.Astray.{strict_span_cause};
 ghost use Rattle.numa_placed.specs.Binds.{span_below};
 ghost use Rattle.numa_placed.specs.Refusals.{span_cause, state_cause};
-ghost use Rattle.numa_placed.specs.Spots.{changed_spots, forgotten_spot, passed_over, spot_at};
+ghost use Rattle.numa_placed.specs.Spots.{changed_spots, forgotten_spot, passed_over};
 ghost use Rattle.numa_placed.specs.Spots.{stated_beside, stated_spot, stated_spots};
 ghost use Rattle.numa_placed.specs.Shifts.{AreRooms};
-ghost use Rattle.numa_placed.specs.Standing.{IsEditWithin};
-ghost use Rattle.numa_placed.specs.Wholes.{AreWhole, IsEdit, IsKept};
+ghost use Rattle.numa_placed.specs.Stored.{IsStored, IsStoredEdit, IsStoredWithin};
+ghost use Rattle.numa_placed.specs.Turns.{AreKept, spots_of};
 
 use crate::change::{Change, SpanChange};
-use crate::edit::{change_span, edit, let_go, put};
-use crate::fitting::put_within;
+use crate::edit::{copy_places, edit_places, let_go_places, put_places};
+use crate::fitting::put_places_within;
 use crate::judge::lacks_node;
+use crate::places::{Places, change_places};
 use crate::rooms::Rooms;
-use crate::spot::Spot;
 use numa_machine::{NoMemory, Rules};
 use numa_maps::Resident;
-use numa_ranges::{RangeMap, Run};
+use numa_ranges::Run;
 use numa_requests::{PAGE_BYTES, PlacedRefusal};
 use numa_space::{RangeRecord, Space};
 
@@ -136,7 +136,7 @@ pub(crate) fn ranges_up_to(space: &Space, first: u64) -> usize {
 }
 
 /// Whether one range of the space has all pages of a span.
-fn is_in_one(space: &Space, first: u64, pages: u64) -> bool
+pub(crate) fn is_in_one(space: &Space, first: u64, pages: u64) -> bool
     requires span { IsSpan first pages }
     ensures { result ≡ true → (page : ℕ) → in_pages first pages page ≡ true
         → is_some (page_at space.now.ranges page) ≡ true }
@@ -156,18 +156,18 @@ fn is_in_one(space: &Space, first: u64, pages: u64) -> bool
 
 /// States where the pages lie that a range and a span share.
 fn state_range(
-    map: &mut RangeMap<Spot>,
+    places: &mut Places,
     range: &Run<RangeRecord>,
     said: StatedSpan,
 ) -> Result<(), NoMemory>
     requires span { IsSpan said.first said.pages }
     requires range { end_of range.now ≤ 2 ^ 35 }
-    requires whole { AreWhole map.old.runs }
-    ensures whole { OnOk result (AreWhole map.new.runs) }
-    ensures spots { OnOk result ((page : ℕ) → spot_at map.new.runs page
+    requires kept { AreKept places.old }
+    ensures kept { OnOk result (AreKept places.new) }
+    ensures spots { OnOk result ((page : ℕ) → spots_of places.new page
         ≡ (if in_pages said.first said.pages page && in_pages range.now.first range.now.pages page
-        then stated_spot said.node (spot_at map.old.runs page) else spot_at map.old.runs page)) }
-    ensures limit { map.new.max_ranges ≡ map.old.max_ranges }
+        then stated_spot said.node (spots_of places.old page) else spots_of places.old page)) }
+    ensures limit { places.new.map.max_ranges ≡ places.old.map.max_ranges }
 {
     let from = said.first.max(range.first);
     let to = (said.first + said.pages).min(range.first + range.pages);
@@ -179,21 +179,21 @@ fn state_range(
         pages: to - from,
         change: Change::State(said.node),
     };
-    change_span(map, change)
+    change_places(places, change)
 }
 
 /// States where the mapped pages of a span lie, range by range.
-fn state_ranges(map: &mut RangeMap<Spot>, space: &Space, said: StatedSpan) -> Result<(), NoMemory>
+fn state_ranges(places: &mut Places, space: &Space, said: StatedSpan) -> Result<(), NoMemory>
     requires span { IsSpan said.first said.pages }
-    requires whole { AreWhole map.old.runs }
-    ensures whole { OnOk result (AreWhole map.new.runs) }
-    ensures spots { OnOk result ((page : ℕ) → spot_at map.new.runs page
+    requires kept { AreKept places.old }
+    ensures kept { OnOk result (AreKept places.new) }
+    ensures spots { OnOk result ((page : ℕ) → spots_of places.new page
         ≡ stated_spots (λ p. is_some (page_at space.now.ranges p)) said.first said.pages
-        said.node (spot_at map.old.runs) page) }
-    ensures limit { map.new.max_ranges ≡ map.old.max_ranges }
+        said.node (spots_of places.old) page) }
+    ensures limit { places.new.map.max_ranges ≡ places.old.map.max_ranges }
 {
     for range in space.range_iter() {
-        let Ok(()) = state_range(map, &range, said) else {
+        let Ok(()) = state_range(places, &range, said) else {
             return Err(NoMemory);
         };
     }
@@ -201,38 +201,34 @@ fn state_ranges(map: &mut RangeMap<Spot>, space: &Space, said: StatedSpan) -> Re
 }
 
 /// A copy in which it is stated where the mapped pages of a span lie.
-fn stated_copy(
-    map: &RangeMap<Spot>,
-    space: &Space,
-    said: StatedSpan,
-) -> Result<RangeMap<Spot>, NoMemory>
+fn stated_copy(places: &Places, space: &Space, said: StatedSpan) -> Result<Places, NoMemory>
     requires span { IsSpan said.first said.pages }
-    requires whole { AreWhole map.now.runs }
-    ensures whole { IfOk result (λ next. AreWhole next.runs) }
-    ensures spots { IfOk result (λ next. (page : ℕ) → spot_at next.runs page
+    requires kept { AreKept places.now }
+    ensures kept { IfOk result (λ next. AreKept next) }
+    ensures spots { IfOk result (λ next. (page : ℕ) → spots_of next page
         ≡ stated_spots (λ p. is_some (page_at space.now.ranges p)) said.first said.pages
-        said.node (spot_at map.now.runs) page) }
-    ensures limit { IfOk result (λ next. next.max_ranges ≡ map.now.max_ranges) }
+        said.node (spots_of places.now) page) }
+    ensures limit { IfOk result (λ next. next.map.max_ranges ≡ places.now.map.max_ranges) }
 {
-    let Ok(mut next) = map.copy() else {
+    let Ok(mut next) = copy_places(places) else {
         return Err(NoMemory);
     };
     let Ok(()) = state_ranges(&mut next, space, said) else {
-        let_go(next);
+        let_go_places(next);
         return Err(NoMemory);
     };
     Ok(next)
 }
 
 /// Forgets a page, if it is one of a span.
-fn forget_page(map: &mut RangeMap<Spot>, page: u64, first: u64, pages: u64) -> Result<(), NoMemory>
+fn forget_page(places: &mut Places, page: u64, first: u64, pages: u64) -> Result<(), NoMemory>
     requires span { first + pages ≤ 2 ^ 35 }
-    requires whole { AreWhole map.old.runs }
-    ensures whole { OnOk result (AreWhole map.new.runs) }
-    ensures spots { OnOk result ((other : ℕ) → spot_at map.new.runs other
+    requires kept { AreKept places.old }
+    ensures kept { OnOk result (AreKept places.new) }
+    ensures spots { OnOk result ((other : ℕ) → spots_of places.new other
         ≡ (if in_pages first pages page then changed_spots page 1 forgotten_spot
-        (spot_at map.old.runs) other else spot_at map.old.runs other)) }
-    ensures limit { map.new.max_ranges ≡ map.old.max_ranges }
+        (spots_of places.old) other else spots_of places.old other)) }
+    ensures limit { places.new.map.max_ranges ≡ places.old.map.max_ranges }
 {
     if page < first || page - first >= pages {
         return Ok(());
@@ -242,25 +238,25 @@ fn forget_page(map: &mut RangeMap<Spot>, page: u64, first: u64, pages: u64) -> R
         pages: 1,
         change: Change::Forget,
     };
-    change_span(map, change)
+    change_places(places, change)
 }
 
 /// Forgets the pages of a span that keep a frame.
 fn pass_over(
-    map: &mut RangeMap<Spot>,
+    places: &mut Places,
     first: u64,
     pages: u64,
     resident: &Resident,
 ) -> Result<(), NoMemory>
     requires span { first + pages ≤ 2 ^ 35 }
-    requires whole { AreWhole map.old.runs }
-    ensures whole { OnOk result (AreWhole map.new.runs) }
-    ensures spots { OnOk result ((page : ℕ) → spot_at map.new.runs page
-        ≡ passed_over resident.now first pages (spot_at map.old.runs) page) }
-    ensures limit { map.new.max_ranges ≡ map.old.max_ranges }
+    requires kept { AreKept places.old }
+    ensures kept { OnOk result (AreKept places.new) }
+    ensures spots { OnOk result ((page : ℕ) → spots_of places.new page
+        ≡ passed_over resident.now first pages (spots_of places.old) page) }
+    ensures limit { places.new.map.max_ranges ≡ places.old.map.max_ranges }
 {
     for (page, _) in resident.iter() {
-        let Ok(()) = forget_page(map, *page, first, pages) else {
+        let Ok(()) = forget_page(places, *page, first, pages) else {
             return Err(NoMemory);
         };
     }
@@ -270,24 +266,24 @@ fn pass_over(
 /// A copy in which it is stated where the mapped pages of a span lie, but of those that keep a
 /// frame.
 fn others_copy(
-    map: &RangeMap<Spot>,
+    places: &Places,
     space: &Space,
     said: StatedSpan,
     resident: &Resident,
-) -> Result<RangeMap<Spot>, NoMemory>
+) -> Result<Places, NoMemory>
     requires span { IsSpan said.first said.pages }
-    requires whole { AreWhole map.now.runs }
-    ensures whole { IfOk result (λ next. AreWhole next.runs) }
-    ensures spots { IfOk result (λ next. (page : ℕ) → spot_at next.runs page
+    requires kept { AreKept places.now }
+    ensures kept { IfOk result (λ next. AreKept next) }
+    ensures spots { IfOk result (λ next. (page : ℕ) → spots_of next page
         ≡ stated_beside (λ p. is_some (page_at space.now.ranges p)) resident.now said.first
-        said.pages said.node (spot_at map.now.runs) page) }
-    ensures limit { IfOk result (λ next. next.max_ranges ≡ map.now.max_ranges) }
+        said.pages said.node (spots_of places.now) page) }
+    ensures limit { IfOk result (λ next. next.map.max_ranges ≡ places.now.map.max_ranges) }
 {
-    let Ok(mut next) = stated_copy(map, space, said) else {
+    let Ok(mut next) = stated_copy(places, space, said) else {
         return Err(NoMemory);
     };
     let Ok(()) = pass_over(&mut next, said.first, said.pages, resident) else {
-        let_go(next);
+        let_go_places(next);
         return Err(NoMemory);
     };
     Ok(next)
@@ -295,59 +291,59 @@ fn others_copy(
 
 /// States where the mapped pages of a span lie, but of those that keep a frame, on a copy.
 pub(crate) fn state_others(
-    map: &mut RangeMap<Spot>,
+    places: &mut Places,
     space: &Space,
     said: StatedSpan,
     resident: &Resident,
 ) -> Result<(), PlacedRefusal>
     requires span { IsSpan said.first said.pages }
-    requires kept { IsKept map.old }
-    ensures kept { IsKept map.new }
-    ensures edit { IsEdit (stated_beside (λ p. is_some (page_at space.now.ranges p)) resident.now
-        said.first said.pages said.node (spot_at map.old.runs)) map.old result map.new }
+    requires stored { IsStored places.old }
+    ensures stored { IsStored places.new }
+    ensures edit { IsStoredEdit (stated_beside (λ p. is_some (page_at space.now.ranges p)) resident.now
+        said.first said.pages said.node (spots_of places.old)) places.old result places.new }
 {
-    let Ok(next) = others_copy(map, space, said, resident) else {
+    let Ok(next) = others_copy(places, space, said, resident) else {
         return Err(PlacedRefusal::NoMemory);
     };
-    put(map, next)
+    put_places(places, next)
 }
 
 /// States it, as far as the node has room for the pages that come to it.
 pub(crate) fn state_others_within(
-    map: &mut RangeMap<Spot>,
+    places: &mut Places,
     space: &Space,
     said: StatedSpan,
     resident: &Resident,
     rooms: &mut Rooms,
 ) -> Result<(), PlacedRefusal>
     requires span { IsSpan said.first said.pages }
-    requires kept { IsKept map.old }
-    ensures kept { IsKept map.new }
-    ensures edit { (room : ℕ → ℕ) → AreRooms rooms.old room → IsEditWithin (spot_at map.old.runs)
+    requires stored { IsStored places.old }
+    ensures stored { IsStored places.new }
+    ensures edit { (room : ℕ → ℕ) → AreRooms rooms.old room → IsStoredWithin (spots_of places.old)
         (stated_beside (λ p. is_some (page_at space.now.ranges p)) resident.now said.first
-        said.pages said.node (spot_at map.old.runs)) said.node room result (spot_at map.new.runs)
+        said.pages said.node (spots_of places.old)) said.node room result (spots_of places.new)
         rooms.new }
-    ensures unchanged { OnErr result (map.new ≡ map.old) }
+    ensures unchanged { OnErr result (places.new ≡ places.old) }
     ensures kept_rooms { OnErr result (rooms.new ≡ rooms.old) }
 {
-    let Ok(next) = others_copy(map, space, said, resident) else {
+    let Ok(next) = others_copy(places, space, said, resident) else {
         return Err(PlacedRefusal::NoMemory);
     };
-    put_within(map, next, said.node, rooms)
+    put_places_within(places, next, said.node, rooms)
 }
 
 /// States where the mapped pages of a span lie. If one range has them all, that is one edit; else
 /// it is done on a copy, so that nothing has changed if memory runs out.
 pub(crate) fn state_span(
-    map: &mut RangeMap<Spot>,
+    places: &mut Places,
     space: &Space,
     said: StatedSpan,
 ) -> Result<(), PlacedRefusal>
     requires span { IsSpan said.first said.pages }
-    requires kept { IsKept map.old }
-    ensures kept { IsKept map.new }
-    ensures edit { IsEdit (stated_spots (λ p. is_some (page_at space.now.ranges p))
-        said.first said.pages said.node (spot_at map.old.runs)) map.old result map.new }
+    requires stored { IsStored places.old }
+    ensures stored { IsStored places.new }
+    ensures edit { IsStoredEdit (stated_spots (λ p. is_some (page_at space.now.ranges p))
+        said.first said.pages said.node (spots_of places.old)) places.old result places.new }
 {
     if is_in_one(space, said.first, said.pages) {
         let change = SpanChange {
@@ -355,10 +351,10 @@ pub(crate) fn state_span(
             pages: said.pages,
             change: Change::State(said.node),
         };
-        return edit(map, change);
+        return edit_places(places, change);
     }
-    let Ok(next) = stated_copy(map, space, said) else {
+    let Ok(next) = stated_copy(places, space, said) else {
         return Err(PlacedRefusal::NoMemory);
     };
-    put(map, next)
+    put_places(places, next)
 }

@@ -4,9 +4,11 @@ ghost use Rattle.std.specs.Prelude.{true};
 ghost use Rattle.numa_maps.specs.Residents.{placed_at};
 ghost use Rattle.numa_ranges.specs.Runs.{end_of, in_pages, page_at};
 ghost use Rattle.numa_placed.specs.Binds.{nodes_in, wants_of};
+ghost use Rattle.numa_placed.specs.Periods.{Repeats};
 ghost use Rattle.numa_placed.specs.Standing.{takes_turns, turns};
 ghost use Rattle.numa_placed.specs.declared.spot.Spot.TheVariants.{Nowhere};
 
+use crate::period::period_in;
 use crate::spans::ranges_up_to;
 use crate::spot::Spot;
 use crate::wants::Wants;
@@ -14,6 +16,9 @@ use numa_maps::Resident;
 use numa_mode::{Mode, Record};
 use numa_ranges::Run;
 use numa_space::{RangeRecord, Space};
+
+/// The most nodes of a cycle: 256 with a weight of 255 each.
+const MOST_TURNS: u64 = 65_280;
 
 /// Whether a mode takes its nodes in turn, page by page.
 fn takes_turns(mode: Mode) -> bool
@@ -131,4 +136,47 @@ pub(crate) fn stretch_end(
         return page + 1;
     }
     end
+}
+
+/// The end of the pages from one on, at most `to`, that lie nowhere and are all to go, and whose
+/// lists differ, and after how many pages they repeat. `None` if no two such periods are found.
+pub(crate) fn turn_end(
+    space: &Space,
+    page: u64,
+    to: u64,
+    spot: Spot,
+    wants: &Wants<'_>,
+    task: u32,
+) -> Option<(u64, u64)>
+    requires rises { page < to }
+    requires within { to ≤ 2 ^ 35 }
+    ensures some { IfSome result (λ at. 0 < at.1) }
+    ensures small { IfSome result (λ at. at.1 < 2 ^ 32) }
+    ensures long { IfSome result (λ at. page + at.1 ≤ at.0) }
+    ensures within { IfSome result (λ at. at.0 ≤ to) }
+    ensures repeats { IfSome result (λ at. (cpu : ℕ)
+        → Repeats (nodes_in space.now task cpu) page (at.0 - page) at.1) }
+    ensures nowhere { IfSome result (λ at. spot ≡ Nowhere) }
+    ensures wanted { IfSome result (λ at. (p : ℕ) → page ≤ p → p < at.0
+        → wants_of wants.now p spot ≡ true) }
+{
+    let Some(resident) = wants.absent(spot) else {
+        return None;
+    };
+    let Some(range) = range_of(space, page) else {
+        return None;
+    };
+    let policy = space.policy_at(task, page);
+    if !turns(policy) {
+        return None;
+    }
+    let count = period_in(space, &policy);
+    let end = frame_from(resident, &range, page, to.min(range.first + range.pages));
+    if count == 0 || count > MOST_TURNS || end < page || (end - page) / 2 < count {
+        return None;
+    }
+    if !keeps_none(resident, &range, page, end - page) {
+        return None;
+    }
+    Some((end, count))
 }

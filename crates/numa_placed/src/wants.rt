@@ -1,7 +1,7 @@
 //! Which pages are to go.
 ghost use Rattle.std.specs.Prelude.{◌≡◌, ℕ, IfSome, false};
 ghost use Rattle.numa_placed.specs.Binds.{is_absent, wants_of};
-ghost use Rattle.numa_placed.specs.declared.spot.Spot.TheVariants.{Nowhere};
+ghost use Rattle.numa_placed.specs.declared.spot.Spot.TheVariants.{Nowhere, Stated};
 
 use crate::astray::is_astray;
 use crate::spot::Spot;
@@ -47,6 +47,18 @@ impl<'a> Wants<'a> {
             Wants::Absent(_) => spot.node().is_none(),
         }
     }
+
+    /// Whether any page that lies on a node without a frame may be to go.
+    pub(crate) fn may_take_placed(&self) -> bool
+        ensures { result ≡ false → (page node : ℕ)
+            → wants_of self.now page (Stated node) ≡ false }
+    {
+        match *self {
+            Wants::Astray(_) => true,
+            Wants::Absent(_) => false,
+        }
+    }
+
     /// The record of the pages that keep frames, where all others that lie here are to go, and
     /// these lie nowhere.
     pub(crate) fn absent(&self, spot: Spot) -> Option<&'a Resident>

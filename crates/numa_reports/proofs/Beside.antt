@@ -2,10 +2,10 @@
 use Rattle.std.proofs.Common.{◌≡◌, ℕ, zero, suc, ◌+◌, ◌-◌, ◌<◌, ◌≤◌, ◌^◌, Bool, true, false}
 use Rattle.std.proofs.Common.{Option, Some, None, is_some, List, [], get_or, refl, sym, ap, ◌∙◌, arith, cond, eqb}
 use Rattle.std.specs.Borrow.{Bor}
-use Rattle.numa_ranges.specs.declared.run.Run.{Run}
 use Rattle.numa_placed.specs.Spots.{is_on, node_of, spot_at}
 use Rattle.numa_placed.specs.declared.spot.Spot.{Spot}
 use Rattle.numa_placed.proofs.Shared.{count-le}
+use Rattle.numa_placed.specs.Laid.{Laid}
 use Rattle.numa_reports.specs.Filled.{first_free, free_behind, one_less}
 use Rattle.numa_reports.specs.Lying.{absent_nodes, alike_left, there_on}
 use Rattle.numa_reports.proofs.Repeating.{hit, less-at}
@@ -59,14 +59,14 @@ few-taken nodes free a (suc n) x =
       hit-one took x,
     )
 
-there-few : (placed : Option (Bor (List (Run Spot)))) (first pages node : ℕ)
+there-few : (placed : Option (Bor Laid)) (first pages node : ℕ)
     → there_on placed first pages node ≤ pages
 there-few None first pages node = omega arith
 there-few (Some placed) first pages node =
     count-le (λ page. is_on node (spot_at placed.now page)) first pages
 
 -- so both together are a word
-pub both-fit : (placed : Option (Bor (List (Run Spot)))) (nodes : ℕ → List ℕ)
+pub both-fit : (placed : Option (Bor Laid)) (nodes : ℕ → List ℕ)
     (free left : List ℕ) (first pages node : ℕ) → left ≡ free_behind nodes free first pages
     → first + pages ≤ 2 ^ 35
     → there_on placed first pages node + (get_or free node 0 - get_or left node 0) < 2 ^ 64

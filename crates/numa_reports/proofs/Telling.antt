@@ -9,7 +9,7 @@ use Rattle.numa_ranges.proofs.Apart.{in_pages-above, in_pages-below, page_at-bef
 use Rattle.numa_plan.specs.Meaning.{PlanData}
 use Rattle.numa_compile.specs.Standing.{PlanStandsFor}
 use Rattle.numa_space.specs.Standing.{SpaceState, StandsFor}
-use Rattle.numa_placed.specs.declared.spot.Spot.{Spot}
+use Rattle.numa_placed.specs.Laid.{Laid}
 use Rattle.numa_requests.specs.declared.command.Command.{Command}
 use Rattle.numa_reports.specs.Filled.{free_behind, planned_nodes}
 use Rattle.numa_reports.specs.Lying.{absent_nodes, spots_in}
@@ -71,7 +71,7 @@ filled-each told takes nodes all free from (range ∷ ranges) old new apart star
 
 -- what is told of the ranges of a space, by a plan, is what the history means
 pub filled-all : {T : Type 0} (told : Telling T) (space : SpaceState) (plan : PlanData)
-    (history : List Command) (placed : Option (Bor (List (Run Spot)))) (task cpu : ℕ)
+    (history : List Command) (placed : Option (Bor Laid)) (task cpu : ℕ)
     (free : List ℕ) (old new : T) → StandsFor space history
     → PlanStandsFor space.machine plan history → cpu < space.machine.nodes → AreApart 0 space.ranges
     → FilledEach told (IsTakenBeside space.machine history placed task)

@@ -6,7 +6,6 @@ use Rattle.std.specs.Borrow.{Bor}
 use Rattle.std.specs.Option.{option_or}
 use Rattle.numa_machine.specs.Machine.{Hardware}
 use Rattle.numa_ranges.specs.Counts.{count_pages}
-use Rattle.numa_ranges.specs.declared.run.Run.{Run}
 use Rattle.numa_space.specs.Pages.{is_mapped}
 use Rattle.numa_space.specs.Standing.{StandsFor}
 use Rattle.numa_requests.specs.declared.command.Command.{Command}
@@ -14,6 +13,7 @@ use Rattle.numa_plan.specs.Meaning.{PlanData, is_number, planned_count, planned_
 use Rattle.numa_compile.specs.Spans.{first_node}
 use Rattle.numa_compile.specs.Standing.{PlanStandsFor}
 use Rattle.numa_placed.specs.Binds.{Asked, is_absent}
+use Rattle.numa_placed.specs.Laid.{Laid}
 use Rattle.numa_placed.specs.Spots.{is_on, node_of, pages_if, pages_within, spot_at}
 use Rattle.numa_placed.specs.declared.spot.Spot.{Spot}
 use Rattle.numa_placed.specs.declared.spot.Spot.TheVariants.{Nowhere}
@@ -21,7 +21,7 @@ use Rattle.numa_reports.specs.Filled.{free_behind, nodes_of, planned_nodes}
 use Rattle.numa_reports.specs.declared.request.PredictionRequest.{PredictionRequest}
 
 -- where pages lie, if some are there
-abbrev pub spots_in : Option (Bor (List (Run Spot))) → ℕ → Spot
+abbrev pub spots_in : Option (Bor Laid) → ℕ → Spot
 spots_in None page = Nowhere
 spots_in (Some placed) page = spot_at placed.now page
 
@@ -51,7 +51,7 @@ abbrev pub touched : (ℕ → List ℕ) → Asked
 touched nodes = record { first = 0; pages = 2 ^ 35; wants = is_absent []; nodes = nodes }
 
 -- how many pages of a span are there on a node
-abbrev pub there_on : Option (Bor (List (Run Spot))) → ℕ → ℕ → ℕ → ℕ
+abbrev pub there_on : Option (Bor Laid) → ℕ → ℕ → ℕ → ℕ
 there_on None first pages node = 0
 there_on (Some placed) first pages node =
     pages_within (is_on node) (spot_at placed.now) first pages

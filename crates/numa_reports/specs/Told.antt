@@ -6,7 +6,7 @@ use Rattle.numa_mode.specs.Policy.{PolicyRecord}
 use Rattle.numa_ranges.specs.declared.run.Run.{Run}
 use Rattle.numa_space.specs.Pages.{resolved_policy}
 use Rattle.numa_requests.specs.declared.command.Command.{Command}
-use Rattle.numa_placed.specs.declared.spot.Spot.{Spot}
+use Rattle.numa_placed.specs.Laid.{Laid}
 use Rattle.numa_reports.specs.Filled.{free_behind, nodes_of}
 use Rattle.numa_reports.specs.Lying.{absent_nodes, spots_in, there_on}
 use Rattle.numa_reports.specs.declared.prediction.RangePrediction.{RangePrediction}
@@ -43,7 +43,7 @@ ToldEach {T} told is_meant (range ∷ ranges) old new = (between : T)
 -- the policy that serves the task at the range's first page, and how many of its pages each node
 -- has: those that are there, and as many as it has fewer free than before
 pub record IsTakenBeside (machine : Hardware) (history : List Command)
-    (placed : Option (Bor (List (Run Spot)))) (task : ℕ) (before after : List ℕ)
+    (placed : Option (Bor Laid)) (task : ℕ) (before after : List ℕ)
     (range : Run (Option PolicyRecord)) (said : RangePrediction) : Type 0 where
   pub policy : said.policy ≡ resolved_policy machine history task range.first
   pub counts : (node : ℕ) → node < 256
@@ -52,7 +52,7 @@ pub record IsTakenBeside (machine : Hardware) (history : List Command)
 
 -- what the range's pages take, once all pages of lower addresses have taken theirs; pages that are
 -- there take nothing
-abbrev pub IsFillingBeside : Hardware → List Command → Option (Bor (List (Run Spot))) → ℕ → ℕ
+abbrev pub IsFillingBeside : Hardware → List Command → Option (Bor Laid) → ℕ → ℕ
     → List ℕ → Meaning
 IsFillingBeside machine history placed task cpu free range =
     IsTakenBeside machine history placed task

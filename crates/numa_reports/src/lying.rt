@@ -36,18 +36,16 @@ pub(crate) fn alike_from(placed: Option<&Placed>, page: u64, most: u64) -> Alike
             pages: most,
         };
     };
-    if let Some(run) = placed.iter_from(page).next() {
-        let end = run.first.saturating_add(run.pages);
-        if run.first <= page && page < end {
-            return Alike {
-                node: run.value.node(),
-                pages: most.min(end - page),
-            };
-        }
+    if page >= 1 << 35 {
+        return Alike {
+            node: placed.at(page).node(),
+            pages: 1,
+        };
     }
+    let stay = placed.stay_at(page);
     Alike {
-        node: placed.at(page).node(),
-        pages: 1,
+        node: stay.spot.node(),
+        pages: most.min(stay.end - page),
     }
 }
 

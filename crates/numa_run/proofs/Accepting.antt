@@ -13,6 +13,7 @@ use Rattle.numa_core.specs.World.{Setup, World, newest_published}
 use Rattle.numa_core.specs.Steps.{IsAnswer, accept_answer, world_after}
 use Rattle.numa_core.specs.Standing.{CoreState, CoreStandsFor, setup_of}
 use Rattle.numa_page_state.specs.Lying.{Lying}
+use Rattle.numa_page_state.specs.Outcomes.{Enough, Lack}
 use Rattle.numa_page_state.specs.Standing.{Lies}
 use Rattle.numa_page_state.specs.declared.state.PageState.{PageState}
 use Rattle.numa_script.specs.Replies.{reply_to}
@@ -34,18 +35,18 @@ Accepts old command version new = (world : World) → CoreStandsFor old world
     (Accept command) (accept_answer version))
 
 -- a line comes to this in one state
-abbrev pub ServesIn : Running → Reply → Running → (Bool → Hardware → State → Served) → State
+abbrev pub ServesIn : Running → Reply → Running → (Lack → Hardware → State → Served) → State
     → Type 0
-ServesIn old answer new serve state = (refused : Bool)
-    × ((serve refused old.core.space.machine state).answer ≡ Replied answer)
-    × RunsAs new (serve refused old.core.space.machine state).state
+ServesIn old answer new serve state = (lack : Lack)
+    × ((serve lack old.core.space.machine state).answer ≡ Replied answer)
+    × RunsAs new (serve lack old.core.space.machine state).state
 
-pub served : (old new : Running) (answer : Reply) (serve : Bool → Hardware → State → Served)
-    (state after : State) (refused : Bool)
-    → serve refused old.core.space.machine state ≡ with_reply answer after → RunsAs new after
+pub served : (old new : Running) (answer : Reply) (serve : Lack → Hardware → State → Served)
+    (state after : State) (lack : Lack)
+    → serve lack old.core.space.machine state ≡ with_reply answer after → RunsAs new after
     → ServesIn old answer new serve state
-served old new answer serve state after refused is runs = (
-  refused,
+served old new answer serve state after lack is runs = (
+  lack,
   ap (λ (s : Served). s.answer) is,
   subst (λ (s : Served). RunsAs new s.state) (sym is) runs,
 )
@@ -87,12 +88,12 @@ module _ (old : Running) (command : Command) (version : Result ℕ Refusal) (cor
   abbrev pub state_then : State
   state_then = state_by (setup_of old.core) (accept_answer version)
 
-  -- it was answered as the definition says, where a growth was refused or not
-  abbrev pub IsTold : Bool → Type 0
-  IsTold refused = accept_answer version
-      ≡ event_answer refused (setup_of old.core) state.world (Accept command)
+  -- it was answered as the definition says, where memory lacked or not
+  abbrev pub IsTold : Lack → Type 0
+  IsTold lack = accept_answer version
+      ≡ event_answer lack (setup_of old.core) state.world (Accept command)
 
-  pub told : (refused : Bool) × IsTold refused
+  pub told : (lack : Lack) × IsTold lack
   told = answer-told (setup_of old.core) state.world (Accept command) (accept_answer version)
       (accepts state.world stands.core.world).0
 
@@ -110,24 +111,24 @@ module _ (old : Running) (command : Command) (version : Result ℕ Refusal) (cor
     lies = lies;
   }
 
-  pub accepted-is : (refused : Bool) → IsTold refused
-      → accepted_outcome refused old.core.space.machine state command
+  pub accepted-is : (lack : Lack) → IsTold lack
+      → accepted_outcome lack old.core.space.machine state command
       ≡ with_reply (reply_to (accept_answer version)) state_then
-  accepted-is refused is =
-      ap (λ (s : Setup). shown s (event_answer refused s state.world (Accept command)))
+  accepted-is lack is =
+      ap (λ (s : Setup). shown s (event_answer lack s state.world (Accept command)))
       (setup-is old state stands)
       ∙ ap (shown (setup_of old.core)) (sym is)
 
-  pub laid-is : (refused : Bool) → IsTold refused → (lying : Lying)
-      → lying_so refused old.core.space.machine state command lying
+  pub laid-is : (lack : Lack) → IsTold lack → (lying : Lying)
+      → lying_so lack old.core.space.machine state command lying
       ≡ laid lying (setup_of old.core) (accept_answer version)
-  laid-is refused is lying =
-      ap (λ (s : Setup). laid lying s (event_answer refused s state.world (Accept command)))
+  laid-is lack is lying =
+      ap (λ (s : Setup). laid lying s (event_answer lack s state.world (Accept command)))
       (setup-is old state stands)
       ∙ ap (laid lying (setup_of old.core)) (sym is)
 
   -- it was answered so with memory, or nothing was done for lack of it
-  pub starved-or : IsTold false
+  pub starved-or : IsTold Enough
       ⊎ ((reply_to (accept_answer version) ≡ command_reply cause.NoMemory) × (state_then ≡ state))
   starved-or = elim (accepts state.world stands.core.world).0 [
     | inl is ↦ inl is
@@ -139,12 +140,12 @@ pub accepted : (old : Running) (command : Command) (version : Result ℕ Refusal
     → Accepts old.core command version core → setup_of core ≡ setup_of old.core
     → Serves old (reply_to (accept_answer version))
     (record { core = core; resident = old.resident; pages = old.pages })
-    (λ refused machine state. accepted_outcome refused machine state command)
+    (λ lack machine state. accepted_outcome lack machine state command)
 accepted old command version core accepts same = λ state stands.
     let here = told old command version core accepts same state stands in
     served old (record { core = core; resident = old.resident; pages = old.pages })
     (reply_to (accept_answer version))
-    (λ refused machine s. accepted_outcome refused machine s command) state
+    (λ lack machine s. accepted_outcome lack machine s command) state
     (state_then old command version core accepts same state stands) here.0
     (accepted-is old command version core accepts same state stands here.0 here.1)
     (runs-then old command version core accepts same state stands old.pages state.lying
@@ -152,9 +153,9 @@ accepted old command version core accepts same = λ state stands.
 
 -- what serves as one definition says serves as another, where both say the same
 pub serves-by : (old new : Running) (answer : Reply)
-    (serve other : Bool → Hardware → State → Served)
-    → ((state : State) → RunsAs old state → (refused : Bool)
-    → other refused old.core.space.machine state ≡ serve refused old.core.space.machine state)
+    (serve other : Lack → Hardware → State → Served)
+    → ((state : State) → RunsAs old state → (lack : Lack)
+    → other lack old.core.space.machine state ≡ serve lack old.core.space.machine state)
     → Serves old answer new serve → Serves old answer new other
 serves-by old new answer serve other is serves = λ state stands.
     let s = serves state stands in

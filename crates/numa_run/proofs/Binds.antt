@@ -10,8 +10,6 @@ use Rattle.numa_machine.specs.declared.rules.Rules.{Rules}
 use Rattle.numa_maps.specs.Residents.{Kept}
 use Rattle.numa_mode.specs.Policy.{Specification}
 use Rattle.numa_placed.specs.Binds.{Asked}
-use Rattle.numa_placed.specs.Spots.{too_many}
-use Rattle.numa_placed.specs.declared.spot.Spot.{Spot}
 use Rattle.numa_requests.specs.declared.command.Command.{Command}
 use Rattle.numa_requests.specs.declared.event.CoreRefusal.{CoreRefusal}
 use Rattle.numa_requests.specs.declared.event.CoreReply.{CoreReply}
@@ -26,7 +24,7 @@ use Rattle.numa_core.specs.Standing.{CoreState, setup_of}
 use Rattle.numa_space.specs.Refusals.{refusal_of}
 use Rattle.numa_space.specs.Standing.{StandsFor}
 use Rattle.numa_page_state.specs.Lying.{Lying, Process}
-use Rattle.numa_page_state.specs.Outcomes.{is_no_memory, lack_of}
+use Rattle.numa_page_state.specs.Outcomes.{Enough, Lack, Starved, is_starved, lack_of, lack_told}
 use Rattle.numa_page_state.specs.Sending.{asked_of, command_of, rebinding_in, sent_in, sent_spots}
 use Rattle.numa_page_state.specs.Sending.{tells_left, with_sent}
 use Rattle.numa_page_state.specs.Standing.{HasSent, Lies, Sends}
@@ -45,7 +43,7 @@ use Rattle.numa_script.specs.declared.reply.Reply.TheVariants as reply
 use Rattle.numa_run.specs.Answering.{Served, with_reply}
 use Rattle.numa_run.specs.Obeying.{accepted_outcome, astray_outcome, bound_command, bound_outcome}
 use Rattle.numa_run.specs.Obeying.{command_reply, judged_by, moved_by, sent_outcome, sent_unless}
-use Rattle.numa_run.specs.Obeying.{toucher_of, unless_pages}
+use Rattle.numa_run.specs.Obeying.{sent_where, toucher_of, unless_pages}
 use Rattle.numa_run.specs.Standing.{RunsAs, Serves}
 use Rattle.numa_run.specs.States.{State, process_on, setup_with}
 use Rattle.numa_run.specs.Work.{event_answer, unless_wanting, want_of}
@@ -65,17 +63,17 @@ hidden None first done some = refl
 hidden (Some want) None done some = cc
 hidden (Some want) (Some refusal) done some = refl
 
-pub refused-alike : (machine : Hardware) (state : State) (command : Command) (refused : Bool)
+pub refused-alike : (machine : Hardware) (state : State) (command : Command) (lack : Lack)
     → is_some (refusal_of machine state.bounds state.world.history command) ≡ true
-    → accepted_outcome refused machine state command
-    ≡ accepted_outcome false machine state command
-refused-alike machine state command refused some =
+    → accepted_outcome lack machine state command
+    ≡ accepted_outcome Enough machine state command
+refused-alike machine state command lack some =
     let s : Setup = setup_with machine state.bounds in
     let shown = λ (told : Result CoreReply CoreRefusal). with_reply (reply_to told)
     (record state {
       world = world_after s state.world (newest_published state.world) (Accept command) told;
     }) in
-    ap shown (hidden (if refused then want_of (Accept command) else None)
+    ap shown (hidden (if is_starved lack then want_of (Accept command) else None)
     (refusal_of machine state.bounds state.world.history command)
     (reply_of s state.world (newest_published state.world) (Accept command)) some)
 
@@ -87,19 +85,19 @@ late-where rules None late = cc
 late-where rules (Some refusal) late = refl
 
 module _ (old : Running) (command : Command) where
-  abbrev pub plainly : Bool → Hardware → State → Served
-  plainly refused machine state = accepted_outcome refused machine state command
+  abbrev pub plainly : Lack → Hardware → State → Served
+  plainly lack machine state = accepted_outcome lack machine state command
 
-  abbrev pub judges : Bool → Hardware → State → Served
-  judges refused machine state =
-      judged_by (strict_binding_in command) refused machine state command
+  abbrev pub judges : Lack → Hardware → State → Served
+  judges lack machine state =
+      judged_by (strict_binding_in command) lack machine state command
 
   -- no page may refuse it
   pub judged-none : (new : Running) (answer : Reply) → strict_binding_in command ≡ None
       → Serves old answer new plainly → Serves old answer new judges
   judged-none new answer none = serves-by old new answer plainly judges
-      (λ state stands refused.
-      ap (λ (b : Option Binding). judged_by b refused old.core.space.machine state command) none)
+      (λ state stands lack.
+      ap (λ (b : Option Binding). judged_by b lack old.core.space.machine state command) none)
 
   module _ (binding : Binding) (sets : strict_binding_in command ≡ Some binding)
       (astray : Bool)
@@ -114,36 +112,36 @@ module _ (old : Running) (command : Command) where
         (sym (process-same old state stands))
         ∙ sym (found state.lying state.world.history stands.lies stands.core.world.space)
 
-    judged-is : (refused : Bool) (state : State) → RunsAs old state
-        → judges refused old.core.space.machine state
-        ≡ (if astray then astray_outcome refused old.core.space.machine state command
-        else plainly refused old.core.space.machine state)
-    judged-is refused state stands =
-        ap (λ (b : Option Binding). judged_by b refused old.core.space.machine state command) sets
-        ∙ ap (λ (b : Bool). if b then astray_outcome refused old.core.space.machine state command
-        else plainly refused old.core.space.machine state) (is-astray state stands)
+    judged-is : (lack : Lack) (state : State) → RunsAs old state
+        → judges lack old.core.space.machine state
+        ≡ (if astray then astray_outcome lack old.core.space.machine state command
+        else plainly lack old.core.space.machine state)
+    judged-is lack state stands =
+        ap (λ (b : Option Binding). judged_by b lack old.core.space.machine state command) sets
+        ∙ ap (λ (b : Bool). if b then astray_outcome lack old.core.space.machine state command
+        else plainly lack old.core.space.machine state) (is-astray state stands)
 
     -- no page lies astray
     pub judged-fair : (new : Running) (answer : Reply) → astray ≡ false
         → Serves old answer new plainly → Serves old answer new judges
     judged-fair new answer fair = serves-by old new answer plainly judges
-        (λ state stands refused. judged-is refused state stands
-        ∙ ap (λ (b : Bool). if b then astray_outcome refused old.core.space.machine state command
-        else plainly refused old.core.space.machine state) fair)
+        (λ state stands lack. judged-is lack state stands
+        ∙ ap (λ (b : Bool). if b then astray_outcome lack old.core.space.machine state command
+        else plainly lack old.core.space.machine state) fair)
 
     module _ (is : astray ≡ true) where
-      judged-astray : (refused : Bool) (state : State) → RunsAs old state
-          → judges refused old.core.space.machine state
-          ≡ astray_outcome refused old.core.space.machine state command
-      judged-astray refused state stands = judged-is refused state stands
-          ∙ ap (λ (b : Bool). if b then astray_outcome refused old.core.space.machine state command
-          else plainly refused old.core.space.machine state) is
+      judged-astray : (lack : Lack) (state : State) → RunsAs old state
+          → judges lack old.core.space.machine state
+          ≡ astray_outcome lack old.core.space.machine state command
+      judged-astray lack state stands = judged-is lack state stands
+          ∙ ap (λ (b : Bool). if b then astray_outcome lack old.core.space.machine state command
+          else plainly lack old.core.space.machine state) is
 
       -- memory lacks for the trial
       pub judged-starved : Serves old (command_reply cause.NoMemory) old judges
       judged-starved = λ state stands.
-          served old old (command_reply cause.NoMemory) judges state state true
-          (judged-astray true state stands) stands
+          served old old (command_reply cause.NoMemory) judges state state Starved
+          (judged-astray Starved state stands) stands
 
       module _ (late : Bool)
           (tried : (history : List Command) → StandsFor old.core.space history
@@ -158,20 +156,20 @@ module _ (old : Running) (command : Command) where
             ∙ sym (tried state.world.history stands.core.world.space)
 
         late-is : (state : State) → RunsAs old state
-            → judges false old.core.space.machine state
+            → judges Enough old.core.space.machine state
             ≡ (if late then with_reply (command_reply cause.Astray) state
-            else plainly false old.core.space.machine state)
-        late-is state stands = judged-astray false state stands
+            else plainly Enough old.core.space.machine state)
+        late-is state stands = judged-astray Enough state stands
             ∙ ap (λ (b : Bool). if b then with_reply (command_reply cause.Astray) state
-            else plainly false old.core.space.machine state) (is-late state stands)
+            else plainly Enough old.core.space.machine state) (is-late state stands)
 
         -- the pages are judged before what stands against the command
         pub judged-late : late ≡ true → Serves old (command_reply cause.Astray) old judges
         judged-late yes_late = λ state stands.
-            served old old (command_reply cause.Astray) judges state state false
+            served old old (command_reply cause.Astray) judges state state Enough
             (late-is state stands ∙ ap (λ (b : Bool).
             if b then with_reply (command_reply cause.Astray) state
-            else plainly false old.core.space.machine state) yes_late) stands
+            else plainly Enough old.core.space.machine state) yes_late) stands
 
         pub judged-early : (new : Running) (answer : Reply) → late ≡ false
             → Serves old answer new plainly → Serves old answer new judges
@@ -179,19 +177,19 @@ module _ (old : Running) (command : Command) where
             let s = serves state stands in
             let some = late-where old.core.space.machine.rules (refusal_of old.core.space.machine
             state.bounds state.world.history command) (is-late state stands ∙ early) in
-            let same : judges false old.core.space.machine state
+            let same : judges Enough old.core.space.machine state
             ≡ plainly s.0 old.core.space.machine state = late-is state stands
             ∙ ap (λ (b : Bool). if b then with_reply (command_reply cause.Astray) state
-            else plainly false old.core.space.machine state) early
+            else plainly Enough old.core.space.machine state) early
             ∙ sym (refused-alike old.core.space.machine state command s.0 some) in (
-              false,
+              Enough,
               ap (λ (r : Served). r.answer) same ∙ s.1,
               subst (λ (r : Served). RunsAs new r.state) (sym same) s.2,
             )
 
 -- ---- mbind .. move
 
-starved-why : (why : PlacedRefusal) → is_no_memory why ≡ true → why ≡ cause.NoMemory
+starved-why : (why : PlacedRefusal) → is_starved (lack_told why) ≡ true → why ≡ cause.NoMemory
 starved-why cause.NoMemory is = refl
 starved-why cause.Unaligned is = cc
 starved-why cause.OutOfSpace is = cc
@@ -204,16 +202,13 @@ starved-why cause.Unmapped is = cc
 starved-why cause.NoRoom is = cc
 starved-why cause.TooManyRuns is = cc
 
-enough : (spots : ℕ → Spot) → too_many spots ≡ false → lack_of false spots ≡ None
-enough spots few = rw few refl
-
 -- one command more is accepted, where nothing refuses it
 same-version : (one other : ℕ) → accept_answer (Ok one) ≡ Ok (Accepted other) → one ≡ other
 same-version one other is = cc
 
 accepted-version : (s : Setup) (state : State) (command : Command) (version : ℕ)
     → refusal_of s.machine s.bounds state.world.history command ≡ None
-    → accept_answer (Ok version) ≡ event_answer false s state.world (Accept command)
+    → accept_answer (Ok version) ≡ event_answer Enough s state.world (Accept command)
     → version ≡ suc (length state.world.history)
 accepted-version s state command version free is =
     same-version version (length state.world.history + 1)
@@ -227,8 +222,8 @@ module _ (old : Running) (said : Rebinding) (words : MoveWords) (pages : Option 
   first state = refusal_of old.core.space.machine state.bounds state.world.history
       (command_of said)
 
-  abbrev pub sends : Bool → Hardware → State → Served
-  sends refused machine state = sent_unless refused
+  abbrev pub sends : Lack → Hardware → State → Served
+  sends lack machine state = sent_unless lack
       (refusal_of machine state.bounds state.world.history (command_of said)) machine state said
       words
 
@@ -254,50 +249,53 @@ module _ (old : Running) (said : Rebinding) (words : MoveWords) (pages : Option 
       (all state.world.history state.lying stands.core.world.space stands.lies)
 
   passes : (o : Option Refusal) (machine : Hardware) (state : State) → is_some o ≡ true
-      → sent_unless false o machine state said words
-      ≡ accepted_outcome false machine state (command_of said)
+      → sent_unless Enough o machine state said words
+      ≡ accepted_outcome Enough machine state (command_of said)
   passes None machine state some = cc
   passes (Some refusal) machine state some = refl
 
   -- something refuses the policy
   pub send-refused : (new : Running) (answer : Reply) → SendsFrom (Ok None)
-      → Serves here answer new (λ refused machine state.
-      accepted_outcome refused machine state (command_of said))
+      → Serves here answer new (λ lack machine state.
+      accepted_outcome lack machine state (command_of said))
       → Serves old answer new sends
   send-refused new answer all serves = λ state stands.
       let some = sends-here (Ok None) all state stands in
       let s = serves state (kept-pages old state pages stands (lies state.lying stands.lies)) in
-      let same : sends false old.core.space.machine state
+      let same : sends Enough old.core.space.machine state
       ≡ accepted_outcome s.0 old.core.space.machine state (command_of said) =
       passes (first state) old.core.space.machine state some
       ∙ sym (refused-alike old.core.space.machine state (command_of said) s.0 some) in (
-        false,
+        Enough,
         ap (λ (r : Served). r.answer) same ∙ s.1,
         subst (λ (r : Served). RunsAs new r.state) (sym same) s.2,
       )
 
   -- what it comes to where nothing refuses the policy
-  send-free : (state : State) → first state ≡ None
-      → sends false old.core.space.machine state
-      ≡ unless_pages (lack_of false (sent_spots (asked_of (process_on old.core.space.machine state)
+  send-free : (lack : Lack) (state : State) → is_starved lack ≡ false → first state ≡ None
+      → sends lack old.core.space.machine state
+      ≡ unless_pages (lack_of lack (sent_spots (asked_of (process_on old.core.space.machine state)
       said (toucher_of words)) state.lying)) state
       (sent_outcome old.core.space.machine state said words)
-  send-free state free = ap (λ (o : Option Refusal).
-      sent_unless false o old.core.space.machine state said words) free
+  send-free lack state serves free =
+      ap (λ (b : Bool). if b then with_reply (command_reply cause.NoMemory) state
+      else sent_where (first state) lack old.core.space.machine state said words) serves
+      ∙ ap (λ (o : Option Refusal).
+      sent_where o lack old.core.space.machine state said words) free
 
   -- runs or memory lack
   pub send-denied : (why : PlacedRefusal) → SendsFrom (Err why)
       → Serves old (command_reply why) here sends
   send-denied why all = λ state stands.
       let runs = kept-pages old state pages stands (lies state.lying stands.lies) in
-      elim (cases_Bool (is_no_memory why)) [
-        | inl t ↦ served old here (command_reply why) sends state state true
+      elim (cases_Bool (is_starved (lack_told why))) [
+        | inl t ↦ served old here (command_reply why) sends state state Starved
             (ap (λ (r : PlacedRefusal). with_reply (command_reply r) state)
             (sym (starved-why why t))) runs
         | inr e ↦
             let so = sends-here (Err why) all state stands e in
-            served old here (command_reply why) sends state state false
-            (send-free state so.0 ∙ ap (λ (o : Option PlacedRefusal). unless_pages o state
+            served old here (command_reply why) sends state state (lack_told why)
+            (send-free (lack_told why) state e so.0 ∙ ap (λ (o : Option PlacedRefusal). unless_pages o state
             (sent_outcome old.core.space.machine state said words)) so.1) runs
       ]
 
@@ -308,7 +306,7 @@ module _ (old : Running) (said : Rebinding) (words : MoveWords) (pages : Option 
         (record { core = core; resident = old.resident; pages = pages }) sends
     send-starved refusal accepts = λ state stands.
         served old (record { core = core; resident = old.resident; pages = pages })
-        (command_reply cause.NoMemory) sends state state true refl
+        (command_reply cause.NoMemory) sends state state Starved refl
         (runs-then old (command_of said) (Err refusal) core accepts same state stands pages
         state.lying (lies state.lying stands.lies))
 
@@ -347,21 +345,19 @@ module _ (old : Running) (said : Rebinding) (words : MoveWords) (pages : Option 
               tells ∙ ap (tells_left words.strict said.spec) so.1.left in
               let told : sent_outcome machine state said words
               ≡ with_reply (reply.Sent version done.moved done.left late)
-              (record (accepted_outcome false machine state (command_of said)).state {
+              (record (accepted_outcome Enough machine state (command_of said)).state {
                 lying = lying;
               }) = λ i. with_reply
               (reply.Sent (sym counts i) (sym so.1.moved i) (sym so.1.left i) (sym lateness i))
-              (record (accepted_outcome false machine state (command_of said)).state {
+              (record (accepted_outcome Enough machine state (command_of said)).state {
                 lying = lying;
               }) in
               let state_is = ap (λ (s : Served). with_reply
               (reply.Sent version done.moved done.left late) (record s.state { lying = lying }))
-              (accepted-is old (command_of said) (Ok version) core accepts same state stands false
+              (accepted-is old (command_of said) (Ok version) core accepts same state stands Enough
               is) in
-              served old new (reply.Sent version done.moved done.left late) sends state after false
-              (send-free state so.0 ∙ ap (λ (o : Option PlacedRefusal). unless_pages o state
-              (sent_outcome machine state said words)) (enough (sent_spots asked state.lying)
-              so.1.few) ∙ told ∙ state_is)
+              served old new (reply.Sent version done.moved done.left late) sends state after Enough
+              (send-free Enough state refl so.0 ∙ told ∙ state_is)
               (runs-then old (command_of said) (Ok version) core accepts same state stands
               pages_then lying lies_then)
           | inr lack ↦ cc
@@ -372,21 +368,21 @@ module _ (old : Running) (said : Rebinding) (words : MoveWords) (pages : Option 
 module _ (old : Running) (pages : BoundPages) (start bytes : ℕ)
     (policy : Result Specification WordError) (found : Result Command WordError)
     (is : found ≡ bound_command old.core.space.machine.rules start bytes policy) where
-  abbrev pub binds : Bool → Hardware → State → Served
-  binds refused machine state = bound_outcome refused machine state pages
+  abbrev pub binds : Lack → Hardware → State → Served
+  binds lack machine state = bound_outcome lack machine state pages
       (bound_command machine.rules start bytes policy)
 
-  pub bound-by : (new : Running) (answer : Reply) (serve : Bool → Hardware → State → Served)
-      → ((refused : Bool) (state : State)
-      → bound_outcome refused old.core.space.machine state pages found
-      ≡ serve refused old.core.space.machine state)
+  pub bound-by : (new : Running) (answer : Reply) (serve : Lack → Hardware → State → Served)
+      → ((lack : Lack) (state : State)
+      → bound_outcome lack old.core.space.machine state pages found
+      ≡ serve lack old.core.space.machine state)
       → Serves old answer new serve → Serves old answer new binds
   bound-by new answer serve right = serves-by old new answer serve binds
-      (λ state stands refused. ap (λ (r : Result Command WordError).
-      bound_outcome refused old.core.space.machine state pages r) (sym is) ∙ right refused state)
+      (λ state stands lack. ap (λ (r : Result Command WordError).
+      bound_outcome lack old.core.space.machine state pages r) (sym is) ∙ right lack state)
 
   bad-word : (words : BoundPages) (fault : WordError) (state : State)
-      → bound_outcome false old.core.space.machine state words (Err fault)
+      → bound_outcome Enough old.core.space.machine state words (Err fault)
       ≡ with_reply (reply.BadWord fault) state
   bad-word bound.Strict fault state = refl
   bad-word (bound.Move words) fault state = refl
@@ -395,36 +391,36 @@ module _ (old : Running) (pages : BoundPages) (start bytes : ℕ)
   pub bound-fault : (fault : WordError) → found ≡ Err fault
       → Serves old (reply.BadWord fault) old binds
   bound-fault fault fails = λ state stands.
-      served old old (reply.BadWord fault) binds state state false
+      served old old (reply.BadWord fault) binds state state Enough
       (ap (λ (r : Result Command WordError).
-      bound_outcome false old.core.space.machine state pages r) (sym is ∙ fails)
+      bound_outcome Enough old.core.space.machine state pages r) (sym is ∙ fails)
       ∙ bad-word pages fault state) stands
 
   pub bound-strict : (new : Running) (answer : Reply) (command : Command) → found ≡ Ok command
       → pages ≡ bound.Strict
-      → Serves old answer new (λ refused machine state.
-      judged_by (strict_binding_in command) refused machine state command)
+      → Serves old answer new (λ lack machine state.
+      judged_by (strict_binding_in command) lack machine state command)
       → Serves old answer new binds
   bound-strict new answer command so strict = bound-by new answer
-      (λ refused machine state. judged_by (strict_binding_in command) refused machine state command)
-      (λ refused state. λ i. bound_outcome refused old.core.space.machine state (strict i) (so i))
+      (λ lack machine state. judged_by (strict_binding_in command) lack machine state command)
+      (λ lack state. λ i. bound_outcome lack old.core.space.machine state (strict i) (so i))
 
   pub bound-moving : (new : Running) (answer : Reply) (command : Command) (words : MoveWords)
       → found ≡ Ok command → pages ≡ bound.Move words
-      → Serves old answer new (λ refused machine state.
-      moved_by (rebinding_in command) refused machine state command words)
+      → Serves old answer new (λ lack machine state.
+      moved_by (rebinding_in command) lack machine state command words)
       → Serves old answer new binds
   bound-moving new answer command words so moves = bound-by new answer
-      (λ refused machine state. moved_by (rebinding_in command) refused machine state command words)
-      (λ refused state. λ i. bound_outcome refused old.core.space.machine state (moves i) (so i))
+      (λ lack machine state. moved_by (rebinding_in command) lack machine state command words)
+      (λ lack state. λ i. bound_outcome lack old.core.space.machine state (moves i) (so i))
 
 -- by the policy that the command sets
 pub moved-by : (old new : Running) (answer : Reply) (command : Command) (words : MoveWords)
     (found : Option Rebinding) → found ≡ rebinding_in command
-    → Serves old answer new (λ refused machine state. moved_by found refused machine state command
+    → Serves old answer new (λ lack machine state. moved_by found lack machine state command
     words)
-    → Serves old answer new (λ refused machine state. moved_by (rebinding_in command) refused
+    → Serves old answer new (λ lack machine state. moved_by (rebinding_in command) lack
     machine state command words)
 moved-by old new answer command words found is serves =
-    subst (λ (o : Option Rebinding). Serves old answer new (λ refused machine state.
-    moved_by o refused machine state command words)) is serves
+    subst (λ (o : Option Rebinding). Serves old answer new (λ lack machine state.
+    moved_by o lack machine state command words)) is serves

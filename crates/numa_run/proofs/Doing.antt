@@ -17,6 +17,7 @@ use Rattle.numa_requests.specs.declared.event.CoreReply.TheVariants as done
 use Rattle.numa_requests.specs.declared.event.CoreRefusal.{CoreRefusal}
 use Rattle.numa_requests.specs.declared.event.CoreRefusal.TheVariants.{NoMemory}
 use Rattle.numa_maps.specs.Residents.{Kept, placed_at, with_placement, without_page}
+use Rattle.numa_page_state.specs.Outcomes.{Enough, Lack, Starved}
 use Rattle.numa_page_state.specs.Standing.{Lies}
 use Rattle.numa_page_state.specs.declared.state.PageState.{PageState}
 use Rattle.numa_run.specs.States.{State}
@@ -76,7 +77,7 @@ pub does-event : (old new : Running) (event : Event) (answer : Result CoreReply 
     → Steps old.core event answer new.core → setup_of new.core ≡ setup_of old.core
     → new.resident ≡ old.resident → new.pages ≡ old.pages
     → Does old (reply_to answer) new
-    (λ refused state. event_outcome refused (setup_of old.core) state.world state.resident event)
+    (λ lack state. event_outcome lack (setup_of old.core) state.world state.resident event)
 does-event old new event answer steps same resident pages =
     λ state stands.
     let s = setup_of old.core in
@@ -95,20 +96,20 @@ does-event old new event answer steps same resident pages =
 
 -- ---- a Give that a line needs
 
-given : (old new : Running) (refused : Bool) (w : ℕ) (frame : Frame)
+given : (old new : Running) (lack : Lack) (w : ℕ) (frame : Frame)
     (answer : Result CoreReply CoreRefusal) (kept : Kept)
     → Steps old.core (Give w frame) answer new.core → setup_of new.core ≡ setup_of old.core
     → new.resident ≡ kept → new.pages ≡ old.pages → (state : State) → RunsAs old state
     → RunsAs new
-    (state_at state (event_world refused (setup_of old.core) state.world (Give w frame)) kept)
-given old new refused w frame answer kept steps same resident pages state stands =
+    (state_at state (event_world lack (setup_of old.core) state.world (Give w frame)) kept)
+given old new lack w frame answer kept steps same resident pages state stands =
     let s = setup_of old.core in
     let step = steps state.world stands.core.world in
     let after : World = world_after s state.world (newest_published state.world) (Give w frame)
     answer in
-    let there : after ≡ event_world refused s state.world (Give w frame) =
+    let there : after ≡ event_world lack s state.world (Give w frame) =
     ap (world_after s state.world (newest_published state.world) (Give w frame))
-    (give-told refused s state.world w frame answer step.0) in
+    (give-told lack s state.world w frame answer step.0) in
     subst (λ (world : World).
     RunsAs new (state_at state world kept)) there
     (moved old new state after kept stands same step.1 resident pages)
@@ -119,20 +120,20 @@ pub keeps : (old new : Running) (w : ℕ) (placement : Placement) → new.core �
     → placed_at old.resident placement.page ≡ None
     → new.resident ≡ with_placement old.resident placement → new.pages ≡ old.pages
     → Does old (reply.Won (win_of placement)) new
-    (λ refused state. kept_outcome refused (setup_of old.core) state.world state.resident w
+    (λ lack state. kept_outcome lack (setup_of old.core) state.world state.resident w
     placement)
 keeps old new w placement core free resident pages =
     λ state stands.
     let none : placed_at state.resident placement.page ≡ None =
     subst (λ (kept : Kept). placed_at kept placement.page ≡ None) stands.resident free in
-    let out : kept_outcome false (setup_of old.core) state.world state.resident w placement
+    let out : kept_outcome Enough (setup_of old.core) state.world state.resident w placement
     ≡ record {
       reply = reply.Won (win_of placement);
       world = state.world;
       resident =
           with_placement state.resident placement;
     } = rw none refl in (
-      false,
+      Enough,
       sym (ap (λ o. o.reply) out),
       subst (λ o. RunsAs new (state_with state o)) (sym out)
           (moved old new state state.world (with_placement state.resident placement) stands
@@ -148,20 +149,20 @@ pub gives-taken : (old new : Running) (w : ℕ) (placement : Placement)
     → new.resident ≡ old.resident → new.pages ≡ old.pages
     → is_some (placed_at old.resident placement.page) ≡ true
     → Does old (reply.Back placement.frame) new
-    (λ refused state. kept_outcome refused (setup_of old.core) state.world state.resident w
+    (λ lack state. kept_outcome lack (setup_of old.core) state.world state.resident w
     placement)
 gives-taken old new w placement answer steps same resident pages taken =
     λ state stands.
     let some : is_some (placed_at state.resident placement.page) ≡ true =
     subst (λ (kept : Kept). is_some (placed_at kept placement.page) ≡ true) stands.resident
     taken in
-    let out : kept_outcome false (setup_of old.core) state.world state.resident w placement
-    ≡ not_kept false (setup_of old.core) state.world state.resident w placement
+    let out : kept_outcome Enough (setup_of old.core) state.world state.resident w placement
+    ≡ not_kept Enough (setup_of old.core) state.world state.resident w placement
     (reply.Back placement.frame) = rw some refl in (
-      false,
+      Enough,
       sym (ap (λ o. o.reply) out),
       subst (λ o. RunsAs new (state_with state o)) (sym out)
-          (given old new false w placement.frame answer state.resident steps same
+          (given old new Enough w placement.frame answer state.resident steps same
           (resident ∙ stands.resident) pages state stands),
     )
 
@@ -172,19 +173,19 @@ pub gives-starved : (old new : Running) (w : ℕ) (placement : Placement)
     → new.resident ≡ old.resident → new.pages ≡ old.pages
     → placed_at old.resident placement.page ≡ None
     → Does old (reply.Refused NoMemory) new
-    (λ refused state. kept_outcome refused (setup_of old.core) state.world state.resident w
+    (λ lack state. kept_outcome lack (setup_of old.core) state.world state.resident w
     placement)
 gives-starved old new w placement answer steps same resident pages free =
     λ state stands.
     let none : placed_at state.resident placement.page ≡ None =
     subst (λ (kept : Kept). placed_at kept placement.page ≡ None) stands.resident free in
-    let out : kept_outcome true (setup_of old.core) state.world state.resident w placement
-    ≡ not_kept true (setup_of old.core) state.world state.resident w placement
+    let out : kept_outcome Starved (setup_of old.core) state.world state.resident w placement
+    ≡ not_kept Starved (setup_of old.core) state.world state.resident w placement
     (reply.Refused NoMemory) = rw none refl in (
-      true,
+      Starved,
       sym (ap (λ o. o.reply) out),
       subst (λ o. RunsAs new (state_with state o)) (sym out)
-          (given old new true w placement.frame answer state.resident steps same
+          (given old new Starved w placement.frame answer state.resident steps same
           (resident ∙ stands.resident) pages state stands),
     )
 
@@ -221,7 +222,7 @@ pub touches-nothing : (old new : Running) (w : ℕ) (request : Request)
     → setup_of new.core ≡ setup_of old.core
     → new.resident ≡ old.resident → new.pages ≡ old.pages → won_by answer ≡ None
     → Does old (reply_to answer) new
-    (λ refused state. touch_outcome refused (setup_of old.core) state.world state.resident w
+    (λ lack state. touch_outcome lack (setup_of old.core) state.world state.resident w
     request)
 touches-nothing old new w request answer touches same resident pages lost =
     λ state stands.
@@ -229,10 +230,10 @@ touches-nothing old new w request answer touches same resident pages lost =
     let t = result_of_touch s state.world w request in
     let touch = touches state.world stands.core.world in
     let none : won_by t.answer ≡ None = ap won_by (sym touch.0) ∙ lost in
-    let out : touch_by false s None t.answer t.world state.resident w ≡ touch_outcome false s
+    let out : touch_by Enough s None t.answer t.world state.resident w ≡ touch_outcome Enough s
     state.world state.resident w request =
-    ap (λ o. touch_by false s o t.answer t.world state.resident w) (sym none) in (
-      false,
+    ap (λ o. touch_by Enough s o t.answer t.world state.resident w) (sym none) in (
+      Enough,
       ap reply_to touch.0 ∙ ap (λ o. o.reply) out,
       subst (λ o. RunsAs new (state_with state o)) out
           (touched-there old new w request answer touches same resident pages state stands),
@@ -242,9 +243,9 @@ pub touches-won : (old mid new : Running) (w : ℕ) (request : Request)
     (answer : Result CoreReply CoreRefusal) (placement : Placement) (said : Reply)
     → Touches old.core w request answer mid.core → setup_of mid.core ≡ setup_of old.core
     → mid.resident ≡ old.resident → mid.pages ≡ old.pages → won_by answer ≡ Some placement
-    → Does mid said new (λ refused state. kept_outcome refused (setup_of mid.core) state.world
+    → Does mid said new (λ lack state. kept_outcome lack (setup_of mid.core) state.world
     state.resident w placement)
-    → Does old said new (λ refused state. touch_outcome refused (setup_of old.core) state.world
+    → Does old said new (λ lack state. touch_outcome lack (setup_of old.core) state.world
     state.resident w request)
 touches-won old mid new w request answer placement said touches same resident pages won keep =
     λ state stands.
@@ -273,27 +274,27 @@ pub releases : (old new : Running) (w page : ℕ) (placement : Placement)
     → new.resident ≡ (if is_ok answer then without_page old.resident page else old.resident)
     → new.pages ≡ old.pages
     → Does old (reply_to answer) new
-    (λ refused state. release_outcome refused (setup_of old.core) state.world state.resident w page)
+    (λ lack state. release_outcome lack (setup_of old.core) state.world state.resident w page)
 releases old new w page placement answer steps same there resident pages =
     λ state stands.
     let s = setup_of old.core in
     let some : placed_at state.resident page ≡ Some placement =
     subst (λ (kept : Kept). placed_at kept page ≡ Some placement) stands.resident there in
     let step = steps state.world stands.core.world in
-    let right : answer ≡ event_answer false s state.world (Give w placement.frame) =
-    give-told false s state.world w placement.frame answer step.0 in
-    let kept : Kept = if is_ok (event_answer false s state.world (Give w placement.frame))
+    let right : answer ≡ event_answer Enough s state.world (Give w placement.frame) =
+    give-told Enough s state.world w placement.frame answer step.0 in
+    let kept : Kept = if is_ok (event_answer Enough s state.world (Give w placement.frame))
     then without_page state.resident page else state.resident in
     let is : new.resident ≡ kept =
     resident ∙ (λ i. if is_ok (right i) then without_page (stands.resident i) page
     else stands.resident i) in
-    let out : release_by false s (Some placement) state.world state.resident w page
-    ≡ release_outcome false s state.world state.resident w page =
-    ap (λ o. release_by false s o state.world state.resident w page) (sym some) in (
-      false,
+    let out : release_by Enough s (Some placement) state.world state.resident w page
+    ≡ release_outcome Enough s state.world state.resident w page =
+    ap (λ o. release_by Enough s o state.world state.resident w page) (sym some) in (
+      Enough,
       ap reply_to right ∙ ap (λ o. o.reply) out,
       subst (λ o. RunsAs new (state_with state o)) out
-          (given old new false w placement.frame answer kept steps same is pages state stands),
+          (given old new Enough w placement.frame answer kept steps same is pages state stands),
     )
 
 -- the page keeps its placement where the Give is refused, and only there

@@ -23,6 +23,7 @@ use Rattle.numa_script.specs.Machines.{distances_of}
 use Rattle.numa_script.specs.Numbers.{number_of, numeral_of, in_64_bits}
 use Rattle.numa_script.specs.Policies.{policy_of, mode_of, form_of_two, form_of_three}
 use Rattle.numa_page_state.specs.Lying.{nothing}
+use Rattle.numa_page_state.specs.Outcomes.{Enough, Starved}
 use Rattle.numa_run.specs.Answers.{State, start, start_by, answer_to, after_bytes}
 use Rattle.numa_run.specs.MovedTexts.{flows_text}
 use Rattle.numa_run.specs.Replies.{outcome_of}
@@ -31,73 +32,73 @@ use Rattle.numa_script.specs.Texts.{text_of}
 
 -- ---- before a machine is ready
 
-question-before_a_machine : answer_to false start (codes "place 1 0 0")
+question-before_a_machine : answer_to Enough start (codes "place 1 0 0")
     ≡ codes "bad state\n"
 unfolding line_of keyword_of number_of numeral_of in_64_bits outcome_of text_of
 question-before_a_machine = refl
 
-two-words_for_a_map : answer_to false start (codes "map 0x10000 0x1000")
+two-words_for_a_map : answer_to Enough start (codes "map 0x10000 0x1000")
     ≡ codes "bad words\n"
 unfolding line_of keyword_of number_of numeral_of in_64_bits outcome_of text_of
 two-words_for_a_map = refl
 
-too-many_ranges : answer_to false start (codes "limits 65537 1 1") ≡ codes "bad limits\n"
+too-many_ranges : answer_to Enough start (codes "limits 65537 1 1") ≡ codes "bad limits\n"
 unfolding line_of keyword_of number_of numeral_of in_64_bits outcome_of text_of
 too-many_ranges = refl
 
-list-before_the_machine : answer_to false start (codes "machine 0 3-1 1 flat")
+list-before_the_machine : answer_to Enough start (codes "machine 0 3-1 1 flat")
     ≡ codes "bad list BackRange\n"
 unfolding line_of keyword_of number_of numeral_of in_64_bits distances_of item_of ends_of
     node_numeral_of digit_of outcome_of text_of
 list-before_the_machine = refl
 
-no-nodes : answer_to true start (codes "machine 0 0 1 flat")
+no-nodes : answer_to Starved start (codes "machine 0 0 1 flat")
     ≡ codes "bad machine NodeCount\n"
 unfolding line_of keyword_of number_of numeral_of in_64_bits distances_of members item_of ends_of
     node_numeral_of digit_of outcome_of text_of
 no-nodes = refl
 
-two-nodes : answer_to false start (codes "machine 2 0-1 8 flat") ≡ codes "ready\n"
+two-nodes : answer_to Enough start (codes "machine 2 0-1 8 flat") ≡ codes "ready\n"
 unfolding line_of keyword_of number_of numeral_of in_64_bits distances_of machine_fault
     has_bad_memory has_bad_distance has_bad_frames members item_of ends_of node_numeral_of digit_of
     outcome_of text_of
 two-nodes = refl
 
-two-nodes_without_memory : answer_to true start (codes "machine 2 0-1 8 flat")
+two-nodes_without_memory : answer_to Starved start (codes "machine 2 0-1 8 flat")
     ≡ codes "bad machine NoMemory\n"
 unfolding line_of keyword_of number_of numeral_of in_64_bits distances_of members item_of ends_of
     node_numeral_of digit_of outcome_of text_of
 two-nodes_without_memory = refl
 
-rules-of_the_kernel : (after_bytes false start (codes "rules linux")).rules ≡ Linux
+rules-of_the_kernel : (after_bytes Enough start (codes "rules linux")).rules ≡ Linux
 unfolding line_of keyword_of outcome_of
 rules-of_the_kernel = refl
 
-rules-are_taken : answer_to false start (codes "rules linux") ≡ codes "rules ok\n"
+rules-are_taken : answer_to Enough start (codes "rules linux") ≡ codes "rules ok\n"
 unfolding line_of keyword_of outcome_of text_of
 rules-are_taken = refl
 
-cpus-are_taken : answer_to false start (codes "cpus 0") ≡ codes "cpus ok\n"
+cpus-are_taken : answer_to Enough start (codes "cpus 0") ≡ codes "cpus ok\n"
 unfolding line_of keyword_of item_of ends_of node_numeral_of digit_of outcome_of text_of
 cpus-are_taken = refl
 
 -- the last line counts
 cpus-of_two_lines :
-    (after_bytes false (after_bytes false start (codes "cpus 0")) (codes "cpus 0-1")).cpus
+    (after_bytes Enough (after_bytes Enough start (codes "cpus 0")) (codes "cpus 0-1")).cpus
     ≡ Some 3
 unfolding line_of keyword_of item_of ends_of node_numeral_of digit_of outcome_of
 cpus-of_two_lines = refl
 
-cpus-of_a_bad_list : answer_to false start (codes "cpus 1-0")
+cpus-of_a_bad_list : answer_to Enough start (codes "cpus 1-0")
     ≡ codes "bad list BackRange\n"
 unfolding line_of keyword_of item_of ends_of node_numeral_of digit_of outcome_of text_of
 cpus-of_a_bad_list = refl
 
 -- a node with CPUs that the machine lacks, whatever its orders and whether there is memory
 with_cpus_elsewhere : State
-with_cpus_elsewhere = after_bytes false start (codes "cpus 2")
+with_cpus_elsewhere = after_bytes Enough start (codes "cpus 2")
 
-cpus-elsewhere : answer_to true with_cpus_elsewhere (codes "machine 2 0-1 8 flat")
+cpus-elsewhere : answer_to Starved with_cpus_elsewhere (codes "machine 2 0-1 8 flat")
     ≡ codes "bad machine NodeCount\n"
 unfolding with_cpus_elsewhere line_of keyword_of number_of numeral_of in_64_bits distances_of
     members item_of ends_of node_numeral_of digit_of outcome_of text_of
@@ -105,10 +106,10 @@ cpus-elsewhere = refl
 
 -- the orders of a kernel, where node 0 alone has CPUs
 with_cpus : State
-with_cpus = after_bytes false start (codes "cpus 0")
+with_cpus = after_bytes Enough start (codes "cpus 0")
 
 cpus-of_a_kernels_machine :
-    (after_bytes false with_cpus (codes "machine 2 0-1 8 kernel:flat")).machine
+    (after_bytes Enough with_cpus (codes "machine 2 0-1 8 kernel:flat")).machine
     ≡ Some
     (record {
       nodes = 2;
@@ -124,7 +125,7 @@ unfolding with_cpus line_of keyword_of number_of numeral_of in_64_bits distances
 cpus-of_a_kernels_machine = refl
 
 -- all nodes have CPUs where no line names any
-kernels_machine : (after_bytes false start (codes "machine 2 0-1 8 kernel:flat")).machine
+kernels_machine : (after_bytes Enough start (codes "machine 2 0-1 8 kernel:flat")).machine
     ≡ Some
     (record {
       nodes = 2;
@@ -176,54 +177,54 @@ bound = record {
   lying = nothing;
 }
 
-bound-page : answer_to false bound (codes "place 1 0x10fff 0") ≡ codes "v2: 1\n"
+bound-page : answer_to Enough bound (codes "place 1 0x10fff 0") ≡ codes "v2: 1\n"
 unfolding line_of keyword_of number_of numeral_of in_64_bits members fallback_order digits bound
     world outcome_of text_of
 bound-page = refl
 
-page-without_policy : answer_to false bound (codes "place 1 0x11000 0")
+page-without_policy : answer_to Enough bound (codes "place 1 0x11000 0")
     ≡ codes "v2: 0 1\n"
 unfolding line_of keyword_of number_of numeral_of in_64_bits members fallback_order digits bound
     world outcome_of text_of
 page-without_policy = refl
 
-page-that_is_not_mapped : answer_to false bound (codes "place 1 0x12000 0")
+page-that_is_not_mapped : answer_to Enough bound (codes "place 1 0x12000 0")
     ≡ codes "refused Unmapped\n"
 unfolding line_of keyword_of number_of numeral_of in_64_bits members fallback_order digits bound
     world outcome_of text_of
 page-that_is_not_mapped = refl
 
-weight-too_large : answer_to true bound (codes "weight 0 256")
+weight-too_large : answer_to Starved bound (codes "weight 0 256")
     ≡ codes "refused BadWeight EINVAL\n"
 unfolding line_of keyword_of number_of numeral_of in_64_bits bound world outcome_of text_of
 weight-too_large = refl
 
-weight-wants_no_memory : answer_to true bound (codes "weight 0 255") ≡ codes "ok 3\n"
+weight-wants_no_memory : answer_to Starved bound (codes "weight 0 255") ≡ codes "ok 3\n"
 unfolding line_of keyword_of number_of numeral_of in_64_bits digits bound world outcome_of text_of
 weight-wants_no_memory = refl
 
-task-without_memory : answer_to true bound (codes "task 1 local")
+task-without_memory : answer_to Starved bound (codes "task 1 local")
     ≡ codes "refused NoMemory ENOMEM\n"
 unfolding line_of keyword_of number_of numeral_of in_64_bits policy_of mode_of form_of_two
     form_of_three item_of ends_of node_numeral_of digit_of bound world outcome_of text_of
 task-without_memory = refl
 
-default-wants_no_memory : answer_to true bound (codes "task 1 default") ≡ codes "ok 3\n"
+default-wants_no_memory : answer_to Starved bound (codes "task 1 default") ≡ codes "ok 3\n"
 unfolding line_of keyword_of number_of numeral_of in_64_bits policy_of mode_of form_of_two
     form_of_three item_of ends_of node_numeral_of digit_of digits bound world outcome_of text_of
 default-wants_no_memory = refl
 
-weight-accepted : answer_to false bound (codes "weight 0 255") ≡ codes "ok 3\n"
+weight-accepted : answer_to Enough bound (codes "weight 0 255") ≡ codes "ok 3\n"
 unfolding line_of keyword_of number_of numeral_of in_64_bits digits bound world outcome_of text_of
 weight-accepted = refl
 
-policy-with_a_faulty_list : answer_to false bound (codes "task 1 bind=static=relative:x")
+policy-with_a_faulty_list : answer_to Enough bound (codes "task 1 bind=static=relative:x")
     ≡ codes "bad list BadDigit\n"
 unfolding line_of keyword_of number_of numeral_of in_64_bits policy_of mode_of form_of_two
     form_of_three item_of ends_of node_numeral_of digit_of bound world outcome_of text_of
 policy-with_a_faulty_list = refl
 
-machine-after_a_machine : answer_to false bound (codes "machine 0 3-1 1 flat")
+machine-after_a_machine : answer_to Enough bound (codes "machine 0 3-1 1 flat")
     ≡ codes "bad state\n"
 unfolding line_of keyword_of number_of numeral_of in_64_bits distances_of bound world outcome_of
     text_of
@@ -231,47 +232,47 @@ machine-after_a_machine = refl
 
 -- ---- spans
 
-span-of_two_pages : answer_to false bound (codes "span 1 0x10000 2 0") ≡ codes "v2: 1 0\n"
+span-of_two_pages : answer_to Enough bound (codes "span 1 0x10000 2 0") ≡ codes "v2: 1 0\n"
 unfolding line_of keyword_of number_of numeral_of in_64_bits members fallback_order digits list_at
     result_of_touch outcome_of text_of bound world count_pages any_page counts_text
 span-of_two_pages = refl
 
-span-of_no_pages : answer_to false bound (codes "span 1 0x20000 0 0") ≡ codes "v2:\n"
+span-of_no_pages : answer_to Enough bound (codes "span 1 0x20000 0 0") ≡ codes "v2:\n"
 unfolding line_of keyword_of number_of numeral_of in_64_bits members fallback_order digits list_at
     result_of_touch outcome_of text_of bound world count_pages any_page counts_text
 span-of_no_pages = refl
 
-span-past_the_mapped_pages : answer_to false bound (codes "span 1 0x10000 3 0")
+span-past_the_mapped_pages : answer_to Enough bound (codes "span 1 0x10000 3 0")
     ≡ codes "refused Unmapped\n"
 unfolding line_of keyword_of number_of numeral_of in_64_bits members fallback_order digits list_at
     result_of_touch outcome_of text_of bound world count_pages any_page counts_text
 span-past_the_mapped_pages = refl
 
-span-of_no_node : answer_to false bound (codes "span 1 0x10000 3 2")
+span-of_no_node : answer_to Enough bound (codes "span 1 0x10000 3 2")
     ≡ codes "refused BadCpu\n"
 unfolding line_of keyword_of number_of numeral_of in_64_bits members fallback_order digits list_at
     result_of_touch outcome_of text_of bound world count_pages any_page counts_text
 span-of_no_node = refl
 
-span-without_memory : answer_to true bound (codes "span 1 0x10000 3 2")
+span-without_memory : answer_to Starved bound (codes "span 1 0x10000 3 2")
     ≡ codes "refused NoMemory\n"
 unfolding line_of keyword_of number_of numeral_of in_64_bits members fallback_order digits list_at
     result_of_touch outcome_of text_of bound world count_pages any_page counts_text
 span-without_memory = refl
 
-counts-of_two_pages : answer_to false bound (codes "counts 1 0x10000 2 0")
+counts-of_two_pages : answer_to Enough bound (codes "counts 1 0x10000 2 0")
     ≡ codes "v2: N0=1 N1=1\n"
 unfolding line_of keyword_of number_of numeral_of in_64_bits members fallback_order digits list_at
     result_of_touch outcome_of text_of bound world count_pages any_page counts_text
 counts-of_two_pages = refl
 
-counts-of_one_page : answer_to false bound (codes "counts 1 0x10000 1 0")
+counts-of_one_page : answer_to Enough bound (codes "counts 1 0x10000 1 0")
     ≡ codes "v2: N1=1\n"
 unfolding line_of keyword_of number_of numeral_of in_64_bits members fallback_order digits list_at
     result_of_touch outcome_of text_of bound world count_pages any_page counts_text
 counts-of_one_page = refl
 
-counts-past_the_mapped_pages : answer_to false bound (codes "counts 1 0x11000 2 1")
+counts-past_the_mapped_pages : answer_to Enough bound (codes "counts 1 0x11000 2 1")
     ≡ codes "refused Unmapped\n"
 unfolding line_of keyword_of number_of numeral_of in_64_bits members fallback_order digits list_at
     result_of_touch outcome_of text_of bound world count_pages any_page counts_text
@@ -326,164 +327,164 @@ resident = record {
   lying = nothing;
 }
 
-publish-both : answer_to false bound (codes "publish") ≡ codes "published 2\n"
+publish-both : answer_to Enough bound (codes "publish") ≡ codes "published 2\n"
 unfolding line_of keyword_of number_of numeral_of in_64_bits members fallback_order digits list_at
     result_of_touch outcome_of text_of bound world
 publish-both = refl
 
-publish-without_memory : answer_to true bound (codes "publish")
+publish-without_memory : answer_to Starved bound (codes "publish")
     ≡ codes "refused NoMemory\n"
 unfolding line_of keyword_of number_of numeral_of in_64_bits members fallback_order digits list_at
     result_of_touch outcome_of text_of bound world
 publish-without_memory = refl
 
-begin-before_a_publication : answer_to false bound (codes "begin 0 1 0x10000 0")
+begin-before_a_publication : answer_to Enough bound (codes "begin 0 1 0x10000 0")
     ≡ codes "refused Unmapped\n"
 unfolding line_of keyword_of number_of numeral_of in_64_bits members fallback_order digits list_at
     result_of_touch outcome_of text_of bound world
 begin-before_a_publication = refl
 
-begin-a_hunt : answer_to false published (codes "begin 0 1 0x10000 0") ≡ codes "still\n"
+begin-a_hunt : answer_to Enough published (codes "begin 0 1 0x10000 0") ≡ codes "still\n"
 unfolding line_of keyword_of number_of numeral_of in_64_bits members fallback_order digits list_at
     result_of_touch outcome_of text_of published world
 begin-a_hunt = refl
 
-begin-of_a_worker_too_many : answer_to false published (codes "begin 4 1 0x10000 0")
+begin-of_a_worker_too_many : answer_to Enough published (codes "begin 4 1 0x10000 0")
     ≡ codes "refused NoSuchWorker\n"
 unfolding line_of keyword_of number_of numeral_of in_64_bits members fallback_order digits list_at
     result_of_touch outcome_of text_of published world
 begin-of_a_worker_too_many = refl
 
-try-of_an_idle_worker : answer_to false published (codes "try 0 1 0")
+try-of_an_idle_worker : answer_to Enough published (codes "try 0 1 0")
     ≡ codes "refused Idle\n"
 unfolding line_of keyword_of number_of numeral_of in_64_bits members fallback_order digits list_at
     result_of_touch outcome_of text_of published world
 try-of_an_idle_worker = refl
 
-touch-wins : answer_to false published (codes "touch 0 1 0x10fff 0")
+touch-wins : answer_to Enough published (codes "touch 0 1 0x10fff 0")
     ≡ codes "won v2 node 1 frame 0 rank 0\n"
 unfolding line_of keyword_of number_of numeral_of in_64_bits members fallback_order digits list_at
     result_of_touch outcome_of text_of published world
 touch-wins = refl
 
-touch-without_memory : answer_to true published (codes "touch 0 1 0x10fff 0")
+touch-without_memory : answer_to Starved published (codes "touch 0 1 0x10fff 0")
     ≡ codes "refused NoMemory\n"
 unfolding line_of keyword_of number_of numeral_of in_64_bits members fallback_order digits list_at
     result_of_touch outcome_of text_of published world
 touch-without_memory = refl
 
-touch-passes_an_owned_frame : answer_to false resident (codes "touch 1 1 0x11000 1")
+touch-passes_an_owned_frame : answer_to Enough resident (codes "touch 1 1 0x11000 1")
     ≡ codes "won v2 node 1 frame 1 rank 0\n"
 unfolding line_of keyword_of number_of numeral_of in_64_bits members fallback_order digits list_at
     result_of_touch outcome_of text_of resident world placed
 touch-passes_an_owned_frame = refl
 
-touch-of_a_placed_page : answer_to false resident (codes "touch 1 1 0x10000 0")
+touch-of_a_placed_page : answer_to Enough resident (codes "touch 1 1 0x10000 0")
     ≡ codes "back node 1 frame 1\n"
 unfolding line_of keyword_of number_of numeral_of in_64_bits members fallback_order digits list_at
     result_of_touch outcome_of text_of resident world placed
 touch-of_a_placed_page = refl
 
-release-of_no_placement : answer_to false resident (codes "release 0 0x11000")
+release-of_no_placement : answer_to Enough resident (codes "release 0 0x11000")
     ≡ codes "refused NotOwned\n"
 unfolding line_of keyword_of number_of numeral_of in_64_bits members fallback_order digits list_at
     result_of_touch outcome_of text_of resident world placed
 release-of_no_placement = refl
 
-release-by_another : answer_to false resident (codes "release 1 0x10000")
+release-by_another : answer_to Enough resident (codes "release 1 0x10000")
     ≡ codes "refused NotOwned\n"
 unfolding line_of keyword_of number_of numeral_of in_64_bits members fallback_order digits list_at
     result_of_touch outcome_of text_of resident world placed
 release-by_another = refl
 
-release-by_its_owner : answer_to false resident (codes "release 0 0x10fff")
+release-by_its_owner : answer_to Enough resident (codes "release 0 0x10fff")
     ≡ codes "given\n"
 unfolding line_of keyword_of number_of numeral_of in_64_bits members fallback_order digits list_at
     result_of_touch outcome_of text_of resident world placed
 release-by_its_owner = refl
 
-touch-is_kept : (after_bytes false published (codes "touch 0 1 0x10fff 0")).resident
+touch-is_kept : (after_bytes Enough published (codes "touch 0 1 0x10fff 0")).resident
     ≡ (16, placed) ∷ []
 unfolding line_of keyword_of number_of numeral_of in_64_bits members fallback_order digits list_at
     result_of_touch outcome_of text_of published world placed
 touch-is_kept = refl
 
-touch-that_went_back : (after_bytes false resident (codes "touch 1 1 0x10000 0")).resident
+touch-that_went_back : (after_bytes Enough resident (codes "touch 1 1 0x10000 0")).resident
     ≡ (16, placed) ∷ []
 unfolding line_of keyword_of number_of numeral_of in_64_bits members fallback_order digits list_at
     result_of_touch outcome_of text_of resident world placed
 touch-that_went_back = refl
 
 touch-that_went_back_is_free :
-    (after_bytes false resident (codes "touch 1 1 0x10000 0")).world.owner 1 1 ≡ None
+    (after_bytes Enough resident (codes "touch 1 1 0x10000 0")).world.owner 1 1 ≡ None
 unfolding line_of keyword_of number_of numeral_of in_64_bits members fallback_order digits list_at
     result_of_touch outcome_of text_of resident world placed
 touch-that_went_back_is_free = refl
 
 release-takes_the_record_away :
-    (after_bytes false resident (codes "release 0 0x10fff")).resident ≡ []
+    (after_bytes Enough resident (codes "release 0 0x10fff")).resident ≡ []
 unfolding line_of keyword_of number_of numeral_of in_64_bits members fallback_order digits list_at
     result_of_touch outcome_of text_of resident world placed
 release-takes_the_record_away = refl
 
 release-that_is_refused_does_not :
-    (after_bytes false resident (codes "release 1 0x10000")).resident ≡ (16, placed) ∷ []
+    (after_bytes Enough resident (codes "release 1 0x10000")).resident ≡ (16, placed) ∷ []
 unfolding line_of keyword_of number_of numeral_of in_64_bits members fallback_order digits list_at
     result_of_touch outcome_of text_of resident world placed
 release-that_is_refused_does_not = refl
 
-release-frees_the_frame : (after_bytes false resident (codes "release 0 0x10000")).world.owner 1
+release-frees_the_frame : (after_bytes Enough resident (codes "release 0 0x10000")).world.owner 1
     0 ≡ None
 unfolding line_of keyword_of number_of numeral_of in_64_bits members fallback_order digits list_at
     result_of_touch outcome_of text_of resident world placed
 release-frees_the_frame = refl
 
-try-is_not_kept : (after_bytes false resident (codes "try 0 1 1")).resident ≡ (16, placed) ∷ []
+try-is_not_kept : (after_bytes Enough resident (codes "try 0 1 1")).resident ≡ (16, placed) ∷ []
 unfolding line_of keyword_of number_of numeral_of in_64_bits members fallback_order digits list_at
     result_of_touch outcome_of text_of resident world placed
 try-is_not_kept = refl
 
 -- ---- lines of hosts
 
-host-has_no_place : answer_to false start (codes "host") ≡ codes "bad words\n"
+host-has_no_place : answer_to Enough start (codes "host") ≡ codes "bad words\n"
 unfolding line_of keyword_of outcome_of text_of
 host-has_no_place = refl
 
-process-has_no_place : answer_to false bound (codes "in 1 ranges") ≡ codes "bad words\n"
+process-has_no_place : answer_to Enough bound (codes "in 1 ranges") ≡ codes "bad words\n"
 unfolding line_of keyword_of number_of numeral_of in_64_bits outcome_of text_of bound
 process-has_no_place = refl
 
 -- ---- lines about pages that are there
 
-page-before_a_machine : answer_to false start (codes "at 0x10000 4096 0") ≡ codes "bad state\n"
+page-before_a_machine : answer_to Enough start (codes "at 0x10000 4096 0") ≡ codes "bad state\n"
 unfolding line_of keyword_of number_of numeral_of in_64_bits outcome_of text_of
 page-before_a_machine = refl
 
-strict-before_a_machine : answer_to false start (codes "mbind 0x10000 4096 default strict")
+strict-before_a_machine : answer_to Enough start (codes "mbind 0x10000 4096 default strict")
     ≡ codes "bad state\n"
 unfolding line_of keyword_of number_of numeral_of in_64_bits policy_of mode_of outcome_of text_of
 strict-before_a_machine = refl
 
 -- the first change wants memory, whatever it is
-change-without_memory : answer_to true bound (codes "memory-migrate on")
+change-without_memory : answer_to Starved bound (codes "memory-migrate on")
     ≡ codes "refused NoMemory ENOMEM\n"
 unfolding line_of keyword_of outcome_of text_of bound
 change-without_memory = refl
 
-change-of_how_pages_move : (after_bytes false bound (codes "memory-migrate on")).lying.follows
+change-of_how_pages_move : (after_bytes Enough bound (codes "memory-migrate on")).lying.follows
     ≡ true
 unfolding line_of keyword_of outcome_of bound
 change-of_how_pages_move = refl
 
 -- what is wrong with a policy is told as without the words behind it
 strict-with_a_faulty_list :
-    answer_to false bound (codes "mbind 0x10000 4096 bind:x strict")
+    answer_to Enough bound (codes "mbind 0x10000 4096 bind:x strict")
     ≡ codes "bad list BadDigit\n"
 unfolding line_of keyword_of number_of numeral_of in_64_bits policy_of mode_of form_of_two
     form_of_three item_of ends_of node_numeral_of digit_of bound world outcome_of text_of
 strict-with_a_faulty_list = refl
 
 -- `moved` wants no memory
-moved-nothing : answer_to true bound (codes "moved") ≡ codes "v2: moved 0 left 0\n"
+moved-nothing : answer_to Starved bound (codes "moved") ≡ codes "v2: moved 0 left 0\n"
 unfolding line_of keyword_of digits outcome_of bound world flows_text
 moved-nothing = refl

@@ -18,6 +18,7 @@ use Rattle.numa_requests.specs.declared.event.Event.TheVariants.{Give, Look, Try
 use Rattle.numa_requests.specs.declared.event.CoreReply.{CoreReply}
 use Rattle.numa_requests.specs.declared.event.CoreRefusal.{CoreRefusal}
 use Rattle.numa_requests.specs.declared.event.CoreRefusal.TheVariants.{Command as Because}
+use Rattle.numa_page_state.specs.Outcomes.{Crowded, Enough, Lack, Starved}
 use Rattle.numa_run.specs.Work.{event_answer, needs_room, unless_wanting}
 
 -- a command that may need room does so by the definition
@@ -38,18 +39,18 @@ wanting-told : (needs : Bool) → needs ≡ true → (o : Option CoreRefusal) �
     (refused_or o reply)
 wanting-told needs is o none reply = rw (is, none) refl
 
--- an answer that the core may give is that of the definition, whether a growth was refused or not
+-- an answer that the core may give is that of the definition, whether memory lacked or not
 pub answer-told : (s : Setup) (world : World) (event : Event)
     (answer : Result CoreReply CoreRefusal) → IsAnswer s world (newest_published world) event answer
-    → (refused : Bool) × (answer ≡ event_answer refused s world event)
-answer-told s world event answer (inl is) = (false, is)
+    → (lack : Lack) × (answer ≡ event_answer lack s world event)
+answer-told s world event answer (inl is) = (Enough, is)
 answer-told s world (Accept command) answer (inr want) = (
-  true,
+  Starved,
   want.1.0 ∙ wanting-told (needs_room command) (room-needed command want.1.1)
       (refusal_of s world (newest_published world) (Accept command)) want.0
       (reply_of s world (newest_published world) (Accept command)),
 )
-answer-told s world Publish answer (inr want) = (true, want.1)
+answer-told s world Publish answer (inr want) = (Starved, want.1)
 answer-told s world (Begin w request) answer (inr want) = absurd want.1
 answer-told s world (Seek w node) answer (inr want) = absurd want.1
 answer-told s world (Look w word) answer (inr want) = absurd want.1
@@ -57,10 +58,11 @@ answer-told s world (Try w frame) answer (inr want) = absurd want.1
 answer-told s world (Give w frame) answer (inr want) = absurd want.1
 
 -- a Give wants no memory
-pub give-told : (refused : Bool) (s : Setup) (world : World) (w : ℕ) (frame : Frame)
+pub give-told : (lack : Lack) (s : Setup) (world : World) (w : ℕ) (frame : Frame)
     (answer : Result CoreReply CoreRefusal)
     → IsAnswer s world (newest_published world) (Give w frame) answer
-    → answer ≡ event_answer refused s world (Give w frame)
-give-told true s world w frame answer (inl is) = is
-give-told false s world w frame answer (inl is) = is
-give-told refused s world w frame answer (inr want) = absurd want.1
+    → answer ≡ event_answer lack s world (Give w frame)
+give-told Enough s world w frame answer (inl is) = is
+give-told Crowded s world w frame answer (inl is) = is
+give-told Starved s world w frame answer (inl is) = is
+give-told lack s world w frame answer (inr want) = absurd want.1

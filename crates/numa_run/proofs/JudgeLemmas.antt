@@ -20,7 +20,7 @@ use Rattle.numa_run.specs.Judged.{fault_or, fault_of, asked_by, asked_fault, cau
 use Rattle.numa_run.specs.Judged.{question_cause, question_refusal, IsStarved}
 use Rattle.numa_run.specs.Questions.{question_text}
 use Rattle.numa_run.specs.Listings.{there_listing}
-use Rattle.numa_page_state.specs.Outcomes.{rooms_of}
+use Rattle.numa_page_state.specs.Outcomes.{Enough, Lack, is_starved, rooms_of}
 use Rattle.numa_run.specs.ArrivedTexts.{rooms_line}
 use Rattle.numa_run.specs.MovedTexts.{last_line}
 use Rattle.numa_run.specs.PageLines.{page_outcome}
@@ -32,55 +32,56 @@ use Rattle.numa_script.specs.declared.reply.Reply.{Reply}
 use Rattle.numa_script.specs.declared.reply.Reply.TheVariants as reply
 
 -- a reply is told where it is a fault
-pub told-judged : (told : Reply) (refused : Bool) (state : State) (said : Line) →
-    Some told ≡ reply_of refused state said → fault_in told ≡ fault_of refused state said
-told-judged told refused state said is = ap (λ o. fault_or o (asked_fault refused state said)) is
+pub told-judged : (told : Reply) (lack : Lack) (state : State) (said : Line) →
+    Some told ≡ reply_of lack state said → fault_in told ≡ fault_of lack state said
+told-judged told lack state said is = ap (λ o. fault_or o (asked_fault lack state said)) is
 
-pub served-is : (running : Running) (said : Line) (refused : Bool) (state : State)
+pub served-is : (running : Running) (said : Line) (lack : Lack) (state : State)
     → RunsAs running state →
-    outcome_of refused state said ≡ served_later refused (setup_of running.core).machine state said
+    outcome_of lack state said ≡ served_later lack (setup_of running.core).machine state said
 unfolding outcome_of
-served-is running said refused state stands = ap (λ m. served_by m refused state said)
+served-is running said lack state stands = ap (λ m. served_by m lack state said)
     stands.core.machine
 
 -- a question is answered the fault or the refusal that its cause gives
-pub asked-fault : (running : Running) (asked : Question) (refused : Bool) (state : State)
+pub asked-fault : (running : Running) (asked : Question) (lack : Lack) (state : State)
     → RunsAs running state
     → option_map reply.Refused
-    (question_cause refused (setup_of running.core).machine state.world.history asked)
-    ≡ fault_of refused state (line.Question asked)
-asked-fault running asked refused state stands =
+    (question_cause (is_starved lack) (setup_of running.core).machine state.world.history asked)
+    ≡ fault_of lack state (line.Question asked)
+asked-fault running asked lack state stands =
     let machine = (setup_of running.core).machine in
-    let is : outcome_of refused state (line.Question asked)
-    ≡ with_text (question_text refused machine state.world.history asked) state =
-    served-is running (line.Question asked) refused state stands in
-    let none : None ≡ reply_of refused state (line.Question asked) =
+    let is : outcome_of lack state (line.Question asked)
+    ≡ with_text (question_text (is_starved lack) machine state.world.history asked) state =
+    served-is running (line.Question asked) lack state stands in
+    let none : None ≡ reply_of lack state (line.Question asked) =
     sym (ap (λ r. reply_in r.answer) is) in
-    let asks : option_map reply.Refused (question_cause refused machine state.world.history asked)
-    ≡ asked_fault refused state (line.Question asked) =
-    sym (ap (λ m. asked_by m refused state.world.history asked) stands.core.machine) in
-    asks ∙ ap (λ o. fault_or o (asked_fault refused state (line.Question asked))) none
+    let asks : option_map reply.Refused
+    (question_cause (is_starved lack) machine state.world.history asked)
+    ≡ asked_fault lack state (line.Question asked) =
+    sym (ap (λ m. asked_by m lack state.world.history asked) stands.core.machine) in
+    asks ∙ ap (λ o. fault_or o (asked_fault lack state (line.Question asked))) none
 
 -- a line that is answered a text has no fault, unless it is a question
 shown-fault : (said : Line) (text : List ℕ) (state : State)
-    → outcome_of false state said ≡ with_text text state → asked_fault false state said ≡ None
-    → None ≡ fault_of false state said
+    → outcome_of Enough state said ≡ with_text text state → asked_fault Enough state said ≡ None
+    → None ≡ fault_of Enough state said
 shown-fault said text state is none =
-    sym none ∙ ap (λ o. fault_or o (asked_fault false state said))
+    sym none ∙ ap (λ o. fault_or o (asked_fault Enough state said))
     (sym (ap (λ (r : Served). reply_in r.answer) is))
 
 -- maps
 pub listed-fault : (running : Running) (task : ℕ) (state : State) → RunsAs running state
-    → None ≡ fault_of false state (line.Maps task)
+    → None ≡ fault_of Enough state (line.Maps task)
 listed-fault running task state stands =
     shown-fault (line.Maps task)
     (there_listing (process_on (setup_of running.core).machine state) state.lying.spots task) state
-    (served-is running (line.Maps task) false state stands) refl
+    (served-is running (line.Maps task) Enough state stands) refl
 
 -- a line about pages that is answered a text and changes nothing
 abbrev pub IsText : PageLine → (State → List ℕ) → Type 0
-IsText said text = (refused : Bool) (machine : Hardware) (state : State)
-    → page_outcome refused machine state said ≡ with_text (text state) state
+IsText said text = (lack : Lack) (machine : Hardware) (state : State)
+    → page_outcome lack machine state said ≡ with_text (text state) state
 
 -- moved, and room alone
 abbrev pub last_text : State → List ℕ
@@ -90,20 +91,20 @@ abbrev pub rooms_left : State → List ℕ
 rooms_left state = rooms_line (rooms_of state.lying.room)
 
 pub moved-text : IsText page.Moved last_text
-moved-text refused machine state = refl
+moved-text lack machine state = refl
 
 pub rooms-text : IsText page.Rooms rooms_left
-rooms-text refused machine state = refl
+rooms-text lack machine state = refl
 
 module _ (said : PageLine) (text : State → List ℕ) (is : IsText said text) where
   pub text-served : (running : Running) (state : State) → RunsAs running state
-      → outcome_of false state (line.Pages (Ok said)) ≡ with_text (text state) state
+      → outcome_of Enough state (line.Pages (Ok said)) ≡ with_text (text state) state
   text-served running state stands =
-      served-is running (line.Pages (Ok said)) false state stands
-      ∙ is false (setup_of running.core).machine state
+      served-is running (line.Pages (Ok said)) Enough state stands
+      ∙ is Enough (setup_of running.core).machine state
 
   pub text-fault : (running : Running) (state : State) → RunsAs running state
-      → None ≡ fault_of false state (line.Pages (Ok said))
+      → None ≡ fault_of Enough state (line.Pages (Ok said))
   text-fault running state stands =
       shown-fault (line.Pages (Ok said)) (text state) state (text-served running state stands) refl
 
@@ -204,17 +205,17 @@ cause-starved false machine history (question.Counts task address pages cpu) ran
 cause-starved lacks machine history question.Ranges ranges =
     (λ e. let no = ranges refl in cc, λ s. absurd s)
 
-pub asked-starved : (running : Running) (asked : Question) (lacks : Bool) (state : State)
-    → RunsAs running state → (asked ≡ question.Ranges → lacks ≡ false)
-    → IsTrue lacks ↔ IsStarved lacks state (line.Question asked)
-asked-starved running asked lacks state stands ranges =
-    subst (λ (o : Option Reply). IsTrue lacks ↔ IsSomeAnd o LacksMemory)
-    (asked-fault running asked lacks state stands)
-    (cause-starved lacks (setup_of running.core).machine state.world.history asked ranges)
+pub asked-starved : (running : Running) (asked : Question) (lack : Lack) (state : State)
+    → RunsAs running state → (asked ≡ question.Ranges → is_starved lack ≡ false)
+    → IsTrue (is_starved lack) ↔ IsStarved lack state (line.Question asked)
+asked-starved running asked lack state stands ranges =
+    subst (λ (o : Option Reply). IsTrue (is_starved lack) ↔ IsSomeAnd o LacksMemory)
+    (asked-fault running asked lack state stands)
+    (cause-starved (is_starved lack) (setup_of running.core).machine state.world.history asked ranges)
 
 -- a line without a fault lacks no memory
-pub faultless-starved : (said : Line) (state : State) → None ≡ fault_of false state said
-    → IsTrue false ↔ IsStarved false state said
+pub faultless-starved : (said : Line) (state : State) → None ≡ fault_of Enough state said
+    → IsTrue false ↔ IsStarved Enough state said
 faultless-starved said state none =
     subst (λ (o : Option Reply). IsTrue false ↔ IsSomeAnd o LacksMemory) none
     (λ e. cc, λ s. absurd s)

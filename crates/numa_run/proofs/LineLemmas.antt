@@ -11,6 +11,7 @@ use Rattle.numa_machine.specs.declared.rules.Rules.{Rules}
 use Rattle.numa_core.specs.World.{Setup, opening}
 use Rattle.numa_core.specs.Standing.{LeadsTo, setup_of}
 use Rattle.numa_page_state.specs.Lying.{nothing}
+use Rattle.numa_page_state.specs.Outcomes.{Enough, Lack, Starved}
 use Rattle.numa_page_state.specs.Standing.{Lies}
 use Rattle.numa_page_state.specs.declared.state.PageState.{PageState}
 use Rattle.numa_script.specs.declared.policy.WordError.TheVariants as word_fault
@@ -41,20 +42,20 @@ use Rattle.numa_run.proofs.JudgeLemmas.{IsText, served-is, text-served}
 
 -- ---- before a machine is ready
 
-pub first_is : (settings : Settings) (said : Line) (refused : Bool) (state : State)
-    → Stands settings None state → outcome_of refused state said ≡ served_first refused state said
+pub first_is : (settings : Settings) (said : Line) (lack : Lack) (state : State)
+    → Stands settings None state → outcome_of lack state said ≡ served_first lack state said
 unfolding outcome_of
-first_is settings said refused state stands = ap (λ m. served_by m refused state said) stands.3
+first_is settings said lack state stands = ap (λ m. served_by m lack state said) stands.3
 
 -- a line that changes nothing
-pub first_same : (settings : Settings) (said : Line) (answer : Reply) (refused : Bool)
-    → ((state : State) → served_first refused state said ≡ with_reply answer state)
+pub first_same : (settings : Settings) (said : Line) (answer : Reply) (lack : Lack)
+    → ((state : State) → served_first lack state said ≡ with_reply answer state)
     → Replies settings None said (Some answer) settings None
-first_same settings said answer refused right =
+first_same settings said answer lack right =
     λ state stands.
-    let is : outcome_of refused state said ≡ with_reply answer state =
-    first_is settings said refused state stands ∙ right state in (
-      refused,
+    let is : outcome_of lack state said ≡ with_reply answer state =
+    first_is settings said lack state stands ∙ right state in (
+      lack,
       sym (ap (λ r. reply_in r.answer) is),
       subst (λ (r : Served). Stands settings None r.state) (sym is) stands,
     )
@@ -75,9 +76,9 @@ first_limits settings ranges tasks commands fits =
     let taken : State = record state {
       bounds = record { max_ranges = ranges; max_tasks = tasks; max_commands = commands };
     } in
-    let is : outcome_of false state (line.Limits ranges tasks commands) ≡ with_reply reply.LimitsOk
+    let is : outcome_of Enough state (line.Limits ranges tasks commands) ≡ with_reply reply.LimitsOk
     taken =
-    first_is settings (line.Limits ranges tasks commands) false state stands
+    first_is settings (line.Limits ranges tasks commands) Enough state stands
     ∙ ap (λ b. if b then with_reply reply.LimitsOk taken else with_reply reply.BadLimits state)
     fits in
     let after_it : Settings =
@@ -88,7 +89,7 @@ first_limits settings ranges tasks commands fits =
           settings.rules;
       cpus = settings.cpus;
     } in (
-      false,
+      Enough,
       sym (ap (λ r. reply_in r.answer) is),
       subst (λ (r : Served). Stands after_it None r.state) (sym is)
           (refl, stands.1, stands.2, stands.3),
@@ -101,11 +102,11 @@ pub first_rules : (settings : Settings) (rules : Rules) →
 first_rules settings rules =
     λ state stands.
     let taken : State = record state { rules = rules } in
-    let is : outcome_of false state (line.Rules rules) ≡ with_reply reply.RulesOk taken =
-    first_is settings (line.Rules rules) false state stands in
+    let is : outcome_of Enough state (line.Rules rules) ≡ with_reply reply.RulesOk taken =
+    first_is settings (line.Rules rules) Enough state stands in
     let after_it : Settings =
     record { limits = settings.limits; rules = rules; cpus = settings.cpus } in (
-      false,
+      Enough,
       sym (ap (λ r. reply_in r.answer) is),
       subst (λ (r : Served). Stands after_it None r.state) (sym is)
           (stands.0, refl, stands.2, stands.3),
@@ -115,7 +116,7 @@ pub first_no_limits : (settings : Settings) (ranges tasks commands : ℕ)
     → limits_fit ranges tasks ≡ false → Replies settings None (line.Limits ranges tasks commands)
     (Some reply.BadLimits) settings None
 first_no_limits settings ranges tasks commands none =
-    first_same settings (line.Limits ranges tasks commands) reply.BadLimits false
+    first_same settings (line.Limits ranges tasks commands) reply.BadLimits Enough
     (λ state. rw none refl)
 
 -- nodes with CPUs that are taken
@@ -125,8 +126,8 @@ pub first_cpus : (settings : Settings) (said : Result ℕ ListFault) (cpus : ℕ
 first_cpus settings said cpus named =
     λ state stands.
     let taken : State = record state { cpus = Some cpus } in
-    let is : outcome_of false state (line.Cpus said) ≡ with_reply reply.CpusOk taken =
-    first_is settings (line.Cpus said) false state stands
+    let is : outcome_of Enough state (line.Cpus said) ≡ with_reply reply.CpusOk taken =
+    first_is settings (line.Cpus said) Enough state stands
     ∙ ap (λ m. cpus_outcome m state) named in
     let after_it : Settings = record {
       limits = settings.limits;
@@ -134,7 +135,7 @@ first_cpus settings said cpus named =
       cpus =
           Some cpus;
     } in (
-      false,
+      Enough,
       sym (ap (λ r. reply_in r.answer) is),
       subst (λ (r : Served). Stands after_it None r.state) (sym is)
           (stands.0, stands.1, refl, stands.3),
@@ -145,28 +146,28 @@ pub first_no_cpus : (settings : Settings) (said : Result ℕ ListFault) (fault :
     → Replies settings None (line.Cpus said) (Some (reply.BadWord (word_fault.List fault))) settings
     None
 first_no_cpus settings said fault named =
-    first_same settings (line.Cpus said) (reply.BadWord (word_fault.List fault)) false
+    first_same settings (line.Cpus said) (reply.BadWord (word_fault.List fault)) Enough
     (λ state. ap (λ m. cpus_outcome m state) named)
 
 -- the machine that a line describes, by what was chosen before it, and its first fault
 abbrev pub described : MachineLine → ℕ → Rules → Option ℕ → Hardware
 described said memory rules cpus = hardware_of said memory rules (nodes_with_cpus said.nodes cpus)
 
-abbrev pub described_fault : Bool → MachineLine → ℕ → Rules → Option ℕ → Option MachineFault
-described_fault refused said memory rules cpus =
-    first_fault refused (nodes_with_cpus said.nodes cpus) (described said memory rules cpus)
+abbrev pub described_fault : Lack → MachineLine → ℕ → Rules → Option ℕ → Option MachineFault
+described_fault lack said memory rules cpus =
+    first_fault lack (nodes_with_cpus said.nodes cpus) (described said memory rules cpus)
 
 -- the state and the script have chosen the same
-same_fault : (settings : Settings) (state : State) (refused : Bool) (said : MachineLine)
+same_fault : (settings : Settings) (state : State) (lack : Lack) (said : MachineLine)
     (memory : ℕ) → Stands settings None state →
-    described_fault refused said memory state.rules state.cpus ≡ described_fault refused said memory
+    described_fault lack said memory state.rules state.cpus ≡ described_fault lack said memory
     settings.rules settings.cpus
-same_fault settings state refused said memory stands = λ i. described_fault refused said memory
+same_fault settings state lack said memory stands = λ i. described_fault lack said memory
     (stands.1 i) (stands.2 i)
 
 -- a machine that is ready
 pub first_ready : (settings : Settings) (said : MachineLine) (memory : ℕ) (running : Running)
-    → said.memory ≡ Ok memory → described_fault false said memory settings.rules settings.cpus
+    → said.memory ≡ Ok memory → described_fault Enough said memory settings.rules settings.cpus
     ≡ None
     → setup_of running.core ≡ setup_with (described said memory settings.rules settings.cpus)
     settings.limits → LeadsTo [] running.core → running.resident ≡ [] → running.pages ≡ None
@@ -180,11 +181,11 @@ first_ready settings said memory running named sound setup leads resident pages 
       resident = [];
       lying = nothing;
     } in
-    let is : outcome_of false state (line.Machine said) ≡ with_reply reply.Ready ready =
-    first_is settings (line.Machine said) false state stands
-    ∙ ap (λ m. machine_outcome false said m state) named
+    let is : outcome_of Enough state (line.Machine said) ≡ with_reply reply.Ready ready =
+    first_is settings (line.Machine said) Enough state stands
+    ∙ ap (λ m. machine_outcome Enough said m state) named
     ∙ ap (λ f. machine_unless f hardware state)
-    (same_fault settings state false said memory stands ∙ sound) in
+    (same_fault settings state Enough said memory stands ∙ sound) in
     let same : hardware ≡ described said memory settings.rules settings.cpus =
     λ i. described said memory (stands.1 i) (stands.2 i) in
     let reached : RunsAs running ready = record {
@@ -197,27 +198,27 @@ first_ready settings said memory running named sound setup leads resident pages 
       resident = resident;
       lies = subst (λ (p : Option PageState). Lies p nothing) (sym pages) refl;
     } in (
-      false,
+      Enough,
       sym (ap (λ r. reply_in r.answer) is),
       subst (λ (r : Served). RunsAs running r.state)
           (sym is) reached,
     )
 
 -- a machine that is refused
-pub first_bad : (settings : Settings) (said : MachineLine) (memory : ℕ) (refused : Bool)
+pub first_bad : (settings : Settings) (said : MachineLine) (memory : ℕ) (lack : Lack)
     (fault : MachineFault) → said.memory ≡ Ok memory
-    → described_fault refused said memory settings.rules settings.cpus ≡ Some fault
+    → described_fault lack said memory settings.rules settings.cpus ≡ Some fault
     → Replies settings None (line.Machine said) (Some (reply.BadMachine fault)) settings None
-first_bad settings said memory refused fault named why =
+first_bad settings said memory lack fault named why =
     λ state stands.
     let hardware : Hardware = described said memory state.rules state.cpus in
-    let is : outcome_of refused state (line.Machine said) ≡ with_reply (reply.BadMachine fault)
+    let is : outcome_of lack state (line.Machine said) ≡ with_reply (reply.BadMachine fault)
     state =
-    first_is settings (line.Machine said) refused state stands
-    ∙ ap (λ m. machine_outcome refused said m state) named
+    first_is settings (line.Machine said) lack state stands
+    ∙ ap (λ m. machine_outcome lack said m state) named
     ∙ ap (λ f. machine_unless f hardware state)
-    (same_fault settings state refused said memory stands ∙ why) in (
-      refused,
+    (same_fault settings state lack said memory stands ∙ why) in (
+      lack,
       sym (ap (λ r. reply_in r.answer) is),
       subst (λ (r : Served). Stands settings None r.state) (sym is) stands,
     )
@@ -227,12 +228,12 @@ pub first_bad_list : (settings : Settings) (said : MachineLine) (fault : ListFau
     → Replies settings None (line.Machine said) (Some (reply.BadWord (word_fault.List fault)))
     settings None
 first_bad_list settings said fault named = first_same settings (line.Machine said)
-    (reply.BadWord (word_fault.List fault)) false
-    (λ state. ap (λ m. machine_outcome false said m state) named)
+    (reply.BadWord (word_fault.List fault)) Enough
+    (λ state. ap (λ m. machine_outcome Enough said m state) named)
 
 -- where a machine has no fault, its core may find no memory
-pub core-starved : (cpus : ℕ) (hardware : Hardware) → first_fault false cpus hardware ≡ None
-    → first_fault true cpus hardware ≡ Some machine_fault.NoMemory
+pub core-starved : (cpus : ℕ) (hardware : Hardware) → first_fault Enough cpus hardware ≡ None
+    → first_fault Starved cpus hardware ≡ Some machine_fault.NoMemory
 core-starved cpus hardware sound = by_nodes (has_bad_nodes hardware.nodes cpus) sound
   where
     by_nodes : (b : Bool) → (if b then Some machine_fault.NodeCount else hardware_fault hardware)
@@ -245,23 +246,23 @@ core-starved cpus hardware sound = by_nodes (has_bad_nodes hardware.nodes cpus) 
 
 -- a line that changes nothing, on any machine
 pub later_same : (running : Running) (said : Line) (answer : Reply)
-    → ((machine : Hardware) (state : State) → served_later false machine state said
+    → ((machine : Hardware) (state : State) → served_later Enough machine state said
     ≡ with_reply answer state)
     → Takes running said (taken.Reply answer) running
 later_same running said answer right =
     λ state stands.
-    let is : outcome_of false state said ≡ with_reply answer state =
-    served-is running said false state stands ∙ right (setup_of running.core).machine state in (
-      false,
+    let is : outcome_of Enough state said ≡ with_reply answer state =
+    served-is running said Enough state stands ∙ right (setup_of running.core).machine state in (
+      Enough,
       sym (ap (λ (r : Served). reply_in r.answer) is),
       subst (λ (r : Served). RunsAs running r.state) (sym is) stands,
     )
 
 -- what may change where pages lie
 pub served_here : (old new : Running) (said : Line) (answer : Reply)
-    (serve : Bool → Hardware → State → Served) → Serves old answer new serve
-    → ((refused : Bool) (state : State) → served_later refused (setup_of old.core).machine state
-    said ≡ serve refused (setup_of old.core).machine state)
+    (serve : Lack → Hardware → State → Served) → Serves old answer new serve
+    → ((lack : Lack) (state : State) → served_later lack (setup_of old.core).machine state
+    said ≡ serve lack (setup_of old.core).machine state)
     → Takes old said (taken.Reply answer) new
 served_here old new said answer serve serves right =
     λ state stands.
@@ -275,9 +276,9 @@ served_here old new said answer serve serves right =
 
 -- the same, said in other words
 pub serves_as : (old new : Running) (answer : Reply)
-    (serve other : Bool → Hardware → State → Served) → Serves old answer new serve
-    → ((refused : Bool) (state : State) → other refused (setup_of old.core).machine state
-    ≡ serve refused (setup_of old.core).machine state)
+    (serve other : Lack → Hardware → State → Served) → Serves old answer new serve
+    → ((lack : Lack) (state : State) → other lack (setup_of old.core).machine state
+    ≡ serve lack (setup_of old.core).machine state)
     → Serves old answer new other
 serves_as old new answer serve other serves right =
     λ state stands.
@@ -289,12 +290,12 @@ serves_as old new answer serve other serves right =
     )
 
 -- what does something on this machine, and leaves where other pages lie
-pub done_here : (old new : Running) (answer : Reply) (outcome : Bool → Setup → State → Outcome)
-    (serve : Bool → Hardware → State → Served)
-    → Does old answer new (λ refused state. outcome refused (setup_of old.core) state)
-    → ((refused : Bool) (state : State) → RunsAs old state
-    → serve refused (setup_of old.core).machine state
-    ≡ with_outcome state (outcome refused (setup_with (setup_of old.core).machine state.bounds)
+pub done_here : (old new : Running) (answer : Reply) (outcome : Lack → Setup → State → Outcome)
+    (serve : Lack → Hardware → State → Served)
+    → Does old answer new (λ lack state. outcome lack (setup_of old.core) state)
+    → ((lack : Lack) (state : State) → RunsAs old state
+    → serve lack (setup_of old.core).machine state
+    ≡ with_outcome state (outcome lack (setup_with (setup_of old.core).machine state.bounds)
     state))
     → Serves old answer new serve
 done_here old new answer outcome serve does right =
@@ -310,14 +311,14 @@ done_here old new answer outcome serve does right =
     )
 
 -- a reply that changes nothing
-pub serves_same : (running : Running) (answer : Reply) (serve : Bool → Hardware → State → Served)
+pub serves_same : (running : Running) (answer : Reply) (serve : Lack → Hardware → State → Served)
     → ((state : State) → RunsAs running state
-    → serve false (setup_of running.core).machine state ≡ with_reply answer state)
+    → serve Enough (setup_of running.core).machine state ≡ with_reply answer state)
     → Serves running answer running serve
 serves_same running answer serve right =
     λ state stands.
     let is = right state stands in (
-      false,
+      Enough,
       ap (λ (r : Served). r.answer) is,
       subst (λ (r : Served). RunsAs running r.state) (sym is) stands,
     )
@@ -325,17 +326,17 @@ serves_same running answer serve right =
 -- ---- a question, `maps`, `moved` and `room` alone have no reply
 
 abbrev pub HasNone : Running → Running → Line → Type 0
-HasNone old new said = (state : State) → RunsAs old state → (refused : Bool)
-    × (None ≡ reply_of refused state said) × RunsAs new (after refused state said)
+HasNone old new said = (state : State) → RunsAs old state → (lack : Lack)
+    × (None ≡ reply_of lack state said) × RunsAs new (after lack state said)
 
 -- a text is answered, and nothing changes
 shown_has_none : (running : Running) (said : Line) (text : State → List ℕ)
     → ((state : State) → RunsAs running state
-    → outcome_of false state said ≡ with_text (text state) state) → HasNone running running said
+    → outcome_of Enough state said ≡ with_text (text state) state) → HasNone running running said
 shown_has_none running said text right =
     λ state stands.
     let is = right state stands in (
-      false,
+      Enough,
       sym (ap (λ (r : Served). reply_in r.answer) is),
       subst (λ (r : Served). RunsAs running r.state) (sym is) stands,
     )
@@ -353,7 +354,7 @@ question_has_none old new said asked is same =
     has_none old new said (line.Question asked) is same
     (shown_has_none new (line.Question asked)
     (λ state. question_text false (setup_of new.core).machine state.world.history asked)
-    (served-is new (line.Question asked) false))
+    (served-is new (line.Question asked) Enough))
 
 pub maps_have_none : (old new : Running) (said : Line) (task : ℕ) → said ≡ line.Maps task
     → new ≡ old → HasNone old new said
@@ -361,7 +362,7 @@ maps_have_none old new said task is same =
     has_none old new said (line.Maps task) is same
     (shown_has_none new (line.Maps task)
     (λ state. there_listing (process_on (setup_of new.core).machine state) state.lying.spots task)
-    (served-is new (line.Maps task) false))
+    (served-is new (line.Maps task) Enough))
 
 pub text_has_none : (asked : PageLine) (text : State → List ℕ) → IsText asked text
     → (old new : Running) (said : Line) → said ≡ line.Pages (Ok asked) → new ≡ old

@@ -1,11 +1,11 @@
 -- What `mems` and `unmap` make of a running machine, and of where its pages lie.
 use Rattle.std.proofs.Common.{◌≡◌, ◌≢◌, ℕ, Bool, true, false, Option, Some, None, Result, Ok, Err}
-use Rattle.std.proofs.Common.{List, ◌∷◌, refl, sym, ap, subst, ◌∙◌, inl, inr}
+use Rattle.std.proofs.Common.{◌∷◌, refl, sym, ap, subst, ◌∙◌, inl, inr}
 use Rattle.std.specs.Prelude.{is_err}
 use Rattle.numa_machine.specs.Machine.{Hardware}
 use Rattle.numa_maps.specs.Residents.{Kept}
+use Rattle.numa_placed.specs.Laid.{Laid}
 use Rattle.numa_placed.specs.declared.spot.Spot.{Spot}
-use Rattle.numa_ranges.specs.declared.run.Run.{Run}
 use Rattle.numa_requests.specs.declared.command.Command.{Command}
 use Rattle.numa_requests.specs.declared.command.Command.TheVariants.{Map, Unmap, Mbind, SetTask}
 use Rattle.numa_requests.specs.declared.command.Command.TheVariants.{Inherit, SetHome, SetWeight}
@@ -22,7 +22,8 @@ use Rattle.numa_core.specs.declared.acceptance.Acceptance.{Acceptance}
 use Rattle.numa_core.specs.Standing.{CoreState, setup_of}
 use Rattle.numa_space.specs.Policies.{allowed_nodes}
 use Rattle.numa_page_state.specs.Lying.{Lying, with_spots}
-use Rattle.numa_page_state.specs.Outcomes.{followed, forgotten, is_no_memory}
+use Rattle.numa_page_state.specs.Outcomes.{Crowded, Enough, Lack, Starved, followed, forgotten}
+use Rattle.numa_page_state.specs.Outcomes.{lack_told}
 use Rattle.numa_page_state.specs.Standing.{Forgets, Lies, Replaces}
 use Rattle.numa_page_state.specs.declared.state.PageState.{PageState}
 use Rattle.numa_script.specs.Replies.{reply_to}
@@ -40,25 +41,26 @@ use Rattle.numa_run.proofs.Accepting.{starved-or, state_then, told}
 -- ---- mems
 
 -- it wants no memory
-mems-told : (refused : Bool) (s : Setup) (world : World) (mask : ℕ)
+mems-told : (lack : Lack) (s : Setup) (world : World) (mask : ℕ)
     (answer : Result CoreReply CoreRefusal)
     → IsAnswer s world (newest_published world) (Accept (SetMems mask)) answer
-    → answer ≡ event_answer refused s world (Accept (SetMems mask))
-mems-told true s world mask answer (inl is) = is
-mems-told false s world mask answer (inl is) = is
-mems-told refused s world mask answer (inr want) = absurd want.1.1
+    → answer ≡ event_answer lack s world (Accept (SetMems mask))
+mems-told Enough s world mask answer (inl is) = is
+mems-told Crowded s world mask answer (inl is) = is
+mems-told Starved s world mask answer (inl is) = is
+mems-told lack s world mask answer (inr want) = absurd want.1.1
 
 -- what `follow_where` promises
 abbrev pub Follows : Running → ℕ → ℕ → Option PageState → Type 0
 Follows old before later pages = (lying : Lying) (kept : Kept) → Lies old.pages lying
-    → old.resident ≡ kept → (refused : Bool) × Lies pages (followed refused before later kept lying)
+    → old.resident ≡ kept → (lack : Lack) × Lies pages (followed lack before later kept lying)
 
 module _ (old : Running) (mask : ℕ) (core : CoreState)
     (same : setup_of core ≡ setup_of old.core) where
   abbrev pub MemsServed : Reply → Option PageState → Type 0
   MemsServed answer pages = Serves old answer
       (record { core = core; resident = old.resident; pages = pages })
-      (λ refused machine state. mems_outcome refused machine state mask)
+      (λ lack machine state. mems_outcome lack machine state mask)
 
   mems-refused : (refusal : Refusal)
       → Accepts old.core (SetMems mask) (Err refusal) core
@@ -67,7 +69,7 @@ module _ (old : Running) (mask : ℕ) (core : CoreState)
       let here = told old (SetMems mask) (Err refusal) core accepts same state stands in
       served old (record { core = core; resident = old.resident; pages = old.pages })
       (reply_to (accept_answer (Err refusal)))
-      (λ refused machine s. mems_outcome refused machine s mask) state state here.0
+      (λ lack machine s. mems_outcome lack machine s mask) state state here.0
       (laid-is old (SetMems mask) (Err refusal) core accepts same state stands here.0 here.1
       (followed here.0 (allowed_nodes old.core.space.machine state.world.history)
       (allowed_nodes old.core.space.machine (SetMems mask ∷ state.world.history)) state.resident
@@ -95,7 +97,7 @@ module _ (old : Running) (mask : ℕ) (core : CoreState)
       state.lying)) stands.core.world.space.allowed gone.1) in
       served old (record { core = core; resident = old.resident; pages = pages })
       (reply_to (accept_answer (Ok version)))
-      (λ refused machine s. mems_outcome refused machine s mask) state
+      (λ lack machine s. mems_outcome lack machine s mask) state
       (record (state_then old (SetMems mask) (Ok version) core accepts same state stands) {
         lying = lying;
       }) gone.0
@@ -122,29 +124,29 @@ module _ (old : Running) (mask : ℕ) (core : CoreState)
 -- ---- unmap
 
 module _ (old : Running) (start bytes : ℕ) where
-  abbrev pub unmaps : Bool → Hardware → State → Served
-  unmaps refused machine state = unmap_outcome refused machine state start bytes
+  abbrev pub unmaps : Lack → Hardware → State → Served
+  unmaps lack machine state = unmap_outcome lack machine state start bytes
 
   -- pages stand against it
   pub unmap-denied : (why : PlacedRefusal) → Forgets old.pages start bytes (Err why)
       → Serves old (command_reply why) old unmaps
   unmap-denied why forgets = λ state stands.
       let f = forgets state.lying stands.lies in
-      let is : unmaps (is_no_memory why) old.core.space.machine state
+      let is : unmaps (lack_told why) old.core.space.machine state
       ≡ with_reply (command_reply why) state = rw (f.0, f.1) refl in
-      served old old (command_reply why) unmaps state state (is_no_memory why) is stands
+      served old old (command_reply why) unmaps state state (lack_told why) is stands
 
   -- nothing was stated of the span
   pub unmap-plain : (new : Running) (answer : Reply) → Forgets old.pages start bytes (Ok None)
-      → Serves old answer new (λ refused machine state.
-      accepted_outcome refused machine state (Unmap start bytes))
+      → Serves old answer new (λ lack machine state.
+      accepted_outcome lack machine state (Unmap start bytes))
       → Serves old answer new unmaps
   unmap-plain new answer forgets serves = serves-by old new answer
-      (λ refused machine state. accepted_outcome refused machine state (Unmap start bytes)) unmaps
-      (λ state stands refused. rw (forgets state.lying stands.lies) refl) serves
+      (λ lack machine state. accepted_outcome lack machine state (Unmap start bytes)) unmaps
+      (λ state stands lack. rw (forgets state.lying stands.lies) refl) serves
 
   module _ (core : CoreState) (same : setup_of core ≡ setup_of old.core)
-      (after : List (Run Spot)) (forgets : Forgets old.pages start bytes (Ok (Some after))) where
+      (after : Laid) (forgets : Forgets old.pages start bytes (Ok (Some after))) where
     abbrev pub UnmapServed : Reply → Option PageState → Type 0
     UnmapServed answer pages = Serves old answer
         (record { core = core; resident = old.resident; pages = pages }) unmaps
@@ -154,13 +156,13 @@ module _ (old : Running) (start bytes : ℕ) where
 
     -- what it comes to, with memory or without
     enough : (state : State) → RunsAs old state
-        → unmaps false old.core.space.machine state
-        ≡ lying_so false old.core.space.machine state (Unmap start bytes) (lying_then state)
+        → unmaps Enough old.core.space.machine state
+        ≡ lying_so Enough old.core.space.machine state (Unmap start bytes) (lying_then state)
     enough state stands =
-        let f = forgets state.lying stands.lies in rw (f.0, f.2) refl
+        let f = forgets state.lying stands.lies in rw f.0 refl
 
     lacks : (state : State) → RunsAs old state
-        → unmaps true old.core.space.machine state
+        → unmaps Starved old.core.space.machine state
         ≡ with_reply (command_reply cause.NoMemory) state
     lacks state stands =
         let f = forgets state.lying stands.lies in rw f.0 refl
@@ -173,10 +175,10 @@ module _ (old : Running) (start bytes : ℕ) where
         same state stands old.pages state.lying stands.lies in
         elim (starved-or old (Unmap start bytes) (Err refusal) core accepts same state stands) [
           | inl is ↦ served old new (reply_to (accept_answer (Err refusal))) unmaps state state
-              false (enough state stands ∙ laid-is old (Unmap start bytes) (Err refusal) core
-              accepts same state stands false is (lying_then state)) runs
+              Enough (enough state stands ∙ laid-is old (Unmap start bytes) (Err refusal) core
+              accepts same state stands Enough is (lying_then state)) runs
           | inr lack ↦ served old new (reply_to (accept_answer (Err refusal))) unmaps state state
-              true (lacks state stands
+              Starved (lacks state stands
               ∙ ap (λ (r : Reply). with_reply r state) (sym lack.0)) runs
         ]
 
@@ -189,14 +191,14 @@ module _ (old : Running) (start bytes : ℕ) where
         let new : Running = record { core = core; resident = old.resident; pages = pages } in
         let answer : Reply = reply_to (accept_answer (Ok version)) in
         let lies : Lies pages (lying_then state) = replaces state.lying
-        (forgotten start bytes state.lying.spots) stands.lies f.1 f.3 in
+        (forgotten start bytes state.lying.spots) stands.lies f.1 f.2 in
         elim (starved-or old (Unmap start bytes) (Ok version) core accepts same state stands) [
           | inl is ↦ served old new answer unmaps state (record (state_then old
               (Unmap start bytes) (Ok version) core accepts same state stands) {
                 lying = lying_then state;
-              }) false
+              }) Enough
               (enough state stands ∙ laid-is old (Unmap start bytes) (Ok version) core accepts
-              same state stands false is (lying_then state))
+              same state stands Enough is (lying_then state))
               (runs-then old (Unmap start bytes) (Ok version) core accepts same state stands pages
               (lying_then state) lies)
           | inr lack ↦ cc
@@ -221,25 +223,25 @@ module _ (old : Running) (start bytes : ℕ) where
 
 obeyed-is : (command : Command) → ((mask : ℕ) → command ≢ SetMems mask)
     → ((start bytes : ℕ) → command ≢ Unmap start bytes)
-    → (refused : Bool) (machine : Hardware) (state : State)
-    → obeyed refused machine state command ≡ accepted_outcome refused machine state command
-obeyed-is (SetMems mask) no_mems no_unmap refused machine state = absurd (no_mems mask refl)
-obeyed-is (Unmap start bytes) no_mems no_unmap refused machine state =
+    → (lack : Lack) (machine : Hardware) (state : State)
+    → obeyed lack machine state command ≡ accepted_outcome lack machine state command
+obeyed-is (SetMems mask) no_mems no_unmap lack machine state = absurd (no_mems mask refl)
+obeyed-is (Unmap start bytes) no_mems no_unmap lack machine state =
     absurd (no_unmap start bytes refl)
-obeyed-is (Map start bytes offset) no_mems no_unmap refused machine state = refl
-obeyed-is (Mbind start bytes spec) no_mems no_unmap refused machine state = refl
-obeyed-is (SetTask task spec) no_mems no_unmap refused machine state = refl
-obeyed-is (Inherit task from) no_mems no_unmap refused machine state = refl
-obeyed-is (SetHome start bytes node) no_mems no_unmap refused machine state = refl
-obeyed-is (SetWeight node weight) no_mems no_unmap refused machine state = refl
+obeyed-is (Map start bytes offset) no_mems no_unmap lack machine state = refl
+obeyed-is (Mbind start bytes spec) no_mems no_unmap lack machine state = refl
+obeyed-is (SetTask task spec) no_mems no_unmap lack machine state = refl
+obeyed-is (Inherit task from) no_mems no_unmap lack machine state = refl
+obeyed-is (SetHome start bytes node) no_mems no_unmap lack machine state = refl
+obeyed-is (SetWeight node weight) no_mems no_unmap lack machine state = refl
 
 pub obeyed-plainly : (old new : Running) (answer : Reply) (command : Command)
     → ((mask : ℕ) → command ≢ SetMems mask) → ((start bytes : ℕ) → command ≢ Unmap start bytes)
-    → Serves old answer new (λ refused machine state.
-    accepted_outcome refused machine state command)
-    → Serves old answer new (λ refused machine state. obeyed refused machine state command)
+    → Serves old answer new (λ lack machine state.
+    accepted_outcome lack machine state command)
+    → Serves old answer new (λ lack machine state. obeyed lack machine state command)
 obeyed-plainly old new answer command no_mems no_unmap serves = serves-by old new answer
-    (λ refused machine state. accepted_outcome refused machine state command)
-    (λ refused machine state. obeyed refused machine state command)
-    (λ state stands refused.
-    obeyed-is command no_mems no_unmap refused old.core.space.machine state) serves
+    (λ lack machine state. accepted_outcome lack machine state command)
+    (λ lack machine state. obeyed lack machine state command)
+    (λ state stands lack.
+    obeyed-is command no_mems no_unmap lack old.core.space.machine state) serves

@@ -6,6 +6,7 @@ use Rattle.std.specs.Prelude.{◌&&◌, if◌then◌else◌, IsSomeAnd, not}
 use Rattle.numa_machine.specs.Machine.{Hardware}
 use Rattle.numa_mask.specs.declared.list.ListFault.{ListFault}
 use Rattle.numa_page_state.specs.Lying.{Ground, Lying, ground_in, nothing}
+use Rattle.numa_page_state.specs.Outcomes.{Enough, Lack, Starved, is_starved}
 use Rattle.numa_page_state.specs.Standing.{DoesAs, Lies, LiesAs}
 use Rattle.numa_page_state.specs.declared.state.PageState.{PageState}
 use Rattle.numa_script.specs.declared.line.Line.TheVariants as line
@@ -31,10 +32,10 @@ use Rattle.numa_run.proofs.LineLemmas.{later_same}
 
 -- what is done is told by a reply, or by none
 pub replied : {A : Type 0} (old new : PageState) (done lack : A)
-    (outcome : Bool → Lying → A × Lying) (told : A → Option Reply)
+    (outcome : Lack → Lying → A × Lying) (told : A → Option Reply)
     → DoesAs old done new lack outcome
     → DoesAs old (told done) new (told lack)
-    (λ refused at. (told (outcome refused at).0, (outcome refused at).1))
+    (λ lack at. (told (outcome lack at).0, (outcome lack at).1))
 replied old new done lack outcome told does = λ lying lies.
     let d = does lying lies in (
       d.0,
@@ -46,9 +47,9 @@ replied old new done lack outcome told does = λ lying lies.
 -- what always succeeds
 pub succeeds : (old new : PageState) (told lack : Option Reply) (outcome : Lying → Lying)
     → ((lying : Lying) → LiesAs old lying → LiesAs new (outcome lying))
-    → DoesAs old told new lack (λ refused at. (told, outcome at))
+    → DoesAs old told new lack (λ lack at. (told, outcome at))
 succeeds old new told lack outcome lies = λ lying before. (
-  false,
+  Enough,
   lies lying before,
   refl,
   λ t. absurd (both_ways false refl t),
@@ -64,8 +65,8 @@ nothing-begun pages lying none lies =
     ap (λ (l : Lying). l.begun) is
 
 module _ (old : Running) (said : PageLine) where
-  abbrev pub changes : Bool → Hardware → State → Served
-  changes refused machine state = changed refused machine state said
+  abbrev pub changes : Lack → Hardware → State → Served
+  changes lack machine state = changed lack machine state said
 
   -- there is no memory to begin
   pub change-starved : (pages : Option PageState) → (pages ≡ old.pages) × (old.pages ≡ None)
@@ -73,9 +74,9 @@ module _ (old : Running) (said : PageLine) where
       (record { core = old.core; resident = old.resident; pages = pages }) changes
   change-starved pages same = λ state stands.
       let early = nothing-begun old.pages state.lying same.1 stands.lies in
-      let is : changes true old.core.space.machine state ≡ with_reply (lack_reply said) state =
+      let is : changes Starved old.core.space.machine state ≡ with_reply (lack_reply said) state =
       rw early refl in (
-        true,
+        Starved,
         state,
         is,
         kept-pages old state pages stands
@@ -84,21 +85,21 @@ module _ (old : Running) (said : PageLine) where
 
   module _ (kept new : PageState) (told : Option Reply)
       (begins : (lying : Lying) → Lies old.pages lying → LiesAs kept lying)
-      (does : DoesAs kept told new (Some (lack_reply said)) (λ refused at. change_of refused
+      (does : DoesAs kept told new (Some (lack_reply said)) (λ lack at. change_of lack
       (ground_in old.core.space old.resident) said at)) where
     abbrev here : Running
     here = record { core = old.core; resident = old.resident; pages = Some new }
 
-    abbrev by_ground : State → Bool → Ground → Served
-    by_ground state refused basis = if not state.lying.begun && refused
+    abbrev by_ground : State → Lack → Ground → Served
+    by_ground state lack basis = if not state.lying.begun && is_starved lack
         then with_reply (lack_reply said) state
-        else with_change state (change_of refused basis said
+        else with_change state (change_of lack basis said
         (record state.lying { begun = true }))
 
-    is-by : (refused : Bool) (state : State) → RunsAs old state
-        → changes refused old.core.space.machine state
-        ≡ by_ground state refused (ground_in old.core.space old.resident)
-    is-by refused state stands = ap (by_ground state refused) (ground-same old state stands)
+    is-by : (lack : Lack) (state : State) → RunsAs old state
+        → changes lack old.core.space.machine state
+        ≡ by_ground state lack (ground_in old.core.space old.resident)
+    is-by lack state stands = ap (by_ground state lack) (ground-same old state stands)
 
     pub change-done : Changes old told here changes
     change-done = λ state stands.
@@ -113,9 +114,9 @@ module _ (old : Running) (said : PageLine) where
         let d = does (record state.lying { begun = true }) begun in
         let basis = ground_in old.core.space old.resident in
         let done = change_of d.0 basis said (record state.lying { begun = true }) in
-        elim (cases_Bool (not state.lying.begun && d.0)) [
+        elim (cases_Bool (not state.lying.begun && is_starved d.0)) [
           | inl t ↦
-              let lack = d.3 (and_parts (not state.lying.begun) d.0 t).1 in (
+              let lack = d.3 (and_parts (not state.lying.begun) (is_starved d.0) t).1 in (
                 d.0,
                 state,
                 is-by d.0 state stands
@@ -157,30 +158,30 @@ begun-pages pages then_pages kept is all lying lies =
     subst (λ (p : Option PageState). IsSomeAnd p (λ k. (l : Lying) → Lies pages l → LiesAs k l)) is
     all lying lies
 
-changes-pages : (said : PageLine) → said ≢ page.Moved → said ≢ page.Rooms → (refused : Bool)
+changes-pages : (said : PageLine) → said ≢ page.Moved → said ≢ page.Rooms → (lack : Lack)
     (machine : Hardware) (state : State)
-    → pages_outcome refused machine state (Ok said) ≡ changed refused machine state said
-changes-pages (page.At start bytes node) moved rooms refused machine state = refl
-changes-pages (page.Room node pages) moved rooms refused machine state = refl
-changes-pages (page.MemoryMigrate follows) moved rooms refused machine state = refl
-changes-pages (page.Migrate from to) moved rooms refused machine state = refl
-changes-pages (page.Move address node) moved rooms refused machine state = refl
-changes-pages (page.Populate start bytes task cpu) moved rooms refused machine state = refl
-changes-pages page.Moved moved rooms refused machine state = absurd (moved refl)
-changes-pages page.Rooms moved rooms refused machine state = absurd (rooms refl)
+    → pages_outcome lack machine state (Ok said) ≡ changed lack machine state said
+changes-pages (page.At start bytes node) moved rooms lack machine state = refl
+changes-pages (page.Room node pages) moved rooms lack machine state = refl
+changes-pages (page.MemoryMigrate follows) moved rooms lack machine state = refl
+changes-pages (page.Migrate from to) moved rooms lack machine state = refl
+changes-pages (page.Move address node) moved rooms lack machine state = refl
+changes-pages (page.Populate start bytes task cpu) moved rooms lack machine state = refl
+changes-pages page.Moved moved rooms lack machine state = absurd (moved refl)
+changes-pages page.Rooms moved rooms lack machine state = absurd (rooms refl)
 
 module _ (old new : Running) (said : PageLine) (moved : said ≢ page.Moved)
     (rooms : said ≢ page.Rooms) where
-  change-is : (told : Option Reply) (refused : Bool) (state reached : State) → RunsAs old state
-      → changed refused old.core.space.machine state said ≡ answered_by told reached
-      → outcome_of refused state (line.Pages (Ok said)) ≡ answered_by told reached
-  change-is told refused state reached stands is =
-      served-is old (line.Pages (Ok said)) refused state stands
-      ∙ changes-pages said moved rooms refused old.core.space.machine state ∙ is
+  change-is : (told : Option Reply) (lack : Lack) (state reached : State) → RunsAs old state
+      → changed lack old.core.space.machine state said ≡ answered_by told reached
+      → outcome_of lack state (line.Pages (Ok said)) ≡ answered_by told reached
+  change-is told lack state reached stands is =
+      served-is old (line.Pages (Ok said)) lack state stands
+      ∙ changes-pages said moved rooms lack old.core.space.machine state ∙ is
 
   -- its reply, or what was touched, is told of the state that it reaches
   pub page-changed : (told : Option Reply)
-      → Changes old told new (λ refused machine state. changed refused machine state said)
+      → Changes old told new (λ lack machine state. changed lack machine state said)
       → Takes old (line.Pages (Ok said)) (taken_by told) new
   page-changed (Some answer) changes = λ state stands.
       let c = changes state stands in

@@ -1,5 +1,5 @@
 -- A line that is taken, and then answered or judged.
-use Rattle.std.proofs.Common.{◌≡◌, ℕ, Bool, false, Option, Some, None, List, refl}
+use Rattle.std.proofs.Common.{◌≡◌, ℕ, Bool, true, false, Option, Some, None, List, refl}
 use Rattle.std.proofs.Common.{sym, ap, subst, ◌∙◌}
 use Rattle.std.specs.Prelude.{◌↔◌, IsSomeAnd, IsTrue, Ok}
 use Rattle.std.specs.Option.{option_map}
@@ -9,6 +9,7 @@ use Rattle.numa_lines.specs.Written.{Said}
 use Rattle.numa_lines.specs.declared.watched.Watched.{Watched}
 use Rattle.numa_machine.specs.Machine.{Hardware}
 use Rattle.numa_requests.specs.declared.event.CoreRefusal.{CoreRefusal}
+use Rattle.numa_page_state.specs.Outcomes.{Enough, Lack, Starved, is_starved}
 use Rattle.numa_script.specs.Replies.{LacksMemory}
 use Rattle.numa_script.specs.Texts.{text_of}
 use Rattle.numa_script.specs.declared.line.Line.{Line}
@@ -51,8 +52,8 @@ arrived-is running state stands =
 
 -- a line that a running machine takes
 pub taken-later : (old new : Running) (said : Line) (found : Taken) → Takes old said found new
-    → (state : State) → RunsAs old state → (refused : Bool) × IsTaken refused state said found
-    × RunsAs new (after refused state said)
+    → (state : State) → RunsAs old state → (lack : Lack) × IsTaken lack state said found
+    × RunsAs new (after lack state said)
 taken-later old new said (taken.Reply answer) takes = takes
 taken-later old new said (taken.Question asked) takes = λ state stands.
     let none = question_has_none old new said asked takes.0 takes.1 state stands in
@@ -81,12 +82,12 @@ taken-later old new said taken.Arrived takes = λ state stands.
     )
 
 -- a malformed line changes nothing, whether a machine is ready or not
-pub malformed-is : (refused : Bool) (state : State) → outcome_of refused state line.Malformed
+pub malformed-is : (lack : Lack) (state : State) → outcome_of lack state line.Malformed
     ≡ with_reply reply.BadWords state
 unfolding outcome_of
-malformed-is refused state = by_machine state.machine
+malformed-is lack state = by_machine state.machine
   where
-    by_machine : (machine : Option Hardware) → served_by machine refused state line.Malformed
+    by_machine : (machine : Option Hardware) → served_by machine lack state line.Malformed
         ≡ with_reply reply.BadWords state
     by_machine None = refl
     by_machine (Some machine) = refl
@@ -94,72 +95,72 @@ malformed-is refused state = by_machine state.machine
 pub malformed-taken : (script : Script)
     → ScriptTakes script line.Malformed (taken.Reply reply.BadWords) script
 malformed-taken script = λ state stands.
-    let is = malformed-is false state in (
-      false,
+    let is = malformed-is Enough state in (
+      Enough,
       sym (ap (λ (r : Served). reply_in r.answer) is),
       subst (λ (r : Served). ScriptStandsFor script r.state) (sym is) stands,
     )
 
 -- ---- what shows what is, and changes nothing
 
-pub question-same : (refused : Bool) (state : State) (asked : Question)
-    → after refused state (line.Question asked) ≡ state
+pub question-same : (lack : Lack) (state : State) (asked : Question)
+    → after lack state (line.Question asked) ≡ state
 unfolding outcome_of
-question-same refused state asked = by_machine state.machine
+question-same lack state asked = by_machine state.machine
   where
     by_machine : (machine : Option Hardware)
-        → (served_by machine refused state (line.Question asked)).state ≡ state
+        → (served_by machine lack state (line.Question asked)).state ≡ state
     by_machine None = refl
     by_machine (Some machine) = refl
 
-pub maps-same : (refused : Bool) (state : State) (task : ℕ)
-    → after refused state (line.Maps task) ≡ state
+pub maps-same : (lack : Lack) (state : State) (task : ℕ)
+    → after lack state (line.Maps task) ≡ state
 unfolding outcome_of
-maps-same refused state task = by_machine state.machine
+maps-same lack state task = by_machine state.machine
   where
     by_machine : (machine : Option Hardware)
-        → (served_by machine refused state (line.Maps task)).state ≡ state
+        → (served_by machine lack state (line.Maps task)).state ≡ state
     by_machine None = refl
     by_machine (Some machine) = refl
 
-pub text-same : (asked : PageLine) (text : State → List ℕ) → IsText asked text → (refused : Bool)
-    (state : State) → after refused state (line.Pages (Ok asked)) ≡ state
+pub text-same : (asked : PageLine) (text : State → List ℕ) → IsText asked text → (lack : Lack)
+    (state : State) → after lack state (line.Pages (Ok asked)) ≡ state
 unfolding outcome_of
-text-same asked text shows refused state = by_machine state.machine
+text-same asked text shows lack state = by_machine state.machine
   where
     by_machine : (machine : Option Hardware)
-        → (served_by machine refused state (line.Pages (Ok asked))).state ≡ state
+        → (served_by machine lack state (line.Pages (Ok asked))).state ≡ state
     by_machine None = refl
-    by_machine (Some machine) = ap (λ (r : Served). r.state) (shows refused machine state)
+    by_machine (Some machine) = ap (λ (r : Served). r.state) (shows lack machine state)
 
 -- before a machine is ready they are refused
 abbrev IsUnready : Line → Type 0
-IsUnready said = (state : State) → served_first false state said ≡ with_reply reply.BadState state
+IsUnready said = (state : State) → served_first Enough state said ≡ with_reply reply.BadState state
 
 unready : (settings : Settings) (said : Line) → IsUnready said → (state : State)
-    → Stands settings None state → outcome_of false state said ≡ with_reply reply.BadState state
-unready settings said is state stands = first_is settings said false state stands ∙ is state
+    → Stands settings None state → outcome_of Enough state said ≡ with_reply reply.BadState state
+unready settings said is state stands = first_is settings said Enough state stands ∙ is state
 
 told-unready : (said : Line) (state : State)
-    → outcome_of false state said ≡ with_reply reply.BadState state
-    → Some reply.BadState ≡ reply_of false state said
+    → outcome_of Enough state said ≡ with_reply reply.BadState state
+    → Some reply.BadState ≡ reply_of Enough state said
 told-unready said state is = sym (ap (λ (r : Served). reply_in r.answer) is)
 
 starved-unready : (said : Line) (state : State)
-    → outcome_of false state said ≡ with_reply reply.BadState state
-    → IsTrue false ↔ IsStarved false state said
+    → outcome_of Enough state said ≡ with_reply reply.BadState state
+    → IsTrue false ↔ IsStarved Enough state said
 starved-unready said state is =
     subst (λ (o : Option Reply). IsTrue false ↔ IsSomeAnd o LacksMemory)
-    (told-judged reply.BadState false state said (told-unready said state is))
+    (told-judged reply.BadState Enough state said (told-unready said state is))
     (λ e. cc, λ s. absurd s)
 
 -- what was touched is told of the state after: the line's fault is that
-arrived-fault : (refused : Bool) (state : State) (said : Line)
-    → arrived_answer (after refused state said) ≡ (outcome_of refused state said).answer
-    → None ≡ asked_fault refused state said
-    → fault_or (reply_in (arrived_answer (after refused state said))) None
-    ≡ fault_of refused state said
-arrived-fault refused state said is none =
+arrived-fault : (lack : Lack) (state : State) (said : Line)
+    → arrived_answer (after lack state said) ≡ (outcome_of lack state said).answer
+    → None ≡ asked_fault lack state said
+    → fault_or (reply_in (arrived_answer (after lack state said))) None
+    ≡ fault_of lack state said
+arrived-fault lack state said is none =
     λ i. fault_or (reply_in (is i)) (none i)
 
 -- ---- writing
@@ -176,32 +177,47 @@ module _ {W : Type 0} (contents : W → Option (List ℕ)) (output output_then :
       → Said contents output output_then (text_of answer) → (IsTrue lacks ↔ LacksMemory answer)
       → ScriptWrites contents script output (taken.Reply answer) lacks script output_then
   reply-written script answer lacks told starved = λ state stands.
-      (false, stands, told, reply-starved answer lacks starved)
+      (Enough, stands, told, reply-starved answer lacks starved)
 
   -- a question was answered
-  pub question-written : (old new : Running) (asked : Question) (lacks : Bool)
-      → ((state : State) → RunsAs old state → RunsAs new state
+  abbrev pub AnswersSo : Running → Running → Question → Bool → Type 0
+  AnswersSo old new asked starved = (state : State) → RunsAs old state → RunsAs new state
       × Said contents output output_then
-      (question_text lacks (setup_of old.core).machine state.world.history asked))
-      → (asked ≡ question.Ranges → lacks ≡ false)
-      → (state : State) → RunsAs old state → (refused : Bool) × RunsAs new state
-      × Said contents output output_then (answer_of refused state (line.Question asked))
-      × (IsTrue lacks ↔ IsStarved refused state (line.Question asked))
-  question-written old new asked lacks answers ranges = λ state stands.
+      (question_text starved (setup_of old.core).machine state.world.history asked)
+
+  abbrev pub IsWritten : Running → Running → Question → Bool → Type 0
+  IsWritten old new asked starved = (state : State) → RunsAs old state → (lack : Lack)
+      × RunsAs new state
+      × Said contents output output_then (answer_of lack state (line.Question asked))
+      × (IsTrue starved ↔ IsStarved lack state (line.Question asked))
+
+  written-by : (old new : Running) (asked : Question) (lack : Lack)
+      → AnswersSo old new asked (is_starved lack)
+      → (asked ≡ question.Ranges → is_starved lack ≡ false)
+      → IsWritten old new asked (is_starved lack)
+  written-by old new asked lack answers ranges = λ state stands.
       let a = answers state stands in
-      let is = served-is old (line.Question asked) lacks state stands in (
-        lacks,
+      let is = served-is old (line.Question asked) lack state stands in (
+        lack,
         a.0,
         said_same contents output output_then _ _
             (ap (λ (r : Served). bytes_of r.answer) (sym is)) a.1,
-        asked-starved old asked lacks state stands ranges,
+        asked-starved old asked lack state stands ranges,
       )
+
+  pub question-written : (old new : Running) (asked : Question) (starved : Bool)
+      → AnswersSo old new asked starved → (asked ≡ question.Ranges → starved ≡ false)
+      → IsWritten old new asked starved
+  question-written old new asked false answers ranges =
+      written-by old new asked Enough answers ranges
+  question-written old new asked true answers ranges =
+      written-by old new asked Starved answers ranges
 
   -- a line was answered, and nothing changed
   abbrev pub IsAnswered : (State → Type 0) → Line → State → Type 0
-  IsAnswered reached said state = (refused : Bool) × reached state
-      × Said contents output output_then (answer_of refused state said)
-      × (IsTrue false ↔ IsStarved refused state said)
+  IsAnswered reached said state = (lack : Lack) × reached state
+      × Said contents output output_then (answer_of lack state said)
+      × (IsTrue false ↔ IsStarved lack state said)
 
   -- no machine is ready
   unready-written : (settings : Settings) (said : Line) → IsUnready said
@@ -210,7 +226,7 @@ module _ {W : Type 0} (contents : W → Option (List ℕ)) (output output_then :
       → IsAnswered (Stands settings None) said state
   unready-written settings said bad told = λ state stands.
       let is = unready settings said bad state stands in (
-        false,
+        Enough,
         stands,
         said_same contents output output_then _ _
             (ap (λ (r : Served). bytes_of r.answer) (sym is)) told,
@@ -243,8 +259,8 @@ module _ {W : Type 0} (contents : W → Option (List ℕ)) (output output_then :
       → (state : State) → RunsAs running state
       → IsAnswered (RunsAs running) (line.Maps task) state
   maps-written running task lists = λ state stands.
-      let is = served-is running (line.Maps task) false state stands in (
-        false,
+      let is = served-is running (line.Maps task) Enough state stands in (
+        Enough,
         stands,
         said_same contents output output_then _ _
             (ap (λ (r : Served). bytes_of r.answer) (sym is)) (lists state stands),
@@ -259,7 +275,7 @@ module _ {W : Type 0} (contents : W → Option (List ℕ)) (output output_then :
       → IsAnswered (RunsAs running) (line.Pages (Ok asked)) state
   text-written asked text shows running tells = λ state stands.
       let is = text-served asked text shows running state stands in (
-        false,
+        Enough,
         stands,
         said_same contents output output_then _ _
             (ap (λ (r : Served). bytes_of r.answer) (sym is)) (tells state stands),
@@ -269,7 +285,7 @@ module _ {W : Type 0} (contents : W → Option (List ℕ)) (output output_then :
 
   -- what was touched was told, and nothing changed
   abbrev pub IsArrivalTold : (State → Type 0) → State → Type 0
-  IsArrivalTold reached state = (refused : Bool) × reached state
+  IsArrivalTold reached state = (lack : Lack) × reached state
       × Said contents output output_then (bytes_of (arrived_answer state))
       × (IsTrue false
       ↔ IsSomeAnd (fault_or (reply_in (arrived_answer state)) None) LacksMemory)
@@ -277,10 +293,10 @@ module _ {W : Type 0} (contents : W → Option (List ℕ)) (output output_then :
   arrival-told : (answer : Answer) (reached : Type 0) (state : State)
       → arrived_answer state ≡ answer → reached → Said contents output output_then (bytes_of answer)
       → (IsTrue false ↔ IsSomeAnd (fault_or (reply_in answer) None) LacksMemory)
-      → (refused : Bool) × reached × Said contents output output_then (bytes_of (arrived_answer state))
+      → (lack : Lack) × reached × Said contents output output_then (bytes_of (arrived_answer state))
       × (IsTrue false ↔ IsSomeAnd (fault_or (reply_in (arrived_answer state)) None) LacksMemory)
   arrival-told answer reached state is stands told starved = (
-    false,
+    Enough,
     stands,
     said_same contents output output_then _ _ (ap bytes_of (sym is)) told,
     subst (λ (a : Answer). IsTrue false ↔ IsSomeAnd (fault_or (reply_in a) None) LacksMemory)
@@ -306,10 +322,10 @@ module _ {W : Type 0} (contents : W → Option (List ℕ)) (output output_then :
 
   -- a line was taken, and then its answer was written
   abbrev pub IsServed : Script → Script → Line → Bool → State → Type 0
-  IsServed old new said lacks state = (refused : Bool)
-      × ScriptStandsFor new (after refused state said)
-      × Said contents output output_then (answer_of refused state said)
-      × (IsTrue lacks ↔ IsStarved refused state said)
+  IsServed old new said lacks state = (lack : Lack)
+      × ScriptStandsFor new (after lack state said)
+      × Said contents output output_then (answer_of lack state said)
+      × (IsTrue lacks ↔ IsStarved lack state said)
 
   pub served : (old mid new : Script) (said : Line) (found : Taken) (lacks : Bool)
       → ScriptTakes old said found mid
@@ -373,10 +389,11 @@ module _ {W : Type 0} (contents : W → Option (List ℕ)) (output output_then :
 
 -- a question is judged by what refuses it
 pub question-told : (old new : Running) (asked : Question) (cause : Option CoreRefusal)
-    → ((state : State) → RunsAs old state → (refused : Bool) × RunsAs new state
-    × (cause ≡ question_cause refused (setup_of old.core).machine state.world.history asked))
-    → (state : State) → RunsAs old state → (refused : Bool)
-    × (option_map reply.Refused cause ≡ fault_of refused state (line.Question asked))
+    → ((state : State) → RunsAs old state → (lack : Lack) × RunsAs new state
+    × (cause ≡ question_cause (is_starved lack) (setup_of old.core).machine state.world.history
+    asked))
+    → (state : State) → RunsAs old state → (lack : Lack)
+    × (option_map reply.Refused cause ≡ fault_of lack state (line.Question asked))
     × RunsAs new state
 question-told old new asked cause h = λ state stands.
     let a = h state stands in
@@ -385,14 +402,14 @@ question-told old new asked cause h = λ state stands.
 -- nothing changed, and this fault was told of a line
 abbrev pub IsTold : (State → Type 0) → Line → Option Reply → State → Type 0
 IsTold reached said fault state =
-    (refused : Bool) × (fault ≡ fault_of refused state said) × reached state
+    (lack : Lack) × (fault ≡ fault_of lack state said) × reached state
 
 unready-told : (settings : Settings) (said : Line) → IsUnready said → (state : State)
     → Stands settings None state
     → IsTold (Stands settings None) said (Some reply.BadState) state
 unready-told settings said bad state stands = (
-  false,
-  told-judged reply.BadState false state said
+  Enough,
+  told-judged reply.BadState Enough state said
       (told-unready said state (unready settings said bad state stands)),
   stands,
 )
@@ -404,7 +421,7 @@ question-bad settings asked = unready-told settings (line.Question asked) (λ st
 
 pub maps-told : (running : Running) (task : ℕ) (state : State) → RunsAs running state
     → IsTold (RunsAs running) (line.Maps task) None state
-maps-told running task state stands = (false, listed-fault running task state stands, stands)
+maps-told running task state stands = (Enough, listed-fault running task state stands, stands)
 
 pub maps-bad : (settings : Settings) (task : ℕ) (state : State) → Stands settings None state
     → IsTold (Stands settings None) (line.Maps task) (Some reply.BadState) state
@@ -414,7 +431,7 @@ pub text-told : (asked : PageLine) (text : State → List ℕ) → IsText asked 
     → (running : Running) (state : State) → RunsAs running state
     → IsTold (RunsAs running) (line.Pages (Ok asked)) None state
 text-told asked text shows running state stands =
-    (false, text-fault asked text shows running state stands, stands)
+    (Enough, text-fault asked text shows running state stands, stands)
 
 pub text-bad : (settings : Settings) (asked : PageLine) (state : State)
     → Stands settings None state
@@ -423,13 +440,13 @@ text-bad settings asked = unready-told settings (line.Pages (Ok asked)) (λ stat
 
 -- what was touched has no fault, once a machine is ready
 abbrev pub IsArrivalJudged : (State → Type 0) → Option Reply → State → Type 0
-IsArrivalJudged reached fault state = (refused : Bool)
+IsArrivalJudged reached fault state = (lack : Lack)
     × (fault ≡ fault_or (reply_in (arrived_answer state)) None) × reached state
 
 pub arrived-told : (running : Running) (state : State) → RunsAs running state
     → IsArrivalJudged (RunsAs running) None state
 arrived-told running state stands = (
-  false,
+  Enough,
   ap (λ (a : Answer). fault_or (reply_in a) None) (sym (arrived-is running state stands)),
   stands,
 )
@@ -437,7 +454,7 @@ arrived-told running state stands = (
 pub arrived-bad : (settings : Settings) (state : State) → Stands settings None state
     → IsArrivalJudged (Stands settings None) (Some reply.BadState) state
 arrived-bad settings state stands = (
-  false,
+  Enough,
   ap (λ (machine : Option Hardware). fault_or (reply_in (arrived_on machine state)) None)
       (sym stands.3),
   stands,
@@ -445,8 +462,8 @@ arrived-bad settings state stands = (
 
 -- a line was taken, and then its fault or refusal was told
 abbrev IsJudged : Script → Line → Option Reply → State → Type 0
-IsJudged new said fault state = (refused : Bool) × (fault ≡ fault_of refused state said)
-    × ScriptStandsFor new (after refused state said)
+IsJudged new said fault state = (lack : Lack) × (fault ≡ fault_of lack state said)
+    × ScriptStandsFor new (after lack state said)
 
 pub judged : (old mid new : Script) (said : Line) (found : Taken) (fault : Option Reply)
     → ScriptTakes old said found mid → ScriptTells mid found fault new

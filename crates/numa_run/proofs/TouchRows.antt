@@ -4,7 +4,7 @@ use Rattle.std.specs.Prelude.{◌==◌, None, if◌then◌else◌}
 use Rattle.std.specs.Fmt.{digits}
 use Rattle.numa_maps.specs.Listing.{nodes_text as counts_text}
 use Rattle.numa_page_state.specs.Lying.{nothing, untouched}
-use Rattle.numa_page_state.specs.Outcomes.{rooms_of}
+use Rattle.numa_page_state.specs.Outcomes.{Enough, Starved, rooms_of}
 use Rattle.numa_placed.specs.Shifts.{endless}
 use Rattle.numa_script.specs.Lines.{keyword_of, line_of}
 use Rattle.numa_script.specs.Numbers.{in_64_bits, number_of, numeral_of}
@@ -30,22 +30,22 @@ nothing-row : arrival_line 12 untouched ≡ codes "v12: placed 0 exhausted 0\n"
 unfolding digits counts_text
 nothing-row = refl
 
-populate-before_a_machine : answer_to false start (codes "populate 0x10000 4096 1 0")
+populate-before_a_machine : answer_to Enough start (codes "populate 0x10000 4096 1 0")
     ≡ codes "bad state\n"
 unfolding line_of keyword_of number_of numeral_of in_64_bits outcome_of text_of
 populate-before_a_machine = refl
 
-populate-without_memory : answer_to true bound (codes "populate 0x10001 4096 1 0")
+populate-without_memory : answer_to Starved bound (codes "populate 0x10001 4096 1 0")
     ≡ codes "refused NoMemory ENOMEM\n"
 unfolding line_of keyword_of number_of numeral_of in_64_bits outcome_of text_of bound
 populate-without_memory = refl
 
-populate-within_a_page : answer_to false bound (codes "populate 0x10001 4096 1 2")
+populate-within_a_page : answer_to Enough bound (codes "populate 0x10001 4096 1 2")
     ≡ codes "refused Unaligned EINVAL\n"
 unfolding line_of keyword_of number_of numeral_of in_64_bits outcome_of text_of bound world
 populate-within_a_page = refl
 
-populate-on_no_node : answer_to false bound (codes "populate 0x10000 4096 1 2")
+populate-on_no_node : answer_to Enough bound (codes "populate 0x10000 4096 1 2")
     ≡ codes "refused BadCpu EINVAL\n"
 unfolding line_of keyword_of number_of numeral_of in_64_bits outcome_of text_of bound world
 populate-on_no_node = refl
@@ -62,20 +62,20 @@ endless-row : rooms_line (rooms_of None) ≡ codes "room\n"
 unfolding rooms_text
 endless-row = refl
 
-rooms-before_a_machine : answer_to false start (codes "room") ≡ codes "bad state\n"
+rooms-before_a_machine : answer_to Enough start (codes "room") ≡ codes "bad state\n"
 unfolding line_of keyword_of outcome_of text_of
 rooms-before_a_machine = refl
 
 -- `room` alone wants no memory, and begins nothing
-rooms-of_no_node : answer_to true bound (codes "room") ≡ codes "room\n"
+rooms-of_no_node : answer_to Starved bound (codes "room") ≡ codes "room\n"
 unfolding line_of keyword_of outcome_of bound rooms_text
 rooms-of_no_node = refl
 
-rooms-begin_nothing : (after_bytes true bound (codes "room")).lying ≡ nothing
+rooms-begin_nothing : (after_bytes Starved bound (codes "room")).lying ≡ nothing
 unfolding line_of keyword_of outcome_of bound
 rooms-begin_nothing = refl
 
-rooms-of_a_node : answer_to true (after_bytes false bound (codes "room 1 5")) (codes "room")
+rooms-of_a_node : answer_to Starved (after_bytes Enough bound (codes "room 1 5")) (codes "room")
     ≡ codes "room N1=5\n"
 unfolding line_of keyword_of number_of numeral_of in_64_bits digits outcome_of bound world rooms_text
 rooms-of_a_node = refl

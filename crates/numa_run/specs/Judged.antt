@@ -1,5 +1,5 @@
--- Which lines are answered by a fault or a refusal. `refused` says whether a growth was refused
--- while the line was served.
+-- Which lines are answered by a fault or a refusal. `lack` says what a line lacked while it was
+-- served.
 use Rattle.std.specs.Prelude.{ℕ, Bool, Option, Some, None, List, length}
 use Rattle.std.specs.Prelude.{IsSomeAnd, if◌then◌else◌}
 use Rattle.std.specs.Option.{option_map}
@@ -11,6 +11,7 @@ use Rattle.numa_machine.specs.declared.refusal.PlaceRefusal.{PlaceRefusal}
 use Rattle.numa_machine.specs.declared.refusal.PlaceRefusal.TheVariants as place
 use Rattle.numa_requests.specs.declared.event.CoreRefusal.{CoreRefusal}
 use Rattle.numa_requests.specs.declared.event.CoreRefusal.TheVariants as core
+use Rattle.numa_page_state.specs.Outcomes.{Lack, is_starved}
 use Rattle.numa_script.specs.Replies.{LacksMemory, fault_in}
 use Rattle.numa_script.specs.declared.line.Line.{Line}
 use Rattle.numa_script.specs.declared.line.Line.TheVariants as line
@@ -39,61 +40,61 @@ cause_at version place.BadCpu = core.BadCpu
 cause_at version place.Unmapped = core.Unmapped version
 
 abbrev pub unless_wanting_memory : Bool → Option CoreRefusal → Option CoreRefusal
-unless_wanting_memory refused cause = if refused then Some core.NoMemory else cause
+unless_wanting_memory starved cause = if starved then Some core.NoMemory else cause
 
 -- the first cause of all; only `ranges` wants no memory
 abbrev pub question_cause : Bool → Hardware → List Command → Question → Option CoreRefusal
-question_cause refused machine history (question.Place task address cpu) =
-    unless_wanting_memory refused
+question_cause starved machine history (question.Place task address cpu) =
+    unless_wanting_memory starved
     (option_map (cause_at (length history))
     (question_refusal machine history (question.Place task address cpu)))
-question_cause refused machine history (question.Span task address pages cpu) =
-    unless_wanting_memory refused
+question_cause starved machine history (question.Span task address pages cpu) =
+    unless_wanting_memory starved
     (option_map (cause_at (length history))
     (question_refusal machine history (question.Span task address pages cpu)))
-question_cause refused machine history (question.Counts task address pages cpu) =
-    unless_wanting_memory refused
+question_cause starved machine history (question.Counts task address pages cpu) =
+    unless_wanting_memory starved
     (option_map (cause_at (length history))
     (question_refusal machine history (question.Counts task address pages cpu)))
-question_cause refused machine history question.Ranges = None
+question_cause starved machine history question.Ranges = None
 
 -- ---- lines
 
-abbrev pub asked_by : Option Hardware → Bool → List Command → Question → Option Reply
-asked_by None refused history asked = None
-asked_by (Some machine) refused history asked =
-    option_map reply.Refused (question_cause refused machine history asked)
+abbrev pub asked_by : Option Hardware → Lack → List Command → Question → Option Reply
+asked_by None lack history asked = None
+asked_by (Some machine) lack history asked =
+    option_map reply.Refused (question_cause (is_starved lack) machine history asked)
 
 -- the refusal of a question to a machine that is ready
-abbrev pub asked_fault : Bool → State → Line → Option Reply
-asked_fault refused state (line.Question asked) =
-    asked_by state.machine refused state.world.history asked
-asked_fault refused state line.Silent = None
-asked_fault refused state line.Malformed = None
-asked_fault refused state (line.Limits ranges tasks commands) = None
-asked_fault refused state (line.Rules rules) = None
-asked_fault refused state (line.Cpus said) = None
-asked_fault refused state (line.Machine said) = None
-asked_fault refused state (line.Command said) = None
-asked_fault refused state (line.EmptyBind start fault) = None
-asked_fault refused state (line.Maps task) = None
-asked_fault refused state (line.Work said) = None
-asked_fault refused state (line.Pages said) = None
-asked_fault refused state (line.Bind start bytes policy pages) = None
-asked_fault refused state line.Host = None
-asked_fault refused state (line.HostCommand said) = None
+abbrev pub asked_fault : Lack → State → Line → Option Reply
+asked_fault lack state (line.Question asked) =
+    asked_by state.machine lack state.world.history asked
+asked_fault lack state line.Silent = None
+asked_fault lack state line.Malformed = None
+asked_fault lack state (line.Limits ranges tasks commands) = None
+asked_fault lack state (line.Rules rules) = None
+asked_fault lack state (line.Cpus said) = None
+asked_fault lack state (line.Machine said) = None
+asked_fault lack state (line.Command said) = None
+asked_fault lack state (line.EmptyBind start fault) = None
+asked_fault lack state (line.Maps task) = None
+asked_fault lack state (line.Work said) = None
+asked_fault lack state (line.Pages said) = None
+asked_fault lack state (line.Bind start bytes policy pages) = None
+asked_fault lack state line.Host = None
+asked_fault lack state (line.HostCommand said) = None
 
 abbrev pub fault_or : Option Reply → Option Reply → Option Reply
 fault_or (Some told) asked = fault_in told
 fault_or None asked = asked
 
 -- the fault or the refusal that a line is answered; none where its answer is neither
-abbrev pub fault_of : Bool → State → Line → Option Reply
-fault_of refused state said =
-    fault_or (reply_of refused state said) (asked_fault refused state said)
+abbrev pub fault_of : Lack → State → Line → Option Reply
+fault_of lack state said =
+    fault_or (reply_of lack state said) (asked_fault lack state said)
 
 -- ---- lack of memory
 
 -- a line is answered that there was no memory for it
-abbrev pub IsStarved : Bool → State → Line → Type 0
-IsStarved refused state said = IsSomeAnd (fault_of refused state said) LacksMemory
+abbrev pub IsStarved : Lack → State → Line → Type 0
+IsStarved lack state said = IsSomeAnd (fault_of lack state said) LacksMemory

@@ -10,6 +10,7 @@ use Rattle.numa_machine.specs.declared.rules.Rules.{Rules}
 use Rattle.numa_machine.specs.Faults.{hardware_fault, has_other_node}
 use Rattle.numa_machine.specs.declared.fault.MachineFault.{MachineFault}
 use Rattle.numa_machine.specs.declared.fault.MachineFault.TheVariants as machine_fault
+use Rattle.numa_page_state.specs.Outcomes.{Lack, is_starved}
 use Rattle.numa_script.specs.Machines.{frames_for, distances_for}
 use Rattle.numa_script.specs.declared.line.MachineLine.{MachineLine}
 
@@ -46,8 +47,8 @@ has_bad_nodes nodes cpus = nodes == 0 || nat_lt 256 nodes || has_other_node node
 
 -- the first fault, where these nodes have CPUs: the nodes are judged before the tables, the machine
 -- and its core are made, and they are made before all else is judged
-abbrev pub first_fault : Bool → ℕ → Hardware → Option MachineFault
-first_fault refused cpus hardware =
+abbrev pub first_fault : Lack → ℕ → Hardware → Option MachineFault
+first_fault lack cpus hardware =
     if has_bad_nodes hardware.nodes cpus then Some machine_fault.NodeCount
-    else if refused then Some machine_fault.NoMemory
+    else if is_starved lack then Some machine_fault.NoMemory
     else hardware_fault hardware

@@ -1,5 +1,5 @@
--- What commands are answered, and the state after them. `refused` says whether a growth was refused
--- while the line was served.
+-- What commands are answered, and the state after them. `lack` says what a line lacked while it was
+-- served.
 use Rattle.std.specs.Prelude.{ℕ, suc, ◌==◌, ◌&&◌, Bool, true, false, Option, Some, None, ◌∷◌}
 use Rattle.std.specs.Prelude.{length, is_ok, if◌then◌else◌, Result, Ok, Err}
 use Rattle.numa_machine.specs.Machine.{Hardware}
@@ -17,7 +17,8 @@ use Rattle.numa_requests.specs.declared.refusal.Refusal.TheVariants.{NoMemory}
 use Rattle.numa_space.specs.Policies.{allowed_nodes}
 use Rattle.numa_space.specs.Refusals.{refusal_of}
 use Rattle.numa_page_state.specs.Lying.{Lying, with_spots}
-use Rattle.numa_page_state.specs.Outcomes.{followed, forgotten, has_stated, lack_of}
+use Rattle.numa_page_state.specs.Outcomes.{Enough, Lack, followed, forgotten, has_stated}
+use Rattle.numa_page_state.specs.Outcomes.{is_starved, lack_of}
 use Rattle.numa_page_state.specs.Sending.{asked_of, command_of, rebinding_in, sent_in, sent_spots}
 use Rattle.numa_page_state.specs.Sending.{tells_left, with_sent}
 use Rattle.numa_page_state.specs.Strict.{has_astray, is_late, strict_binding_in}
@@ -37,29 +38,29 @@ use Rattle.numa_run.specs.States.{State, process_on, setup_with}
 use Rattle.numa_run.specs.Work.{event_answer, event_outcome}
 
 -- a command, as the core takes it
-abbrev pub accepted_outcome : Bool → Hardware → State → Command → Served
-accepted_outcome refused machine state command =
-    with_outcome state (event_outcome refused (setup_with machine state.bounds) state.world
+abbrev pub accepted_outcome : Lack → Hardware → State → Command → Served
+accepted_outcome lack machine state command =
+    with_outcome state (event_outcome lack (setup_with machine state.bounds) state.world
     state.resident (Accept command))
 
-abbrev pub is_accepted : Bool → Hardware → State → Command → Bool
-is_accepted refused machine state command = is_ok (event_answer refused
+abbrev pub is_accepted : Lack → Hardware → State → Command → Bool
+is_accepted lack machine state command = is_ok (event_answer lack
     (setup_with machine state.bounds) state.world (Accept command))
 
 abbrev pub with_lying : Lying → Served → Served
 with_lying lying served = record served { state = record served.state { lying = lying } }
 
 -- where the core accepted a command, pages lie so after it
-abbrev pub lying_so : Bool → Hardware → State → Command → Lying → Served
-lying_so refused machine state command lying =
-    if is_accepted refused machine state command
-    then with_lying lying (accepted_outcome refused machine state command)
-    else accepted_outcome refused machine state command
+abbrev pub lying_so : Lack → Hardware → State → Command → Lying → Served
+lying_so lack machine state command lying =
+    if is_accepted lack machine state command
+    then with_lying lying (accepted_outcome lack machine state command)
+    else accepted_outcome lack machine state command
 
 -- pages follow the allowed nodes
-abbrev pub mems_outcome : Bool → Hardware → State → ℕ → Served
-mems_outcome refused machine state mask =
-    lying_so refused machine state (SetMems mask) (followed refused
+abbrev pub mems_outcome : Lack → Hardware → State → ℕ → Served
+mems_outcome lack machine state mask =
+    lying_so lack machine state (SetMems mask) (followed lack
     (allowed_nodes machine state.world.history)
     (allowed_nodes machine (SetMems mask ∷ state.world.history)) state.resident state.lying)
 
@@ -73,24 +74,24 @@ unless_pages (Some why) state served = with_reply (command_reply why) state
 unless_pages None state served = served
 
 -- nothing is stated any more of pages that were unmapped, and their room is given back
-abbrev pub unmap_outcome : Bool → Hardware → State → ℕ → ℕ → Served
-unmap_outcome refused machine state start bytes =
+abbrev pub unmap_outcome : Lack → Hardware → State → ℕ → ℕ → Served
+unmap_outcome lack machine state start bytes =
     let spots = forgotten start bytes state.lying.spots in
     if has_stated state.lying.spots start bytes
-    then unless_pages (lack_of refused spots) state (lying_so refused machine state
+    then unless_pages (lack_of lack spots) state (lying_so lack machine state
     (Unmap start bytes) (with_spots spots state.lying))
-    else accepted_outcome refused machine state (Unmap start bytes)
+    else accepted_outcome lack machine state (Unmap start bytes)
 
-abbrev pub obeyed : Bool → Hardware → State → Command → Served
-obeyed refused machine state (SetMems mask) = mems_outcome refused machine state mask
-obeyed refused machine state (Unmap start bytes) = unmap_outcome refused machine state start bytes
-obeyed refused machine state command = accepted_outcome refused machine state command
+abbrev pub obeyed : Lack → Hardware → State → Command → Served
+obeyed lack machine state (SetMems mask) = mems_outcome lack machine state mask
+obeyed lack machine state (Unmap start bytes) = unmap_outcome lack machine state start bytes
+obeyed lack machine state command = accepted_outcome lack machine state command
 
 -- map, unmap, mbind, home, task, weight, mems: a fault of a list or a policy comes before every
 -- refusal
-abbrev pub command_outcome : Bool → Hardware → State → Result Command WordError → Served
-command_outcome refused machine state (Err fault) = with_reply (reply.BadWord fault) state
-command_outcome refused machine state (Ok command) = obeyed refused machine state command
+abbrev pub command_outcome : Lack → Hardware → State → Result Command WordError → Served
+command_outcome lack machine state (Err fault) = with_reply (reply.BadWord fault) state
+command_outcome lack machine state (Ok command) = obeyed lack machine state command
 
 -- an mbind of length 0 whose mode, flag and nodes don't go together is a fault by the documents. A
 -- kernel returns before it judges them
@@ -108,24 +109,24 @@ bound_command rules start bytes (Err fault) =
 
 -- where pages lie astray: the first cause against the command is answered, where it is judged
 -- before pages; else that they do
-abbrev pub astray_outcome : Bool → Hardware → State → Command → Served
-astray_outcome true machine state command = with_reply (command_reply cause.NoMemory) state
-astray_outcome false machine state command =
-    if is_late machine.rules (refusal_of machine state.bounds state.world.history command)
+abbrev pub astray_outcome : Lack → Hardware → State → Command → Served
+astray_outcome lack machine state command =
+    if is_starved lack then with_reply (command_reply cause.NoMemory) state
+    else if is_late machine.rules (refusal_of machine state.bounds state.world.history command)
     then with_reply (command_reply cause.Astray) state
-    else accepted_outcome false machine state command
+    else accepted_outcome Enough machine state command
 
-abbrev pub judged_by : Option Binding → Bool → Hardware → State → Command → Served
-judged_by None refused machine state command = accepted_outcome refused machine state command
-judged_by (Some binding) refused machine state command =
+abbrev pub judged_by : Option Binding → Lack → Hardware → State → Command → Served
+judged_by None lack machine state command = accepted_outcome lack machine state command
+judged_by (Some binding) lack machine state command =
     if has_astray (process_on machine state) state.lying.spots binding
-    then astray_outcome refused machine state command
-    else accepted_outcome refused machine state command
+    then astray_outcome lack machine state command
+    else accepted_outcome lack machine state command
 
-abbrev pub strict_outcome : Bool → Hardware → State → Result Command WordError → Served
-strict_outcome refused machine state (Err fault) = with_reply (reply.BadWord fault) state
-strict_outcome refused machine state (Ok command) =
-    judged_by (strict_binding_in command) refused machine state command
+abbrev pub strict_outcome : Lack → Hardware → State → Result Command WordError → Served
+strict_outcome lack machine state (Err fault) = with_reply (reply.BadWord fault) state
+strict_outcome lack machine state (Ok command) =
+    judged_by (strict_binding_in command) lack machine state command
 
 -- ---- mbind .. move
 
@@ -140,34 +141,39 @@ sent_outcome machine state said words =
     record {
       answer = Replied (reply.Sent (suc (length state.world.history)) sent.moved sent.left
           (tells_left words.strict said.spec sent.left));
-      state = record (accepted_outcome false machine state (command_of said)).state {
+      state = record (accepted_outcome Enough machine state (command_of said)).state {
         lying = with_sent state.resident asked state.lying;
       };
     }
 
 -- what refuses the policy is answered as without the words; then lack of runs or memory
-abbrev pub sent_unless : Bool → Option Refusal → Hardware → State → Rebinding → MoveWords → Served
-sent_unless true first machine state said words = with_reply (command_reply cause.NoMemory) state
-sent_unless false (Some refusal) machine state said words =
-    accepted_outcome false machine state (command_of said)
-sent_unless false None machine state said words =
-    unless_pages (lack_of false (sent_spots (asked_of (process_on machine state) said
+abbrev pub sent_where : Option Refusal → Lack → Hardware → State → Rebinding → MoveWords → Served
+sent_where (Some refusal) lack machine state said words =
+    accepted_outcome Enough machine state (command_of said)
+sent_where None lack machine state said words =
+    unless_pages (lack_of lack (sent_spots (asked_of (process_on machine state) said
     (toucher_of words)) state.lying)) state (sent_outcome machine state said words)
 
-abbrev pub moved_by : Option Rebinding → Bool → Hardware → State → Command → MoveWords → Served
-moved_by None refused machine state command words = accepted_outcome refused machine state command
-moved_by (Some said) refused machine state command words = sent_unless refused
+-- memory that lacks for the trial comes before all
+abbrev pub sent_unless : Lack → Option Refusal → Hardware → State → Rebinding → MoveWords → Served
+sent_unless lack first machine state said words =
+    if is_starved lack then with_reply (command_reply cause.NoMemory) state
+    else sent_where first lack machine state said words
+
+abbrev pub moved_by : Option Rebinding → Lack → Hardware → State → Command → MoveWords → Served
+moved_by None lack machine state command words = accepted_outcome lack machine state command
+moved_by (Some said) lack machine state command words = sent_unless lack
     (refusal_of machine state.bounds state.world.history (command_of said)) machine state said
     words
 
-abbrev pub moving_outcome : Bool → Hardware → State → MoveWords → Result Command WordError
+abbrev pub moving_outcome : Lack → Hardware → State → MoveWords → Result Command WordError
     → Served
-moving_outcome refused machine state words (Err fault) = with_reply (reply.BadWord fault) state
-moving_outcome refused machine state words (Ok command) =
-    moved_by (rebinding_in command) refused machine state command words
+moving_outcome lack machine state words (Err fault) = with_reply (reply.BadWord fault) state
+moving_outcome lack machine state words (Ok command) =
+    moved_by (rebinding_in command) lack machine state command words
 
-abbrev pub bound_outcome : Bool → Hardware → State → BoundPages → Result Command WordError
+abbrev pub bound_outcome : Lack → Hardware → State → BoundPages → Result Command WordError
     → Served
-bound_outcome refused machine state bound.Strict said = strict_outcome refused machine state said
-bound_outcome refused machine state (bound.Move words) said =
-    moving_outcome refused machine state words said
+bound_outcome lack machine state bound.Strict said = strict_outcome lack machine state said
+bound_outcome lack machine state (bound.Move words) said =
+    moving_outcome lack machine state words said

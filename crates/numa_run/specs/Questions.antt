@@ -1,6 +1,6 @@
--- What questions are answered, by all accepted commands, published or not. `refused` says whether a
--- growth was refused while the question was served; where it can be, that comes before every other
--- refusal.
+-- What questions are answered, by all accepted commands, published or not. `starved` says
+-- whether memory lacked while the question was served; where it can lack, that comes before every
+-- other refusal.
 use Rattle.std.specs.Prelude.{ℕ, Bool, not, Option, Some, None, List, codes, length, map}
 use Rattle.std.specs.Prelude.{if◌then◌else◌}
 use Rattle.std.specs.List.{range_with_len}
@@ -28,7 +28,7 @@ unless_refused (Some cause) answer = refused_text (place_name cause)
 
 -- the answer, where memory was to be had
 abbrev pub unless_starved : Bool → List ℕ → List ℕ
-unless_starved refused answer = if refused then refused_text (codes "NoMemory") else answer
+unless_starved starved answer = if starved then refused_text (codes "NoMemory") else answer
 
 -- ---- spans
 
@@ -69,10 +69,10 @@ abbrev pub ranges_text : Hardware → List Command → List ℕ
 ranges_text machine history = ranges_answer (range_count_of machine history)
 
 abbrev pub question_text : Bool → Hardware → List Command → Question → List ℕ
-question_text refused machine history (Place task address cpu) =
-    unless_starved refused (place_text machine history task (page_of address) cpu)
-question_text refused machine history (Span task address pages cpu) =
-    unless_starved refused (span_text machine history task (page_of address) pages cpu)
-question_text refused machine history (Counts task address pages cpu) =
-    unless_starved refused (count_text machine history task (page_of address) pages cpu)
-question_text refused machine history Ranges = ranges_text machine history
+question_text starved machine history (Place task address cpu) =
+    unless_starved starved (place_text machine history task (page_of address) cpu)
+question_text starved machine history (Span task address pages cpu) =
+    unless_starved starved (span_text machine history task (page_of address) pages cpu)
+question_text starved machine history (Counts task address pages cpu) =
+    unless_starved starved (count_text machine history task (page_of address) pages cpu)
+question_text starved machine history Ranges = ranges_text machine history

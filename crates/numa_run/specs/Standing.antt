@@ -3,6 +3,7 @@ use Rattle.std.specs.Prelude.{◌≡◌, Bool, Option, Some, None, Ok}
 use Rattle.numa_machine.specs.Machine.{Hardware}
 use Rattle.numa_page_state.specs.Standing.{Lies}
 use Rattle.numa_core.specs.Standing.{CoreState, CoreStandsFor, setup_of}
+use Rattle.numa_page_state.specs.Outcomes.{Lack}
 use Rattle.numa_script.specs.declared.line.Line.{Line}
 use Rattle.numa_script.specs.declared.line.Line.TheVariants as line
 use Rattle.numa_script.specs.declared.page_line.PageLine.TheVariants as page
@@ -47,25 +48,25 @@ abbrev pub state_with : State → Outcome → State
 state_with state outcome = record state { world = outcome.world; resident = outcome.resident }
 
 -- the line was answered as the definition says, and the state that it says is reached
-abbrev pub Does : Running → Reply → Running → (Bool → State → Outcome) → Type 0
+abbrev pub Does : Running → Reply → Running → (Lack → State → Outcome) → Type 0
 Does old answer new outcome =
     (state : State) → RunsAs old state
-    → (refused : Bool) × (answer ≡ (outcome refused state).reply)
-    × RunsAs new (state_with state (outcome refused state))
+    → (lack : Lack) × (answer ≡ (outcome lack state).reply)
+    × RunsAs new (state_with state (outcome lack state))
 
 -- the same of a line that may change where pages lie
-abbrev pub Serves : Running → Reply → Running → (Bool → Hardware → State → Served) → Type 0
+abbrev pub Serves : Running → Reply → Running → (Lack → Hardware → State → Served) → Type 0
 Serves old answer new serve =
     (state : State) → RunsAs old state
-    → (refused : Bool) × ((serve refused old.core.space.machine state).answer ≡ Replied answer)
-    × RunsAs new (serve refused old.core.space.machine state).state
+    → (lack : Lack) × ((serve lack old.core.space.machine state).answer ≡ Replied answer)
+    × RunsAs new (serve lack old.core.space.machine state).state
 
 -- the same, where a line may have no reply and tell what it touched
-abbrev pub Changes : Running → Option Reply → Running → (Bool → Hardware → State → Served)
+abbrev pub Changes : Running → Option Reply → Running → (Lack → Hardware → State → Served)
     → Type 0
 Changes old told new serve = (state : State) → RunsAs old state
-    → (refused : Bool) × (reached : State)
-    × (serve refused old.core.space.machine state ≡ answered_by told reached)
+    → (lack : Lack) × (reached : State)
+    × (serve lack old.core.space.machine state ≡ answered_by told reached)
     × RunsAs new reached
 
 -- the line has the reply that the definition says, and the state that it says is reached
@@ -73,8 +74,8 @@ abbrev pub Replies : Settings → Option Running → Line → Option Reply → S
     → Type 0
 Replies settings running said answer settings_then running_then =
     (state : State) → Stands settings running state
-    → (refused : Bool) × (answer ≡ reply_of refused state said)
-    × Stands settings_then running_then (after refused state said)
+    → (lack : Lack) × (answer ≡ reply_of lack state said)
+    × Stands settings_then running_then (after lack state said)
 
 -- what a line came to that has this reply, or none, and was carried out
 abbrev pub taken_by : Option Reply → Taken
@@ -87,14 +88,14 @@ taken_by None = taken.Arrived
 abbrev pub Takes : Running → Line → Taken → Running → Type 0
 Takes old said (taken.Reply answer) new =
     (state : State) → RunsAs old state
-    → (refused : Bool) × (Some answer ≡ reply_of refused state said)
-    × RunsAs new (after refused state said)
+    → (lack : Lack) × (Some answer ≡ reply_of lack state said)
+    × RunsAs new (after lack state said)
 Takes old said (taken.Question asked) new = (said ≡ line.Question asked) × (new ≡ old)
 Takes old said (taken.Maps task) new = (said ≡ line.Maps task) × (new ≡ old)
 Takes old said taken.Moved new = (said ≡ line.Pages (Ok page.Moved)) × (new ≡ old)
 Takes old said taken.Rooms new = (said ≡ line.Pages (Ok page.Rooms)) × (new ≡ old)
 Takes old said taken.Arrived new =
     (state : State) → RunsAs old state
-    → (refused : Bool)
-    × (Shown (arrived_text (after refused state said)) ≡ (outcome_of refused state said).answer)
-    × (None ≡ asked_fault refused state said) × RunsAs new (after refused state said)
+    → (lack : Lack)
+    × (Shown (arrived_text (after lack state said)) ≡ (outcome_of lack state said).answer)
+    × (None ≡ asked_fault lack state said) × RunsAs new (after lack state said)

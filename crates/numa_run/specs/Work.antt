@@ -1,5 +1,5 @@
--- What commands and the lines of workers are answered, and what they do. `refused` says whether a
--- growth was refused while the line was served.
+-- What commands and the lines of workers are answered, and what they do. `lack` says what a line
+-- lacked while it was served.
 use Rattle.std.specs.Prelude.{ℕ, ◌==◌, Bool, true, false, not, Option, Some, None, Result, Ok, Err}
 use Rattle.std.specs.Prelude.{is_some, is_ok, if◌then◌else◌}
 use Rattle.numa_mode.specs.Policy.{is_default}
@@ -22,6 +22,7 @@ use Rattle.numa_requests.specs.declared.event.CoreRefusal.{CoreRefusal}
 use Rattle.numa_requests.specs.declared.event.CoreRefusal.TheVariants.{Command as Because, NotOwned}
 use Rattle.numa_requests.specs.declared.event.CoreRefusal.TheVariants.{NoMemory}
 use Rattle.numa_maps.specs.Residents.{Kept, placed_at, with_placement, without_page}
+use Rattle.numa_page_state.specs.Outcomes.{Lack, is_starved}
 use Rattle.numa_script.specs.declared.work.Work.{Work}
 use Rattle.numa_script.specs.declared.work.Work.TheVariants as work
 use Rattle.numa_script.specs.Replies.{reply_to, win_of}
@@ -79,11 +80,11 @@ unless_wanting None answer = answer
 unless_wanting (Some want) (Ok answer) = Err want
 unless_wanting (Some want) (Err cause) = Err cause
 
-module _ (refused : Bool) (s : Setup) where
+module _ (lack : Lack) (s : Setup) where
   -- the core's answer to an event; a Begin takes the newest published version
   abbrev pub event_answer : World → Event → Result CoreReply CoreRefusal
   event_answer world event =
-      unless_wanting (if refused then want_of event else None)
+      unless_wanting (if is_starved lack then want_of event else None)
       (answer_of s world (newest_published world) event)
 
   -- the world after it
@@ -115,7 +116,7 @@ module _ (refused : Bool) (s : Setup) where
   kept_outcome world resident w placement =
       if is_some (placed_at resident placement.page)
       then not_kept world resident w placement (reply.Back placement.frame)
-      else if refused then not_kept world resident w placement (reply.Refused NoMemory)
+      else if is_starved lack then not_kept world resident w placement (reply.Refused NoMemory)
       else record {
         reply = reply.Won (win_of placement);
         world = world;

@@ -58,8 +58,8 @@ pub fn toucher_of(words: &MoveWords) -> Toucher
 impl Running {
     /// Sets a policy, unless a page of its span lies on another node than those of its list.
     fn bind_strictly(&mut self, alloc: Global, command: &Command) -> Reply
-        ensures { Serves self.old result self.new (λ refused machine state. judged_by
-            (strict_binding_in command.now) refused machine state command.now) }
+        ensures { Serves self.old result self.new (λ lack machine state. judged_by
+            (strict_binding_in command.now) lack machine state command.now) }
     {
         let Some(binding) = strict_binding_in(command) else {
             return self.accept(command);
@@ -79,7 +79,7 @@ impl Running {
 
     /// Sets a policy, to which pages go that have been found to go.
     fn send(&mut self, alloc: Global, said: &Rebinding, words: &MoveWords) -> Reply
-        ensures { Serves self.old result self.new (λ refused machine state. sent_unless refused
+        ensures { Serves self.old result self.new (λ lack machine state. sent_unless lack
             (refusal_of machine state.bounds state.world.history (command_of said.now)) machine
             state said.now words.now) }
     {
@@ -114,8 +114,8 @@ impl Running {
     /// Sets a policy, and moves the pages of its span that lie on other nodes than those of its
     /// list.
     fn bind_moving(&mut self, alloc: Global, command: &Command, words: &MoveWords) -> Reply
-        ensures { Serves self.old result self.new (λ refused machine state. moved_by
-            (rebinding_in command.now) refused machine state command.now words.now) }
+        ensures { Serves self.old result self.new (λ lack machine state. moved_by
+            (rebinding_in command.now) lack machine state command.now words.now) }
     {
         match rebinding_in(command) {
             Some(said) => self.send(alloc, &said, words),
@@ -133,7 +133,7 @@ impl Running {
         policy: &Result<PolicySpec, WordError>,
         pages: &BoundPages,
     ) -> Reply
-        ensures { Serves self.old result self.new (λ refused machine state. bound_outcome refused
+        ensures { Serves self.old result self.new (λ lack machine state. bound_outcome lack
             machine state pages.now (bound_command machine.rules start length policy.now)) }
     {
         let rules = self.core.space().machine().rules();

@@ -4,6 +4,7 @@ ghost use Rattle.std.specs.Prelude.{false};
 ghost use Rattle.std.specs.List.{range_with_len};
 ghost use Rattle.numa_machine.specs.Faults.{has_other_node};
 ghost use Rattle.numa_mask.specs.NodeSet.{set_of, with_node};
+ghost use Rattle.numa_page_state.specs.Outcomes.{Enough, Lack};
 ghost use Rattle.numa_run.specs.Machines.{fallback_by, first_fault, hardware_of, has_bad_nodes};
 ghost use Rattle.numa_run.specs.Machines.{nodes_with_cpus};
 
@@ -86,9 +87,9 @@ pub(crate) fn build(
 ) -> Result<Machine, MachineFault>
     ensures ok { IfOk result (λ machine.
         (machine ≡ hardware_of said.now memory rules (nodes_with_cpus said.now.nodes cpus))
-        × (first_fault false (nodes_with_cpus said.now.nodes cpus) machine ≡ None)) }
-    ensures err { IfErr result (λ fault. (refused : Bool)
-        × (first_fault refused (nodes_with_cpus said.now.nodes cpus)
+        × (first_fault Enough (nodes_with_cpus said.now.nodes cpus) machine ≡ None)) }
+    ensures err { IfErr result (λ fault. (lack : Lack)
+        × (first_fault lack (nodes_with_cpus said.now.nodes cpus)
         (hardware_of said.now memory rules (nodes_with_cpus said.now.nodes cpus)) ≡ Some fault)) }
 {
     let MachineLine {

@@ -39,8 +39,8 @@ impl Running {
     /// Carries out a command, as the core takes it.
     #[inline(always)]
     pub(crate) fn accept(&mut self, command: &Command) -> Reply
-        ensures { Serves self.old result self.new (λ refused machine state.
-            accepted_outcome refused machine state command.now) }
+        ensures { Serves self.old result self.new (λ lack machine state.
+            accepted_outcome lack machine state command.now) }
     {
         accept_reply(self.core.accept(command))
     }
@@ -48,8 +48,8 @@ impl Running {
     /// Changes the allowed nodes; if the core accepts that, pages follow them.
     #[inline(never)]
     fn mems(&mut self, mask: NodeMask) -> Reply
-        ensures { Serves self.old result self.new (λ refused machine state.
-            mems_outcome refused machine state mask) }
+        ensures { Serves self.old result self.new (λ lack machine state.
+            mems_outcome lack machine state mask) }
     {
         let old = self.core.space().allowed();
         let answer = self.core.accept(&Command::SetMems { mask });
@@ -64,8 +64,8 @@ impl Running {
     /// Unmaps the pages of a span; if the core accepts that, nothing is stated of them any more.
     #[inline(never)]
     fn unmap(&mut self, start: u64, length: u64) -> Reply
-        ensures { Serves self.old result self.new (λ refused machine state.
-            unmap_outcome refused machine state start length) }
+        ensures { Serves self.old result self.new (λ lack machine state.
+            unmap_outcome lack machine state start length) }
     {
         let command = Command::Unmap { start, length };
         let forgotten = match without_span(&self.pages, start, length) {
@@ -87,8 +87,8 @@ impl Running {
     /// Carries out a command.
     #[inline(always)]
     pub(crate) fn obey(&mut self, command: &Command) -> Reply
-        ensures { Serves self.old result self.new (λ refused machine state.
-            obeyed refused machine state command.now) }
+        ensures { Serves self.old result self.new (λ lack machine state.
+            obeyed lack machine state command.now) }
     {
         match command {
             Command::SetMems { mask } => self.mems(*mask),

@@ -79,7 +79,7 @@ pub fn change(
     requires moved { line.now ≢ PageLine.Moved }
     requires rooms { line.now ≢ PageLine.Rooms }
     ensures { DoesAs kept.old result kept.new (Some (lack_reply line.now))
-        (λ refused at. change_of refused (ground_in space.now resident.now) line.now at) }
+        (λ lack at. change_of lack (ground_in space.now resident.now) line.now at) }
 {
     match line {
         PageLine::At {
@@ -132,8 +132,8 @@ impl Running {
     fn change(&mut self, alloc: Global, line: &PageLine) -> Option<Reply>
         requires moved { line.now ≢ PageLine.Moved }
         requires rooms { line.now ≢ PageLine.Rooms }
-        ensures { Changes self.old result self.new (λ refused machine state.
-            changed refused machine state line.now) }
+        ensures { Changes self.old result self.new (λ lack machine state.
+            changed lack machine state line.now) }
     {
         if begins_starved(alloc, &mut self.pages) {
             return Some(lack_reply(line));

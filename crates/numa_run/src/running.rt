@@ -11,7 +11,7 @@ ghost use Rattle.numa_run.specs.Questions.{question_text};
 ghost use Rattle.numa_run.specs.Listings.{there_listing};
 ghost use Rattle.numa_placed.specs.Shifts.{AreRooms};
 ghost use Rattle.numa_page_state.specs.Lying.{Lying};
-ghost use Rattle.numa_page_state.specs.Outcomes.{rooms_of};
+ghost use Rattle.numa_page_state.specs.Outcomes.{Lack, is_starved, rooms_of};
 ghost use Rattle.numa_page_state.specs.Standing.{Lies};
 ghost use Rattle.numa_run.specs.ArrivedTexts.{rooms_line};
 ghost use Rattle.numa_run.specs.MovedTexts.{last_line};
@@ -151,8 +151,8 @@ impl Running {
     /// Records a placement that a worker won, unless its page has one or there is no memory for it:
     /// then its frame is given back.
     fn keep(&mut self, worker: u32, placement: Placement) -> Reply
-        ensures { Does self.old result self.new (λ refused state.
-            kept_outcome refused (setup_of self.old.core) state.world state.resident worker
+        ensures { Does self.old result self.new (λ lack state.
+            kept_outcome lack (setup_of self.old.core) state.world state.resident worker
             placement) }
     {
         let win = Win::of(&placement);
@@ -172,8 +172,8 @@ impl Running {
 
     /// A worker finds a frame for a page, and the page keeps it.
     fn touch(&mut self, worker: u32, request: Request) -> Reply
-        ensures { Does self.old result self.new (λ refused state.
-            touch_outcome refused (setup_of self.old.core) state.world state.resident worker
+        ensures { Does self.old result self.new (λ lack state.
+            touch_outcome lack (setup_of self.old.core) state.world state.resident worker
             request) }
     {
         match won_by(self.core.touch(worker, request)) {
@@ -184,8 +184,8 @@ impl Running {
 
     /// A worker gives back the frame of a page. If it may not, the page keeps it.
     fn release(&mut self, worker: u32, page: u64) -> Reply
-        ensures { Does self.old result self.new (λ refused state.
-            release_outcome refused (setup_of self.old.core) state.world state.resident worker
+        ensures { Does self.old result self.new (λ lack state.
+            release_outcome lack (setup_of self.old.core) state.world state.resident worker
             page) }
     {
         let Some(placement) = self.resident.at(page) else {
@@ -202,8 +202,8 @@ impl Running {
 
     /// Carries out a line of workers. A page that is there isn't touched for the first time.
     pub fn work(&mut self, work: Work) -> Reply
-        ensures { Serves self.old result self.new (λ refused machine state.
-            work_served refused machine state work) }
+        ensures { Serves self.old result self.new (λ lack machine state.
+            work_served lack machine state work) }
     {
         match work {
             Work::Event(event) => {
@@ -300,8 +300,8 @@ impl Running {
 
     /// Carries out an `mbind` of length 0 whose mode, flag and nodes are refused together.
     fn bind_nothing(&mut self, start: u64, fault: WordError) -> Reply
-        ensures { Serves self.old result self.new (λ refused machine state.
-            command_outcome refused machine state (bind_nothing machine.rules start fault)) }
+        ensures { Serves self.old result self.new (λ lack machine state.
+            command_outcome lack machine state (bind_nothing machine.rules start fault)) }
     {
         if self.core.space().machine().rules().is_linux() {
             return self.accept(&empty_bind(start));
@@ -344,8 +344,9 @@ impl Running {
 
     /// The first cause that refuses a question.
     pub fn question_cause(&mut self, question: Question) -> Option<CoreRefusal>
-        ensures { (state : State) → RunsAs self.old state → (refused : Bool) × RunsAs self.new state
-            × (result ≡ question_cause refused self.old.core.space.machine state.world.history
+        ensures { (state : State) → RunsAs self.old state → (lack : Lack) × RunsAs self.new state
+            × (result ≡ question_cause (is_starved lack) self.old.core.space.machine
+            state.world.history
             question) }
     {
         if let Question::Ranges = question {

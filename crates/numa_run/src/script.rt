@@ -389,7 +389,7 @@ impl Script {
 }
 
 impl Serve for Script {
-    ghost use Rattle.std.specs.Prelude.{Bool, false};
+    ghost use Rattle.numa_page_state.specs.Outcomes.{Enough, Lack};
     ghost use Rattle.numa_run.specs.Answers.{State, answer_to, after_bytes};
     ghost use Rattle.numa_run.specs.Scripts.{ScriptStandsFor};
 
@@ -397,9 +397,9 @@ impl Serve for Script {
 
     ghost stands_for = { ScriptStandsFor };
 
-    ghost Lack = { Bool };
+    ghost Lack = { Lack };
 
-    ghost plenty = { false };
+    ghost plenty = { Enough };
 
     ghost answer_of = { answer_to };
 

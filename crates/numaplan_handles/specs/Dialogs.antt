@@ -3,8 +3,8 @@ use Rattle.std.specs.Prelude.{◌≡◌, ℕ, Bool, List, [], length}
 use Rattle.std.specs.Prelude.{Option, Some, None, Result, Ok, Err}
 use Rattle.numaplan_handles.specs.Room.{Copies}
 use Rattle.numa_machine.specs.declared.rules.Rules.{Rules}
-use Rattle.numa_host_script.specs.Sessions.{Lack, Session, session_after_bytes, session_answer_to}
-use Rattle.numa_host_script.specs.Sessions.{session_by}
+use Rattle.numa_host_script.specs.Sessions.{HostLack, Session, session_after_bytes}
+use Rattle.numa_host_script.specs.Sessions.{session_answer_to, session_by}
 use Rattle.numa_host_script.specs.Standing.{StandsIn}
 use Rattle.numa_host_script.specs.declared.script.HostScript.{HostScript}
 use Rattle.numaplan_handles.specs.declared.dialog.Dialog.{Dialog}
@@ -24,7 +24,7 @@ IsFresh rules dialog = IsAt dialog.script (session_by rules) × (dialog.answer.i
 abbrev pub IsServed : Dialog → List ℕ → Dialog → (List ℕ → Type 0) → Type 0
 IsServed before line later told =
     (session : Session) → IsAt before.script session
-    → (lack : Lack)
+    → (lack : HostLack)
     × IsAt later.script (session_after_bytes lack session line)
     × told (session_answer_to lack session line)
 

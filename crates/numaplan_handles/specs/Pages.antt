@@ -4,7 +4,7 @@ use Rattle.std.specs.Prelude.{OnOk, OnErr, IfOk, IfSome, MatchOption, is_some, s
 use Rattle.numa_core.specs.Standing.{CoreState}
 use Rattle.numa_machine.specs.declared.no_memory.NoMemory.{NoMemory}
 use Rattle.numa_pages.specs.Changes.{PagesState, Populates}
-use Rattle.numa_pages.specs.Listing.{listed}
+use Rattle.numa_pages.specs.Listing.{AreListed}
 use Rattle.numa_pages.specs.declared.listing.PageRun.{PageRun}
 use Rattle.numa_placed.specs.Refusals.{lacks_node}
 use Rattle.numa_page_state.specs.Lying.{Lying, nothing}
@@ -12,12 +12,8 @@ use Rattle.numa_page_state.specs.Outcomes.{rooms_of}
 use Rattle.numa_page_state.specs.Standing.{ArrivedAs, LiesAs}
 use Rattle.numa_page_state.specs.declared.arrived.Arrived.{Arrived}
 use Rattle.numa_placed.specs.Spots.{is_on, node_of, pages_where, spot_at}
-use Rattle.numa_placed.specs.Wholes.{AreWhole}
 use Rattle.numa_requests.specs.declared.page_refusal.PlacedRefusal.{PlacedRefusal}
 use Rattle.numa_requests.specs.declared.page_refusal.PlacedRefusal.TheVariants.{NoSuchNode}
-use Rattle.numa_placed.specs.declared.spot.Spot.{Spot}
-use Rattle.numa_ranges.specs.Runs.{AreApart, AreMaximal}
-use Rattle.numa_ranges.specs.declared.run.Run.{Run}
 
 -- `told` says what the call did to what is kept
 abbrev pub OfPages : {A : Type 0} → (PagesState → A → PagesState → Type 0) → Option PagesState
@@ -77,15 +73,9 @@ abbrev pub HasCounts : List ℕ → PagesState → Type 0
 HasCounts counts pages = (node : ℕ) → node < 256
     → slice_index counts node ≡ pages_where (is_on node) (spot_at pages.state.placed)
 
--- these are the runs of pages that lie on a node: of all maximal runs those whose pages lie there
-pub record AreRuns (list : List PageRun) (runs : List (Run Spot)) : Type 0 where
-  pub told : list ≡ listed runs
-  pub rising : AreApart 0 runs
-  pub maximal : AreMaximal runs
-  pub whole : AreWhole runs
-
+-- these are the maximal runs of pages that lie on a node, in ascending order
 abbrev pub HasRuns : List PageRun → PagesState → Type 0
-HasRuns list pages = AreRuns list pages.state.placed
+HasRuns list pages = AreListed (spot_at pages.state.placed) 0 list
 
 -- a node takes so many more pages; or it has no memory
 abbrev pub HasRoom : ℕ → Result ℕ PlacedRefusal → PagesState → Type 0

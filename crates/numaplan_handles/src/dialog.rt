@@ -1,6 +1,6 @@
 //! Scripts that are given line by line.
 ghost use Rattle.std.specs.Prelude.{◌≡◌, [], Ok, Err, Bool, MatchOption};
-ghost use Rattle.numa_host_script.specs.Sessions.{Lack, Session, session_after_bytes};
+ghost use Rattle.numa_host_script.specs.Sessions.{HostLack, Session, session_after_bytes};
 ghost use Rattle.numa_host_script.specs.Sessions.{session_answer_to};
 ghost use Rattle.numa_host_script.specs.Standing.{StandsIn};
 ghost use Rattle.numaplan_handles.specs.Dialogs.{IsFresh, Serves};
@@ -36,7 +36,7 @@ pub struct Dialog {
 fn serve(script: &mut HostScript, alloc: Global, line: &[u8], room: Vec<u8>) -> Option<Vec<u8>>
     requires empty { room.items ≡ [] }
     ensures { (session : Session) → StandsIn script.old.script script.old.limits script.old.host
-        session → (lack : Lack)
+        session → (lack : HostLack)
         × StandsIn script.new.script script.new.limits script.new.host
         (session_after_bytes lack session line.now)
         × MatchOption result (Unit {0})

@@ -2,8 +2,9 @@
 ghost use Rattle.std.specs.Prelude.{◌≡◌, IfOk};
 ghost use Rattle.numaplan_handles.specs.Calls.{Asks};
 ghost use Rattle.numaplan_handles.specs.Handles.{pages_in};
-ghost use Rattle.numaplan_handles.specs.Pages.{AreRuns, HasCounts, HasNode, HasRoom, HasRuns};
-ghost use Rattle.numaplan_handles.specs.Pages.{TellsOf};
+ghost use Rattle.numa_pages.specs.Listing.{AreListed};
+ghost use Rattle.numa_placed.specs.Spots.{spot_at};
+ghost use Rattle.numaplan_handles.specs.Pages.{HasCounts, HasNode, HasRoom, HasRuns, TellsOf};
 
 use crate::handle::of_kept;
 use crate::pages_handle::{PagesHandle, pages_kept};
@@ -15,7 +16,7 @@ use std::alloc::Global;
 
 /// The runs of pages that lie on one node.
 fn runs_of(alloc: Global, placed: &Placed) -> Result<Vec<PageRun>, NoMemory>
-    ensures { IfOk result (λ list. AreRuns list.items placed.now) }
+    ensures { IfOk result (λ list. AreListed (spot_at placed.now) 0 list.items) }
 {
     match list_runs(alloc, placed) {
         Ok(list) => Ok(list),

@@ -5,7 +5,7 @@ ghost use Rattle.numa_placed.specs.Astray.{strict_cause, strict_cause_by};
 ghost use Rattle.numa_placed.specs.Spots.{spot_at};
 
 use crate::areas::judged_pages;
-use crate::astray::judge_pages;
+use crate::astray::judge_places;
 use crate::placed::Placed;
 use crate::spans::{span_by, span_of};
 use numa_mask::NodeMask;
@@ -31,7 +31,7 @@ impl Placed {
             (λ refusal. strict_cause (spot_at self.now) start length list.now ≡ Some refusal) }
     {
         let (first, pages) = span_of(start, length)?;
-        judge_pages(&self.map, first, pages, list)
+        judge_places(&self.places, first, pages, list)
     }
 
     /// Refuses it as `judge_strict` does, but looks only at the pages that are judged by the rules
@@ -55,6 +55,6 @@ impl Placed {
     {
         let (first, pages) = span_by(space.machine().rules(), start, length)?;
         let judged = judged_pages(space, first, pages);
-        judge_pages(&self.map, first, judged, list)
+        judge_places(&self.places, first, judged, list)
     }
 }

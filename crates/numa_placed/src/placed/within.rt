@@ -6,16 +6,17 @@ ghost use Rattle.numa_placed.specs.Binds.{IsBound, bound_spots, touched_of};
 ghost use Rattle.numa_placed.specs.Refusals.{IsRefusal, IsRefusalWithin, populate_cause};
 ghost use Rattle.numa_placed.specs.Refusals.{state_cause};
 ghost use Rattle.numa_placed.specs.Shifts.{ArePages, AreRooms, is_short, rooms_between, stated_on};
-ghost use Rattle.numa_placed.specs.Spots.{spot_at, stated_beside, too_many};
+ghost use Rattle.numa_placed.specs.Spots.{spot_at, stated_beside};
 
-use crate::bind::{FaultingTask, bind_span};
+use crate::bind::FaultingTask;
 use crate::bound::Bound;
-use crate::filling::stated_counts;
-use crate::fitting::keep_rooms;
+use crate::fitting::keep_all_rooms;
 use crate::judge::judge_touch;
 use crate::placed::Placed;
+use crate::places::count_each;
 use crate::rooms::Rooms;
 use crate::spans::{span_of, state_others_within, stated_span};
+use crate::touched::touch_span;
 use crate::wants::Wants;
 use numa_maps::Resident;
 use numa_requests::PlacedRefusal;
@@ -26,7 +27,7 @@ impl Placed {
     pub fn stated_counts(&self) -> [u64; 256]
         ensures { ArePages result (stated_on (spot_at self.now)) }
     {
-        stated_counts(&self.map)
+        count_each(&self.places)
     }
 
     /// States that the mapped pages of a span lie on a node, as `state_beside` does, as far as the
@@ -51,7 +52,6 @@ impl Placed {
         ensures ok { OnOk result ((page : ℕ) → spot_at self.new page
             ≡ stated_beside (λ p. is_some (page_at space.now.ranges p)) resident.now
             (page_of start) (page_count length) node (spot_at self.old) page) }
-        ensures few { OnOk result (too_many (spot_at self.new) ≡ false) }
         ensures fits { (room : ℕ → ℕ) → AreRooms rooms.old room → OnOk result
             (is_short room (spot_at self.old) (spot_at self.new) node ≡ false) }
         ensures taken { (room : ℕ → ℕ) → AreRooms rooms.old room → OnOk result
@@ -65,14 +65,12 @@ impl Placed {
         ensures unchanged { OnErr result (self.new ≡ self.old) }
         ensures rooms { OnErr result (rooms.new ≡ rooms.old) }
     {
-        // Tells the proof that there are few runs.
-        let _ = &self.map;
         let said = stated_span(space, start, length, node)?;
         if said.pages == 0 {
-            keep_rooms(&self.map, rooms);
+            keep_all_rooms(&self.places, rooms);
             return Ok(());
         }
-        state_others_within(&mut self.map, space, said, resident, rooms)
+        state_others_within(&mut self.places, space, said, resident, rooms)
     }
 
     /// Touches each page of a span for the first time, as a task on a CPU of node `cpu` does that
@@ -100,7 +98,6 @@ impl Placed {
         ensures ok { (room : ℕ → ℕ) → AreRooms rooms.old room → IfOk result (IsBound
             (touched_of space.now resident.now start length task cpu) (spot_at self.old) room
             (spot_at self.new) rooms.new) }
-        ensures few { OnOk result (too_many (spot_at self.new) ≡ false) }
         ensures err { (room : ℕ → ℕ) → AreRooms rooms.old room → IfErr result (IsRefusal
             (populate_cause space.now.machine (λ p. is_some (page_at space.now.ranges p)) start
             length cpu) (bound_spots (touched_of space.now resident.now start length task cpu)
@@ -111,8 +108,8 @@ impl Placed {
         let (first, pages) = span_of(start, length)?;
         judge_touch(space, first, pages, cpu)?;
         let touch = FaultingTask { task, cpu };
-        bind_span(
-            &mut self.map,
+        touch_span(
+            &mut self.places,
             space,
             first,
             pages,

@@ -1,6 +1,7 @@
 use Rattle.std.proofs.Common.{Bool, ℕ, subst}
 use Rattle.std.proofs.lemmas.Bool.{eq-eqb, ne_eqb}
 use Rattle.numa_host.specs.Groups.{effective_mems}
+use Rattle.numa_page_state.specs.Outcomes.{Lack}
 use Rattle.numa_page_state.specs.Standing.{HaveRoom}
 use Rattle.numa_host_pages.specs.Homes.{HostLying, group_followed, homes_followed}
 use Rattle.numa_host_pages.specs.Standing.{AreHomes}
@@ -17,7 +18,7 @@ returns-then-group-name t c = λ at are have same.
 pub returns : goal.returns
 returns t c = λ at are have same.
     let nodes = effective_mems c.args.memory c.args.all.now in
-    let told = subst (λ (f : Bool). (lacks : ℕ → Bool)
+    let told = subst (λ (f : Bool). (lacks : ℕ → Lack)
     × AreHomes c.follow_group.new.members (homes_followed lacks f c.in-Some.group.now.name
     (nodes c.in-Some.group.now.name) at.homes at.room).0
     × HaveRoom c.follow_group.new.rooms (homes_followed lacks f c.in-Some.group.now.name

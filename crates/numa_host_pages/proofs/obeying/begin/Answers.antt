@@ -3,6 +3,7 @@ use Rattle.numa_host.specs.Groups.{effective_mems, groups_of}
 use Rattle.numa_host.specs.Processes.{members_of}
 use Rattle.numa_host.specs.declared.group.ControlGroup.{ControlGroup}
 use Rattle.numa_requests.specs.declared.host_command.HostCommand.TheVariants.{NewProcess}
+use Rattle.numa_page_state.specs.Outcomes.{Enough}
 use Rattle.numa_host_pages.specs.Homes.{with_born}
 use Rattle.numa_host_pages.specs.Standing.{HostLies}
 use Rattle.numa_host_pages.proofs.Obeyed.{accepted, born-are, homes-count, new-few, refused}
@@ -22,7 +23,7 @@ returns-in-Ok c =
     stands.groups in
     let small : length at.homes < 4096 = subst (λ n. n < 4096) (sym (homes-count at history are))
     (new-few old.blank.machine old.blank.bounds history process group none) in (
-      λ place member. false,
+      λ place member. Enough,
       subst (λ n. HostLies c.born.new.self (with_born process group n at)) nodes
           (c.born.ensures at lies small),
       born-are at history process group _ (NewProcess process group) are refl refl,

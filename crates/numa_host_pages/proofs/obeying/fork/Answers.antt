@@ -1,6 +1,7 @@
 use Rattle.std.proofs.Common.{◌≡◌, ◌<◌, ℕ, false, sym, subst, refl, length}
 use Rattle.numa_host.specs.Processes.{nodes_of}
 use Rattle.numa_requests.specs.declared.host_command.HostCommand.TheVariants.{Fork}
+use Rattle.numa_page_state.specs.Outcomes.{Enough}
 use Rattle.numa_host_pages.specs.Homes.{with_born}
 use Rattle.numa_host_pages.specs.Standing.{HostLies}
 use Rattle.numa_host_pages.proofs.Obeyed.{accepted, born-are, fork-few, homes-count, refused}
@@ -18,7 +19,7 @@ returns-in-Ok c =
     let place = c.place_of-group.ensures history stands in
     let small : length at.homes < 4096 = subst (λ n. n < 4096) (sym (homes-count at history are))
     (fork-few old.blank.machine old.blank.bounds history parent child from task none) in (
-      λ place member. false,
+      λ place member. Enough,
       subst (λ n. HostLies c.born.new.self
           (with_born child n (nodes_of old.blank.machine history parent) at)) place.0
           (subst (λ n. HostLies c.born.new.self

@@ -8,12 +8,12 @@ use Rattle.numa_host_script.proofs.laws.process_answers.Goals as goal
 
 pub returns-clause-asked : goal.returns-clause-asked
 unfolding outcome_of
-returns-clause-asked c = λ refused at process state question machine history there.
+returns-clause-asked c = λ lacked at process state question machine history there.
     rw (there, machine, history) refl
 
 pub returns-clause-listed : goal.returns-clause-listed
 unfolding outcome_of
-returns-clause-listed c = λ refused at process state task machine history placed lie bounds there.
+returns-clause-listed c = λ lacked at process state task machine history placed lie bounds there.
     ap (λ (b : Bool). (listed_where b at process task).answer) there
     ∙ (λ i. Shown (there_listing (record {
       machine = at.machine;
@@ -21,5 +21,5 @@ returns-clause-listed c = λ refused at process state task machine history place
       history = sym history i;
       kept = sym placed i;
     }) (sym lie i) task))
-    ∙ sym (ap (λ (m : Option Hardware). (served_by m refused state (line.Maps task)).answer)
+    ∙ sym (ap (λ (m : Option Hardware). (served_by m lacked state (line.Maps task)).answer)
     machine)

@@ -11,5 +11,5 @@ returns-in-Ok c = rw c.in-Ok.is c.obeyed.ensures
 pub returns-in-Err : goal.returns-in-Err
 returns-in-Err c =
     rw c.in-Err.is (still c.args.running.now (reply.BadWord c.in-Err.fault)
-    (λ lack at. given_outcome lack.refused at c.args.process (Err c.in-Err.fault)) plenty
+    (λ lack at. given_outcome lack.lacked at c.args.process (Err c.in-Err.fault)) plenty
     (λ at stands. refl))

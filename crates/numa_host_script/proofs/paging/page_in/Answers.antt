@@ -30,11 +30,11 @@ returns-in-Moved c = rw c.in-Moved.is (moved-taken c.args.running.now c.args.pro
 pub returns-in-Some : goal.returns-in-Some
 returns-in-Some c =
     acted-told c.args.running.now c.change_in.new.running c.args.process c.args.line.now
-    (λ refused at. page-acts c.args.line.now c.in_default.not-Room c.in_default.not-Rooms
-    c.in_default.not-MemoryMigrate refused at c.args.process) c.in-Some.reply c.in-Some.ensures
+    (λ lacked at. page-acts c.args.line.now c.in_default.not-Room c.in_default.not-Rooms
+    c.in_default.not-MemoryMigrate lacked at c.args.process) c.in-Some.reply c.in-Some.ensures
 
 pub returns-in-None : goal.returns-in-None
 returns-in-None c =
     acted-touched c.args.running.now c.change_in.new.running c.args.process c.args.line.now
-    (λ refused at. page-acts c.args.line.now c.in_default.not-Room c.in_default.not-Rooms
-    c.in_default.not-MemoryMigrate refused at c.args.process) c.in-None.ensures
+    (λ lacked at. page-acts c.args.line.now c.in_default.not-Room c.in_default.not-Rooms
+    c.in_default.not-MemoryMigrate lacked at c.args.process) c.in-None.ensures

@@ -23,14 +23,14 @@ returns-clause-gone c spots nodes spans old new room have =
     ap (λ (g : Going). g.gone) (same-shift spots nodes spans old new room have)
 
 pub returns-clause-migrated : goal.returns-clause-migrated
-returns-clause-migrated c basis from to nodes spans at room have is free enough =
+returns-clause-migrated c lack basis from to nodes spans at room have is free enough =
     let more = rw is at enough in
     rw (is, free, more)
     (ap (λ (g : Going). Some g.room)
     (same-shift at.spots nodes spans from (both to basis.allowed) room have))
 
 pub returns-clause-followed : goal.returns-clause-followed
-returns-clause-followed c kept old new nodes spans at room have is follows enough =
+returns-clause-followed c lack kept old new nodes spans at room have is follows enough =
     let more = rw is at enough in
     rw (follows, is, more)
     (ap (λ (g : Going). Some g.room) (same-shift at.spots nodes spans old new room have))

@@ -4,7 +4,7 @@ use Rattle.numa_page_state.proofs.forgetting.forgotten.Goals as goal
 pub returns-in-Ok-forget-clause-ok : goal.returns-in-Ok-forget-clause-ok
 returns-in-Ok-forget-clause-ok c =
     forgets-free c.args.placed.now c.in-Ok.after c.forget.new.self c.args.start c.args.length
-    c.in-Ok.ensures c.in-Ok-forget.ensures.ok c.in-Ok-forget.ensures.few
+    c.in-Ok.ensures c.in-Ok-forget.ensures.ok
 
 pub returns-in-Err-clause-err : goal.returns-in-Err-clause-err
 returns-in-Err-clause-err c =

@@ -15,17 +15,17 @@ pub returns-clause-moved : goal.returns-clause-moved
 returns-clause-moved c = move-mapped
 
 pub returns-clause-migrated : goal.returns-clause-migrated
-returns-clause-migrated c refused basis from to at =
-    shift-mapped refused basis.kept basis.mapped (migrate_cause basis.allowed to) from
+returns-clause-migrated c lack basis from to at =
+    shift-mapped lack basis.kept basis.mapped (migrate_cause basis.allowed to) from
     (both to basis.allowed) at
 
 pub returns-clause-along : goal.returns-clause-along
-returns-clause-along c refused kept mapped old new at =
-    shift-mapped refused kept mapped None old new at
+returns-clause-along c lack kept mapped old new at =
+    shift-mapped lack kept mapped None old new at
 
 pub returns-clause-followed : goal.returns-clause-followed
-returns-clause-followed c refused kept mapped old new at =
-    follow-mapped at.follows refused kept mapped old new at
+returns-clause-followed c lack kept mapped old new at =
+    follow-mapped at.follows lack kept mapped old new at
 
 pub returns-clause-sent : goal.returns-clause-sent
 returns-clause-sent c = sent-are

@@ -9,7 +9,7 @@ use Rattle.numa_page_state.proofs.Asking.{sent-so}
 use Rattle.numa_page_state.proofs.sending.sent_in.Goals as goal
 
 pub returns-in-Err-clause-err : goal.returns-in-Err-clause-err
-returns-in-Err-clause-err c = λ lying lies room.
+returns-in-Err-clause-err c = λ lying lies serves.
     let asked = asked_for c.args.space.now c.args.said.now c.args.toucher in
     let are = c.rooms_of-given.ensures lying.room lies.room in
     let first = span_cause c.args.said.now.start c.args.said.now.length in
@@ -18,7 +18,7 @@ returns-in-Err-clause-err c = λ lying lies room.
     (subst (λ (a : Asked). IsRefusal first (bound_spots a (spot_at c.in-Ok.placed)
     (rooms_of lying.room)) c.in-Err.cause)
     (asked-list c.args.space.now c.args.said.now c.args.toucher c.mask-list.result
-    c.mask-list.ensures) (c.in-Err.ensures.err (rooms_of lying.room) are)) room
+    c.mask-list.ensures) (c.in-Err.ensures.err (rooms_of lying.room) are))
 
 pub overflow_add-result : goal.overflow_add-result
 overflow_add-result c = omega (
@@ -41,6 +41,6 @@ returns-clause-ok c = λ lying lies.
     (spot_at c.bind_astray.new.self) c.bind_astray.new.rooms c.in-Ok-bind_astray.bound)
     (asked-list c.args.space.now c.args.said.now c.args.toucher c.mask-list.result
     c.mask-list.ensures) (c.in-Ok-bind_astray.ensures.ok (rooms_of lying.room) are))
-    c.in-Ok-bind_astray.ensures.few c.in-Ok-copy.ensures
+    c.in-Ok-copy.ensures
     (held-same c.args.state.now lying c.args.resident.now asked c.in-Ok-held_kept.held lies
     (c.in-Ok-held_kept.ensures.kept (rooms_of lying.room) are))

@@ -13,7 +13,7 @@ returns-in-None c =
     (moves-freely c.args.placed.now c.move_page.new.self
     (ground_in c.args.space.now []) c.args.page
     c.args.node few c.move_page.result c.move_page.ensures.accepted c.move_page.ensures.ok
-    c.move_page.ensures.few c.move_page.ensures.err c.move_page.ensures.unchanged)
+    c.move_page.ensures.err c.move_page.ensures.unchanged)
 
 pub returns-in-Some : goal.returns-in-Some
 returns-in-Some c =
@@ -25,5 +25,5 @@ returns-in-Some c =
     (ground_in c.args.space.now []) c.args.page c.args.node few
     c.in-Some.have c.move_page_within.new.rooms
     c.move_page_within.result c.move_page_within.ensures.accepted c.move_page_within.ensures.ok
-    c.move_page_within.ensures.taken c.move_page_within.ensures.few c.move_page_within.ensures.err
+    c.move_page_within.ensures.taken c.move_page_within.ensures.err
     c.move_page_within.ensures.unchanged c.move_page_within.ensures.rooms)

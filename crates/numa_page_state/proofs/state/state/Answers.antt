@@ -8,7 +8,7 @@ returns-in-None c =
     (states-freely c.args.placed.now c.state_beside.new.self
     (ground_in c.args.space.now c.args.resident.now) c.args.start c.args.length c.args.node
     c.state_beside.result c.state_beside.ensures.accepted c.state_beside.ensures.ok
-    c.state_beside.ensures.few c.state_beside.ensures.err c.state_beside.ensures.unchanged)
+    c.state_beside.ensures.err c.state_beside.ensures.unchanged)
 
 pub returns-in-Some : goal.returns-in-Some
 returns-in-Some c =
@@ -16,6 +16,6 @@ returns-in-Some c =
     (states-filling c.args.placed.now c.state_within.new.self
     (ground_in c.args.space.now c.args.resident.now) c.args.start c.args.length c.args.node
     c.in-Some.have c.state_within.new.rooms c.state_within.result c.state_within.ensures.accepted
-    c.state_within.ensures.ok c.state_within.ensures.few c.state_within.ensures.fits
+    c.state_within.ensures.ok c.state_within.ensures.fits
     c.state_within.ensures.taken c.state_within.ensures.err c.state_within.ensures.unchanged
     c.state_within.ensures.rooms)

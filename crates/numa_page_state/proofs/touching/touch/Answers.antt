@@ -22,5 +22,5 @@ returns c =
     c.stated_counts-before.result c.stated_counts-after.result c.more-on.result
     c.in_ok-bound.ensures.accepted
     (λ room have. c.in_ok-bound.ensures.ok (rooms_of room) (c.rooms_of-left.ensures room have))
-    c.in_ok-bound.ensures.few c.rooms_if.ensures c.stated_counts-before.ensures
+    c.rooms_if.ensures c.stated_counts-before.ensures
     c.stated_counts-after.ensures c.more-on.ensures

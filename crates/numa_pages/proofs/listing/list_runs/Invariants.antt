@@ -1,7 +1,16 @@
--- The runs listed so far, and those of the runs that are left, are those of all runs.
-use Rattle.std.proofs.Common.{◌≡◌, ◌++◌}
-use Rattle.numa_pages.specs.Listing.{listed}
+-- The runs listed so far, before those of the pages that are left, are all.
+use Rattle.std.proofs.Common.{◌-◌, ◌≤◌, ◌^◌, ◌++◌, List}
+use Rattle.numa_placed.specs.Spots.{spot_at}
+use Rattle.numa_pages.specs.Listing.{AreListed}
+use Rattle.numa_pages.specs.declared.listing.PageRun.{PageRun}
 use Rattle.numa_pages.proofs.listing.list_runs.Given as goal
 
-abbrev pub invariant-loop-run : goal.invariant-loop-run
-invariant-loop-run l = l.list.items ++ listed l.run-iterator ≡ listed l.placed
+abbrev pub invariant-loop-page : goal.invariant-loop-page
+invariant-loop-page l = record {
+  near : l.page ≤ 2 ^ 35;
+  listed : (rest : List PageRun) → AreListed (spot_at l.placed) l.page rest
+      → AreListed (spot_at l.placed) 0 (l.list.items ++ rest);
+}
+
+abbrev pub decreases-loop-page : goal.decreases-loop-page
+decreases-loop-page l = 2 ^ 35 - l.page

@@ -1,39 +1,34 @@
-use Rattle.std.proofs.Common.{◌+◌, ◌<◌, ap, sym, ◌∙◌, arith}
-use Rattle.std.specs.List.{list_any}
-use Rattle.numa_placed.specs.Astray.{is_astray, reaches}
-use Rattle.numa_placed.specs.Spots.{spot_at}
-use Rattle.numa_placed.proofs.Reaching.{no-pages, reaches-next, reaches-one, reaches-pages}
+use Rattle.std.proofs.Common.{◌-◌, ◌∙◌, arith, slice_index, sym}
+use Rattle.numa_placed.specs.Turns.{spots_of}
+use Rattle.numa_placed.proofs.Others.{astray-far, astray-none, astray-some, other-none, other-so}
+use Rattle.numa_placed.proofs.Owned.{nowhere-far}
 use Rattle.numa_placed.proofs.astray.has_astray.Goals as goal
 
-pub loop-run-init : goal.loop-run-init
-loop-run-init c =
-    ap (list_any (reaches c.args.list.now c.args.first (c.args.first + c.args.pages)))
-    (c.into_iter-run-iterator.ensures.into_iter_gives ∙ c.iter-run-items.ensures.runs)
+pub returns-then-first-end : goal.returns-then-first-end
+returns-then-first-end c =
+    sym (astray-far (spots_of c.args.places.now) c.args.list.now c.args.first c.args.pages
+    (λ page low high. nowhere-far c.args.places.now.nodes.items c.args.places.now.map.runs page
+    c.iter.ensures.rising (omega (arith, c.min-end.ensures, low, high))))
 
-pub loop-run-preserved : goal.loop-run-preserved
-loop-run-preserved c =
-    reaches-next c.args.list.now c.args.first (c.args.first + c.args.pages)
-    c.loop-run.run-iterator c.next.new.self c.in-Some.run' c.in-Some.ensures.steps
-    (sym c.reaches.ensures ∙ c.if-reaches.false) ∙ c.loop-run.invariant
+pub returns-in-Some : goal.returns-in-Some
+returns-in-Some c =
+    let spots = spots_of c.args.places.now in
+    let end = c.min-end.result in
+    let node = c.in-Some._node in
+    let other = other-so c.args.list.now (slice_index c.count_places-counts.result) node
+    c.in-Some.ensures.some in
+    sym (astray-some spots c.args.list.now c.args.first (end - c.args.first) c.args.pages
+    (omega (arith, c.min-end.ensures)) node other.0
+    (omega (arith, other.1, c.count_places-counts.ensures.counts node (omega arith))))
 
-pub returns-then-pages-eq0 : goal.returns-then-pages-eq0
-returns-then-pages-eq0 c =
-    sym (no-pages (λ page. is_astray c.args.list.now (spot_at c.args.map.now.runs page))
-    c.args.first c.args.pages (omega arith))
-
-pub returns-then-reaches : goal.returns-then-reaches
-returns-then-reaches c =
-    let some : 0 < c.args.pages = omega arith in
-    sym (reaches-one c.args.list.now c.args.first (c.args.first + c.args.pages)
-    c.loop-run.run-iterator c.next.new.self c.in-Some.run' c.in-Some.ensures.steps
-    (sym c.reaches.ensures ∙ c.if-reaches.true)) ∙ (c.loop-run.invariant
-    ∙ reaches-pages c.args.list.now c.args.map.now.runs 0 c.args.first c.args.pages some
-    c.iter-run-items.ensures.rising)
-
-pub returns : goal.returns
-returns c =
-    let some : 0 < c.args.pages = omega arith in
-    ap (list_any (reaches c.args.list.now c.args.first (c.args.first + c.args.pages)))
-    (sym c.in-None.ensures.steps.0) ∙ (c.loop-run.invariant
-    ∙ reaches-pages c.args.list.now c.args.map.now.runs 0 c.args.first c.args.pages some
-    c.iter-run-items.ensures.rising)
+pub returns-in-None : goal.returns-in-None
+returns-in-None c =
+    let spots = spots_of c.args.places.now in
+    let end = c.min-end.result in
+    sym (astray-none spots c.args.list.now c.args.first (end - c.args.first) c.args.pages
+    (omega (arith, c.min-end.ensures)) c.count_places-counts.ensures.off
+    (λ node small out. sym (c.count_places-counts.ensures.counts node small)
+    ∙ other-none c.args.list.now (slice_index c.count_places-counts.result) node
+    (c.in-None.ensures.none node small) out)
+    (λ page low high. nowhere-far c.args.places.now.nodes.items c.args.places.now.map.runs page
+    c.iter.ensures.rising (omega (arith, c.min-end.ensures, low, high))))

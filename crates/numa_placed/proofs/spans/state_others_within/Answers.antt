@@ -1,8 +1,9 @@
 use Rattle.std.proofs.Common.{ℕ, Bool, is_some, subst}
 use Rattle.numa_ranges.specs.Runs.{page_at}
 use Rattle.numa_placed.specs.Shifts.{is_short}
-use Rattle.numa_placed.specs.Spots.{spot_at, stated_beside}
-use Rattle.numa_placed.specs.Standing.{IsEditWithin}
+use Rattle.numa_placed.specs.Spots.{stated_beside}
+use Rattle.numa_placed.specs.Stored.{IsStoredWithin}
+use Rattle.numa_placed.specs.Turns.{spots_of}
 use Rattle.numa_placed.specs.declared.spot.Spot.{Spot}
 use Rattle.numa_placed.proofs.Fits.{memory-short}
 use Rattle.numa_placed.proofs.spans.state_others_within.Goals as goal
@@ -10,12 +11,11 @@ use Rattle.numa_placed.proofs.spans.state_others_within.Goals as goal
 pub returns-in_default-clause-edit : goal.returns-in_default-clause-edit
 returns-in_default-clause-edit c room are =
     let mapped : ℕ → Bool = λ p. is_some (page_at c.args.space.now.ranges p) in
-    let old = spot_at c.args.map.now.runs in
+    let old = spots_of c.args.places.now in
     let after = stated_beside mapped c.args.resident.now c.args.said.first c.args.said.pages
     c.args.said.node old in
     record {
       ok = tt;
-      few = tt;
       fits = tt;
       taken = tt;
       lack = memory-short (is_short room old after c.args.said.node) after;
@@ -23,6 +23,6 @@ returns-in_default-clause-edit c room are =
 
 pub returns-clause-edit : goal.returns-clause-edit
 returns-clause-edit c room are =
-    subst (λ (after : ℕ → Spot). IsEditWithin (spot_at c.args.map.now.runs) after c.args.said.node
-    room c.put_within.result (spot_at c.put_within.new.map.runs) c.put_within.new.rooms)
-    (λ i page. c.in-Ok.ensures.spots page i) (c.put_within.ensures.edit room are)
+    subst (λ (after : ℕ → Spot). IsStoredWithin (spots_of c.args.places.now) after c.args.said.node
+    room c.put_places_within.result (spots_of c.put_places_within.new.places) c.put_places_within.new.rooms)
+    (λ i page. c.in-Ok.ensures.spots page i) (c.put_places_within.ensures.edit room are)

@@ -2,7 +2,8 @@ use Rattle.std.proofs.Common.{◌≡◌, List, Option, is_some, ap, sym, subst, 
 use Rattle.numa_mode.specs.Policy.{PolicyRecord}
 use Rattle.numa_ranges.specs.Runs.{page_at}
 use Rattle.numa_ranges.specs.declared.run.Run.{Run}
-use Rattle.numa_placed.specs.Spots.{spot_at, stated_spots}
+use Rattle.numa_placed.specs.Spots.{stated_spots}
+use Rattle.numa_placed.specs.Turns.{spots_of}
 use Rattle.numa_placed.proofs.Stating.{AreLeft, left-fits}
 use Rattle.numa_placed.proofs.spans.state_ranges.Goals as goal
 
@@ -11,14 +12,14 @@ loop-range-init c =
     let all : c.into_iter-range-iterator.result ≡ c.args.space.now.ranges =
     c.into_iter-range-iterator.ensures.into_iter_gives ∙ c.range_iter-range-items.ensures.runs in
     record {
-      whole = c.requires.whole;
+      kept = c.requires.kept;
       limit = refl;
       left =
           subst AreLeft (sym all)
           (record { low = 0; apart = c.range_iter-range-items.ensures.rising });
       spots = λ page. ap (λ (runs : List (Run (Option PolicyRecord))).
           stated_spots (λ p. is_some (page_at runs p)) c.args.said.first c.args.said.pages
-          c.args.said.node (spot_at c.args.map.now.runs) page) all;
+          c.args.said.node (spots_of c.args.places.now) page) all;
     }
 
 pub state_range-requires-clause-range : goal.state_range-requires-clause-range

@@ -1,10 +1,10 @@
-use Rattle.std.proofs.Common.{◌≡◌, ℕ, List, false, refl, ap, sym, ◌∙◌, arith}
+use Rattle.std.proofs.Common.{◌≡◌, ℕ, false, refl, ap, sym, ◌∙◌, arith}
 use Rattle.std.proofs.lemmas.Simd.{get_or-replicate}
 use Rattle.numa_placed.proofs.Shared.{count-le}
+use Rattle.numa_placed.specs.Laid.{Laid}
 use Rattle.numa_placed.specs.Spots.{is_on, pages_within, spot_at}
 use Rattle.numa_placed.specs.declared.spot.Spot.{Spot}
 use Rattle.numa_placed.specs.declared.spot.Spot.TheVariants.{Nowhere}
-use Rattle.numa_ranges.specs.declared.run.Run.{Run}
 use Rattle.numa_ranges.proofs.Counted.{count-none}
 use Rattle.numa_run.specs.Listings.{stated_in}
 use Rattle.numa_run.proofs.listing.stated_in.Goals as goal
@@ -24,7 +24,7 @@ returns-in-None-clause-few c node small =
 pub returns-in-Some-clause-counts : goal.returns-in-Some-clause-counts
 returns-in-Some-clause-counts c = rw c.in-Some.is (λ spots lies node small.
     let alike : spot_at c.placed.result.now ≡ spots =
-    ap (λ (runs : List (Run Spot)). spot_at runs) c.placed.ensures.same
+    ap (λ (runs : Laid). spot_at runs) c.placed.ensures.same
     ∙ (λ i page. lies page i) in
     c.counts_in.ensures node small
     ∙ ap (λ (s : ℕ → Spot). pages_within (is_on node) s c.args.range.now.first

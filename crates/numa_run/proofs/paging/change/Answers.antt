@@ -13,7 +13,7 @@ pub returns-in-At : goal.returns-in-At
 returns-in-At c =
     rw (c.in-At.is, c.page_reply.ensures)
     (replied c.args.kept.now c.at.new.self c.at.result (Err cause.NoMemory)
-    (λ refused at. at_outcome refused (ground_in c.args.space.now c.args.resident.now)
+    (λ lack at. at_outcome lack (ground_in c.args.space.now c.args.resident.now)
     c.in-At.start c.in-At.length c.in-At.node at)
     (λ done. Some (page_reply reply.AtOk done)) c.at.ensures.does)
 
@@ -21,7 +21,7 @@ pub returns-in-Room : goal.returns-in-Room
 returns-in-Room c =
     rw (c.in-Room.is, c.page_reply-in-Room.ensures)
     (replied c.args.kept.now c.limit.new.self c.limit.result (Err cause.NoMemory)
-    (λ refused at. room_outcome c.args.space.now.machine c.in-Room.node c.in-Room.pages at)
+    (λ lack at. room_outcome c.args.space.now.machine c.in-Room.node c.in-Room.pages at)
     (λ done. Some (page_reply reply.RoomOk done)) c.limit.ensures.does)
 
 pub returns-in-MemoryMigrate : goal.returns-in-MemoryMigrate
@@ -35,7 +35,7 @@ pub returns-in-Migrate : goal.returns-in-Migrate
 returns-in-Migrate c =
     rw (c.in-Migrate.is, c.migrate_reply.ensures)
     (replied c.args.kept.now c.migrate.new.self c.migrate.result (Err cause.NoMemory)
-    (λ refused at. migrate_outcome refused (ground_in c.args.space.now c.args.resident.now)
+    (λ lack at. migrate_outcome lack (ground_in c.args.space.now c.args.resident.now)
     c.in-Migrate.from c.in-Migrate.to at)
     (λ done. Some (migrate_reply done)) c.migrate.ensures.does)
 
@@ -43,7 +43,7 @@ pub returns-in-Move : goal.returns-in-Move
 returns-in-Move c =
     rw (c.in-Move.is, c.move_reply.ensures)
     (replied c.args.kept.now c.move_page.new.self c.move_page.result (Err move.NoMemory)
-    (λ refused at. move_outcome refused (ground_in c.args.space.now c.args.resident.now)
+    (λ lack at. move_outcome lack (ground_in c.args.space.now c.args.resident.now)
     c.in-Move.address c.in-Move.node at)
     (λ done. Some (move_reply c.in-Move.node done)) c.move_page.ensures.does)
 
@@ -51,6 +51,6 @@ pub returns-in-Populate : goal.returns-in-Populate
 returns-in-Populate c =
     rw (c.in-Populate.is, c.touch_reply.ensures)
     (replied c.args.kept.now c.populate.new.self c.populate.result (Err cause.NoMemory)
-    (λ refused at. populate_outcome refused (ground_in c.args.space.now c.args.resident.now)
+    (λ lack at. populate_outcome lack (ground_in c.args.space.now c.args.resident.now)
     c.in-Populate.start c.in-Populate.length c.in-Populate.task c.in-Populate.cpu at)
     touch_reply c.populate.ensures.does)

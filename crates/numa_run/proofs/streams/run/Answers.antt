@@ -6,9 +6,9 @@ use Rattle.numa_run.proofs.streams.run.Goals as goal
 
 pub serve_script-requires : goal.serve_script-requires
 serve_script-requires g c = record {
-  enough = λ refused state line. (
-    ap (λ (said : ScriptLine). answer_of refused state (own_line said)) (line_of_seen line),
-    ap (λ (said : ScriptLine). after refused state (own_line said)) (line_of_seen line),
+  enough = λ lack state line. (
+    ap (λ (said : ScriptLine). answer_of lack state (own_line said)) (line_of_seen line),
+    ap (λ (said : ScriptLine). after lack state (own_line said)) (line_of_seen line),
   );
 }
 

@@ -1,6 +1,7 @@
 use Rattle.std.proofs.Common.{◌≤◌, Bool, List, None, sym, subst, refl, arith, ◌∙◌}
 use Rattle.std.specs.Prelude.{vec_capacity}
 use Rattle.std.specs.Vec.{with_items}
+use Rattle.numa_page_state.specs.Outcomes.{Lack}
 use Rattle.numa_page_state.specs.Standing.{HaveRoom}
 use Rattle.numa_host_pages.specs.Homes.{Home, home_followed, other_homes, pages_in, with_pages}
 use Rattle.numa_host_pages.specs.Standing.{AreHomes, IsHome}
@@ -30,7 +31,7 @@ returns c = λ at lies small.
       allowed = c.args.old.now;
       lying = pages_in process at.homes;
     } in
-    let done = subst (λ (f : Bool). (lack : Bool)
+    let done = subst (λ (f : Bool). (lack : Lack)
     × IsHome c.follow_home.new.member (home_followed lack f c.args.nodes.now home at.room).0
     × HaveRoom c.follow_home.new.rooms (home_followed lack f c.args.nodes.now home at.room).1)
     lies.follows (c.follow_home.ensures home at.room (record {

@@ -10,8 +10,7 @@ returns-then-not-has_stated c =
 pub returns-in-Ok : goal.returns-in-Ok
 returns-in-Ok c =
     forgets-some c.args.self.now c.args.start c.args.length c.in-Ok.after
-    (sym c.has_stated.ensures ∙ c.if-not-has_stated.false) c.in-Ok.ensures.ok.0
-    c.in-Ok.ensures.ok.1
+    (sym c.has_stated.ensures ∙ c.if-not-has_stated.false) c.in-Ok.ensures.ok
 
 pub returns-in-Err : goal.returns-in-Err
 returns-in-Err c =

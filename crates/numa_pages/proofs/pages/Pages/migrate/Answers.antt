@@ -7,7 +7,7 @@ pub returns : goal.returns
 returns c =
     rw (← c.self.view_is) (record {
       does = changed-so
-          (λ refused ground at. migrate_outcome refused ground c.args.from.now c.args.to.now at)
+          (λ lack ground at. migrate_outcome lack ground c.args.from.now c.args.to.now at)
           (record { core = c.self.inside.core; state = c.self.inside.state })
           (record { core = c.self.inside.core; state = c.migrate.new.self }) c.space.result.now
           c.new-none.result (Err c.in-Err.cause) c.space.ensures.space c.new-none.ensures refl

@@ -6,7 +6,7 @@ use Rattle.numa_pages.proofs.pages.Pages.populate.Goals as goal
 pub returns : goal.returns
 returns c =
     rw (← c.self.view_is) (changed-so
-    (λ refused ground at. populate_outcome refused ground c.args.start c.args.length c.args.task
+    (λ lack ground at. populate_outcome lack ground c.args.start c.args.length c.args.task
     c.args.cpu at)
     (record { core = c.self.inside.core; state = c.self.inside.state })
     (record { core = c.self.inside.core; state = c.populate.new.self }) c.space.result.now

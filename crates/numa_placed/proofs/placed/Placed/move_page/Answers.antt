@@ -12,7 +12,7 @@ returns-clause-err c =
     c.args.node (is_some (page_at c.args.space.now.ranges c.args.page)) spot in
     move-refusal (cause (spot_at c.args.self.now c.args.page)) _
     (changed_spots c.args.page 1 (stated_spot c.args.node) (spot_at c.args.self.now))
-    c.edit-outcome.result c.move_outcome.result
+    c.edit_places-outcome.result c.move_outcome.result
     (ap cause (sym c.at.ensures) ∙ c.in_ok-judge_move.ensures.cause)
     (λ i. changed_spots c.args.page 1 (stated_spot c.args.node) (spot_at (c.self.view_is i)))
-    c.edit-outcome.ensures.edit.lack c.move_outcome.ensures
+    c.edit_places-outcome.ensures.edit.lack c.move_outcome.ensures

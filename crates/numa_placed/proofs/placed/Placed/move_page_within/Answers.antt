@@ -25,6 +25,6 @@ returns-in-Err-clause-err c room rooms =
     (here (spot_at c.args.self.now c.args.page))) after)) c.in-Err.is
     (move-refusal (first_of (cause (spot_at c.args.self.now c.args.page))
     (here (spot_at c.args.self.now c.args.page))) _ after
-    c.edit-outcome.result c.move_outcome.result none
+    c.edit_places-outcome.result c.move_outcome.result none
     (λ i. changed_spots c.args.page 1 (stated_spot c.args.node) (spot_at (c.self.view_is i)))
-    c.edit-outcome.ensures.edit.lack c.move_outcome.ensures)
+    c.edit_places-outcome.ensures.edit.lack c.move_outcome.ensures)

@@ -1,13 +1,13 @@
 use Rattle.std.proofs.Common.{ap, ◌∙◌}
 use Rattle.numa_ranges.specs.Ranges.{Ranges}
 use Rattle.numa_ranges.specs.Runs.{page_at}
-use Rattle.numa_placed.specs.declared.spot.Spot.{Spot}
-use Rattle.numa_placed.proofs.Edits.{kept-new}
+use Rattle.numa_placed.specs.declared.turn.Slot.{Slot}
+use Rattle.numa_placed.proofs.Fresh.{stored-new}
 use Rattle.numa_placed.proofs.placed.Placed.new.Goals as goal
 
 pub invariant_of-result : goal.invariant_of-result
 invariant_of-result c =
-    kept-new c.map_span.new.self (page_at c.new-map.result.runs)
-    (λ page. ap (λ (map : Ranges Spot). page_at map.runs page) c.new-map.ensures)
+    stored-new _ (page_at c.new-map.result.runs)
+    (λ page. ap (λ (map : Ranges Slot). page_at map.runs page) c.new-map.ensures)
     c.in-Ok.ensures.ok
-    (c.map_span.ensures.max_ranges ∙ ap (λ (map : Ranges Spot). map.max_ranges) c.new-map.ensures)
+    (c.map_span.ensures.max_ranges ∙ ap (λ (map : Ranges Slot). map.max_ranges) c.new-map.ensures)

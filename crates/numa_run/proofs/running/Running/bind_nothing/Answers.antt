@@ -4,6 +4,7 @@ use Rattle.numa_machine.specs.Machine.{Hardware}
 use Rattle.numa_machine.specs.Rules.{is_linux}
 use Rattle.numa_space.specs.Standing.{SpaceState}
 use Rattle.numa_requests.specs.declared.command.Command.{Command}
+use Rattle.numa_page_state.specs.Outcomes.{Enough}
 use Rattle.numa_script.specs.Lines.{empty_bind}
 use Rattle.numa_script.specs.declared.reply.Reply.TheVariants as reply
 use Rattle.numa_run.specs.Obeying.{accepted_outcome, bind_nothing, command_outcome}
@@ -18,13 +19,13 @@ returns-then-is_linux c =
     ∙ ap (λ (m : Hardware). is_linux m.rules) (sym c.machine.ensures)
     ∙ ap is_linux (sym c.rules.ensures) ∙ sym c.is_linux.ensures ∙ c.if-is_linux.true in
     serves_as c.args.self.now c.accept.new.self c.accept.result
-    (λ refused machine state. accepted_outcome refused machine state c.empty_bind.result)
-    (λ refused machine state. command_outcome refused machine state
+    (λ lack machine state. accepted_outcome lack machine state c.empty_bind.result)
+    (λ lack machine state. command_outcome lack machine state
     (bind_nothing machine.rules c.args.start c.args.fault)) c.accept.ensures
-    (λ refused state.
-    ap (λ (b : Bool). command_outcome refused machine state
+    (λ lack state.
+    ap (λ (b : Bool). command_outcome lack machine state
     (if b then Ok (empty_bind c.args.start) else Err c.args.fault)) kernels
-    ∙ sym (ap (λ (command : Command). accepted_outcome refused machine state command)
+    ∙ sym (ap (λ (command : Command). accepted_outcome lack machine state command)
     c.empty_bind.ensures))
 
 pub returns : goal.returns
@@ -35,8 +36,8 @@ returns c =
     ∙ ap (λ (m : Hardware). is_linux m.rules) (sym c.machine.ensures)
     ∙ ap is_linux (sym c.rules.ensures) ∙ sym c.is_linux.ensures ∙ c.if-is_linux.false in
     serves_same c.args.self.now (reply.BadWord c.args.fault)
-    (λ refused machine state. command_outcome refused machine state
+    (λ lack machine state. command_outcome lack machine state
     (bind_nothing machine.rules c.args.start c.args.fault))
     (λ state stands.
-    ap (λ (b : Bool). command_outcome false machine state
+    ap (λ (b : Bool). command_outcome Enough machine state
     (if b then Ok (empty_bind c.args.start) else Err c.args.fault)) documents)

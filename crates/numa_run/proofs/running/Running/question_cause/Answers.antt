@@ -1,6 +1,7 @@
 use Rattle.std.proofs.Common.{◌∙◌, sym, ap, refl, ℕ, false, Some, length}
 use Rattle.std.specs.Option.{option_map}
 use Rattle.numa_core.specs.Standing.{CoreState}
+use Rattle.numa_page_state.specs.Outcomes.{Enough}
 use Rattle.numa_run.specs.Judged.{cause_at, question_cause}
 use Rattle.numa_run.proofs.Doing.{same-core}
 use Rattle.numa_run.proofs.JudgeLemmas.{plain-cause}
@@ -17,7 +18,7 @@ returns-in-None c =
     let history = state.world.history in
     let plan = c.in-Some.ensures.meaning state.world ready.core.world in
     let why = c.refusal_by_plan.ensures machine history plan in (
-      false,
+      Enough,
       ready,
       ap (option_map (cause_at (length history))) (sym c.in-None.is ∙ why)
           ∙ sym (plain-cause machine history c.args.question)
@@ -37,7 +38,7 @@ returns-in-Some-refusal_by_plan c =
     let plan = c.in-Some.ensures.meaning state.world ready.core.world in
     let why = c.refusal_by_plan.ensures machine history plan in
     let refusal = c.in-Some-refusal_by_plan.refusal in (
-      false,
+      Enough,
       ready,
       ap Some (c.cause_at.ensures
           ∙ ap (λ (v : ℕ). cause_at v refusal) (c.version.ensures ∙ plan.version))

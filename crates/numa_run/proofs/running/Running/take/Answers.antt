@@ -35,8 +35,8 @@ pub returns-in-Ok : goal.returns-in-Ok
 returns-in-Ok c =
     rw (c.in-Command.is, c.in-Ok.is)
     (served_here c.args.self.now c.obey.new.self _ c.obey.result
-    (λ refused machine state. command_outcome refused machine state (Ok c.in-Ok.command))
-    c.obey.ensures (λ refused state. refl))
+    (λ lack machine state. command_outcome lack machine state (Ok c.in-Ok.command))
+    c.obey.ensures (λ lack state. refl))
 
 pub returns-in-Err : goal.returns-in-Err
 returns-in-Err c =
@@ -48,16 +48,16 @@ pub returns-in-EmptyBind : goal.returns-in-EmptyBind
 returns-in-EmptyBind c =
     rw c.in-EmptyBind.is
     (served_here c.args.self.now c.bind_nothing.new.self _ c.bind_nothing.result
-    (λ refused machine state. command_outcome refused machine state
+    (λ lack machine state. command_outcome lack machine state
     (bind_nothing machine.rules c.in-EmptyBind.start c.in-EmptyBind.fault))
-    c.bind_nothing.ensures (λ refused state. refl))
+    c.bind_nothing.ensures (λ lack state. refl))
 
 pub returns-in-Work : goal.returns-in-Work
 returns-in-Work c =
     rw c.in-Work.is
     (served_here c.args.self.now c.work.new.self _ c.work.result
-    (λ refused machine state. work_served refused machine state c.in-Work.work)
-    c.work.ensures (λ refused state. refl))
+    (λ lack machine state. work_served lack machine state c.in-Work.work)
+    c.work.ensures (λ lack state. refl))
 
 pub returns-in-Pages : goal.returns-in-Pages
 returns-in-Pages c = rw c.in-Pages.is c.page.ensures
@@ -66,9 +66,9 @@ pub returns-in-Bind : goal.returns-in-Bind
 returns-in-Bind c =
     rw c.in-Bind.is
     (served_here c.args.self.now c.bind.new.self _ c.bind.result
-    (λ refused machine state. bound_outcome refused machine state c.in-Bind.pages
+    (λ lack machine state. bound_outcome lack machine state c.in-Bind.pages
     (bound_command machine.rules c.in-Bind.start c.in-Bind.length c.in-Bind.policy))
-    c.bind.ensures (λ refused state. refl))
+    c.bind.ensures (λ lack state. refl))
 
 pub returns-in-Host : goal.returns-in-Host
 returns-in-Host c =

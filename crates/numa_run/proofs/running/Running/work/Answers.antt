@@ -1,5 +1,6 @@
 use Rattle.std.proofs.Common.{Bool, false, refl, sym, ap, ◌∙◌}
 use Rattle.std.specs.Prelude.{if◌then◌else◌}
+use Rattle.numa_page_state.specs.Outcomes.{Enough}
 use Rattle.numa_script.specs.declared.reply.Reply.TheVariants as reply
 use Rattle.numa_script.specs.declared.work.Work.TheVariants as work
 use Rattle.numa_run.specs.Answering.{with_reply}
@@ -15,22 +16,22 @@ returns-in-Event c =
     let stepped : Running = record c.args.self.now { core = c.step-answer.new.self } in
     rw (c.in-Event.is, c.to_event.ensures)
     (done_here c.args.self.now stepped _
-    (λ refused s state. work_outcome refused s state.world state.resident
+    (λ lack s state. work_outcome lack s state.world state.resident
     (work.Event c.in-Event.event))
-    (λ refused machine state. work_served refused machine state (work.Event c.in-Event.event))
+    (λ lack machine state. work_served lack machine state (work.Event c.in-Event.event))
     (does-event c.args.self.now stepped c.in-Event.event c.step-answer.result
     c.step-answer.ensures.answer c.step-answer.ensures.setup refl refl)
-    (λ refused state stands. refl))
+    (λ lack state stands. refl))
 
 pub returns-then-is_there : goal.returns-then-is_there
 returns-then-is_there c =
     let said = work.Touch c.in-Touch.worker c.in-Touch.request in
     rw c.in-Touch.is
     (serves_same c.args.self.now reply.Placed
-    (λ refused machine state. work_served refused machine state said)
+    (λ lack machine state. work_served lack machine state said)
     (λ state stands.
     ap (λ (b : Bool). if b then with_reply reply.Placed state
-    else worked false c.args.self.now.core.space.machine state said)
+    else worked Enough c.args.self.now.core.space.machine state said)
     (sym (c.is_there.ensures state.lying stands.lies) ∙ c.if-is_there.true)))
 
 pub returns-else-is_there : goal.returns-else-is_there
@@ -38,12 +39,12 @@ returns-else-is_there c =
     let said = work.Touch c.in-Touch.worker c.in-Touch.request in
     rw c.in-Touch.is
     (done_here c.args.self.now c.touch.new.self c.touch.result
-    (λ refused s state. work_outcome refused s state.world state.resident said)
-    (λ refused machine state. work_served refused machine state said)
+    (λ lack s state. work_outcome lack s state.world state.resident said)
+    (λ lack machine state. work_served lack machine state said)
     c.touch.ensures
-    (λ refused state stands.
+    (λ lack state stands.
     ap (λ (b : Bool). if b then with_reply reply.Placed state
-    else worked refused c.args.self.now.core.space.machine state said)
+    else worked lack c.args.self.now.core.space.machine state said)
     (sym (c.is_there.ensures state.lying stands.lies) ∙ c.if-is_there.false)))
 
 pub returns-in-Release : goal.returns-in-Release
@@ -51,6 +52,6 @@ returns-in-Release c =
     let said = work.Release c.in-Release.worker c.in-Release.page in
     rw c.in-Release.is
     (done_here c.args.self.now c.release.new.self c.release.result
-    (λ refused s state. work_outcome refused s state.world state.resident said)
-    (λ refused machine state. work_served refused machine state said)
-    c.release.ensures (λ refused state stands. refl))
+    (λ lack s state. work_outcome lack s state.world state.resident said)
+    (λ lack machine state. work_served lack machine state said)
+    c.release.ensures (λ lack state stands. refl))

@@ -5,6 +5,7 @@ use Rattle.numa_core.specs.Standing.{LeadsTo, setup_of}
 use Rattle.numa_run.specs.States.{setup_with}
 use Rattle.numa_run.specs.Machines.{first_fault, nodes_with_cpus}
 use Rattle.numa_machine.specs.declared.fault.MachineFault.TheVariants as machine_fault
+use Rattle.numa_page_state.specs.Outcomes.{Enough, Starved}
 use Rattle.numa_run.proofs.script.Script.describe.Goals as goal
 
 pub returns-in-Err : goal.returns-in-Err
@@ -23,8 +24,8 @@ returns-in-Err-new c =
     let made = c.in-Ok-build.ensures.ok in
     let settings = c.args.self.now.settings in
     let cpus = nodes_with_cpus c.args.said.now.nodes settings.cpus in
-    let sound = ap (first_fault false cpus) (sym made.0) ∙ made.1 in
-    rw c.requires (first_bad settings c.args.said.now c.in-Ok.memory true machine_fault.NoMemory
+    let sound = ap (first_fault Enough cpus) (sym made.0) ∙ made.1 in
+    rw c.requires (first_bad settings c.args.said.now c.in-Ok.memory Starved machine_fault.NoMemory
     c.in-Ok.is
     (core-starved cpus (described c.args.said.now c.in-Ok.memory settings.rules settings.cpus)
     sound))
@@ -39,6 +40,6 @@ returns-in-Ok-new c =
     ∙ ap (λ machine. setup_with machine settings.limits) made.0 in
     rw c.replace.ensures.after
     (first_ready settings c.args.said.now c.in-Ok.memory c.new-in-Ok-new.result c.in-Ok.is
-    (ap (first_fault false cpus) (sym made.0) ∙ made.1) setup
+    (ap (first_fault Enough cpus) (sym made.0) ∙ made.1) setup
     (subst (LeadsTo []) (sym core) c.in-Ok-new.ensures.opens)
     c.new-in-Ok-new.ensures.resident c.new-in-Ok-new.ensures.pages)

@@ -1,8 +1,9 @@
 use Rattle.std.proofs.Common.{false}
+use Rattle.numa_page_state.specs.Outcomes.{Enough}
 use Rattle.numa_run.proofs.script.Script.fault.Goals as goal
 
 pub returns-in-Reply : goal.returns-in-Reply
-returns-in-Reply c = rw c.in-Reply.is (λ state stands. (false, c.fault.ensures, stands))
+returns-in-Reply c = rw c.in-Reply.is (λ state stands. (Enough, c.fault.ensures, stands))
 
 pub returns-in-Question : goal.returns-in-Question
 returns-in-Question c = rw c.in-Question.is c.question_fault.ensures

@@ -1,0 +1,11 @@
+-- The pages so far.
+use Rattle.std.proofs.Common.{◌≡◌, ℕ, ◌<◌, get_or, length, slice_index}
+use Rattle.numa_placed.specs.Tallies.{leave_on}
+use Rattle.numa_placed.proofs.tally.leaving.Given as goal
+
+abbrev pub invariant-loop-node : goal.invariant-loop-node
+invariant-loop-node l = record {
+  done : (n : ℕ) → n < l.node → get_or l.sent n 0
+      ≡ leave_on (slice_index l.targets) (slice_index l.counts) n;
+  long : length l.sent ≡ 256;
+}

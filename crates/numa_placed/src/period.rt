@@ -1,0 +1,56 @@
+//! The number of pages after which the fallback lists of a policy repeat.
+ghost use Rattle.std.specs.Prelude.{◌≡◌, ℕ, List};
+ghost use Rattle.numa_machine.specs.Weights.{total_weight, weight_at};
+ghost use Rattle.numa_space.specs.Lists.{Setting, setting_of};
+ghost use Rattle.numa_space.specs.Standing.{StandsFor, setting_in};
+ghost use Rattle.numa_requests.specs.declared.command.Command.{Command};
+ghost use Rattle.numa_placed.specs.Periods.{IsPeriod};
+
+use numa_machine::Weights;
+use numa_mask::NodeMask;
+use numa_mode::{Mode, Record};
+use numa_space::Space;
+
+/// The total weight of the nodes of a set.
+fn total_weight(weights: &Weights, set: &NodeMask) -> u64
+    ensures { result ≡ total_weight (weight_at weights.now) set.now }
+{
+    let mut total = 0u64;
+    for node in set.iter() {
+        total += u64::from(weights.get(u32::from(node.number())));
+    }
+    total
+}
+
+/// The number of pages after which a policy's lists repeat with these weights: the number of nodes
+/// for INTERLEAVE, their total weight for WEIGHTED_INTERLEAVE, 1 for other modes; 0 for a set
+/// without nodes.
+fn period_of(weights: &Weights, policy: &Record) -> u64
+    ensures { (setting : Setting)
+        → ((node : ℕ) → weight_at weights.now node ≡ setting.weight node)
+        → IsPeriod setting (Some policy.now) result }
+{
+    let set = policy.effective();
+    match policy.spec().mode() {
+        Mode::Interleave => u64::from(set.weight()),
+        Mode::WeightedInterleave => total_weight(weights, &set),
+        Mode::Default => 1,
+        Mode::Preferred => 1,
+        Mode::Bind => 1,
+        Mode::Local => 1,
+        Mode::PreferredMany => 1,
+    }
+}
+
+/// The number of pages after which the lists of a policy of the space repeat; `None` is local
+/// allocation.
+pub fn period_in(space: &Space, policy: &Option<Record>) -> u64
+    ensures now { IsPeriod (setting_in space.now) policy.now result }
+    ensures meaning { (history : List Command) → StandsFor space.now history
+        → IsPeriod (setting_of space.now.machine history) policy.now result }
+{
+    match policy {
+        Some(policy) => period_of(space.weights(), policy),
+        None => 1,
+    }
+}
