@@ -249,7 +249,8 @@ uint32_t np_core_diff_text(np_core *before, np_core *after, const np_question *a
 uint32_t np_core_explain_text(np_core *core, const np_question *asked, uint64_t page, uint8_t *text,
                               size_t room, np_report *report);
 
-/* As np_replay, of a trace as a text. NP_BAD_FORMAT; NP_NO_MEMORY; NP_BAD_ACCESS. */
+/* As np_replay, of a trace as a text, where pages take frames alone. NP_BAD_FORMAT; NP_NO_MEMORY;
+ * NP_BAD_ACCESS. */
 uint32_t np_core_replay_text(np_core *core, const uint8_t *trace, size_t trace_length,
                              const np_question *asked, uint8_t *text, size_t room,
                              np_report *report);

@@ -55,6 +55,13 @@ def number(word):
     return int(word, 16 if word.startswith("0x") else 10)
 
 
+def traces_for(path):
+    """What is replayed: nothing where no node has a frame, since a script's pages take room then, and a core's none."""
+    with open(path, encoding="utf-8") as lines:
+        frames = [line.split()[3] for line in lines if line.startswith("machine ")]
+    return TRACES if all(int(each) for each in frames) else []
+
+
 def machine(words, rules):
     """The core of a line `machine NODES MEM FRAMES DIST`."""
     nodes, memory, frames, far = int(words[0]), words[1], int(words[2]), words[3]
@@ -125,7 +132,7 @@ def texts(path, core, after, rules):
         mine = library(core.diff_text, after, 1, 0, format=form)
         theirs = program("diff", by, "--task=1", "--node=0", f"--format={form}", *then, path)
         want((mine is None, unlined(mine)), (theirs is None, unlined(theirs)), f"diff {path} {form}")
-    for trace in TRACES:
+    for trace in traces_for(path):
         met = {form: program("replay", by, f"--format={form}", f"--trace={trace}", path) or None
                for form in ("text", "json", "csv", "html")}
         for form, answer in [*met.items(), ("svg", met["text"])]:  # (a replay has no picture)
@@ -150,9 +157,10 @@ def values(path, core, after, rules):
     mine = [(one.first * 4096, (one.first + one.pages) * 4096, one.before, one.after, one.moved)
             for one in core.diff(after, 1, 0)]
     want(mine, theirs, f"the moves of {path}")
-    for trace in TRACES:
+    for trace in traces_for(path):
         with open(trace, encoding="utf-8") as lines:
-            accesses = [tuple(map(number, line.split())) for line in lines if line[0] not in "#\n"]
+            accesses = [tuple(map(number, line.split())) for line in lines
+                        if line[0] not in "#\n" and not line.startswith("mark ")]
         accesses = [(task, address // 4096, *rest) for task, address, *rest in accesses]
         said = program("replay", by, "--format=json", f"--trace={trace}", path) or None
         try:

@@ -240,7 +240,8 @@ static void causes(void) {
     WANT(np_replay(TEXT(HOST), TEXT(""), TEXT("1 0x10000 0\n\n1 2 3 4 5"), &asked, room,
                    sizeof room, &told),
          NP_BAD_ACCESS);
-    WANT(is_told("", "trace:3: bad words: a line of a trace is [in P] TASK ADDRESS CPU [COUNT]\n"), 1);
+    WANT(is_told("", "trace:3: bad words: a line of a trace is [in P] TASK ADDRESS CPU [COUNT], "
+                 "or mark TEXT\n"), 1);
     /* bytes that are no UTF-8 are told as faulty, or are a comment's */
     forget();
     WANT(np_diff(TEXT(HOST), TEXT("# \xff\n\xff\nmems 0"), &asked, room, sizeof room, &told), NP_OK);
@@ -417,7 +418,8 @@ static void texts(void) {
     WANT(np_core_replay_text(&core, TEXT("1 0x10000 0\n\n1 2 3 4 5"), &asked, room, sizeof room,
                              &told),
          NP_BAD_ACCESS);
-    WANT(is_told("", "trace:3: bad words: a line of a trace is [in P] TASK ADDRESS CPU [COUNT]\n"), 1);
+    WANT(is_told("", "trace:3: bad words: a line of a trace is [in P] TASK ADDRESS CPU [COUNT], "
+                 "or mark TEXT\n"), 1);
     np_core_close(&core);
     np_core_close(&after);
 }

@@ -125,7 +125,7 @@ WHY = [
     ((b"limits 1 1 1",),
      "NoMachine: no line of the script makes a machine; begin with one, as machine 2 0-1 8 flat"),
     ((RANGE, b"1 0x30000 0\n1 2 3 4 5"),
-     "BadAccess: trace:2: bad words: a line of a trace is [in P] TASK ADDRESS CPU [COUNT]"),
+     "BadAccess: trace:2: bad words: a line of a trace is [in P] TASK ADDRESS CPU [COUNT], or mark TEXT"),
 ]
 for fields, why in WHY:
     answer = one(*fields)
