@@ -37,12 +37,15 @@ def sizes():
     return sorted(os.listdir(POOLS)) if os.path.isdir(POOLS) else []
 
 
-def make_pool(folder):
-    """An empty pool of a node."""
-    os.makedirs(folder)
-    for name in OF_NODE:
-        with open(f"{folder}/{name}", "xb", 0) as file:
-            file.write(b"0\n")
+def make_pools(folder):
+    """A node's pools, all of them empty; whether there are any."""
+    every = sizes()
+    for size in every:
+        os.makedirs(f"{folder}/{size}")
+        for name in OF_NODE:
+            with open(f"{folder}/{size}/{name}", "xb", 0) as file:
+                file.write(b"0\n")
+    return bool(every)
 
 
 def text_of(path):

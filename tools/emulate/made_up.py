@@ -16,6 +16,7 @@ from .words import list_text, mask_text
 
 NODES, CPUS = "/sys/devices/system/node", "/sys/devices/system/cpu"
 WEIGHTS = "/sys/kernel/mm/mempolicy/weighted_interleave"
+POOLS = ".hugepages"  # beside the nodes: the empty pools of each
 # (compiled at their first use)
 MADE_UP = ("/proc/", "/sys/", "/dev/cpuset/")  # where what is made up when it is opened lies
 PROCESS = r"/proc/(self|thread-self|\d+)(?:/task/(\d+))?/(status|stat|numa_maps)$"
@@ -43,24 +44,24 @@ def make_tree(machine, root):
              "has_memory": machine.memory, "has_normal_memory": machine.memory, "has_generic_initiator": set()}
     for name, nodes in lists.items():
         write(f"{root}/node/{name}", list_text(nodes))
-    pools = huge.sizes()
+    has_pools = huge.make_pools(f"{root}/node/{POOLS}")
     for node in every:
-        make_node(machine, f"{root}/node/node{node}", node, pools)
+        make_node(machine, f"{root}/node/node{node}", node)
+        if has_pools:
+            os.symlink(f"../{POOLS}", f"{root}/node/node{node}/hugepages")
         write(f"{root}/weights/node{node}", str(machine.weights.get(node, 1)))
     write(f"{root}/weights/auto", "false")
     if cpus.are_made_up:
         make_cpus(cpus, f"{root}/cpu")
 
 
-def make_node(machine, folder, node, pools):
+def make_node(machine, folder, node):
     cpus = machine.cpus.of_node[node]
     write(f"{folder}/cpumap", mask_text(cpus, max(machine.cpus.node_of)))
     write(f"{folder}/cpulist", list_text(cpus))
     write(f"{folder}/distance", " ".join(map(str, machine.distances[node])))
     write(f"{folder}/meminfo", memory_text(machine, node, 0, 0))
     write(f"{folder}/numastat", hits_text(machine, node))
-    for size in pools:
-        huge.make_pool(f"{folder}/hugepages/{size}")
     for cpu in cpus:
         os.symlink(f"../../cpu/cpu{cpu}", f"{folder}/cpu{cpu}")
 
