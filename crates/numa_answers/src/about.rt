@@ -57,7 +57,7 @@ fn put_nodes(text: &mut Written, nodes: &NodeMask) {
 fn put_machine(text: &mut Written, machine: &Machine) {
     let nodes = u64::from(machine.nodes());
     text.put_form(b"Machine: $ node", &[nodes]);
-    text.put(if nodes == 1 { b"".as_slice() } else { b"s" });
+    text.put_either(nodes, b"", b"s");
     text.put(b" with memory on ");
     put_nodes(text, &machine.memory());
     text.put(if machine.rules().is_linux() {

@@ -25,9 +25,9 @@ pub fn shares_are_pages()
         ≡ page_moves spots old new room nodes spans }
 {}
 
-/// Once a script says a room, a line does to its pages what is told of their shares: as many go from
-/// each node, to the same node, and the rooms behind are the same. So it is with `migrate`, and with
-/// nodes that pages follow, unless something stands against it.
+/// Once a script says a room, a line does to its pages what is told of their shares: as many go
+/// from each node, to the same node, and the rooms behind are the same. So it is with `migrate`,
+/// and with nodes that pages follow, unless something stands against it.
 pub fn shares_go_as_pages()
     ensures gone { (spots : ℕ → Spot) (nodes : ℕ) (spans : List PageSpan) (old new : ℕ)
         (room : ℕ → ℕ) → HaveAll spots nodes spans

@@ -1,7 +1,7 @@
 -- How a page comes to a node when a task faults on it on a CPU of another: which nodes have to be
 -- full.
-use Rattle.std.specs.Prelude.{◌≡◌, ℕ, zero, suc, ◌==◌, ◌++◌, Bool, true, Option, Some, None, List, []}
-use Rattle.std.specs.Prelude.{◌∷◌, if◌then◌else◌}
+use Rattle.std.specs.Prelude.{◌≡◌, ℕ, zero, suc, ◌==◌, ◌++◌, Bool, true, Option, Some, None, List}
+use Rattle.std.specs.Prelude.{[], ◌∷◌, if◌then◌else◌}
 use Rattle.numa_mask.specs.NodeSet.{has, with_node}
 use Rattle.numa_machine.specs.Machine.{Hardware}
 use Rattle.numa_machine.specs.declared.fallback.Fallback.{Fallback}

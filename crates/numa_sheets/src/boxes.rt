@@ -6,6 +6,9 @@ use crate::written::Written;
 /// The least pixels of a cell with a number.
 pub const CELL: u64 = 12;
 
+/// The columns of pixels of a node's mark.
+pub const MARK: u64 = 24;
+
 /// Where something is drawn, in pixels.
 #[derive(Clone, Copy)]
 pub struct Rectangle {
@@ -17,6 +20,16 @@ pub struct Rectangle {
     pub width: u64,
     /// How many rows it has.
     pub height: u64,
+}
+
+/// The place of a node's mark.
+pub fn mark_at(left: u64, top: u64) -> Rectangle {
+    Rectangle {
+        left,
+        top,
+        width: MARK,
+        height: 16,
+    }
 }
 
 /// Draws a rectangle.

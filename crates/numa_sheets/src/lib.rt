@@ -17,7 +17,7 @@ mod watch;
 mod written;
 
 pub use asked::{AddressAsked, CpuAsked, FreePages, Touch, TouchAsked};
-pub use boxes::{CELL, Rectangle, put_frame, put_hatched, put_node, put_rectangle};
+pub use boxes::{CELL, MARK, Rectangle, mark_at, put_frame, put_hatched, put_node, put_rectangle};
 pub use colours::{fill_of, ink_of, put_colours};
 pub use format::{DRAWN, Format, LISTED};
 pub use items::Items;

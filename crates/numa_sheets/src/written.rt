@@ -132,14 +132,15 @@ impl Written {
         }
     }
 
+    /// Writes the words that stand behind the number of things: those for one, or for several.
+    pub fn put_either(&mut self, number: u64, one: &[u8], several: &[u8]) {
+        self.put(if number == 1 { one } else { several });
+    }
+
     /// Writes a number of pages with their size: `33,291 pages (130 MiB)`.
     pub fn put_amount(&mut self, pages: u64) {
         self.put_grouped(pages);
-        self.put(if pages == 1 {
-            b" page (".as_slice()
-        } else {
-            b" pages ("
-        });
+        self.put_either(pages, b" page (", b" pages (");
         self.put_size(pages);
         self.put(b")");
     }
@@ -163,11 +164,7 @@ impl Written {
     /// Writes a number of pages in words.
     pub fn put_pages(&mut self, pages: u64) {
         self.put_number(pages);
-        self.put(if pages == 1 {
-            b" page".as_slice()
-        } else {
-            b" pages"
-        });
+        self.put_either(pages, b" page", b" pages");
     }
 
     /// Writes a format in which each `$` stands for the next of the numbers.
@@ -204,11 +201,7 @@ impl Written {
         }
         self.put_form(b", of them $ in $ ", &[moved, parts]);
         self.put(kind);
-        self.put(if parts == 1 {
-            b" that isn't drawn".as_slice()
-        } else {
-            b"s that aren't drawn"
-        });
+        self.put_either(parts, b" that isn't drawn", b"s that aren't drawn");
     }
 
     /// Writes a JSON object.

@@ -172,11 +172,7 @@ impl Drawing {
         let sum = sum_of_all(moves);
         self.begin_text(text, b"total");
         text.put_amount(sum.placed);
-        text.put(if sum.placed == 1 {
-            b" is there".as_slice()
-        } else {
-            b" are there"
-        });
+        text.put_either(sum.placed, b" is there", b" are there");
         put_fates(text, &sum, nodes);
         text.put(b"</text>\n");
         if sum.placed > 0 {
@@ -224,11 +220,7 @@ impl Drawing {
         }
         self.begin_row(text, b"rest");
         text.put_number(self.others);
-        text.put(if self.others == 1 {
-            b" other range, ".as_slice()
-        } else {
-            b" other ranges, "
-        });
+        text.put_either(self.others, b" other range, ", b" other ranges, ");
         put_bars_under(text, &self.rest, nodes, self.scale);
     }
 

@@ -4,14 +4,12 @@
 use crate::sheet::bars::{Fate, fates_of, put_title};
 use crate::sheet::ends::Ends;
 use crate::sums::MoveSum;
-use numa_sheets::{Rectangle, Written, fill_of, put_node, share};
+use numa_sheets::{MARK, Rectangle, Written, fill_of, put_node, share};
 
-/// The first columns of pixels of the nodes before and after, and how wide a node is.
+/// The first columns of pixels of the nodes before and after.
 const BEFORE: u64 = 580;
 
 const AFTER: u64 = 880;
-
-const MARK: u64 = 24;
 
 /// The rows of pixels of all pages, the least of a node, those between two, and of the headings.
 const HIGH: u64 = 240;

@@ -3,15 +3,17 @@
 use crate::sheet::bars::{Fate, fates_of};
 use crate::sheet::ends::{Ends, nodes_with};
 use crate::sums::MoveSum;
-use numa_sheets::{Rectangle, Written, put_frame, put_hatched, put_node, put_rectangle};
+use numa_sheets::{
+    MARK, Rectangle, Written, mark_at, put_frame, put_hatched, put_node, put_rectangle,
+};
 
 /// The most nodes of a matrix after the line, and before it.
 const COLUMNS: u64 = 4;
 
 const ROWS: u64 = 8;
 
-/// The pixels of a matrix: of its first column and of the others, of its first row and of the
-/// others, and of a node's mark.
+/// The pixels of a matrix: of its first column and of the others, and of its first row and of the
+/// others.
 const LABEL: u64 = 56;
 
 const WIDE: u64 = 96;
@@ -20,22 +22,10 @@ const HEAD: u64 = 20;
 
 const HIGH: u64 = 48;
 
-const MARK: u64 = 24;
-
 /// The most lines of a list, and the rows of pixels of a line.
 const LINES: u64 = 40;
 
 const LINE: u64 = 20;
-
-/// The mark of a node.
-fn mark_at(left: u64, top: u64) -> Rectangle {
-    Rectangle {
-        left,
-        top,
-        width: MARK,
-        height: 16,
-    }
-}
 
 /// Whether there is a matrix.
 fn is_small(ends: &Ends) -> bool {
@@ -109,15 +99,20 @@ fn put_cell(text: &mut Written, sum: &MoveSum, from: u8, to: u8, place: Rectangl
     }
 }
 
-/// Draws the row of the pages that lie on a node before.
-fn put_row(text: &mut Written, sum: &MoveSum, ends: &Ends, from: u8, top: u64) {
-    put_node(text, mark_at(0, top.saturating_add(16)), u64::from(from));
-    let mut place = Rectangle {
+/// The place of a row's first cell.
+fn first_cell(top: u64) -> Rectangle {
+    Rectangle {
         left: LABEL,
         top,
         width: WIDE,
         height: HIGH,
-    };
+    }
+}
+
+/// Draws the row of the pages that lie on a node before.
+fn put_row(text: &mut Written, sum: &MoveSum, ends: &Ends, from: u8, top: u64) {
+    put_node(text, mark_at(0, top.saturating_add(16)), u64::from(from));
+    let mut place = first_cell(top);
     for to in 0..ends.nodes.min(256) {
         if ends.after[to as usize] > 0 {
             put_cell(text, sum, from, to as u8, place);
@@ -146,12 +141,7 @@ fn put_heads(text: &mut Written, ends: &Ends) {
 /// Draws the pages of each node after, in the last row.
 fn put_foot(text: &mut Written, sum: &MoveSum, ends: &Ends, top: u64) {
     put_word(text, 0, top.saturating_add(14), b"after");
-    let mut place = Rectangle {
-        left: LABEL,
-        top,
-        width: WIDE,
-        height: HIGH,
-    };
+    let mut place = first_cell(top);
     for to in 0..ends.nodes.min(256) {
         let pages = ends.after[to as usize];
         if pages > 0 {

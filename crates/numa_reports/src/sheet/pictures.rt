@@ -8,7 +8,7 @@ use crate::sheet::bars::{put_nodes as put_bar, put_pages, put_part};
 use crate::sheet::fields::{PlacedPages, RangeRow};
 use crate::sheet::lines::put_lacking;
 use crate::sheet::nodes::{NodePages, put_nodes};
-use numa_sheets::{CELL, Rectangle, Scale, Touch, Written, fill_of, put_rectangle, share};
+use numa_sheets::{CELL, Rectangle, Scale, Touch, Written, fill_of, mark_at, put_rectangle, share};
 
 /// The most nodes that are named in the line of a range.
 const NAMED: usize = 8;
@@ -20,9 +20,7 @@ const RANGE_ROWS: u64 = 40;
 
 const NODE_ROWS: u64 = 20;
 
-/// The pixels of a node's number, the first column of its bar, and the pixels of the longest one.
-const NODE_MARK: u64 = 24;
-
+/// The first column of a node's bar, and the pixels of the longest one.
 const NODE_BAR: u64 = 32;
 
 const NODE_WIDTH: u64 = 400;
@@ -121,11 +119,7 @@ pub(crate) fn put_rest(
 ) {
     begin_row(text, b"rest", before);
     text.put_number(ranges);
-    text.put(if ranges == 1 {
-        b" other range".as_slice()
-    } else {
-        b" other ranges"
-    });
+    text.put_either(ranges, b" other range", b" other ranges");
     text.put_form(b" anon=$", &[placed.pages]);
     put_counts(text, placed.nodes);
     put_lacking(text, placed);
@@ -153,12 +147,7 @@ fn put_left(text: &mut Written, node: usize, left: &[NodePages]) {
 
 /// Draws the number of a node in its colour and, if it gets pages, a bar behind it.
 fn put_node_bar(text: &mut Written, node: u64, bar: u64, top: u64) {
-    let mark = Rectangle {
-        left: 0,
-        top,
-        width: NODE_MARK,
-        height: 16,
-    };
+    let mark = mark_at(0, top);
     text.put_form(b"<g><title>node $</title>", &[node]);
     put_part(text, mark, node);
     if bar > 0 {
