@@ -13,7 +13,7 @@ use numa_placed::Placed;
 use numa_reports::{Account, ByProcess, PredictionRequest};
 use numa_sheets::{Format, FreePages, Touch, Watch};
 use numa_space::Space;
-use numa_subjects::Halt;
+use numa_subjects::{Halt, nodes_with};
 use std::alloc::Global;
 
 /// A prediction that is asked for, of a space or of each process.
@@ -123,10 +123,7 @@ pub(crate) fn predict_each<P: Watch>(
     asked: EachAsked<'_>,
     watch: &mut P,
 ) -> Result<Vec<u8>, Halt> {
-    let nodes = host.machine().nodes();
-    if asked.touch.cpu >= nodes {
-        return Err(Halt::NoNode(nodes));
-    }
+    let nodes = nodes_with(host.machine().nodes(), asked.touch.cpu)?;
     let mut account = Account::new(asked.free);
     let mut answers = ByProcess::of_touch(alloc, asked.format, asked.touch);
     let processes = host.processes();

@@ -9,7 +9,7 @@ use numa_reports::{ByProcess, Coming, comings};
 use numa_rules::{Explanation, ReasonError, by_other_rules, say_by_other};
 use numa_sheets::{Format, Touch};
 use numa_space::Space;
-use numa_subjects::{Halt, PagePlace, Subject, host_in, space_in};
+use numa_subjects::{Halt, PagePlace, Subject, host_in, nodes_with, space_in};
 use std::alloc::Global;
 
 /// The pages to be explained: one, or from it on as many as `pages`.
@@ -193,8 +193,8 @@ fn add_reasons<'a>(
     }
 }
 
-/// Where the page lies in a process, if it is known to be there.
-fn place_of(there: &[Option<PagePlace>], number: usize) -> Option<PagePlace> {
+/// Where the page lies in the process of a number, if it is known to be there.
+pub fn place_of(there: &[Option<PagePlace>], number: usize) -> Option<PagePlace> {
     match there.get(number) {
         Some(place) => *place,
         None => None,
@@ -229,10 +229,7 @@ fn reasons_of_each(
     other: Option<&Host>,
     asked: ReasonsAsked<'_>,
 ) -> Result<Vec<u8>, Halt> {
-    let nodes = host.machine().nodes();
-    if asked.touch.cpu >= nodes {
-        return Err(Halt::NoNode(nodes));
-    }
+    nodes_with(host.machine().nodes(), asked.touch.cpu)?;
     let mut answers = ByProcess::new(alloc, asked.format);
     let text = add_each(alloc, host.processes(), other, asked, &mut answers);
     drop(answers);

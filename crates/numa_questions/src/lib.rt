@@ -9,5 +9,5 @@ mod explaining;
 mod predicting;
 
 pub use each::EachAsked;
-pub use explaining::{AskedPages, ReasonsAsked, explain_space, reasons_of};
+pub use explaining::{AskedPages, ReasonsAsked, explain_space, place_of, reasons_of};
 pub use predicting::{predict_space, prediction_of};

@@ -16,4 +16,4 @@ pub use ended::{Ended, Twin};
 pub use faults::tells_fault;
 pub use halt::{Halt, NOTHING_SERVED};
 pub use page_place::PagePlace;
-pub use subject::{Subject, differ, host_in, member, space_in};
+pub use subject::{Subject, differ, host_in, member, nodes_with, space_in};

@@ -1,4 +1,7 @@
 //! What an answer is about.
+ghost use Rattle.std.specs.Prelude.{◌≡◌, ◌≤◌, ◌<◌, IfErr, IfOk};
+ghost use Rattle.numa_subjects.specs.declared.halt.Halt.TheVariants as halt;
+
 use crate::halt::Halt;
 use numa_host::{Host, Process};
 use numa_space::Space;
@@ -31,6 +34,20 @@ pub fn host_in(subject: Option<Subject<'_>>) -> Option<&Host> {
 /// The process of this number, with its group.
 pub fn member(host: &Host, process: u32) -> Option<&Process> {
     host.processes().iter().find(|one| one.id == process)
+}
+
+/// The number of nodes, if the node of a touch is one of them.
+///
+/// # Errors
+/// `NoNode`: it isn't.
+pub fn nodes_with(nodes: u32, node: u32) -> Result<u32, Halt>
+    ensures same { IfOk result (λ same. (same ≡ nodes) × (node < nodes)) }
+    ensures lacks { IfErr result (λ why. (why ≡ halt.NoNode nodes) × (nodes ≤ node)) }
+{
+    if node >= nodes {
+        return Err(Halt::NoNode(nodes));
+    }
+    Ok(nodes)
 }
 
 /// Whether an answer by the other rules is another one; no, if memory lacked for it.

@@ -3,7 +3,7 @@ use crate::differing::{DiffAsked, difference_to, outlook_in, told_of_difference,
 use numa_reports::Outlook;
 use numa_sheets::{Format, Touch};
 use numa_space::Space;
-use numa_subjects::{Halt, Subject};
+use numa_subjects::{Halt, Subject, nodes_with};
 use std::alloc::Global;
 
 /// The difference from a state to a space, on machines with up to so many nodes.
@@ -49,9 +49,7 @@ pub fn diff_spaces(
     format: Format,
 ) -> Result<Vec<u8>, Halt> {
     let (nodes, others) = (before.machine().nodes(), after.machine().nodes());
-    if touch.cpu >= nodes.min(others) {
-        return Err(Halt::NoNode(nodes.min(others)));
-    }
+    nodes_with(nodes.min(others), touch.cpu)?;
     let asked = DiffAsked {
         touch,
         format,
