@@ -9,5 +9,6 @@ pub mod RuleLemmas
 pub mod Searching
 pub mod SlotLemmas
 pub mod TaskPlaces
+pub mod Telling
 pub mod TurnLemmas
 pub mod UseLemmas

@@ -31,6 +31,20 @@ first-turn width rows cycle cpu k some has =
     ∙ sym (get_or-map (λ number. get_or rows (number * width) 0) cycle (k % length cycle) 0 0
     (mod-lt k some))
 
+-- the same by the first nodes that are kept in the order of the cycle
+pub first-kept : (rule : RuleData) (width : ℕ) (rows cycle firsts : List ℕ) (cpu k : ℕ)
+    → rule ≡ record { key = InTurns cycle; width = width; rows = rows } → 0 < length cycle
+    → firsts ≡ first_nodes rows width cycle → HasRow rule (row_number rule cpu k)
+    → first_of rule cpu k ≡ get_or firsts (k % length firsts) 0
+first-kept rule width rows cycle firsts cpu k is some kept has =
+    let size : length cycle ≡ length firsts =
+    sym (ap length kept ∙ length-map cycle (λ number. get_or rows (number * width) 0)) in
+    ap (λ (r : RuleData). first_of r cpu k) is
+    ∙ first-turn width rows cycle cpu k some
+    (subst (λ (r : RuleData). HasRow r (row_number r cpu k)) is has)
+    ∙ ap (λ (nodes : List ℕ). get_or nodes (k % length cycle) 0) (sym kept)
+    ∙ ap (λ (n : ℕ). get_or firsts (k % n) 0) size
+
 -- the pages of a rule in turns, counted over the first nodes of its rows
 pub count-in_turns : (rule : RuleData) (width : ℕ) (rows cycle firsts : List ℕ)
     (cpu node index pages : ℕ) → rule ≡ record { key = InTurns cycle; width = width; rows = rows }
@@ -39,14 +53,9 @@ pub count-in_turns : (rule : RuleData) (width : ℕ) (rows cycle firsts : List �
     → count_pages (λ k. eqb (first_of rule cpu k) node) index pages
     ≡ count_pages (turn_is firsts node) index pages
 count-in_turns rule width rows cycle firsts cpu node index pages is some kept has =
-    let size : length cycle ≡ length firsts =
-    sym (ap length kept ∙ length-map cycle (λ number. get_or rows (number * width) 0)) in
     shift (λ k. eqb (first_of rule cpu k) node) (turn_is firsts node) index index pages (λ k lt.
-    ap (λ (m : ℕ). eqb m node) (ap (λ (r : RuleData). first_of r cpu (index + k)) is
-    ∙ first-turn width rows cycle cpu (index + k) some
-    (subst (λ (r : RuleData). HasRow r (row_number r cpu (index + k))) is (has (index + k)))
-    ∙ ap (λ (nodes : List ℕ). get_or nodes ((index + k) % length cycle) 0) (sym kept)
-    ∙ ap (λ (n : ℕ). get_or firsts ((index + k) % n) 0) size))
+    ap (λ (m : ℕ). eqb m node)
+    (first-kept rule width rows cycle firsts cpu (index + k) is some kept (has (index + k))))
 
 count-all : (test : ℕ → Bool) (a n : ℕ) → ((k : ℕ) → test k ≡ true) → count_pages test a n ≡ n
 unfolding count_pages

@@ -177,24 +177,6 @@ split_in runs page place far apart within lies has =
       lies = λ d some. subst (λ (n : ℕ). (get_or runs n d).first + far ≡ page) (sym is) (lies d);
     }
 
--- a page before a run, and not before the one before it
-pub split_between : (runs : List (Run (Option ℕ))) (page place far : ℕ) → AreApart 0 runs
-    → 0 < place → place < length runs
-    → ((d : Run (Option ℕ)) → (get_or runs (place - 1) d).first + far ≡ page)
-    → ((d : Run (Option ℕ)) → page < (get_or runs place d).first) → IsSplit runs page place far
-split_between runs page place far apart some within lies next = record {
-  within = omega arith;
-  before = λ k d k_low k_high.
-      omega (
-        arith,
-        lies d,
-        apart-rising 0 runs apart k (place - 1) d (omega arith) (omega arith),
-      );
-  behind = λ k d k_low k_high.
-      omega (arith, next d, apart-rising 0 runs apart place k d k_low k_high);
-  lies = λ d some. lies d;
-}
-
 pub beside_found : (runs : List (Run (Option ℕ))) (page place far : ℕ) (found : Found)
     → AreApart 0 runs → place < length runs
     → ((d : Run (Option ℕ)) → (get_or runs place d).first + far ≡ page)
@@ -236,55 +218,6 @@ at_page runs page found h =
     let e : page + 0 ≡ page = omega arith in
     let i : found.index + 0 ≡ found.index = omega arith in
     sym (ap (page_at runs) e) ∙ h.each 0 h.some ∙ ap (λ (n : ℕ). Some (n, found.rule)) i
-
--- a run that begins so far before a page that isn't mapped is no longer than that
-ends_before : (runs : List (Run (Option ℕ))) (page low far : ℕ) → AreApart 0 runs → 0 < low
-    → IsSplit runs page low far → page_at runs page ≡ None → (d : Run (Option ℕ))
-    → (get_or runs (low - 1) d).pages ≤ far
-ends_before runs page low far apart some h none d =
-    elim (cases_lt far (get_or runs (low - 1) d).pages) [
-      | inl more ↦
-          let run : Run (Option ℕ) = get_or runs (low - 1) d in
-          let found : Found = record {
-            index = run.index + far;
-            left = run.pages - far;
-            rule = run.value;
-          } in
-          let part : IsPartOf run far found = record {
-            index = refl;
-            rule = refl;
-            left = omega arith;
-            some = omega arith;
-          } in
-          let at : IsAt runs page found = part_found runs page low far found apart some h
-          (λ e.
-          subst (λ (r : Run (Option ℕ)). IsPartOf r far found)
-          (get_or_default runs (low - 1) _ _ (omega (arith, h.within))) part) in
-          absurd (let odd : None ≡ Some (found.index, found.rule) = sym none
-          ∙ at_page runs page found at in cc)
-      | inr less ↦ less
-    ]
-
--- where a page isn't mapped none is before the next run
-pub hole_on : (runs : List (Run (Option ℕ))) (page low far q : ℕ) → AreApart 0 runs
-    → IsSplit runs page low far → page_at runs page ≡ None
-    → ((d : Run (Option ℕ)) → low < length runs → page + q < (get_or runs low d).first)
-    → page_at runs (page + q) ≡ None
-hole_on runs page low far q apart h none next =
-    let later : AllWithin (λ run. page + q < run.first) runs low (length runs) =
-    λ k d k_low k_high.
-    omega (arith, next d (omega arith), apart-rising 0 runs apart low k d k_low k_high) in
-    elim (cases_lt 0 low) [
-      | inl some ↦ past_found runs (page + q) low (far + q) apart some
-          (record {
-            within = h.within;
-            before = λ k d k_low k_high. omega (arith, h.before k d k_low k_high);
-            behind = later;
-            lies = λ d some. omega (arith, h.lies d some);
-          }) (λ d. omega (arith, ends_before runs page low far apart some h none d))
-      | inr first ↦ page_at-none 0 runs (page + q) apart
-          (λ k d k_low k_high. later k d (omega arith) k_high)
-    ]
 
 -- each page as far as the run reaches is mapped
 pub is_mapped : (runs : List (Run (Option ℕ))) (page : ℕ) (found : Found) (q : ℕ)

@@ -1,6 +1,7 @@
 -- What a search for a page finds.
 use Rattle.std.specs.Prelude.{◌≡◌, ℕ, ◌+◌, ◌-◌, ◌^◌, ◌<◌, ◌≤◌, Option, Some}
-use Rattle.std.specs.Prelude.{None, IsSome, List, MatchOption, length, slice_index_or}
+use Rattle.std.specs.Prelude.{None, IsSome, List, MatchOption, Result, Ok, Err, length}
+use Rattle.std.specs.Prelude.{slice_index_or}
 use Rattle.std.specs.List.{AllWithin}
 use Rattle.numa_ranges.specs.Runs.{page_at}
 use Rattle.numa_ranges.specs.declared.run.Run.{Run}
@@ -24,6 +25,12 @@ pub record IsAt (runs : List (Run (Option ℕ))) (page : ℕ) (found : Found) : 
 abbrev pub IsFound : List (Run (Option ℕ)) → ℕ → Option Found → Type 0
 IsFound runs page result = MatchOption result (page_at runs page ≡ None) (λ found.
     IsAt runs page found)
+
+-- what is told of a page: what its run says of it, or how many pages from it on have none
+abbrev pub Tells : List (Run (Option ℕ)) → ℕ → Result Found ℕ → Type 0
+Tells runs page (Ok found) = IsAt runs page found
+Tells runs page (Err count) = (0 < count)
+    × ((q : ℕ) → q < count → page_at runs (page + q) ≡ None)
 
 -- the runs before a place begin at the page or before it, and those from the place on behind it;
 -- the run before the place begins so far before the page

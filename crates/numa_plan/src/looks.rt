@@ -72,15 +72,6 @@ impl<'a> RunInPlace<'a> {
         self.first(steps) - page
     }
 
-    /// Whether the run has the page at this distance from its first page.
-    #[inline(always)]
-    pub(crate) fn has(&self, far: u64) -> bool
-        ensures within { result ≡ true → far < self.now.pages }
-        ensures past { result ≡ false → self.now.pages ≤ far }
-    {
-        far < self.run.pages
-    }
-
     /// A guess at the place of the run that has a page: this run is at place 0, and `end` at place
     /// `last`. Only speed depends on it.
     #[inline(always)]

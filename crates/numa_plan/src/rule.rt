@@ -154,6 +154,19 @@ impl Rule {
         }
     }
 
+    /// The first node of the row for an index, for a fault on this node.
+    #[inline(always)]
+    pub(crate) fn first(&self, cpu: u32, index: u64) -> u8
+        requires { (k : ℕ) → HasRow self.now (row_number self.now cpu k) }
+        ensures { result ≡ first_of self.now cpu index }
+    {
+        match &self.body {
+            Body::Turns { firsts, .. } => firsts.turns(index, 1)[0],
+            Body::Faulting { .. } => self.row(cpu, index)[0],
+            Body::Fixed { .. } => self.row(cpu, index)[0],
+        }
+    }
+
     /// Writes the first node of the row for each of the indexes from this one on.
     pub(crate) fn fill(&self, cpu: u32, index: u64, out: &mut [u8])
         requires rows { (k : ℕ) → HasRow self.now (row_number self.now cpu k) }

@@ -117,6 +117,10 @@ impl<'a> Near<'a> {
     {
         let rule: &Rule = self.rule;
         let count = in_row(pages, self.found.left - far);
+        if count == 1 {
+            out[0] = rule.first(cpu, self.found.index + far);
+            return 1;
+        }
         rule.fill(cpu, self.found.index + far, &mut out[..count]);
         count
     }
