@@ -1,9 +1,10 @@
 #!/usr/bin/env python3
-"""ahead.py [PROCESSORS]: proves the crates of the repository here, each by a run of `rt ci NAME` that begins once
-those below it are proved, as many at once as processors and memory allow. Those come first for which most work waits;
-where nearly as much waits as for any, a crate has two jobs, and the others have less of the processors' time. Prints
-what rt says of each crate and of its tests, once they are proved. What fails stops those above it alone, and is tried
-again by whoever calls. Not proved."""
+"""ahead.py [PROCESSORS]: proves the crates of the repository here by runs of `rt ci NAME..`, each of which begins once
+those below its crates are proved, as many at once as processors and memory allow. Those come first for which most work
+waits: where nearly as much waits as for any, a crate has a run of its own with two jobs, and that for which most of all
+waits begins though no processor is free. The others go several to a run, since a run takes seconds itself, and have
+less of the processors' time. Prints what rt says of each crate and of its tests, once they are proved. What fails stops
+those above it alone, and is tried again by whoever calls. Not proved."""
 
 import os
 import re
@@ -16,6 +17,7 @@ OF_LINE = 0.06  # seconds that a line of code takes
 OF_LIBRARY = 4.2  # seconds that a library below takes, since it is loaded for each function and each drop
 SHARES = {1: 1.0, 2: 1.35}  # the processors that a proof takes, by its jobs
 URGENT = 0.8  # of the work that waits for the crate for which most waits
+OF_RUN = 120  # seconds of proofs that a run has whose crates aren't urgent
 
 
 def read_crates(path):
@@ -73,51 +75,62 @@ def lines_of(folder):
     return count
 
 
-def next_ones(crates, ways, proved, running, left, processors):
-    """Of the crates that are left those that begin now, each with its jobs, where the running ones have theirs."""
-    room = processors + 0.5 - sum(SHARES[jobs] for jobs in running.values())
-    most, found = max((ways[it] for it in [*left, *running]), default=0), {}
+def next_runs(crates, ways, cost, proved, running, left, processors):
+    """Runs that begin now of the crates that are left, where the running ones have their processors: names and jobs."""
+    room = processors + 0.5 - sum(running.values())
+    most, found, others = max((ways[it] for it in left), default=0), [], []
     for name in sorted(left, key=ways.get, reverse=True):
-        if proved.issuperset(crates[name]):
-            jobs = 2 if processors >= 4 and ways[name] >= URGENT * most else 1
-            if SHARES[jobs] <= room:
-                found[name] = jobs
-                room -= SHARES[jobs]
-    return found
+        if not proved.issuperset(crates[name]):
+            continue
+        if processors >= 4 and ways[name] >= URGENT * most:
+            if SHARES[2] <= room or ways[name] == most and room > -SHARES[2]:
+                found.append(([name], 2))
+                room -= SHARES[2]
+        elif others and sum(cost[it] for it in others[-1]) < OF_RUN:
+            others[-1].append(name)
+        elif room - len(others) >= SHARES[1]:
+            others.append([name])
+    return [*found, *[(names, 1) for names in others]]
 
 
 class Runs:
-    """Runs of `rt ci NAME`."""
+    """Runs of `rt ci NAME..`, each with the share of the processors that it takes."""
 
     def __init__(self):
-        self.jobs, self.ended, self.changed = {}, {}, threading.Condition()
+        self.shares, self.proved, self.ended, self.changed = {}, set(), [], threading.Condition()
 
-    def begin(self, name, jobs):
-        self.jobs[name] = jobs
-        threading.Thread(target=self.run, args=(name, jobs), daemon=True).start()
+    def begin(self, names, jobs):
+        self.shares[tuple(names)] = SHARES[jobs]
+        threading.Thread(target=self.run, args=(tuple(names), jobs), daemon=True).start()
 
-    def run(self, name, jobs):
+    def run(self, names, jobs):
         """(Of itself rt gives a lone crate two jobs.)"""
         others = {key: value for key, value in os.environ.items() if key != "RT_JOBS"}
         by_jobs = others if jobs > 1 else {**others, "RT_JOBS": "1"}
         nice = [] if jobs > 1 else ["nice", "-n", "10"]
-        with subprocess.Popen([*nice, "rt", "ci", name], env=by_jobs, stdout=subprocess.PIPE,
+        with subprocess.Popen([*nice, "rt", "ci", *names], env=by_jobs, stdout=subprocess.PIPE,
                               stderr=subprocess.DEVNULL, text=True, errors="replace") as run:
             for line in run.stdout:
-                if re.fullmatch(r"rt: \w+(: its tests are)? proved\n", line):
+                if told := re.fullmatch(r"rt: (\w+)(: its tests are)? proved\n", line):
                     print(line, end="", flush=True)
+                    self.tell(() if told[2] else (told[1],), ())
+        self.tell(names if run.returncode == 0 else (), (names,))
+
+    def tell(self, proved, ended):
         with self.changed:
-            self.ended[name] = run.returncode
+            self.proved.update(proved)
+            self.ended += ended
             self.changed.notify()
 
     def wait(self):
-        """Waits until one has ended, and returns those that have passed."""
+        """Waits until a crate is proved or a run has ended, and returns what is proved so far."""
         with self.changed:
-            self.changed.wait_for(lambda: self.ended)
-            ended, self.ended = self.ended, {}
-        for name in ended:
-            del self.jobs[name]
-        return [name for name, status in ended.items() if status == 0]
+            before = len(self.proved)
+            self.changed.wait_for(lambda: self.ended or len(self.proved) > before)
+            for names in self.ended:
+                del self.shares[names]
+            self.ended = []
+            return set(self.proved)
 
 
 def has_memory():
@@ -125,25 +138,32 @@ def has_memory():
         return any(line.startswith("MemAvailable") and int(line.split()[1]) > 4e6 for line in file)
 
 
-def prove(crates, ways, processors):
+def early_one(crates, ways, proved, begun, left):
+    """The crate that most waits for, where all below it is proved or begun. (A run takes seconds to begin, and then
+    waits for what another proves.)"""
+    found = max((it for it in left if proved.union(begun).issuperset(crates[it])), key=ways.get, default=None)
+    return found if found and ways[found] >= URGENT * max(ways[it] for it in left) else None
+
+
+def prove(crates, ways, cost, processors):
     left, proved, runs = set(crates), set(), Runs()
     while True:
-        at_work = {it: jobs for it, jobs in runs.jobs.items() if proved.issuperset(crates[it])}
-        for name, jobs in next_ones(crates, ways, proved, at_work, left, processors).items():
-            if not runs.jobs or has_memory():
-                left.remove(name)
-                runs.begin(name, jobs)
+        begun = {it: share for it, share in runs.shares.items() if all(proved.issuperset(crates[name]) for name in it)}
+        for names, jobs in next_runs(crates, ways, cost, proved, begun, left, processors):
+            if not runs.shares or has_memory():
+                left.difference_update(names)
+                runs.begin(names, jobs)
                 time.sleep(0.1)  # (so that the dearest one takes its lock first)
-        early = [it for it in left if not proved.issuperset(crates[it]) and proved.union(at_work).issuperset(crates[it])]
-        if early and len(runs.jobs) == len(at_work) and has_memory():
-            # (a run takes seconds to begin, and waits for what another proves)
-            left.remove(first := max(early, key=ways.get))
-            runs.begin(first, 2)
-        if not runs.jobs:
+        if len(begun) == len(runs.shares) and has_memory():
+            if name := early_one(crates, ways, proved, {it for names in begun for it in names}, left):
+                left.remove(name)
+                runs.begin([name], 2)
+        if not runs.shares:
             return
-        proved.update(runs.wait())
+        proved = runs.wait()
 
 
 if __name__ == "__main__":
     found = read_crates("crates.txt")
-    prove(found, ways_of(found, costs_of(found, ".")), int(sys.argv[1]) if sys.argv[1:] else os.cpu_count())
+    costs = costs_of(found, ".")
+    prove(found, ways_of(found, costs), costs, int(sys.argv[1]) if sys.argv[1:] else os.cpu_count())
