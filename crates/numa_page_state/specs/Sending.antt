@@ -52,8 +52,8 @@ lacks_room _ = false
 abbrev pub nodes_of : Hardware → List Command → Toucher → ℕ → List ℕ
 nodes_of machine history toucher = lists_of machine history toucher.task toucher.cpu
 
--- the pages of the span that lie astray of the list as it is written, and the nodes of each page with
--- the policy
+-- the pages of the span that lie astray of the list as it is written, and the nodes of each page
+-- with the policy
 abbrev pub asked_of : Process → Rebinding → Toucher → Asked
 asked_of process said toucher = record {
   first = page_of (below_end said).start;
@@ -90,10 +90,14 @@ had_to_go asked goal page node =
 abbrev pub held_kept : Kept → Asked → (ℕ → Option ℕ) → ℕ
 held_kept kept asked goal = count_by (λ at. had_to_go asked goal at.0 at.1.node) kept
 
+-- whether a page lay on one node and lies on another
+abbrev pub has_gone : (ℕ → Spot) → (ℕ → Spot) → ℕ → ℕ → ℕ → Bool
+has_gone before after from to page = is_on from (before page) && is_on to (after page)
+
 -- how many pages went from one node to another
 abbrev pub flow_between : (ℕ → Spot) → (ℕ → Spot) → ℕ → ℕ → ℕ
 flow_between before after from to = if from == to then 0
-    else count_pages (λ page. is_on from (before page) && is_on to (after page)) 0 (2 ^ 35)
+    else count_pages (has_gone before after from to) 0 (2 ^ 35)
 
 abbrev pub sent_in : Kept → Asked → Lying → Sent
 sent_in kept asked at = record {

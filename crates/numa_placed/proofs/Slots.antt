@@ -31,6 +31,14 @@ pub spot-kept : (nodes : List ℕ) (runs : List (Run Slot)) (page : ℕ)
     → kept_spot nodes (page_at runs page) ≡ slot_spot nodes page (slot_at runs page)
 spot-kept nodes runs page is = ap (kept_spot nodes) is
 
+-- it lies as is said of it, by a list of the same nodes
+pub shown-as : (nodes shown : List ℕ) (runs : List (Run Slot)) (page : ℕ) (slot : Slot)
+    → shown ≡ nodes → HaveAll runs → page < 2 ^ 35 → slot_at runs page ≡ slot
+    → kept_spot nodes (page_at runs page) ≡ slot_spot shown page slot
+shown-as nodes shown runs page slot same whole near is =
+    spot-kept nodes runs page (whole page near) ∙ ap (slot_spot nodes page) is
+    ∙ ap (λ (l : List ℕ). slot_spot l page slot) (sym same)
+
 pub whole-kept : (runs : List (Run Slot)) (slots : ℕ → Slot)
     → ((page : ℕ) → page < 2 ^ 35 → page_at runs page ≡ Some (page, slots page)) → HaveAll runs
 whole-kept runs slots says page near =

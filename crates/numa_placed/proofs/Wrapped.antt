@@ -7,7 +7,7 @@ use Rattle.numa_placed.specs.declared.turn.Turn.{Turn}
 
 module _ (nodes : List ℕ) (turn : Turn) (some : 0 < turn.count) (page : ℕ) where
   -- a page has the node of one of the first `count` pages
-  wraps : (p : ℕ) → page ≤ p
+  pub wraps : (p : ℕ) → page ≤ p
       → turn_node nodes turn p ≡ turn_node nodes turn (page + (p - page) % turn.count)
   wraps p low =
       let whole : page + (p - page) ≡ p = omega (arith, low) in
@@ -21,3 +21,16 @@ module _ (nodes : List ℕ) (turn : Turn) (some : 0 < turn.count) (page : ℕ) w
   all-alike node first p low =
       let small = mod-lt (p - page) some in
       wraps p low ∙ first (page + (p - page) % turn.count) (omega arith) (omega (arith, small))
+
+-- two cycles of one length are alike everywhere, where they are for a period
+pub both-alike : (nodes others : List ℕ) (turn other : Turn) → 0 < turn.count
+    → turn.count ≡ other.count → (page : ℕ) → ((p : ℕ) → page ≤ p → p < page + turn.count
+    → turn_node nodes turn p ≡ turn_node others other p) → (p : ℕ) → page ≤ p
+    → turn_node nodes turn p ≡ turn_node others other p
+both-alike nodes others turn other some same page first p low =
+    let small = mod-lt (p - page) some in
+    let more : 0 < other.count = omega (arith, some, same) in
+    wraps nodes turn some page p low
+    ∙ first (page + (p - page) % turn.count) (omega arith) (omega (arith, small))
+    ∙ ap (λ (n : ℕ). turn_node others other (page + (p - page) % n)) same
+    ∙ sym (wraps others other more page p low)

@@ -28,7 +28,7 @@ use crate::rooms::Rooms;
 use crate::shift::shift_places;
 use crate::spans::{span_of, state_others, state_span, stated_span};
 use crate::spot::Spot;
-use crate::stay::{Stay, stay_of};
+use crate::stay::{Stay, alike_in, stay_of};
 use crate::touched::touch_span;
 use crate::turn::Slot;
 use crate::wants::Wants;
@@ -112,6 +112,20 @@ impl Placed {
         stay_of(&self.places, page)
     }
 
+    /// The end of some pages from one on that lie where they lie in another: the page itself, if it
+    /// doesn't. Pages that one policy placed in turn are passed over together, however many they
+    /// are.
+    pub fn alike_with(&self, other: &Placed, page: u64) -> u64
+        requires near { page < 2 ^ 35 }
+        ensures rises { page ≤ result }
+        ensures within { result ≤ 2 ^ 35 }
+        ensures alike { (p : ℕ) → page ≤ p → p < result
+            → spot_at self.now p ≡ spot_at other.now p }
+        ensures ends { result ≡ page → spot_at self.now page ≢ spot_at other.now page }
+    {
+        alike_in(&self.places, &other.places, page)
+    }
+
     /// The number of pages that lie on each node.
     pub fn counts(&self) -> [u64; 256]
         ensures { (node : ℕ) → node < 256
@@ -129,8 +143,8 @@ impl Placed {
         count_places(&self.places, first, pages)
     }
 
-    /// States that the mapped pages of a span lie on a node. Start and length are in bytes, as those
-    /// of a command to a space.
+    /// States that the mapped pages of a span lie on a node. Start and length are in bytes, as
+    /// those of a command to a space.
     ///
     /// # Errors
     /// The first of these that applies; nothing has changed: `Unaligned`, `OutOfSpace`,

@@ -8,8 +8,8 @@ use crate::spot::Spot;
 use crate::touched::same_until;
 use crate::turn::{Slot, Turn, turn_node};
 
-/// The end of the pages from one on, all of one cycle, up to another, that lie on a node: the end of
-/// all, if all of the cycle do.
+/// The end of the pages from one on, all of one cycle, up to another, that lie on a node: the end
+/// of all, if all of the cycle do.
 fn turn_until(nodes: &[u8], turn: Turn, page: u64, to: u64, node: u8) -> u64
     requires named { IsNamed nodes.now turn }
     requires rises { page ≤ to }
@@ -96,4 +96,73 @@ pub(crate) fn stay_of(places: &Places, page: u64) -> Stay
         end = next;
     }
     Stay { spot, end }
+}
+
+/// The end of the pages from one on up to another that lie alike by two cycles: the page itself, if
+/// it doesn't. Where the cycles aren't as long it may be the end of one period of the first.
+fn turns_until(nodes: &[u8], turn: Turn, others: &[u8], other: Turn, page: u64, to: u64) -> u64
+    requires named { IsNamed nodes.now turn }
+    requires other { IsNamed others.now other }
+    requires rises { page < to }
+    requires within { to ≤ 2 ^ 35 }
+    ensures rises { page ≤ result }
+    ensures within { result ≤ to }
+    ensures alike { (p : ℕ) → page ≤ p → p < result
+        → turn_node nodes.now turn p ≡ turn_node others.now other p }
+    ensures ends { result ≡ page
+        → turn_node nodes.now turn page ≢ turn_node others.now other page }
+{
+    for passed in 0..u64::from(turn.count) {
+        if page + passed >= to {
+            return to;
+        }
+        let here = turn_node(nodes, turn, page + passed);
+        let there = turn_node(others, other, page + passed);
+        if here != there {
+            return page + passed;
+        }
+    }
+    if turn.count == other.count {
+        return to;
+    }
+    page + u64::from(turn.count)
+}
+
+/// The end of the pages from one on up to another, of which the same is kept twice, that lie alike:
+/// the page itself, if it doesn't.
+fn slots_until(nodes: &[u8], slot: Slot, others: &[u8], other: Slot, page: u64, to: u64) -> u64
+    requires named { (turn : Turn) → slot ≡ InTurn turn → IsNamed nodes.now turn }
+    requires other { (turn : Turn) → other ≡ InTurn turn → IsNamed others.now turn }
+    requires rises { page < to }
+    requires within { to ≤ 2 ^ 35 }
+    ensures rises { page ≤ result }
+    ensures within { result ≤ to }
+    ensures alike { (p : ℕ) → page ≤ p → p < result
+        → slot_spot nodes.now p slot ≡ slot_spot others.now p other }
+    ensures ends { result ≡ page
+        → slot_spot nodes.now page slot ≢ slot_spot others.now page other }
+{
+    match slot {
+        Slot::Lies(spot) => slot_until(others, other, page, to, spot),
+        Slot::InTurn(turn) => match other {
+            Slot::Lies(spot) => slot_until(nodes, slot, page, to, spot),
+            Slot::InTurn(there) => turns_until(nodes, turn, others, there, page, to),
+        },
+    }
+}
+
+/// The end of some pages from one on that lie alike twice: the page itself, if it doesn't.
+pub(crate) fn alike_in(places: &Places, others: &Places, page: u64) -> u64
+    requires near { page < 2 ^ 35 }
+    requires kept { AreKept places.now }
+    requires others { AreKept others.now }
+    ensures rises { page ≤ result }
+    ensures within { result ≤ 2 ^ 35 }
+    ensures alike { (p : ℕ) → page ≤ p → p < result
+        → spots_of places.now p ≡ spots_of others.now p }
+    ensures ends { result ≡ page → spots_of places.now page ≢ spots_of others.now page }
+{
+    let (slot, end) = same_until(places, page, 1 << 35);
+    let (other, to) = same_until(others, page, end);
+    slots_until(&places.nodes, slot, &others.nodes, other, page, to)
 }
