@@ -149,54 +149,6 @@ module _ (nodes : ℕ → List ℕ) (page n : ℕ)
         count-none (λ p. all p && test (goal_at nodes rooms p) Nowhere) page (page + n - page)
         (λ p low high. ap (λ (o : Option ℕ). test o Nowhere) (so p low (omega arith)) ∙ e)
 
-  -- ---- no node of the list has room
-
-  module _ (old : ℕ → Spot) (walk walk' : Walk) (full : (room : ℕ → ℕ) → AreRooms walk.rooms room
-      → first_with_room room (nodes page) ≡ None) (rooms-same : walk'.rooms ≡ walk.rooms)
-      (moved : walk'.told.moved ≡ walk.told.moved) (left : walk'.told.left ≡ walk.told.left + n)
-    where
-      module _ (rooms : ℕ → ℕ → ℕ) (are : AreRooms walk.rooms (rooms page))
-          (found : AreFound all nodes Nowhere page (page + n) rooms) where
-        none-at : (j : ℕ) → j < n → rooms (page + j) ≡ rooms page
-            → goal_at nodes rooms (page + j) ≡ None
-        none-at j lt same =
-            (λ i. first_with_room (same i) (alike (page + j) (omega arith) (omega arith) i))
-            ∙ full (rooms page) are
-
-        still : (j : ℕ) → j ≤ n → rooms (page + j) ≡ rooms page
-        still zero le = ap rooms (omega arith)
-        still (suc j) le =
-            let before = still j (omega arith) in
-            let next : page + suc j ≡ page + j + 1 = omega arith in
-            ap rooms next ∙ found (page + j) (omega arith) (omega arith)
-            ∙ ap (λ (o : Option ℕ). room_sent (rooms (page + j)) o Nowhere)
-            (none-at j (omega arith) before) ∙ before
-
-        none-of : (p : ℕ) → page ≤ p → p < page + n → goal_at nodes rooms p ≡ None
-        none-of p low high =
-            let at : page + (p - page) ≡ p = omega arith in
-            sym (ap (goal_at nodes rooms) at)
-            ∙ none-at (p - page) (omega arith) (still (p - page) (omega arith))
-
-        left-all : AreSent all (goal_at nodes rooms) Nowhere page (page + n) old old walk.told
-            walk'.told × AreRooms walk'.rooms (rooms (page + n))
-        left-all = (
-          record {
-            below = λ p lt. refl;
-            sent = λ p low high t.
-                sym (ap (λ (o : Option ℕ). sent_spot o (old p)) (none-of p low high));
-            kept = λ p low high e. absurd (cc);
-            above = λ p le. refl;
-            moved = omega (arith, moved, uncounted None rooms none-of is_sent refl);
-            left = omega (arith, left, counted None rooms none-of is_kept refl);
-          },
-          subst (λ (r : ℕ → ℕ). AreRooms walk'.rooms r) (sym (still n (omega arith)))
-              (λ node small. ap (λ r. room_of r node) rooms-same ∙ are node small),
-        )
-
-      pub sends-full : Sends all nodes Nowhere page (page + n) old old walk walk'
-      sends-full rooms are found = left-all rooms are found
-
   -- ---- a node has room for all
 
   module _ (node : ℕ) (small : node < 256) (old later : ℕ → Spot) (walk walk' : Walk)

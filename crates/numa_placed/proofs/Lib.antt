@@ -13,6 +13,7 @@ pub mod Halving
 pub mod Heads
 pub mod HoleRows
 pub mod Judged
+pub mod Lacking
 pub mod MoveRows
 pub mod MovedNodes
 pub mod Others

@@ -1,5 +1,6 @@
 //! The cycle of nodes to which the pages of a stretch go that one policy serves.
-ghost use Rattle.std.specs.Prelude.{◌≡◌, ◌+◌, ◌<◌, ◌≤◌, ◌^◌, ℕ, IfOk, Some, length, slice_index, true};
+ghost use Rattle.std.specs.Prelude.{◌≡◌, ◌+◌, ◌<◌, ◌≤◌, ◌^◌, ℕ, IfOk, None, Some, length};
+ghost use Rattle.std.specs.Prelude.{slice_index, true};
 ghost use Rattle.numa_placed.specs.Binds.{first_with_room, nodes_in};
 ghost use Rattle.numa_placed.specs.Periods.{page_with};
 ghost use Rattle.numa_placed.specs.Shifts.{AreRooms};
@@ -49,4 +50,36 @@ pub(crate) fn push_cycle(
         };
     }
     Ok(true)
+}
+
+/// Whether a page finds no room.
+fn lacks_room(space: &Space, page: u64, touch: FaultingTask, rooms: &Rooms) -> bool
+    ensures { result ≡ true → (room : ℕ → ℕ) → AreRooms rooms.now room
+        → first_with_room room (nodes_in space.now touch.task touch.cpu page) ≡ None }
+{
+    let Some(_node) = node_with_room(space, page, touch.task, touch.cpu, rooms) else {
+        return true;
+    };
+    false
+}
+
+/// Whether none of the first `count` pages from one on finds room.
+pub(crate) fn all_lack_room(
+    space: &Space,
+    page: u64,
+    count: u64,
+    touch: FaultingTask,
+    rooms: &Rooms,
+) -> bool
+    requires few { page + count ≤ 2 ^ 35 }
+    ensures { result ≡ true → (room : ℕ → ℕ) → AreRooms rooms.now room
+        → (p : ℕ) → page ≤ p → p < page + count
+        → first_with_room room (nodes_in space.now touch.task touch.cpu p) ≡ None }
+{
+    for passed in 0..count {
+        if !lacks_room(space, page + passed, touch, rooms) {
+            return false;
+        }
+    }
+    true
 }

@@ -1,6 +1,6 @@
 //! Pages that go in turn, by the policy that serves them.
-ghost use Rattle.std.specs.Prelude.{◌≡◌, ◌+◌, ◌-◌, ◌<◌, ◌≤◌, ◌^◌, ℕ, IfOk, IfSome, List, OnOk, Some};
-ghost use Rattle.std.specs.Prelude.{false, length, slice_index, true};
+ghost use Rattle.std.specs.Prelude.{◌≡◌, ◌+◌, ◌-◌, ◌<◌, ◌≤◌, ◌^◌, ℕ, IfOk, IfSome, List, OnOk};
+ghost use Rattle.std.specs.Prelude.{Some, false, length, slice_index, true};
 ghost use Rattle.numa_placed.specs.Binds.{first_with_room, nodes_in};
 ghost use Rattle.numa_placed.specs.Periods.{Repeats};
 ghost use Rattle.numa_placed.specs.Shifts.{ArePages, AreRooms, endless, less_room, room_of};
@@ -9,10 +9,10 @@ ghost use Rattle.numa_placed.specs.Turns.{AreKept, IsNamed, spots_of, turn_node}
 ghost use Rattle.numa_placed.specs.declared.spot.Spot.TheVariants.{Nowhere};
 
 use crate::bind::{FaultingTask, Walk};
-use crate::cycle::push_cycle;
+use crate::cycle::{all_lack_room, push_cycle};
 use crate::places::{Places, turn_places};
 use crate::rooms::{Rooms, less_room};
-use crate::turn::{Turn, add_turn, look};
+use crate::turn::{Turn, add_turn, look, turn_node};
 use numa_machine::NoMemory;
 use numa_space::Space;
 
@@ -167,8 +167,37 @@ fn fitting_periods(rooms: &Rooms, counts: &[u64; 256], most: u64) -> u64
     periods
 }
 
-/// The end of the pages from one on, at most `end`, that find room: whole periods of the cycle,
-/// unless all do.
+/// The rooms that are left after so many periods of a cycle, where so many pages of one period come
+/// to each node. Only speed depends on it.
+fn left_after(rooms: &Rooms, counts: &[u64; 256], periods: u64) -> [u64; 256] {
+    let mut left = [0; 256];
+    for node in 0..256usize {
+        let taken = counts[node].saturating_mul(periods);
+        left[node] = room_at(rooms, node).saturating_sub(taken);
+    }
+    left
+}
+
+/// How many pages from one on, of at most so many, find room on their node of a cycle, where each
+/// node has so much. Only speed depends on it.
+fn fitting_pages(rooms: [u64; 256], nodes: &[u8], turn: Turn, page: u64, most: u64) -> u64
+    requires within { page + most ≤ 2 ^ 35 }
+    requires named { IsNamed nodes.now turn }
+    ensures { result ≤ most }
+{
+    let mut left = rooms;
+    for passed in 0..most {
+        let node = turn_node(nodes, turn, page + passed);
+        let room = left[node as usize];
+        if room == 0 {
+            return passed;
+        }
+        left[node as usize] = room - 1;
+    }
+    most
+}
+
+/// The end of the pages from one on, at most `end`, that find room on their node of a cycle.
 fn fitting_end(rooms: &Rooms, nodes: &[u8], turn: Turn, page: u64, end: u64) -> u64
     requires rises { page < end }
     requires within { end ≤ 2 ^ 35 }
@@ -186,11 +215,14 @@ fn fitting_end(rooms: &Rooms, nodes: &[u8], turn: Turn, page: u64, end: u64) -> 
     let mut once = nothing();
     add_turn(&mut once, nodes, turn, page, count);
     let periods = fitting_periods(rooms, &once, (end - page) / count);
-    end.min(page.saturating_add(periods.saturating_mul(count)))
+    let from = end.min(page.saturating_add(periods.saturating_mul(count)));
+    let left = left_after(rooms, &once, periods);
+    from + fitting_pages(left, nodes, turn, from, count.min(end - from))
 }
 
 /// Sends pages from one on, of those up to another whose lists repeat after `count` pages, in turn:
-/// as many whole periods as find room. Returns the page after them.
+/// those before the first whose node has filled, or all, where none finds room. Returns the page
+/// after them.
 pub(crate) fn send_turns(
     places: &mut Places,
     space: &Space,
@@ -224,6 +256,10 @@ pub(crate) fn send_turns(
         return Err(NoMemory);
     };
     let Some(turn) = plan else {
+        if all_lack_room(space, page, count, touch, &walk.rooms) {
+            walk.told.left += end - page;
+            return Ok(end);
+        }
         return Ok(page);
     };
     let to = fitting_end(&walk.rooms, &places.nodes, turn, page, end);

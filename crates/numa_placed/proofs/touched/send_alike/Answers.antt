@@ -1,10 +1,12 @@
-use Rattle.std.proofs.Common.{◌≡◌, ◌+◌, ◌-◌, ◌<◌, ◌≤◌, ℕ, arith, refl, subst, sym, ◌∙◌}
-use Rattle.numa_placed.specs.Binds.{nodes_in}
+use Rattle.std.proofs.Common.{◌≡◌, ◌+◌, ◌-◌, ◌<◌, ◌≤◌, ℕ, ap, arith, refl, subst, sym}
+use Rattle.std.proofs.Common.{◌∙◌}
+use Rattle.numa_placed.specs.Binds.{first_with_room, nodes_in}
 use Rattle.numa_placed.specs.Turns.{spots_of}
 use Rattle.numa_placed.specs.Standing.{Sends}
 use Rattle.numa_placed.specs.declared.bind.Walk.{Walk}
 use Rattle.numa_placed.specs.declared.spot.Spot.TheVariants.{Nowhere}
-use Rattle.numa_placed.proofs.Alike.{sends-full, sends-to}
+use Rattle.numa_placed.proofs.Alike.{sends-to}
+use Rattle.numa_placed.proofs.Lacking.{sends-lacking}
 use Rattle.numa_placed.proofs.Sending.{all}
 use Rattle.numa_placed.proofs.touched.send_alike.Goals as goal
 
@@ -23,8 +25,9 @@ returns-in_default-clause-sent c =
     λ p low high. c.requires.alike p low (omega arith) in
     let at : page + n ≡ c.args.end = omega arith in
     subst (λ (e : ℕ). Sends all nodes Nowhere page e old old walk more) at
-    (sends-full nodes page n alike old walk more
-    (λ room are. sym (c.node_with_room.ensures.first room are) ∙ c.in_default.is) refl refl refl)
+    (sends-lacking nodes page n old walk more (λ room are p low high.
+    ap (first_with_room room) (alike p low high)
+    ∙ sym (c.node_with_room.ensures.first room are) ∙ c.in_default.is) refl refl refl)
 
 pub returns-clause-sent : goal.returns-clause-sent
 returns-clause-sent c =
