@@ -326,8 +326,9 @@ fn touch_some(
             touch_alike(places, space, page, end, spot, wants, touch, walk)
         }
         Slot::InTurn(turn) => {
-            if !wants.may_take_placed() {
-                return Ok(end);
+            let next = wants.first_in_turn(&places.nodes, turn, page, end);
+            if next > page {
+                return Ok(next);
             }
             let spot = spot_of(places, page);
             touch_alike(places, space, page, page + 1, spot, wants, touch, walk)

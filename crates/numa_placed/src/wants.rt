@@ -1,10 +1,12 @@
 //! Which pages are to go.
-ghost use Rattle.std.specs.Prelude.{◌≡◌, ℕ, IfSome, false};
+ghost use Rattle.std.specs.Prelude.{◌≡◌, ◌<◌, ◌≤◌, ◌^◌, ℕ, IfSome, false};
 ghost use Rattle.numa_placed.specs.Binds.{is_absent, wants_of};
+ghost use Rattle.numa_placed.specs.Turns.{IsNamed, turn_node};
 ghost use Rattle.numa_placed.specs.declared.spot.Spot.TheVariants.{Nowhere, Stated};
 
 use crate::astray::is_astray;
 use crate::spot::Spot;
+use crate::turn::{Turn, turn_node};
 use numa_maps::Resident;
 use numa_mask::NodeMask;
 
@@ -49,7 +51,7 @@ impl<'a> Wants<'a> {
     }
 
     /// Whether any page that lies on a node without a frame may be to go.
-    pub(crate) fn may_take_placed(&self) -> bool
+    fn may_take_placed(&self) -> bool
         ensures { result ≡ false → (page node : ℕ)
             → wants_of self.now page (Stated node) ≡ false }
     {
@@ -57,6 +59,32 @@ impl<'a> Wants<'a> {
             Wants::Astray(_) => true,
             Wants::Absent(_) => false,
         }
+    }
+
+    /// The first of the pages from one on up to another, which lie by a cycle, that may be to go:
+    /// the end, if none is.
+    pub(crate) fn first_in_turn(&self, nodes: &[u8], turn: Turn, page: u64, to: u64) -> u64
+        requires named { IsNamed nodes.now turn }
+        requires rises { page ≤ to }
+        requires within { to ≤ 2 ^ 35 }
+        ensures rises { page ≤ result }
+        ensures within { result ≤ to }
+        ensures stay { (p : ℕ) → page ≤ p → p < result
+            → wants_of self.now p (Stated (turn_node nodes.now turn p)) ≡ false }
+    {
+        if !self.may_take_placed() {
+            return to;
+        }
+        for passed in 0..u64::from(turn.count) {
+            if page + passed >= to {
+                return to;
+            }
+            let node = turn_node(nodes, turn, page + passed);
+            if self.may_take(Spot::Stated(node)) {
+                return page + passed;
+            }
+        }
+        to
     }
 
     /// The record of the pages that keep frames, where all others that lie here are to go, and
