@@ -13,7 +13,7 @@ use Rattle.numa_page_state.specs.Standing.{LiesAs}
 use Rattle.numa_page_state.specs.declared.state.PageState.{PageState}
 
 module _ {A : Type 0} (old new : PageState) where
-  -- memory lacked: that came of it, and nothing has changed
+  -- where it lacked memory, that came of it, and nothing has changed
   abbrev pub Lacks : Lack → A → A → Type 0
   Lacks lack came starved = is_starved lack ≡ true → (new ≡ old) × (came ≡ starved)
 

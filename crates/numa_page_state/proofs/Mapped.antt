@@ -109,7 +109,8 @@ module _ (basis : Ground) (start bytes task cpu page : ℕ) (at : Lying) where
   abbrev touched : Done (Unit {0}) PlacedRefusal
   touched = (Ok tt, with_touched (touched_by basis start bytes task cpu) at)
 
-  pub touches-placed : (lack : Lack) (node : ℕ) → touch_cause lack basis start bytes task cpu at ≡ None
+  pub touches-placed : (lack : Lack) (node : ℕ)
+      → touch_cause lack basis start bytes task cpu at ≡ None
       → in_pages (page_of start) (page_count bytes) page ≡ true → at.spots page ≡ Nowhere
       → placed_at basis.kept page ≡ None → goal ≡ Some node
       → (populate_outcome lack basis start bytes task cpu at).1.spots page ≡ Stated node
@@ -312,8 +313,9 @@ motion-mapped mapped (Some room) spots old new are page =
     shifted-mapped (moved_node old new) (shift_of spots old new room).gone
     (stated_below spots page) (mapped page) (spots page) (are page)
 
-pub follow-mapped : (b : Bool) (lack : Lack) (kept : Kept) (mapped : ℕ → Bool) (old new : ℕ) (at : Lying)
-    → AreMapped mapped at.spots → AreMapped mapped (followed_where b lack old new kept at).spots
+pub follow-mapped : (b : Bool) (lack : Lack) (kept : Kept) (mapped : ℕ → Bool) (old new : ℕ)
+    (at : Lying) → AreMapped mapped at.spots
+    → AreMapped mapped (followed_where b lack old new kept at).spots
 follow-mapped false lack kept mapped old new at are = are
 follow-mapped true lack kept mapped old new at are =
     followed-mapped (lack_in at.room lack (motion at.room at.spots old new).spots) where

@@ -23,8 +23,9 @@ use Rattle.numa_page_state.specs.declared.shift.Shift.{Shift}
 use Rattle.numa_page_state.specs.Lying.{Ground, Lying, Motion, OfNodes, Told, motion, still}
 use Rattle.numa_page_state.specs.Lying.{with_held, with_motion, with_spots}
 
--- what a change lacked: nothing; room for the runs of its pages, which it can lack only where these
--- are too many, though it needn't: pages that a policy placed in turn are kept as one run; or memory
+-- what a change lacked: nothing; room for the runs of its pages, which it can lack only where
+-- these are too many, though it needn't: pages that a policy placed in turn are kept as one run; or
+-- memory
 pub data Lack : Type 0 where
   Enough : Lack
   Crowded : Lack

@@ -125,7 +125,7 @@ pub record Moves (new : Laid) (rooms : Option Rooms) (moved : Moved)
   pub told : TellsOf moved done.told
   pub few : moved.left < 2 ^ 62
 
--- they did, unless this stands against it or memory lacks; then all is as it was
+-- they did, unless this stands against it, or they lack runs or memory; then all is as it was
 abbrev pub Migrates : Laid → Option Rooms → ℕ → ℕ → Option PlacedRefusal
     → Result Moved PlacedRefusal → Laid → Option Rooms → Type 0
 Migrates old rooms from to first result new rooms_then = (spots : ℕ → Spot)
@@ -136,7 +136,8 @@ Migrates old rooms from to first result new rooms_then = (spots : ℕ → Spot)
     (λ refusal. (first_of first (lack_in room (lack_told refusal)
     (motion room spots from to).spots) ≡ Some refusal) × (new ≡ old) × (rooms_then ≡ rooms))
 
--- a span was stated to lie on a node, unless something stands against it or memory lacks
+-- a span was stated to lie on a node, unless something stands against it, or it lacks runs or
+-- memory
 abbrev pub States : Laid → Option Rooms → Ground → ℕ → ℕ → ℕ
     → Result (Unit {0}) PlacedRefusal → Laid → Option Rooms → Type 0
 States old rooms basis start bytes node result new rooms_then = (at : Lying)
@@ -148,7 +149,8 @@ States old rooms basis start bytes node result new rooms_then = (at : Lying)
     (λ refusal. (at_cause (lack_told refusal) basis start bytes node at ≡ Some refusal)
     × (new ≡ old) × (rooms_then ≡ rooms))
 
--- pages of a span were touched first, unless something stands against it or memory lacks
+-- pages of a span were touched first, unless something stands against it, or they lack runs or
+-- memory
 abbrev pub Touches : Laid → Option Rooms → Ground → ℕ → ℕ → ℕ → ℕ
     → Result Arrived PlacedRefusal → Laid → Option Rooms → Type 0
 Touches old rooms basis start bytes task cpu result new rooms_then = (at : Lying)
@@ -162,7 +164,7 @@ Touches old rooms basis start bytes task cpu result new rooms_then = (at : Lying
     (λ refusal. (touch_cause (lack_told refusal) basis start bytes task cpu at ≡ Some refusal)
     × (new ≡ old) × (rooms_then ≡ rooms))
 
--- a page moved to a node, unless something stands against it or memory lacks
+-- a page moved to a node, unless something stands against it, or it lacks runs or memory
 abbrev pub MovesPage : Laid → Option Rooms → Ground → ℕ → ℕ
     → Result (Unit {0}) MoveRefusal → Laid → Option Rooms → Type 0
 MovesPage old rooms basis page node result new rooms_then = (at : Lying)
@@ -237,8 +239,8 @@ abbrev pub Replaces : Option PageState → Laid → Option PageState → Type 0
 Replaces old after new = (lying : Lying) (spots : ℕ → Spot) → Lies old lying → IsSome old
     → ((page : ℕ) → spot_at after page ≡ spots page) → Lies new (with_spots spots lying)
 
--- a change comes to what is done, or to why it is refused, as the outcome says, and the pages lie
--- as it says; where memory lacked, this came of it, and nothing has changed
+-- a change comes to what is done, or to why it is refused, as the outcome says by what it lacked,
+-- and the pages lie as it says; where that was memory, this came of it, and nothing has changed
 abbrev pub DoesAs : {A : Type 0} → PageState → A → PageState → A → (Lack → Lying → A × Lying)
     → Type 0
 DoesAs old done new starved outcome = (lying : Lying) → LiesAs old lying → (lack : Lack)

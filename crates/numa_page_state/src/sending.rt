@@ -148,8 +148,8 @@ fn sent_in(
         (λ sent. HasSent sent resident.now (asked_for space.now said.now toucher) lying) }
     ensures err { (lying : Lying) → LiesAs state.now lying → IfErr result (λ why.
         is_starved (lack_told why) ≡ false → cause_by (lack_told why)
-        (span_cause said.now.start said.now.length) (sent_spots (asked_for space.now said.now toucher)
-        lying) ≡ Some why) }
+        (span_cause said.now.start said.now.length)
+        (sent_spots (asked_for space.now said.now toucher) lying) ≡ Some why) }
 {
     let Ok(mut placed) = state.placed.copy() else {
         return Err(PlacedRefusal::NoMemory);

@@ -393,7 +393,7 @@ impl PageState {
         Ok(Shift { moved, left })
     }
 
-    /// Pages follow the allowed nodes, if they are to; where memory lacks, they stay.
+    /// Pages follow the allowed nodes, if they are to; where they lack runs or memory, they stay.
     pub fn follow(&mut self, old: &NodeMask, new: &NodeMask, resident: Option<&Resident>)
         ensures { (lying : Lying) (kept : Kept) → LiesAs self.old lying → MatchOption resident.entry
             (kept ≡ []) (λ held. held.now ≡ kept)

@@ -135,7 +135,8 @@ count-both test false first n =
 module _ (nodes : List ℕ) (turn : Turn) (node first n : ℕ) where
   pub before-none : pages_before nodes turn 0 node first n ≡ 0
   before-none =
-      count-none (λ page. nat_lt (page % turn.count) 0 && (turn_node nodes turn page == node)) first n
+      count-none
+      (λ page. nat_lt (page % turn.count) 0 && (turn_node nodes turn page == node)) first n
       (λ page low high. rw (le-ltb (page % turn.count) 0 (omega arith)) refl)
 
   -- one place more

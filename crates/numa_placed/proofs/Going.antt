@@ -1,5 +1,6 @@
 -- Which pages go: all, or the lowest of each node.
-use Rattle.std.proofs.Common.{◌≡◌, ℕ, ◌+◌, ◌-◌, ◌<◌, ◌≤◌, ◌^◌, Bool, true, false, refl, sym, ap, ◌∙◌}
+use Rattle.std.proofs.Common.{◌≡◌, ℕ, ◌+◌, ◌-◌, ◌<◌, ◌≤◌, ◌^◌, Bool, true, false, refl, sym}
+use Rattle.std.proofs.Common.{ap, ◌∙◌}
 use Rattle.std.proofs.Common.{arith, inl, inr, List, slice_index, subst}
 use Rattle.std.specs.Prelude.{nat_lt, if◌then◌else◌}
 use Rattle.std.proofs.lemmas.Bool.{and_cases, cases_Bool, cases_eq, eq-eqb, le-ltb}
@@ -85,7 +86,8 @@ module _ (go gone : ℕ → ℕ) (spots : ℕ → Spot) (cut : ℕ)
       → Stated (if nat_lt page cut then below node else behind node)
       ≡ shifted_spot go gone (stated_below spots page) (Stated node)
   goes-split page node is split =
-      let ends = and_split (nat_lt 0 (gone node)) (nat_lt (gone node) (stated_on spots node)) split in
+      let ends = and_split (nat_lt 0 (gone node)) (nat_lt (gone node) (stated_on spots node))
+      split in
       let some : nat_lt (gone node) 1 ≡ false =
       le-ltb (gone node) 1 (omega (arith, ltb-true 0 (gone node) ends.0)) in
       let same = cuts node (nodes page node (near page node is) is) split page is in
@@ -107,7 +109,8 @@ module _ (go gone : ℕ → ℕ) (spots : ℕ → Spot) (cut : ℕ)
             either-way (nat_lt page cut) (below node) (behind node) node
             (rw (lt-ltb (gone node) 1 (omega (arith, zero))) refl)
             (rw (lt-ltb (gone node) (stated_on spots node) (omega (arith, zero, less))) refl)
-            ∙ sym (rw (le-ltb (stated_below spots page node) (gone node) (omega (arith, zero))) refl)
+            ∙ sym (rw (le-ltb (stated_below spots page node) (gone node) (omega (arith, zero)))
+            refl)
         | inr all ↦
             let enough = ltb-false (gone node) (stated_on spots node) all in
             either-way (nat_lt page cut) (below node) (behind node) (go node)

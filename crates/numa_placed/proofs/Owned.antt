@@ -48,7 +48,8 @@ module _ (nodes : List ℕ) (first : ℕ) where
     own-all (end_of run) runs apart.3 (λ page i slot low is. says page i slot low
         (elim (cases_lt page (end_of run)) [
           | inl l ↦
-              let gone : page_at runs page ≡ None = page_at-before (end_of run) runs page apart.3 l in
+              let gone : page_at runs page ≡ None =
+              page_at-before (end_of run) runs page apart.3 l in
               absurd (let odd = sym gone ∙ is in cc)
           | inr g ↦ rw (in_pages-above run.first run.pages page g) is
         ])),
@@ -232,7 +233,8 @@ pub off-turn : (nodes : List ℕ) (slot : Slot) (turn : Turn) (first n : ℕ) �
 off-turn nodes slot turn first n is bytes =
     ap (λ (s : Slot). count_pages (λ page. is_off (slot_spot nodes page s)) first n) is
     ∙ count-none (λ page. is_off (slot_spot nodes page (InTurn turn))) first n
-    (λ page low high. lt-leb 256 (turn_node nodes turn page) (bytes (turn.from + page % turn.count)))
+    (λ page low high. lt-leb 256 (turn_node nodes turn page)
+    (bytes (turn.from + page % turn.count)))
 
 -- no page of them lies on a node beyond, so each lies on one of 256, where those behind lie nowhere
 pub all-on : (spots : ℕ → Spot) (n : ℕ) → pages_within is_off spots 0 n ≡ 0

@@ -8,7 +8,8 @@ use Rattle.numa_ranges.specs.Runs.{AreApart, in_pages, page_at}
 use Rattle.numa_ranges.specs.declared.run.Run.{Run}
 use Rattle.numa_ranges.proofs.Apart.{in_pages-above, in_pages-below, in_pages-true}
 use Rattle.numa_placed.specs.Renames.{IsRenamed, IsTidied}
-use Rattle.numa_placed.specs.Turns.{AreKept, HaveAll, IsNamed, kept_spot, slot_at, slot_in, slot_spot}
+use Rattle.numa_placed.specs.Turns.{AreKept, HaveAll, IsNamed, kept_spot, slot_at, slot_in}
+use Rattle.numa_placed.specs.Turns.{slot_spot}
 use Rattle.numa_placed.specs.Turns.{spots_of, turned_slot}
 use Rattle.numa_placed.specs.declared.places.Places.{Places}
 use Rattle.numa_placed.specs.declared.spot.Spot.{Spot}

@@ -85,11 +85,13 @@ module _ (asked : Asked) (old : ℕ → Spot) (room : ℕ → ℕ) where
     ahead = λ page far. walked.ahead page (omega (arith, le, far));
     sent = walked.sent ∙ sym (joined is_sent low to le
         ∙ ap (λ (k : ℕ). count_pages (passes is_sent asked (goals asked old room) old) 0 low + k)
-        (uncounted is_sent low (to - low) (λ page from end. none page from (omega (arith, end, le))))
+        (uncounted is_sent low (to - low)
+        (λ page from end. none page from (omega (arith, end, le))))
         ∙ omega arith);
     kept = walked.kept ∙ sym (joined is_kept low to le
         ∙ ap (λ (k : ℕ). count_pages (passes is_kept asked (goals asked old room) old) 0 low + k)
-        (uncounted is_kept low (to - low) (λ page from end. none page from (omega (arith, end, le))))
+        (uncounted is_kept low (to - low)
+        (λ page from end. none page from (omega (arith, end, le))))
         ∙ omega arith);
     rooms = subst (AreRooms walk.rooms) (sym (rooms-stay low to le none)) walked.rooms;
   }

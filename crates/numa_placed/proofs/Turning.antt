@@ -1,5 +1,5 @@
--- Pages that lie nowhere and go in turn, each to the first node of its own list that has room at the
--- start, where each node has room for all that come to it.
+-- Pages that lie nowhere and go in turn, each to the first node of its own list that has room at
+-- the start, where each node has room for all that come to it.
 use Rattle.std.proofs.Common.{◌≡◌, ◌≢◌, ℕ, zero, suc, ◌+◌, ◌-◌, ◌<◌, ◌≤◌, ◌==◌, ◌&&◌}
 use Rattle.std.proofs.Common.{true, false, Option, Some, List, [], ◌∷◌, refl, sym, ap, ◌∙◌}
 use Rattle.std.proofs.Common.{subst, arith, inl, inr}
@@ -76,7 +76,8 @@ module _ (heads : ℕ → ℕ) (page : ℕ) where
         by-node other = elim (cases_eq other (heads (page + j))) [
           | inl is ↦
               let one : count_to other (j + 1) ≡ count_to other j + 1 = to-next other j
-              ∙ ap (λ b. count_to other j + pages_if b 1) (eq-eqb (heads (page + j)) other (sym is)) in
+              ∙ ap (λ b. count_to other j + pages_if b 1)
+              (eq-eqb (heads (page + j)) other (sym is)) in
               let next : less_room (less_room (room other) (count_to other j)) 1
               ≡ less_room (room other) (count_to other j + 1) =
               less-next (room other) (count_to other j)

@@ -1,4 +1,5 @@
--- Where pages lie, as it is kept: runs of pages of which the same is kept, and the nodes of all cycles.
+-- Where pages lie, as it is kept: runs of pages of which the same is kept, and the nodes of all
+-- cycles.
 use Rattle.std.specs.Prelude.{ℕ, ◌+◌, ◌%◌, List, Option, Some, None, slice_index}
 use Rattle.numa_ranges.specs.Runs.{page_at}
 use Rattle.numa_ranges.specs.declared.run.Run.{Run}

@@ -1,6 +1,6 @@
 -- What a move that is on its way stands for.
-use Rattle.std.specs.Prelude.{◌≡◌, ℕ, ◌+◌, ◌-◌, ◌<◌, ◌≤◌, ◌&&◌, Bool, true, false, List, Option, Some}
-use Rattle.std.specs.Prelude.{None, nat_lt, slice_index, if◌then◌else◌}
+use Rattle.std.specs.Prelude.{◌≡◌, ℕ, ◌+◌, ◌-◌, ◌<◌, ◌≤◌, ◌&&◌, Bool, true, false, List, Option}
+use Rattle.std.specs.Prelude.{Some, None, nat_lt, slice_index, if◌then◌else◌}
 use Rattle.numa_mode.specs.Policy.{PolicyRecord}
 use Rattle.numa_mode.specs.declared.modes.Mode.{Mode}
 use Rattle.numa_mode.specs.declared.modes.Mode.TheVariants.{Interleave, WeightedInterleave}

@@ -86,8 +86,8 @@ fn halved_cut(places: &Places, node: u8, first: u64, end: u64, pages: u64) -> u6
     part.high
 }
 
-/// The page up to which pages of a node go, if so many of the lowest go: the run in which it is, and
-/// then by halving.
+/// The page up to which pages of a node go, if so many of the lowest go: the run in which it is,
+/// and then by halving.
 fn cut_of(places: &Places, node: u8, pages: u64) -> u64
     requires kept { AreKept places.now }
     requires few { pages ≤ stated_on (spots_of places.now) node }

@@ -15,8 +15,8 @@
 //! refuses a policy for a range with such pages, or moves each to the first node of its node list,
 //! if it is asked to. (`judge_strict_by`, `bind_astray`)
 //!
-//! **First touches.** A task that touches the pages of a span puts each that is nowhere on the first
-//! node of its node list that has room, the lowest page first. (`populate`)
+//! **First touches.** A task that touches the pages of a span puts each that is nowhere on the
+//! first node of its node list that has room, the lowest page first. (`populate`)
 //!
 //! **Runs.** Pages in a row that lie alike are kept as one run, and so are pages in a row that one
 //! policy placed on its nodes in turn, however many they are. Of pages that lie somewhere there may
@@ -28,8 +28,8 @@
 //! (`follow_within`, `migrate_within`, `move_page_within`) go node by node, as Linux does: each
 //! time the lowest node whose target isn't still to go, else the highest. Within a node the lowest
 //! pages go first, and a page that leaves gives its room back. A node that fills ends the move: the
-//! pages that found no room stay, and so do those of all nodes that were still to go. A page that is
-//! stated or touched takes a room too, and one of which nothing is stated any more gives it back
+//! pages that found no room stay, and so do those of all nodes that were still to go. A page that
+//! is stated or touched takes a room too, and one of which nothing is stated any more gives it back
 //! (`state_within`, `populate`, [`Rooms::between`]).
 #![tactic(auto)]
 

@@ -299,8 +299,9 @@ pub(crate) fn state_others(
     requires span { IsSpan said.first said.pages }
     requires stored { IsStored places.old }
     ensures stored { IsStored places.new }
-    ensures edit { IsStoredEdit (stated_beside (λ p. is_some (page_at space.now.ranges p)) resident.now
-        said.first said.pages said.node (spots_of places.old)) places.old result places.new }
+    ensures edit { IsStoredEdit (stated_beside (λ p. is_some (page_at space.now.ranges p))
+        resident.now said.first said.pages said.node (spots_of places.old)) places.old result
+        places.new }
 {
     let Ok(next) = others_copy(places, space, said, resident) else {
         return Err(PlacedRefusal::NoMemory);

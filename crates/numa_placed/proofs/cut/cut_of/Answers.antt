@@ -33,22 +33,26 @@ loop-run-preserved c =
 
 pub overflow_add-end : goal.overflow_add-end
 overflow_add-end c =
-    let apart = subst (AreApart c.loop-run.low) c.in-Some.ensures.steps c.loop-run.invariant.apart in
+    let apart =
+    subst (AreApart c.loop-run.low) c.in-Some.ensures.steps c.loop-run.invariant.apart in
     omega (arith, apart-top (end_of c.in-Some.run') c.next.new.self apart.3)
 
 pub count_on-here-requires-clause-within : goal.count_on-here-requires-clause-within
 count_on-here-requires-clause-within c =
-    let apart = subst (AreApart c.loop-run.low) c.in-Some.ensures.steps c.loop-run.invariant.apart in
+    let apart =
+    subst (AreApart c.loop-run.low) c.in-Some.ensures.steps c.loop-run.invariant.apart in
     omega (arith, apart.0, apart-top (end_of c.in-Some.run') c.next.new.self apart.3)
 
 pub halved_cut-requires-clause-within : goal.halved_cut-requires-clause-within
 halved_cut-requires-clause-within c =
-    let apart = subst (AreApart c.loop-run.low) c.in-Some.ensures.steps c.loop-run.invariant.apart in
+    let apart =
+    subst (AreApart c.loop-run.low) c.in-Some.ensures.steps c.loop-run.invariant.apart in
     omega (arith, apart-top (end_of c.in-Some.run') c.next.new.self apart.3)
 
 pub returns-then-left-here-clause-end : goal.returns-then-left-here-clause-end
 returns-then-left-here-clause-end c =
-    let apart = subst (AreApart c.loop-run.low) c.in-Some.ensures.steps c.loop-run.invariant.apart in
+    let apart =
+    subst (AreApart c.loop-run.low) c.in-Some.ensures.steps c.loop-run.invariant.apart in
     omega (
       arith,
       c.halved_cut.ensures.high,

@@ -12,7 +12,8 @@ loop-part-init c = record {
 
 pub loop-part-preserved : goal.loop-part-preserved
 loop-part-preserved c = record {
-  part = c.half_of-part.ensures.half c.args.first c.args.end c.args.pages c.loop-part.invariant.part;
+  part = c.half_of-part.ensures.half c.args.first c.args.end c.args.pages
+      c.loop-part.invariant.part;
   within = omega (arith, c.half_of-part.ensures.high, c.loop-part.invariant.within);
 }
 

@@ -11,7 +11,8 @@ returns-then-len-le-MOST_RUNS-clause-few c few =
       c.if-len-le-MOST_RUNS.true,
     )
 
-pub returns-then-counted_runs-gt-MOST_RUNS-clause-many : goal.returns-then-counted_runs-gt-MOST_RUNS-clause-many
+pub returns-then-counted_runs-gt-MOST_RUNS-clause-many :
+    goal.returns-then-counted_runs-gt-MOST_RUNS-clause-many
 returns-then-counted_runs-gt-MOST_RUNS-clause-many c more =
     many-kept c.args.places.now (omega (
       arith,

@@ -5,6 +5,7 @@ use Rattle.numa_placed.proofs.filling.stay.Given as goal
 
 abbrev pub invariant-loop-node : goal.invariant-loop-node
 invariant-loop-node l = record {
-  sum : l.total ≡ sum_below l.node (stay_on (slice_index l.targets) (slice_index l.counts) (slice_index l.gone));
+  sum : l.total ≡ sum_below l.node
+      (stay_on (slice_index l.targets) (slice_index l.counts) (slice_index l.gone));
   few : l.total ≤ l.node * 2 ^ 35;
 }

@@ -27,7 +27,8 @@ returns-in-Ok-clause-edit c room are =
     let fits : is_short room old next c.args.node ≡ false =
     sym (c.is_short.ensures room old next are c.count_each-before.ensures.pages
     c.count_each-after.ensures.pages) ∙ c.if-is_short.false in
-    let put : next ≡ spots_of c.put_places.new.places = λ i page. sym (c.in-Ok.ensures.edit.ok page) i in
+    let put : next ≡ spots_of c.put_places.new.places =
+    λ i page. sym (c.in-Ok.ensures.edit.ok page) i in
     record {
       ok = c.in-Ok.ensures.edit.ok;
       fits = subst (λ (s : ℕ → Spot). is_short room old s c.args.node ≡ false) put fits;

@@ -10,5 +10,5 @@ returns-clause-edit c =
     let mapped : ℕ → Bool = λ p. is_some (page_at c.args.space.now.ranges p) in
     stored-alike (spots_of c.in-Ok.next)
     (stated_beside mapped c.args.resident.now c.args.said.first c.args.said.pages c.args.said.node
-    (spots_of c.args.places.now)) c.args.places.now c.put_places.new.places c.put_places.result c.in-Ok.ensures.spots
-    c.put_places.ensures.edit
+    (spots_of c.args.places.now)) c.args.places.now c.put_places.new.places c.put_places.result
+    c.in-Ok.ensures.spots c.put_places.ensures.edit

@@ -24,5 +24,6 @@ returns-in_default-clause-edit c room are =
 pub returns-clause-edit : goal.returns-clause-edit
 returns-clause-edit c room are =
     subst (λ (after : ℕ → Spot). IsStoredWithin (spots_of c.args.places.now) after c.args.said.node
-    room c.put_places_within.result (spots_of c.put_places_within.new.places) c.put_places_within.new.rooms)
+    room c.put_places_within.result (spots_of c.put_places_within.new.places)
+    c.put_places_within.new.rooms)
     (λ i page. c.in-Ok.ensures.spots page i) (c.put_places_within.ensures.edit room are)

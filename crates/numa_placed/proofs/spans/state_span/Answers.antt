@@ -12,13 +12,16 @@ returns-then-is_in_one-clause-edit c =
     stored-alike
     (changed_spots c.args.said.first c.args.said.pages (stated_spot c.args.said.node) spots)
     (stated_spots (λ p. is_some (page_at c.args.space.now.ranges p)) c.args.said.first
-    c.args.said.pages c.args.said.node spots) c.args.places.now c.edit_places.new.places c.edit_places.result
+    c.args.said.pages c.args.said.node spots) c.args.places.now c.edit_places.new.places
+    c.edit_places.result
     (stated-all (λ p. is_some (page_at c.args.space.now.ranges p)) c.args.said.first
-    c.args.said.pages c.args.said.node spots (c.is_in_one.ensures c.if-is_in_one.true)) c.edit_places.ensures.edit
+    c.args.said.pages c.args.said.node spots (c.is_in_one.ensures c.if-is_in_one.true))
+    c.edit_places.ensures.edit
 
 pub returns-clause-edit : goal.returns-clause-edit
 returns-clause-edit c =
     stored-alike (spots_of c.in-Ok.next)
     (stated_spots (λ p. is_some (page_at c.args.space.now.ranges p)) c.args.said.first
-    c.args.said.pages c.args.said.node (spots_of c.args.places.now)) c.args.places.now c.put_places.new.places c.put_places.result
+    c.args.said.pages c.args.said.node (spots_of c.args.places.now)) c.args.places.now
+    c.put_places.new.places c.put_places.result
     c.in-Ok.ensures.spots c.put_places.ensures.edit

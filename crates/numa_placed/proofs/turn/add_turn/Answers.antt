@@ -27,7 +27,8 @@ overflow_add-counts c =
     ≡ pages_at_place c.args.turn.count place c.args.first c.args.pages =
     c.pages_at_place-more.ensures ∙ (λ i. pages_at_place (c.from-in-loop-place.ensures i)
     (c.from.ensures i) c.args.first c.args.pages) in
-    let here : pages_if (at == at) (pages_at_place c.args.turn.count place c.args.first c.args.pages)
+    let here : pages_if (at == at)
+    (pages_at_place c.args.turn.count place c.args.first c.args.pages)
     ≡ pages_at_place c.args.turn.count place c.args.first c.args.pages =
     ap (λ b. pages_if b (pages_at_place c.args.turn.count place c.args.first c.args.pages))
     (eq-eqb at at refl) in

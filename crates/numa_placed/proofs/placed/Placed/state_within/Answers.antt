@@ -26,10 +26,12 @@ pub returns-clause-ok : goal.returns-clause-ok
 returns-clause-ok c =
     let span = c.in_ok-said.ensures.span in
     let told = told-of (λ p. is_some (page_at c.args.space.now.ranges p)) c.args.resident.now
-    (room_of c.args.rooms.now) c.state_others_within.result (spots_of c.state_others_within.new.places)
-    c.state_others_within.new.rooms (spots_of c.self.inside.places) (spot_at c.args.self.now) _
-    (page_of c.args.start) _ (page_count c.args.length) _ c.args.node (λ i. spot_at (c.self.view_is i)) span.1 span.2
-    span.3 (c.state_others_within.ensures.edit (room_of c.args.rooms.now) (λ node small. refl)) in
+    (room_of c.args.rooms.now) c.state_others_within.result
+    (spots_of c.state_others_within.new.places) c.state_others_within.new.rooms
+    (spots_of c.self.inside.places) (spot_at c.args.self.now) _
+    (page_of c.args.start) _ (page_count c.args.length) _ c.args.node
+    (λ i. spot_at (c.self.view_is i)) span.1 span.2 span.3
+    (c.state_others_within.ensures.edit (room_of c.args.rooms.now) (λ node small. refl)) in
     told.ok
 
 pub returns-clause-fits : goal.returns-clause-fits
@@ -38,8 +40,9 @@ returns-clause-fits c room are =
     let told = told-of (λ p. is_some (page_at c.args.space.now.ranges p)) c.args.resident.now
     room c.state_others_within.result (spots_of c.state_others_within.new.places)
     c.state_others_within.new.rooms (spots_of c.self.inside.places) (spot_at c.args.self.now) _
-    (page_of c.args.start) _ (page_count c.args.length) _ c.args.node (λ i. spot_at (c.self.view_is i)) span.1 span.2
-    span.3 (c.state_others_within.ensures.edit room are) in
+    (page_of c.args.start) _ (page_count c.args.length) _ c.args.node
+    (λ i. spot_at (c.self.view_is i)) span.1 span.2 span.3
+    (c.state_others_within.ensures.edit room are) in
     told.fits
 
 pub returns-clause-taken : goal.returns-clause-taken
@@ -48,8 +51,9 @@ returns-clause-taken c room are =
     let told = told-of (λ p. is_some (page_at c.args.space.now.ranges p)) c.args.resident.now
     room c.state_others_within.result (spots_of c.state_others_within.new.places)
     c.state_others_within.new.rooms (spots_of c.self.inside.places) (spot_at c.args.self.now) _
-    (page_of c.args.start) _ (page_count c.args.length) _ c.args.node (λ i. spot_at (c.self.view_is i)) span.1 span.2
-    span.3 (c.state_others_within.ensures.edit room are) in
+    (page_of c.args.start) _ (page_count c.args.length) _ c.args.node
+    (λ i. spot_at (c.self.view_is i)) span.1 span.2 span.3
+    (c.state_others_within.ensures.edit room are) in
     told.taken
 
 pub returns-clause-err : goal.returns-clause-err
@@ -58,8 +62,9 @@ returns-clause-err c room are =
     let told = told-of (λ p. is_some (page_at c.args.space.now.ranges p)) c.args.resident.now
     room c.state_others_within.result (spots_of c.state_others_within.new.places)
     c.state_others_within.new.rooms (spots_of c.self.inside.places) (spot_at c.args.self.now) _
-    (page_of c.args.start) _ (page_count c.args.length) _ c.args.node (λ i. spot_at (c.self.view_is i)) span.1 span.2
-    span.3 (c.state_others_within.ensures.edit room are) in
+    (page_of c.args.start) _ (page_count c.args.length) _ c.args.node
+    (λ i. spot_at (c.self.view_is i)) span.1 span.2 span.3
+    (c.state_others_within.ensures.edit room are) in
     let after = stated_beside (λ p. is_some (page_at c.args.space.now.ranges p))
     c.args.resident.now (page_of c.args.start) (page_count c.args.length) c.args.node
     (spot_at c.args.self.now) in
