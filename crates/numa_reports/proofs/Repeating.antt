@@ -6,8 +6,9 @@ use Rattle.std.proofs.Common.{mul-le-mul_right, add-zero, div-mul-le_self, â—Œ/â
 use Rattle.std.proofs.lemmas.Bool.{cases_Bool, cases_eq, cases_lt, eq-eqb, ne_eqb}
 use Rattle.std.proofs.lemmas.Grind.{same_number_lists}
 use Rattle.std.proofs.lemmas.List.{get_or-set_same, get_or-set_other, get_or_past}
+use Rattle.numa_placed.specs.Periods.{Repeats}
 use Rattle.numa_reports.specs.Filled.{first_free, one_less, free_behind}
-use Rattle.numa_reports.specs.Turns.{AllLast, AreLeftBehind, Lasts, Repeats}
+use Rattle.numa_reports.specs.Turns.{AllLast, AreLeftBehind, Lasts}
 use Rattle.numa_reports.proofs.Taking.{free-split, free-start}
 
 -- whether a page took of a node, as a number

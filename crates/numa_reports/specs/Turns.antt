@@ -1,21 +1,9 @@
--- Pages whose lists come again after a period, and what periods take of each node.
+-- The pages of a range, and what periods of them take of each node.
 use Rattle.std.specs.Prelude.{◌≡◌, ◌⊎◌, ℕ, ◌+◌, ◌-◌, ◌*◌, ◌<◌, ◌≤◌, Option, Some, List}
 use Rattle.std.specs.Prelude.{slice_index}
 use Rattle.numa_mode.specs.Policy.{PolicyRecord}
 use Rattle.numa_ranges.specs.Runs.{page_at}
 use Rattle.numa_ranges.specs.declared.run.Run.{Run}
-use Rattle.numa_space.specs.Lists.{Setting, list_for}
-
--- of this many pages from one on, each has the list of the page one period later, if that is one of
--- them
-abbrev pub Repeats : (ℕ → List ℕ) → ℕ → ℕ → ℕ → Type 0
-Repeats nodes first pages period = (page : ℕ) → first ≤ page → page + period < first + pages
-    → nodes (page + period) ≡ nodes page
-
--- the lists of a policy repeat after this many indexes
-abbrev pub IsPeriod : Setting → Option PolicyRecord → ℕ → Type 0
-IsPeriod setting policy period = (cpu index : ℕ)
-    → list_for setting policy cpu (index + period) ≡ list_for setting policy cpu index
 
 -- the pages of a range, as all ranges have them: rising indexes, and its value
 abbrev pub HasPages : List (Run (Option PolicyRecord)) → Run (Option PolicyRecord) → Type 0

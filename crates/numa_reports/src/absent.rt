@@ -1,9 +1,9 @@
 //! Taking free pages for pages that aren't there yet.
 ghost use Rattle.std.specs.Prelude.{◌≡◌, ◌+◌, ◌<◌, ◌≤◌, ◌^◌, ℕ, IfErr, IfOk, OnOk, slice_index};
+ghost use Rattle.numa_placed.specs.Periods.{Repeats};
 ghost use Rattle.numa_plan.specs.Meaning.{RefusesSpan};
 ghost use Rattle.numa_reports.specs.Filled.{free_behind};
 ghost use Rattle.numa_reports.specs.Lying.{absent_nodes, alike_left, asked_nodes, spots_in};
-ghost use Rattle.numa_reports.specs.Turns.{Repeats};
 
 use crate::filling::fill_periods;
 use crate::lying::{Alike, alike_from};

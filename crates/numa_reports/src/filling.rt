@@ -3,6 +3,7 @@ ghost use Rattle.std.specs.Prelude.{◌≡◌, ◌⊎◌, ◌+◌, ◌-◌, ◌<
 ghost use Rattle.std.specs.Prelude.{IfErr, IfOk, OnOk, length, option_and_then, replicate};
 ghost use Rattle.std.specs.Prelude.{slice_index};
 ghost use Rattle.numa_compile.specs.Standing.{PlanStandsFor};
+ghost use Rattle.numa_placed.specs.Periods.{Repeats};
 ghost use Rattle.numa_plan.specs.Meaning.{RefusesSpan, place_refusal};
 ghost use Rattle.numa_ranges.specs.Runs.{end_of, page_at};
 ghost use Rattle.numa_space.specs.Standing.{StandsFor};
@@ -16,18 +17,17 @@ ghost use Rattle.numa_reports.specs.Lying.{LeavesFree, absent_nodes, asked_nodes
 ghost use Rattle.numa_reports.specs.Lying.{there_on};
 ghost use Rattle.numa_reports.specs.Told.{IsFilling, IsFillingBeside, IsTakenBeside, LacksOne};
 ghost use Rattle.numa_reports.specs.Told.{ToldEach, ToldOne};
-ghost use Rattle.numa_reports.specs.Turns.{HasPages, Repeats};
+ghost use Rattle.numa_reports.specs.Turns.{HasPages};
 
 use crate::absent::{both_of, fill_there};
 use crate::fault::ReportError;
 use crate::outlook::PageSpan;
-use crate::period::period_in;
 use crate::prediction::{RangePrediction, TakeRange, policy_of};
 use crate::request::PredictionRequest;
 use crate::touch::has_node;
 use crate::turns::{all_left_behind, all_times_left};
 use numa_machine::PlaceRefusal;
-use numa_placed::Placed;
+use numa_placed::{Placed, period_in};
 use numa_plan::Plan;
 use numa_ranges::Run;
 use numa_sheets::{FreePages, Touch};

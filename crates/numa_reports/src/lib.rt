@@ -15,7 +15,6 @@ pub mod laws;
 mod lying;
 mod moves;
 mod outlook;
-mod period;
 mod prediction;
 mod request;
 pub mod sheet;

@@ -1,10 +1,10 @@
 //! The nodes of the pages of ranges, cycle by cycle, as JSON.
 
 use crate::fault::ReportError;
-use crate::period::period_in;
 use crate::sheet::fields::bytes;
 use crate::sheet::largest::Largest;
 use numa_machine::PlaceRefusal;
+use numa_placed::period_in;
 use numa_plan::Plan;
 use numa_ranges::Run;
 use numa_sheets::{Items, Object, Touch};

@@ -1,7 +1,7 @@
 use Rattle.std.proofs.Common.{◌≡◌, ◌+◌, ◌-◌, ◌≤◌}
 use Rattle.numa_reports.specs.Filled.{free_behind}
 use Rattle.numa_reports.specs.Lying.{absent_nodes, asked_nodes, spots_in}
-use Rattle.numa_reports.specs.Turns.{Repeats}
+use Rattle.numa_placed.specs.Periods.{Repeats}
 use Rattle.numa_reports.proofs.absent.fill_there.Given as goal
 
 abbrev pub invariant-loop-left : goal.invariant-loop-left

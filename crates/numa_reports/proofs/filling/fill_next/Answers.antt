@@ -32,7 +32,7 @@ returns-clause-free g c history stands planned = c.in_ok-fill_there.ensures.free
     c.args.asked.touch.cpu
     c.period_in-period.result c.args.range.now c.policy_of-policy.result stands planned
     c.requires.known c.requires.pages
-    (c.policy_of-policy.ensures history stands) (c.period_in-period.ensures history stands))
+    (c.policy_of-policy.ensures history stands) (c.period_in-period.ensures.meaning history stands))
 
 pub returns-clause-told : goal.returns-clause-told
 returns-clause-told g c history stands planned =
