@@ -52,7 +52,7 @@ each-after nodes (group ∷ groups) rest at mid after told more = (
       told.1 more,
 )
 
--- whether memory lacked at the first place, and at the others
+-- what lacked at the first place, and at the others
 abbrev first_then : Lack → (ℕ → Lack) → ℕ → Lack
 first_then first rest zero = first
 first_then first rest (suc k) = rest k
@@ -107,12 +107,12 @@ group-joined first now rest news had left rooms follows group nodes (home ∷ ot
     let is : eqb home.group group ≡ true = rw (← are.0.group) its in
     (first_then done.0 told.0, rw is (done.1, told.1), rw is told.2)
 
--- whether memory lacked, by the place of a group and of a process
+-- what lacked, by the place of a group and of a process
 abbrev group_then : (ℕ → Lack) → (ℕ → ℕ → Lack) → ℕ → ℕ → Lack
 group_then first rest zero = first
 group_then first rest (suc k) = rest k
 
--- where each group is told in turn, memory lacked somewhere or nowhere
+-- where each group is told in turn, something lacked at each place, or nothing
 pub each-lacks : (nodes : ℕ → ℕ) (groups : List ℕ) (at after : HostLying)
     → FollowEach nodes groups at after
     → (lacks : ℕ → ℕ → Lack) × (after ≡ followed_each lacks nodes groups at)

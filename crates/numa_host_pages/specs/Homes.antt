@@ -122,8 +122,8 @@ home_followed lack follows nodes home room =
       (pages_followed lack follows home.allowed nodes home.lying room).1,
     )
 
--- the processes of a group, one after the other; `lacks` says of each place in the list whether
--- memory lacked when its pages were to move
+-- the processes of a group, one after the other; `lacks` says of each place in the list what the
+-- move of its pages lacked
 abbrev pub homes_followed : (ℕ → Lack) → Bool → ℕ → ℕ → List Home → Room → List Home × Room
 homes_followed lacks follows group nodes [] room = ([], room)
 homes_followed lacks follows group nodes (home ∷ homes) room =

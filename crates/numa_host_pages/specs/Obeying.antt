@@ -20,7 +20,7 @@ mems_followed lacks machine history at = followed_each lacks
 
 -- a new process has no page, nor has a child until it writes; one that ends gives its room back;
 -- and pages follow the nodes that their process is allowed. `lacks` says of each place among the
--- groups, and in the list of processes, whether memory lacked when the pages there were to move
+-- groups, and in the list of processes, what the move of the pages there lacked
 abbrev pub pages_after : (ℕ → ℕ → Lack) → Hardware → List HostCommand → HostCommand → HostLying
     → HostLying
 pages_after lacks machine history (NewProcess process group) at =

@@ -12,6 +12,7 @@ mod following;
 pub mod laws;
 mod member;
 pub mod obeying;
+mod order;
 mod pages;
 
 pub use obeying::obey;

@@ -80,6 +80,11 @@ IsHostIn host (Single state) = ⊥
 IsHostIn host (Hosted at) = (host.blank.machine ≡ at.machine) × (host.blank.bounds ≡ at.bounds)
     × HostStandsFor host at.history
 
+-- the pages are those of the session's host
+abbrev pub AreHostPages : HostPages → Session → Type 0
+AreHostPages pages (Single state) = ⊥
+AreHostPages pages (Hosted at) = HostLies pages at.lying × AreOf at.lying at.history
+
 -- nothing is kept of the pages of a process, and none is there
 abbrev pub IsBare : ℕ → Session → Type 0
 IsBare process (Single state) = Unit {0}

@@ -6,7 +6,8 @@ ghost use Rattle.numa_host_script.specs.Hosts.{HostLack, plenty};
 ghost use Rattle.numa_host_script.specs.Judged.{Starves, session_fault};
 ghost use Rattle.numa_host_script.specs.Sessions.{Session, begun, is_begin, session_answer};
 ghost use Rattle.numa_host_script.specs.Sessions.{session_by};
-ghost use Rattle.numa_host_script.specs.Standing.{ArePagesOf, IsAlone, IsBare, IsHost, IsHostIn};
+ghost use Rattle.numa_host_script.specs.Standing.{AreHostPages, ArePagesOf, IsAlone, IsBare};
+ghost use Rattle.numa_host_script.specs.Standing.{IsHost, IsHostIn};
 ghost use Rattle.numa_host_script.specs.Standing.{IsScriptIn, told};
 ghost use Rattle.numa_host_script.specs.Taking.{SessionJudges, SessionServes, SessionStandsFor};
 ghost use Rattle.numa_host_script.specs.Taking.{SessionTakes, SessionTells, SessionWrites};
@@ -398,6 +399,15 @@ impl HostScript {
     {
         let running = self.host.as_ref()?;
         Some(&running.host)
+    }
+
+    /// Where the pages of a host's processes lie, once the script is a host's.
+    pub fn host_pages(&self) -> Option<&HostPages>
+        ensures { (session : Session) → SessionStandsFor self.now session
+            → MatchOption result (IsAlone session) (λ pages. AreHostPages pages.now session) }
+    {
+        let running = self.host.as_ref()?;
+        Some(&running.pages)
     }
 
     /// Where the pages of a process of a host lie, if something is kept of them.

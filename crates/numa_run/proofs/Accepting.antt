@@ -88,7 +88,7 @@ module _ (old : Running) (command : Command) (version : Result ℕ Refusal) (cor
   abbrev pub state_then : State
   state_then = state_by (setup_of old.core) (accept_answer version)
 
-  -- it was answered as the definition says, where memory lacked or not
+  -- it was answered as the definition says, whatever lacked
   abbrev pub IsTold : Lack → Type 0
   IsTold lack = accept_answer version
       ≡ event_answer lack (setup_of old.core) state.world (Accept command)

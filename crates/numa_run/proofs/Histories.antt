@@ -39,7 +39,7 @@ wanting-told : (needs : Bool) → needs ≡ true → (o : Option CoreRefusal) �
     (refused_or o reply)
 wanting-told needs is o none reply = rw (is, none) refl
 
--- an answer that the core may give is that of the definition, whether memory lacked or not
+-- an answer that the core may give is that of the definition, whatever lacked
 pub answer-told : (s : Setup) (world : World) (event : Event)
     (answer : Result CoreReply CoreRefusal) → IsAnswer s world (newest_published world) event answer
     → (lack : Lack) × (answer ≡ event_answer lack s world event)
