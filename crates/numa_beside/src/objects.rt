@@ -1,6 +1,7 @@
 //! The names of areas in an answer as JSON, and in the data of a page.
 
 use crate::areas::{Area, Areas};
+use crate::naming::Unnamed;
 use numa_sheets::{Items, Object, Written};
 use std::alloc::{AllocError, Global};
 
@@ -28,17 +29,12 @@ fn is_of(area: &Area, process: Option<u32>) -> bool {
 }
 
 /// The object that has only the list of the areas with names, at most so many, as a line.
-fn names_of(
-    alloc: Global,
-    areas: &Areas,
-    process: Option<u32>,
-    most: usize,
-) -> Result<Vec<u8>, AllocError> {
+fn names_of(alloc: Global, unnamed: Unnamed<'_>, most: usize) -> Result<Vec<u8>, AllocError> {
     let mut items = Items::new(alloc);
     let mut count = 0usize;
-    for area in areas.all() {
-        if is_of(area, process) && count < most {
-            items.push_object(object_of(alloc, areas, area));
+    for area in unnamed.areas.all() {
+        if is_of(area, unnamed.process) && count < most {
+            items.push_object(object_of(alloc, unnamed.areas, area));
             count = count.saturating_add(1);
         }
     }
@@ -52,18 +48,13 @@ fn names_of(
 }
 
 /// An object with the areas that have names as its last member; what is no object stays.
-pub(crate) fn object_with(
-    alloc: Global,
-    areas: &Areas,
-    process: Option<u32>,
-    answer: &[u8],
-) -> Result<Vec<u8>, AllocError> {
+pub(crate) fn object_with(alloc: Global, unnamed: Unnamed<'_>) -> Result<Vec<u8>, AllocError> {
     let mut text = Written::new(alloc);
-    let Some(members) = answer.strip_suffix(b"}\n") else {
-        text.put(answer);
+    let Some(members) = unnamed.answer.strip_suffix(b"}\n") else {
+        text.put(unnamed.answer);
         return text.take();
     };
-    let names = names_of(alloc, areas, process, usize::MAX)?;
+    let names = names_of(alloc, unnamed, usize::MAX)?;
     text.put(members);
     text.put(b",");
     text.put(names.strip_prefix(b"{").unwrap_or(&[]));
@@ -93,18 +84,14 @@ fn data_in(page: &[u8]) -> Option<usize> {
 }
 
 /// A page with the areas that have names as the first member of its data; what is no page stays.
-pub(crate) fn page_with(
-    alloc: Global,
-    areas: &Areas,
-    process: Option<u32>,
-    answer: &[u8],
-) -> Result<Vec<u8>, AllocError> {
+pub(crate) fn page_with(alloc: Global, unnamed: Unnamed<'_>) -> Result<Vec<u8>, AllocError> {
     let mut text = Written::new(alloc);
+    let answer = unnamed.answer;
     let Some(begin) = data_in(answer) else {
         text.put(answer);
         return text.take();
     };
-    let names = names_of(alloc, areas, process, AREAS)?;
+    let names = names_of(alloc, unnamed, AREAS)?;
     text.put(answer.get(..begin).unwrap_or(&[]));
     let members = names.strip_prefix(b"{").unwrap_or(&[]);
     put_members(&mut text, members.strip_suffix(b"}\n").unwrap_or(&[]));

@@ -1,13 +1,12 @@
 //! Ranges of addresses in answers, `7f1230000000-7f1230021000` or one page's address alone, and the
 //! headings of processes.
 
+use numa_requests::PAGE_BYTES;
+
 /// The fewest and the most digits of an address.
 const DIGITS: usize = 8;
 
 const MOST: usize = 16;
-
-/// The bytes of a page.
-const PAGE: u64 = 4096;
 
 /// A range of addresses at the start of a text.
 #[derive(Clone, Copy)]
@@ -62,7 +61,7 @@ fn page_at(start: u64, digits: usize, rest: &[u8]) -> Option<Range> {
     }
     Some(Range {
         start,
-        end: start.saturating_add(PAGE),
+        end: start.saturating_add(PAGE_BYTES),
         length: digits,
     })
 }
@@ -95,7 +94,7 @@ fn page_in(line: &[u8]) -> Option<Range> {
     }
     Some(Range {
         start,
-        end: start.saturating_add(PAGE),
+        end: start.saturating_add(PAGE_BYTES),
         length: digits,
     })
 }
