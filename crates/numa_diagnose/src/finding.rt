@@ -50,6 +50,9 @@ pub enum Detail {
     NoWorkers,
     /// The number of the group or of the process in question.
     Number(u32),
+    /// A host's process was told or asked: its group says which nodes are allowed, and no worker
+    /// has frames.
+    OfHost,
 }
 
 /// What is wrong with a line: its error or refusal, and a detail.

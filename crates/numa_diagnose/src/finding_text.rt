@@ -3,7 +3,7 @@ use crate::finding::{Detail, Finding};
 use crate::hint::HostHint;
 use crate::host_text::put_host_refused;
 use crate::page_text::{PLACED, put_move_refused, put_placed_refused};
-use crate::words::{list_words, machine_words, policy_words, worker_words};
+use crate::words::{list_words, machine_words, policy_words, told_words, worker_words};
 use numa_requests::{CoreRefusal, Refusal};
 use numa_rules::{Text, say_hint, say_otherwise};
 use numa_script::keyword::Keyword;
@@ -227,6 +227,14 @@ fn put_counted(text: &mut Text, cause: CoreRefusal, words: &str, number: u64, be
     text.put(behind);
 }
 
+/// Why a line is refused that a host's process is told or asked, without naming a page or a count.
+fn words_in_host(cause: CoreRefusal) -> &'static str {
+    match cause {
+        CoreRefusal::Command(refusal) => told_words(refusal),
+        cause => worker_words(cause),
+    }
+}
+
 /// Appends why a line is refused.
 pub(crate) fn put_refusal(text: &mut Text, cause: CoreRefusal, detail: Detail) {
     match detail {
@@ -238,6 +246,7 @@ pub(crate) fn put_refusal(text: &mut Text, cause: CoreRefusal, detail: Detail) {
         Detail::Count(count) => put_counted(text, cause, " (now ", count, ")"),
         Detail::Mems => text.put("none of these nodes has memory; name one that has"),
         Detail::DecimalStart => text.put(DECIMAL_START),
+        Detail::OfHost => text.put(words_in_host(cause)),
         _ => text.put(worker_words(cause)),
     }
 }

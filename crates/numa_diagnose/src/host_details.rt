@@ -36,6 +36,14 @@ fn inner_of(line: &[u8]) -> &[u8] {
     }
 }
 
+/// What a process's space tells of a refusal, or else that the process is a host's.
+fn in_host(detail: Detail) -> Detail {
+    match detail {
+        Detail::None => Detail::OfHost,
+        detail => detail,
+    }
+}
+
 /// The details of a question's or a command's refusal by the space of a process.
 fn in_detail(host: &Host, line: &[u8], said: &ScriptLine<'_>, cause: CoreRefusal) -> Detail {
     let Some(process) = said.process else {
@@ -46,7 +54,7 @@ fn in_detail(host: &Host, line: &[u8], said: &ScriptLine<'_>, cause: CoreRefusal
         return Detail::DecimalStart;
     }
     match host.process(process) {
-        Some(space) => refusal_detail(space, &said.line, cause),
+        Some(space) => in_host(refusal_detail(space, &said.line, cause)),
         None => Detail::None,
     }
 }
@@ -58,7 +66,7 @@ fn pages_detail(host: &Host, line: &[u8], said: &ScriptLine<'_>, refusal: Placed
     };
     let inner = inner_of(line).strip_prefix(b" ").unwrap_or(&[]);
     match host.process(process) {
-        Some(space) => placed_detail(space, inner, &said.line, refusal),
+        Some(space) => in_host(placed_detail(space, inner, &said.line, refusal)),
         None => Detail::None,
     }
 }
@@ -69,7 +77,7 @@ fn moved_detail(host: &Host, said: &ScriptLine<'_>, refusal: MoveRefusal) -> Det
         return Detail::None;
     };
     match host.process(process) {
-        Some(space) => move_detail(space, &said.line, refusal),
+        Some(space) => in_host(move_detail(space, &said.line, refusal)),
         None => Detail::None,
     }
 }

@@ -35,6 +35,16 @@ move TASK CPU after POLICY"
     }
 }
 
+/// Why a line about pages is refused that a host's process is told.
+fn told_placed_words(refusal: PlacedRefusal) -> &'static str {
+    match refusal {
+        PlacedRefusal::NodesNotAllowed => {
+            "no node of TO is allowed; name an allowed one, or allow it first by cgroup-mems"
+        }
+        refusal => placed_words(refusal),
+    }
+}
+
 /// Why a page isn't moved.
 fn move_words(refusal: MoveRefusal) -> &'static str {
     match refusal {
@@ -52,6 +62,17 @@ release the page"
         }
         MoveRefusal::TooManyRuns => "there would be more than 1048576 runs of pages that lie alike",
         MoveRefusal::NoMemory => "the program found no memory for it",
+    }
+}
+
+/// Why a page of a host's process isn't moved.
+fn told_move_words(refusal: MoveRefusal) -> &'static str {
+    match refusal {
+        MoveRefusal::NodesNotAllowed => {
+            "the node isn't allowed; name an allowed one, or allow it first by cgroup-mems"
+        }
+        MoveRefusal::NoRoom => "the node takes no more pages; raise room",
+        refusal => move_words(refusal),
     }
 }
 
@@ -85,6 +106,9 @@ pub(crate) fn put_placed_refused(text: &mut Text, refusal: PlacedRefusal, detail
         (PlacedRefusal::Unmapped, Detail::Page(page)) => {
             put_of_page(text, name, CoreRefusal::Unmapped(page), detail);
         }
+        (refusal, Detail::OfHost) => {
+            put_named(text, name, told_placed_words(refusal), Detail::None);
+        }
         (refusal, detail) => put_named(text, name, placed_words(refusal), detail),
     }
 }
@@ -95,6 +119,9 @@ pub(crate) fn put_move_refused(text: &mut Text, refusal: MoveRefusal, detail: De
     match (refusal, detail) {
         (MoveRefusal::Unmapped, Detail::Page(page)) => {
             put_of_page(text, name, CoreRefusal::Unmapped(page), detail);
+        }
+        (refusal, Detail::OfHost) => {
+            put_named(text, name, told_move_words(refusal), Detail::None);
         }
         (refusal, detail) => put_named(text, name, move_words(refusal), detail),
     }

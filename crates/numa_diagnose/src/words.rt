@@ -85,6 +85,17 @@ pub(crate) fn command_words(refusal: Refusal) -> &'static str {
     }
 }
 
+/// Why a command is refused that a host's process is told, without naming a page or a count.
+pub(crate) fn told_words(refusal: Refusal) -> &'static str {
+    match refusal {
+        Refusal::NodesNotAllowed => {
+            "the policy would have no node now; name an allowed one, or allow it first by \
+cgroup-mems"
+        }
+        refusal => command_words(refusal),
+    }
+}
+
 /// Why a worker or a question is refused, without naming a page.
 pub(crate) fn worker_words(cause: CoreRefusal) -> &'static str {
     match cause {
