@@ -39,35 +39,37 @@ def stop(why):
     sys.exit(f"fill_compare.py: {why}")
 
 
+def rooms_in(machine, line, seen):
+    """What stands behind `zones NODE`: by node its room for first writes on the node's CPU, and how many
+    pages of a node at most are in lists of the other CPUs."""
+    cpus = sorted(machine_named(machine).with_cpus)
+    cpu = cpus.index(int(line.split()[1]))
+    with tempfile.NamedTemporaryFile("w") as file:
+        for text in seen.split("; "):
+            file.write(f"{'' if text.startswith('Node ') else '  '}{text}\n")
+        file.flush()
+        silent, others = sys.modules[__name__], collections.Counter()
+        rooms = TOOL["read_rooms"](silent, file.name, cpus=str(cpu))
+        for zone in TOOL["read_zones"](silent, file.name):
+            others[zone.node] += zone.values["listed"].total() - zone.values["listed"][cpu]
+    return rooms, max(others.values())
+
+
 class Script:
     """What a kernel answered to a script, line by line, and beside it what the program answers."""
 
     def __init__(self, program, machine, lines):
         self.rooms, self.listed = {}, 0
-        cpus = {node: cpu for cpu, node in enumerate(sorted(machine_named(machine).with_cpus))}
         asked, places = ["rules linux", *opening(machine)], []
         for line, seen in lines:
             if line.startswith("zones "):
-                self.read_zones(seen, cpus[int(line.split()[1])])
+                self.rooms, self.listed = rooms_in(machine, line, seen)
                 asked += [f"room {node} {pages}" for node, pages in self.rooms.items()]
             elif line != "rest":
                 asked.append("room" if line == "counts" else line)
             places.append(len(asked) - 1)
         answers = run(program, asked)
         self.lines = [(*line, answers[place]) for line, place in zip(lines, places)]
-
-    def read_zones(self, text, cpu):
-        """By node its room for first writes on a CPU, and how many pages of a node at most are in lists of
-        the other CPUs."""
-        with tempfile.NamedTemporaryFile("w") as file:
-            for line in text.split("; "):
-                file.write(f"{'' if line.startswith('Node ') else '  '}{line}\n")
-            file.flush()
-            silent, others = sys.modules[__name__], collections.Counter()
-            self.rooms = TOOL["read_rooms"](silent, file.name, cpus=str(cpu))
-            for zone in TOOL["read_zones"](silent, file.name):
-                others[zone.node] += zone.values["listed"].total() - zone.values["listed"][cpu]
-            self.listed = max(others.values())
 
     def left(self, number):
         """The rooms that are left behind a line, or None if pages aren't counted there."""

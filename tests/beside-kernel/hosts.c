@@ -5,8 +5,17 @@
  * process has task 0 alone. `in P inherit T FROM` has the thread FROM make the thread T, in place
  * of the one that is there; `fork P Q TASK CHILD` has P's thread TASK fork, and CHILD is the only
  * thread of Q. Every other script keeps its processes in a leaf of each group, as systemd does; the
- * others have threaded groups, in which processes may stand beside groups. Not proved. */
+ * others have threaded groups, in which processes may stand beside groups.
+ *
+ * Where `memory-migrate on` stands, processes have pages, of which it tells behind a line of one that may
+ * have placed or moved its pages, and for each process behind `cgroup-mems`, `attach` and `exit`:
+ *
+ *     in P lie => PAGE NODE PAGES, ..      runs of pages on one node, rising, by move_pages(2)
+ *     in P counts => N0=PAGES ..           what numa_maps counts
+ *
+ * and of `counts` alone behind `zones CPU` (placed.c). Not proved. */
 #include "calls.h"
+#include "pages.h"
 #include <semaphore.h>
 #include <signal.h>
 #include <sys/prctl.h>
@@ -20,7 +29,7 @@
 struct thread {
 	sem_t asked, answered;
 	char line[512];
-	char answer[256];
+	char answer[2048];
 };
 
 struct process {
@@ -64,6 +73,17 @@ static int fork_as(int process, int task)
 	return 0;
 }
 
+/* A line of one process, as this thread. */
+static void carry_out(const char *line, char *answer, int size)
+{
+	if (!strcmp(line, "lie"))
+		list_pages(answer, size);
+	else if (!strcmp(line, "counts"))
+		list_counts(answer, size);
+	else if (!carry_out_of_pages(line, answer, size) && !carry_out_of_task(line, answer, size))
+		tell(carry_out_of_memory(line), answer, size);
+}
+
 /* Carries out lines as this thread, until it is told to end. */
 static void serve(int process, int task)
 {
@@ -78,8 +98,8 @@ static void serve(int process, int task)
 			tell(make_thread(process, made), self->answer, sizeof self->answer);
 		else if (sscanf(self->line, "fork %*d %d %*d %d", &child, &made) == 2)
 			tell(fork_as(child, made), self->answer, sizeof self->answer);
-		else if (!carry_out_of_task(self->line, self->answer, sizeof self->answer))
-			tell(carry_out_of_memory(self->line), self->answer, sizeof self->answer);
+		else
+			carry_out(self->line, self->answer, sizeof self->answer);
 		sem_post(&self->answered);
 	}
 	sem_post(&self->answered);
@@ -99,6 +119,7 @@ static void ask(int process, int task, const char *line, char *answer, int size)
 
 static char folders[GROUPS][256]; /* empty: there is no such group */
 static int has_leaves;
+static int has_pages, is_filling; /* whether it is told where they lie; how many on each node alone */
 
 static const char *folder_of(int group)
 {
@@ -161,6 +182,23 @@ static int end_process(int process)
 	return 0;
 }
 
+/* Where a process' pages lie, or each one's (-1). */
+static void tell_pages(int process)
+{
+	char answer[2048];
+	int other;
+	for (other = 0; other < PROCESSES; other++) {
+		if (processes[other].pid == NO_PID || (process >= 0 && other != process))
+			continue;
+		if (!is_filling) {
+			ask(other, processes[other].first, "lie", answer, sizeof answer);
+			printf("in %d lie => %s\n", other, answer);
+		}
+		ask(other, processes[other].first, "counts", answer, sizeof answer);
+		printf("in %d counts => %s\n", other, answer);
+	}
+}
+
 /* A line of one process: its thread is made or asked. */
 static void play_in(int process, const char *line, char *answer, int size)
 {
@@ -194,13 +232,23 @@ static int play_of_host(const char *line)
 		return end_process(number);
 	if (sscanf(line, "weight %lu %127s", &node, word) == 2)
 		return set_weight(node, word);
+	if (!strcmp(line, "memory-migrate on"))
+		return has_pages = 1, 0; /* (a kernel always does, in cgroup v2) */
+	if (!strcmp(line, "rest"))
+		return rest();
 	return strcmp(line, "host") ? ENOSYS : 0;
 }
 
 static void play_line(const char *line)
 {
-	char answer[256];
-	int process, task, begin;
+	char answer[2048];
+	int process = -1, task, begin;
+	if (sscanf(line, "zones %d", &task) == 1) {
+		is_filling = 1;
+		go_to_cpu_of(task);
+		tell_zones(line);
+		return;
+	}
 	if (sscanf(line, "in %d %n", &process, &begin) == 1)
 		play_in(process, line + begin, answer, sizeof answer);
 	else if (sscanf(line, "fork %d %*d %d", &process, &task) == 2)
@@ -208,6 +256,11 @@ static void play_line(const char *line)
 	else
 		tell(play_of_host(line), answer, sizeof answer);
 	printf("%s => %s\n", line, answer);
+	if (has_pages && !strncmp(line, "in ", 3) && may_move(line + begin))
+		tell_pages(process);
+	if (has_pages && (!strncmp(line, "cgroup-mems ", 12) || !strncmp(line, "attach ", 7) ||
+			  !strncmp(line, "exit ", 5)))
+		tell_pages(-1);
 }
 
 /* ---- a script */

@@ -1,7 +1,7 @@
 #!/usr/bin/env python3
 """Random scripts of pages that are there:
 
-    placed_scripts.py MACHINE FIRST COUNT [--without-weights] [--holes | --populate | --fill]
+    placed_scripts.py MACHINE FIRST COUNT [--without-weights] [--holes | --populate | --moved | --fill]
 
 Each script states where pages lie, and then moves them: by the allowed nodes, by migrate_pages(2) and
 move_pages(2), and by mbind(2) with MPOL_MF_STRICT and MPOL_MF_MOVE; between these come commands of
@@ -9,7 +9,8 @@ every kind. In half of them nodes are full from some line on. There is one task,
 kernel moves pages once for each thread. Pages are stated on allowed nodes alone, as a kernel puts
 them nowhere else. Where nodes are full, neither the task's policy nor the allowed nodes leave it no
 other node: a kernel would end it. With --holes most lines are `mbind` with flags over holes, with
---populate first writes of spans, and with --fill such that fill nodes, between moves. Not proved."""
+--populate first writes of spans, with --moved as many of these as moves and changes of the allowed nodes,
+and with --fill first writes that fill nodes, between moves. Not proved."""
 
 import sys
 
@@ -19,6 +20,7 @@ from scripts import FIRST_PAGE, PAGE, PAGES, Script
 
 class PlacedScript(Script):
     kind = "placed"
+    task_number = 1
 
     def __init__(self, machine, seed, weights):
         super().__init__(machine, f"{self.kind} {seed}", weights)
@@ -79,7 +81,7 @@ class PlacedScript(Script):
         start, length = self.bytes(*self.span())
         flags = self.random.choice(["strict", "strict", "move", "move", "move", "strict move"])
         if "move" in flags:
-            flags += f" 1 {self.random.choice(sorted(self.machine.with_cpus))}"
+            flags += f" {self.task_number} {self.random.choice(sorted(self.machine.with_cpus))}"
         self.say("mbind", start, length, self.policy(), flags)
 
     def fill(self):
@@ -162,7 +164,10 @@ class PopulateScript(PlacedScript):
         start, length = self.bytes(first, length)
         if self.random.random() < 0.02:
             start = hex(int(start, 16) + self.random.choice([1, 8, 2048]))
-        self.say("populate", start, length, 1, self.random.choice(sorted(self.machine.with_cpus)))
+        self.say("populate", start, length, self.task_number, self.a_cpu())
+
+    def a_cpu(self):
+        return self.random.choice(sorted(self.machine.with_cpus))
 
     def write(self):
         self.say("memory-migrate", "on")
@@ -173,6 +178,25 @@ class PopulateScript(PlacedScript):
         moves = [self.mems] * 4 + [self.migrate, self.move, self.mbind_flags, self.at]
         for _ in range(self.random.randint(20, 32)):
             self.random.choice(others + moves + [self.populate] * 12)()
+        return self.lines
+
+
+class MovedScript(PopulateScript):
+    """First writes of spans, and as often moves of what they placed, by each call and by the allowed
+    nodes; no node is full."""
+
+    kind = "moved"
+
+    def write(self):
+        self.say("memory-migrate", "on")
+        while len(self.mapped) < 10:
+            self.map()
+        others = [self.mbind] * 4 + [self.task] * 3 + [self.map] * 3 + [self.unmap] * 2 + [self.home]
+        others += [self.weight] * 2 * self.weights
+        moves = [self.mems] * 6 + [self.migrate] * 4 + [self.move] * 3 + [self.mbind_flags] * 6 + [self.at]
+        self.populate()
+        for _ in range(self.random.randint(22, 36)):
+            self.random.choice(others + moves + [self.populate] * 10)()
         return self.lines
 
 
@@ -266,6 +290,7 @@ def main():
     weights = "--without-weights" not in sys.argv
     writer = HoleScript if "--holes" in sys.argv else PlacedScript
     writer = PopulateScript if "--populate" in sys.argv else writer
+    writer = MovedScript if "--moved" in sys.argv else writer
     writer = FillScript if "--fill" in sys.argv else writer
     for number in range(first, first + count):
         print(f"script {machine}-{writer.kind}-{number}")

@@ -1,0 +1,139 @@
+#!/usr/bin/env python3
+"""Compares where pages of hosts' processes lie on a kernel with where the model and the program say:
+host_placed_compare.py [--program=PROGRAM] SEEN..
+
+SEEN is what boot.py printed of scripts by host_placed_scripts.py. The model (tests/model) gets each
+script, by `rules linux`, and its answers, the node of each page, and the counts of numa_maps are
+compared. A difference falls under a row of docs/KERNEL.md, or is told; the last line counts. PROGRAM has
+to answer the same scripts as the model does. Not proved."""
+
+import collections
+import os
+import sys
+
+sys.path.append(os.path.dirname(os.path.abspath(__file__)) + "/../model")
+
+import model
+from commands import span_of
+from compare import opening, parts, read_seen, run
+from placed_compare import ROWS, cause, is_hole, pages_of, short_of_move, tell_pages
+from space import piece_at
+
+HOME = "scripts not compared behind a home over a page of another mode"
+
+
+class Follower:
+    """The model, which plays a host's script line by line beside a kernel."""
+
+    def __init__(self, machine):
+        self.state = model.State()
+        for line in ["rules linux"] + opening(machine):
+            self.play(line)
+
+    def play(self, line):
+        return model.answer(self.state, line)
+
+    def write(self, process, line, is_front):
+        """A kernel has written to the pages of a span in front of its first hole, or to all others."""
+        _, start, length, task, cpu = line.split(" ")
+        for page in range(*span_of(int(start, 16), int(length, 16))):
+            if piece_at(self.state.host.processes[process][1], page):
+                self.play(f"in {process} populate {page * 4096} 4096 {task} {cpu}")
+            elif is_front:
+                break
+
+    def nodes(self, process):
+        """The node of each page of a process."""
+        return self.state.host.pages[process].stated
+
+    def counts(self, process):
+        """What numa_maps counts of a process' pages, by node."""
+        counts = collections.Counter(self.nodes(process).values())
+        return "".join(f"N{node}={count} " for node, count in sorted(counts.items()))
+
+
+def compare(machine, script, counts):
+    """One script: the model beside the kernel, up to the first difference without a row."""
+    name, lines = script
+    follower, hole, behind = Follower(machine), None, None
+    for line, seen in lines:
+        prefix, bare = parts(line)
+        process = int(prefix.split()[1]) if prefix else None
+        if bare == "lie":
+            got = pages_of(seen)
+            if hole and follower.nodes(process) != got:
+                counts["behind"] += 1
+                follower.write(process, hole, False)
+            hole = None
+            counts["read-backs"] += 1
+            counts["pages"] += len(got)
+            if tell_pages(f"{name}: behind {behind}: of {process}", follower.nodes(process), got):
+                counts["new"] += 1
+                return
+        elif bare == "counts":
+            if follower.counts(process) != seen:
+                counts["new"] += 1
+                mine = follower.counts(process)
+                print(f"{name}: behind {behind}: numa_maps of {process} {seen}, the model {mine}")
+                return
+        else:
+            counts["lines"] += 1
+            counts["changes"] += line.startswith(("cgroup-mems", "attach")) and seen == "ok"
+            behind, mine = line, follower.play(line)
+            if is_hole(bare, mine) and seen == "ENOMEM":
+                counts["hole"] += 1
+                hole = bare
+                follower.write(process, bare, True)
+            elif short_of_move(mine) != seen:
+                row = cause(bare, mine, seen, False)
+                counts[row or "new"] += 1
+                if row is None:
+                    print(f"{name}: {line}: the model {mine}, the kernel {seen}")
+                    return
+            elif bare.startswith("home ") and mine.startswith("refused NotSupported"):
+                counts["home"] += 1
+                return
+
+
+def compare_program(program, machine, script, counts):
+    """One script: the program beside the model, with the listing of a process where its pages were read,
+    and what became of them where numa_maps was."""
+    name, lines = script
+    told = {"lie": "maps 1", "counts": "moved"}
+    asked = [prefix + told.get(bare, bare) for prefix, bare in (parts(line) for line, _ in lines)]
+    lines = ["rules linux", *opening(machine), *asked]
+    said, state = iter(run(program, lines)), model.State()
+    for line in lines:
+        counts["asked"] += 1
+        for wanted in model.answer(state, line).splitlines():
+            if (answer := next(said, "nothing")) != wanted:
+                counts["new"] += 1
+                print(f"{name}: {line}: the program {answer}, the model {wanted}")
+                return
+
+
+def main():
+    paths, program = sys.argv[1:], None
+    if paths[0].startswith("--program="):
+        program = paths.pop(0).removeprefix("--program=")
+    counts, scripts = collections.Counter(), 0
+    for path in paths:
+        machine, _, seen = read_seen(path)
+        scripts += len(seen)
+        for script in seen:
+            compare(machine, script, counts)
+            if program:
+                compare_program(program, machine, script, counts)
+    for row, what in {**ROWS, "home": HOME}.items():
+        if counts[row]:
+            print(f"{counts[row]} {what}")
+    if program:
+        print(f"{counts['asked']} lines asked of the program")
+    print(f"{scripts} scripts, {counts['lines']} lines ({counts['changes']} cgroup-mems or attach),"
+          f" {counts['read-backs']} times a process' pages read back ({counts['pages']} pages):"
+          f" {counts['new']} differences under no row")
+    sys.exit(1 if counts["new"] else 0)
+
+
+if __name__ == "__main__":
+    main()
