@@ -28,13 +28,19 @@ ROWS_OF_MEMORY = """MemTotal MemFree MemUsed SwapCached Active Inactive Active(a
     NFS_Unstable Bounce WritebackTmp KReclaimable Slab SReclaimable SUnreclaim AnonHugePages ShmemHugePages
     ShmemPmdMapped FileHugePages FilePmdMapped HugePages_Total HugePages_Free HugePages_Surp""".split()
 HERE = 2**32 - 100  # AT_FDCWD, as an unsigned int: a path is of the folder in which the process is
+NEW = os.O_WRONLY | os.O_CREAT | os.O_EXCL
 turns = count()
 
 
 def write(path, text):
-    os.makedirs(os.path.dirname(path), exist_ok=True)
-    with open(path, "w", encoding="utf-8") as file:
-        file.write(text + "\n")
+    """Makes a file, and its folder where that isn't there. (There are many, and each start makes them.)"""
+    try:
+        file = os.open(path, NEW, 0o666)
+    except FileNotFoundError:
+        os.makedirs(os.path.dirname(path))
+        file = os.open(path, NEW, 0o666)
+    os.write(file, f"{text}\n".encode())
+    os.close(file)
 
 
 def make_tree(machine, root):
