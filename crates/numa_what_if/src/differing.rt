@@ -8,7 +8,7 @@ use numa_reports::{
 };
 use numa_sheets::{Format, Touch, Watch};
 use numa_space::Space;
-use numa_subjects::{Halt, Subject, member};
+use numa_subjects::{Halt, Subject, member, nodes_with};
 use std::alloc::{AllocError, Global};
 
 /// The state of a space.
@@ -16,28 +16,23 @@ pub(crate) fn outlook_in(alloc: Global, space: &Space) -> Result<Outlook, Halt> 
     reported(outlook_of(alloc, space), space.machine().nodes())
 }
 
-/// The state of a process, or of the one space, and in a page its object too.
+/// The state of a process of a host, or of the one space, and in a page its object too.
 #[derive(Drop)]
 struct ProcessOutlook {
-    process: u32,
+    process: Option<u32>,
     outlook: Outlook,
     view: Vec<u8>,
 }
 
-/// What a difference is asked of: the states before.
+/// What a difference is asked of: the states before, of the one space or of each process.
 pub struct StatesBefore {
-    // Whether the states are those of all processes of a host.
-    is_each: bool,
     outlooks: Vec<ProcessOutlook>,
 }
 
 // (By hand, so that it is proved here alone: a derived one is proved in each crate that drops.)
 impl Drop for StatesBefore {
     fn drop(self) {
-        let StatesBefore {
-            is_each: _,
-            outlooks,
-        } = self;
+        let StatesBefore { outlooks } = self;
         drop(outlooks);
     }
 }
@@ -71,7 +66,7 @@ pub(crate) fn view_in(
 /// The state of a space, as that of a process.
 fn outlook_of_process(
     alloc: Global,
-    process: u32,
+    process: Option<u32>,
     space: &Space,
     asked: DiffAsked<'_>,
 ) -> Result<ProcessOutlook, Halt> {
@@ -93,7 +88,7 @@ fn outlook_of_process(
 fn add_outlook(
     alloc: Global,
     outlooks: &mut Vec<ProcessOutlook>,
-    process: u32,
+    process: Option<u32>,
     space: &Space,
     asked: DiffAsked<'_>,
 ) -> Result<(), Halt> {
@@ -101,21 +96,6 @@ fn add_outlook(
     match outlooks.push(one) {
         Ok(()) => Ok(()),
         Err(_) => Err(Halt::Stopped(RunFault::Memory)),
-    }
-}
-
-/// The state of the one space.
-fn before_of_one(alloc: Global, space: &Space, asked: DiffAsked) -> Result<StatesBefore, Halt> {
-    let mut outlooks = Vec::new(alloc);
-    match add_outlook(alloc, &mut outlooks, 0, space, asked) {
-        Ok(()) => Ok(StatesBefore {
-            is_each: false,
-            outlooks,
-        }),
-        Err(halt) => {
-            drop(outlooks);
-            Err(halt)
-        }
     }
 }
 
@@ -127,24 +107,9 @@ fn add_outlooks(
     asked: DiffAsked<'_>,
 ) -> Result<(), Halt> {
     for process in processes {
-        add_outlook(alloc, outlooks, process.id, &process.space, asked)?;
+        add_outlook(alloc, outlooks, Some(process.id), &process.space, asked)?;
     }
     Ok(())
-}
-
-/// The states of all processes.
-fn before_of_each(alloc: Global, host: &Host, asked: DiffAsked) -> Result<StatesBefore, Halt> {
-    let mut outlooks = Vec::new(alloc);
-    match add_outlooks(alloc, host.processes(), &mut outlooks, asked) {
-        Ok(()) => Ok(StatesBefore {
-            is_each: true,
-            outlooks,
-        }),
-        Err(halt) => {
-            drop(outlooks);
-            Err(halt)
-        }
-    }
 }
 
 /// The data of a page with a difference, and the states before and after.
@@ -161,6 +126,22 @@ fn data_of(
     data.end()
 }
 
+/// The difference between two states, on machines with up to so many nodes.
+fn request_of<'a>(
+    before: &'a Outlook,
+    after: &'a Outlook,
+    nodes: u32,
+    asked: DiffAsked<'_>,
+) -> DifferenceRequest<'a> {
+    DifferenceRequest {
+        before,
+        after,
+        nodes,
+        touch: asked.touch,
+        format: asked.format,
+    }
+}
+
 /// The difference to an outlook, on machines with up to so many nodes, as a text, or as a page.
 pub(crate) fn difference_to<'a, P: Watch>(
     alloc: Global,
@@ -172,17 +153,9 @@ pub(crate) fn difference_to<'a, P: Watch>(
     asked: DiffAsked<'_>,
     watch: &mut P,
 ) -> Result<Vec<u8>, Halt> {
-    let DiffAsked { touch, format, .. } = asked;
-    let request = DifferenceRequest {
-        before,
-        after,
-        nodes,
-        touch,
-        format,
-    };
-    let text = difference_text(alloc, request, watch);
+    let text = difference_text(alloc, request_of(before, after, nodes, asked), watch);
     let text = reported(text, nodes)?;
-    let Format::Html(_) = format else {
+    let Format::Html(_) = asked.format else {
         return Ok(text);
     };
     let view_after = view_in(alloc, space, after, asked)?;
@@ -218,109 +191,104 @@ fn difference_of_one<P: Watch>(
     text
 }
 
-/// The difference of a process to its state now: a text, or the data of a page.
-fn difference_in<'a, P: Watch>(
-    alloc: Global,
-    one: &'a ProcessOutlook,
-    space: &Space,
-    after: &'a Outlook,
-    asked: DiffAsked<'_>,
-    sum: &mut MoveSum,
-    watch: &mut P,
-) -> Result<Vec<u8>, Halt> {
-    let nodes = space.machine().nodes();
-    let DiffAsked { touch, format, .. } = asked;
-    let request = DifferenceRequest {
-        before: &one.outlook,
-        after,
-        nodes,
-        touch,
-        format,
-    };
-    let text = difference_more(alloc, request, sum, watch);
-    let text = reported(text, nodes)?;
-    let Format::Html(_) = format else {
-        return Ok(text);
-    };
-    let view = view_in(alloc, space, after, asked)?;
-    Ok(data_of(alloc, &text, &one.view, &view)?)
+/// Differences by process, that are added one by one, and what they come to in all, on machines
+/// with up to so many nodes.
+#[derive(Drop)]
+struct Differences<'a, P> {
+    nodes: u32,
+    asked: DiffAsked<'a>,
+    answers: ByProcess,
+    sum: MoveSum,
+    watch: &'a mut P,
 }
 
-/// Adds the difference of a process.
-fn add_difference<P: Watch>(
-    alloc: Global,
-    one: &ProcessOutlook,
-    now: &Process,
-    asked: DiffAsked<'_>,
-    answers: &mut ByProcess,
-    sum: &mut MoveSum,
-    watch: &mut P,
-) -> Result<(), Halt> {
-    let after = outlook_in(alloc, &now.space)?;
-    let text = difference_in(alloc, one, &now.space, &after, asked, sum, watch);
-    drop(after);
-    add_answer(answers, now, text)
-}
-
-/// Adds the differences of the processes that are there before and after.
-fn add_differences<P: Watch>(
-    alloc: Global,
-    before: &[ProcessOutlook],
-    host: &Host,
-    asked: DiffAsked<'_>,
-    answers: &mut ByProcess,
-    sum: &mut MoveSum,
-    watch: &mut P,
-) -> Result<(), Halt> {
-    for one in before {
-        if let Some(now) = member(host, one.process) {
-            add_difference(alloc, one, now, asked, answers, sum, watch)?;
-        }
+impl<'a, P: Watch> Differences<'a, P> {
+    /// Before the first of them.
+    fn new(
+        alloc: Global,
+        nodes: u32,
+        asked: DiffAsked<'a>,
+        watch: &'a mut P,
+    ) -> Result<Differences<'a, P>, Halt> {
+        let nodes = nodes_with(nodes, asked.touch.cpu)?;
+        let format = match asked.format {
+            // (Differences have no records.)
+            Format::Csv | Format::Tap => Format::Text,
+            format => format,
+        };
+        let sum = MoveSum::new(alloc)?;
+        Ok(Differences {
+            nodes,
+            asked,
+            answers: ByProcess::of_touch(alloc, format, asked.touch),
+            sum,
+            watch,
+        })
     }
-    Ok(())
+
+    /// The difference of a process to its state now: a text, or the data of a page.
+    fn text_of(
+        &mut self,
+        alloc: Global,
+        one: &ProcessOutlook,
+        space: &Space,
+        after: &Outlook,
+    ) -> Result<Vec<u8>, Halt> {
+        let (asked, nodes) = (self.asked, space.machine().nodes());
+        let request = request_of(&one.outlook, after, nodes, asked);
+        let text = difference_more(alloc, request, &mut self.sum, &mut *self.watch);
+        let text = reported(text, nodes)?;
+        let Format::Html(_) = asked.format else {
+            return Ok(text);
+        };
+        let view = view_in(alloc, space, after, asked)?;
+        Ok(data_of(alloc, &text, &one.view, &view)?)
+    }
+
+    /// Adds the difference of a process.
+    fn add(&mut self, alloc: Global, one: &ProcessOutlook, now: &Process) -> Result<(), Halt> {
+        let after = outlook_in(alloc, &now.space)?;
+        let text = self.text_of(alloc, one, &now.space, &after);
+        drop(after);
+        add_answer(&mut self.answers, now, text)
+    }
+
+    /// Adds the differences of the processes that are there before and after.
+    fn add_all(&mut self, alloc: Global, before: &StatesBefore, host: &Host) -> Result<(), Halt> {
+        for one in &before.outlooks {
+            if let Some(now) = member_of(host, one.process) {
+                self.add(alloc, one, now)?;
+            }
+        }
+        Ok(())
+    }
+
+    /// Ends them with what they come to.
+    fn end(&mut self, alloc: Global) -> Result<Vec<u8>, Halt> {
+        self.answers.end_moves(&self.sum, self.nodes);
+        let text = self.answers.take()?;
+        shown_as(alloc, self.asked.format, "difference", text)
+    }
 }
 
-/// The differences by process, and of all.
-fn differences<P: Watch>(
-    alloc: Global,
-    before: &[ProcessOutlook],
-    host: &Host,
-    asked: DiffAsked<'_>,
-    answers: &mut ByProcess,
-    watch: &mut P,
-) -> Result<Vec<u8>, Halt> {
-    let mut sum = MoveSum::new(alloc)?;
-    add_differences(alloc, before, host, asked, answers, &mut sum, watch)?;
-    answers.end_moves(&sum, host.machine().nodes());
-    let text = answers.take()?;
-    shown_as(alloc, asked.format, "difference", text)
+/// The process of a host with this number, if there is one.
+fn member_of(host: &Host, process: Option<u32>) -> Option<&Process> {
+    member(host, process?)
 }
 
-/// The difference to the states of all processes, by process and in all.
+/// The differences to the states of all processes, by process and in all, if they can be begun.
 fn difference_of_each<P: Watch>(
     alloc: Global,
+    begun: Result<Differences<'_, P>, Halt>,
     before: &StatesBefore,
     host: &Host,
-    asked: DiffAsked<'_>,
-    watch: &mut P,
 ) -> Result<Vec<u8>, Halt> {
-    let nodes = host.machine().nodes();
-    if asked.touch.cpu >= nodes {
-        return Err(Halt::NoNode(nodes));
-    }
-    let outlooks = if before.is_each {
-        before.outlooks.as_slice()
-    } else {
-        &[]
+    let mut differences = begun?;
+    let text = match differences.add_all(alloc, before, host) {
+        Ok(()) => differences.end(alloc),
+        Err(halt) => Err(halt),
     };
-    let format = match asked.format {
-        // (Differences have no records.)
-        Format::Csv | Format::Tap => Format::Text,
-        format => format,
-    };
-    let mut answers = ByProcess::of_touch(alloc, format, asked.touch);
-    let text = differences(alloc, outlooks, host, asked, &mut answers, watch);
-    drop(answers);
+    drop(differences);
     text
 }
 
@@ -349,9 +317,17 @@ pub fn states_of(
     subject: Subject<'_>,
     asked: DiffAsked<'_>,
 ) -> Result<StatesBefore, Halt> {
-    match subject {
-        Subject::One(space) => before_of_one(alloc, space, asked),
-        Subject::Each(host) => before_of_each(alloc, host, asked),
+    let mut outlooks = Vec::new(alloc);
+    let added = match subject {
+        Subject::One(space) => add_outlook(alloc, &mut outlooks, None, space, asked),
+        Subject::Each(host) => add_outlooks(alloc, host.processes(), &mut outlooks, asked),
+    };
+    match added {
+        Ok(()) => Ok(StatesBefore { outlooks }),
+        Err(halt) => {
+            drop(outlooks);
+            Err(halt)
+        }
     }
 }
 
@@ -368,7 +344,10 @@ pub fn difference_since<P: Watch>(
 ) -> Result<Vec<u8>, Halt> {
     let text = match subject {
         Subject::One(space) => difference_of_one(alloc, before, space, asked, watch),
-        Subject::Each(host) => difference_of_each(alloc, before, host, asked, watch),
+        Subject::Each(host) => {
+            let begun = Differences::new(alloc, host.machine().nodes(), asked, watch);
+            difference_of_each(alloc, begun, before, host)
+        }
     };
     told_of_difference(alloc, subject, asked, text)
 }
