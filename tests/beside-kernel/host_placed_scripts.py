@@ -1,19 +1,17 @@
 #!/usr/bin/env python3
 """Random scripts of hosts whose processes have pages:
 
-    host_placed_scripts.py MACHINE FIRST COUNT [--without-weights] [--fill]
+    host_placed_scripts.py MACHINE FIRST COUNT [--without-weights]
 
 Two to four processes, in groups whose nodes change, write first to spans, move their pages, fork, move
 to other groups, and end; lines of one process are those of placed_scripts.py. Each process has one
 task, since a kernel moves pages once for each thread. The child of a fork writes at once to all that its
 parent wrote to, and so has pages of its own: a kernel lets both share a page until one of them writes.
-No node is full. With --fill there are three to six processes, which all have to move to a node that has
-room for some of their pages alone: whose go first shows in where each one's lie. Not proved."""
+No node is full. Not proved."""
 
 import sys
 
 from host_scripts import HostScript, Process
-from machines import list_text
 from placed_scripts import PopulateScript
 from scripts import FIRST_PAGE, PAGE
 
@@ -111,65 +109,12 @@ class HostPlacedScript(HostScript, PopulateScript):
         return self.lines
 
 
-class HostFillScript(HostPlacedScript):
-    """All processes but one, which fills a part of a node, are below group 1."""
-
-    ROOM = 23_000  # pages that a node gives at least
-    HOLDER = 8
-
-    def begin(self, process, group, pages, nodes):
-        """A process that writes to so many pages on some nodes."""
-        self.say("process", process, group)
-        self.processes[process] = Process(group, 0, {})
-        self.number = process
-        span = hex(FIRST_PAGE * PAGE), hex(pages * PAGE)
-        self.say("map", *span, hex(FIRST_PAGE))
-        self.say("mbind", *span, f"bind:{list_text(nodes)}")
-        self.say("populate", *span, 0, self.cpu)
-        self.number = None
-
-    def below(self):
-        return self.one_of(set(self.groups) - {0})
-
-    def attach(self):
-        """To another group with the same nodes: none of its pages moves."""
-        process, group = self.one_of(set(self.processes) - {self.HOLDER}), self.below()
-        self.say("attach", process, group)
-
-    def write(self):
-        source, target = self.random.sample(sorted(self.memory), 2)
-        self.cpu = self.a_cpu()
-        for line in ["host", "memory-migrate on", "rest", f"zones {self.cpu}", "cgroup 1 0"]:
-            self.say(line)
-        self.groups[1] = 0
-        self.say("cgroup-mems", 1, source)
-        for group in self.random.sample(range(2, 8), self.random.randint(1, 4)):
-            self.groups[group] = self.below()
-            self.say("cgroup", group, self.groups[group])
-        count = self.random.randint(2, 5)
-        processes = self.random.sample(range(1, 8), count)
-        for process in processes:
-            pages = self.random.randint(self.ROOM // count // 2, self.ROOM // count)
-            self.begin(process, self.below(), pages, [source])
-            if self.likely(0.4):
-                self.attach()
-        self.begin(self.HOLDER, 0, self.random.randint(self.ROOM // 2, self.ROOM - 1000), [target])
-        for _ in range(self.random.randint(0, 2)):
-            self.attach()
-        self.say("cgroup-mems", 1, target)
-        if self.likely(0.5):
-            self.say("exit", self.HOLDER)
-        self.say("cgroup-mems", 1, source if self.likely(0.5) else list_text([source, target]))
-        return self.lines
-
-
 def main():
     machine, first, count = sys.argv[1], int(sys.argv[2]), int(sys.argv[3])
     weights = "--without-weights" not in sys.argv
-    writer, kind = (HostFillScript, "fill") if "--fill" in sys.argv else (HostPlacedScript, "placed")
     for number in range(first, first + count):
-        print(f"script {machine}-host-{kind}-{number}")
-        print("\n".join(writer(machine, number, weights).write()))
+        print(f"script {machine}-host-placed-{number}")
+        print("\n".join(HostPlacedScript(machine, number, weights).write()))
 
 
 if __name__ == "__main__":

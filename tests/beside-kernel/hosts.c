@@ -13,7 +13,7 @@
  *     in P lie => PAGE NODE PAGES, ..      runs of pages on one node, rising, by move_pages(2)
  *     in P counts => N0=PAGES ..           what numa_maps counts
  *
- * and of `counts` alone behind `zones CPU` (placed.c). Not proved. */
+ * Not proved. */
 #include "calls.h"
 #include "pages.h"
 #include <semaphore.h>
@@ -119,7 +119,7 @@ static void ask(int process, int task, const char *line, char *answer, int size)
 
 static char folders[GROUPS][256]; /* empty: there is no such group */
 static int has_leaves;
-static int has_pages, is_filling; /* whether it is told where they lie; how many on each node alone */
+static int has_pages; /* whether it is told where they lie */
 
 static const char *folder_of(int group)
 {
@@ -190,10 +190,8 @@ static void tell_pages(int process)
 	for (other = 0; other < PROCESSES; other++) {
 		if (processes[other].pid == NO_PID || (process >= 0 && other != process))
 			continue;
-		if (!is_filling) {
-			ask(other, processes[other].first, "lie", answer, sizeof answer);
-			printf("in %d lie => %s\n", other, answer);
-		}
+		ask(other, processes[other].first, "lie", answer, sizeof answer);
+		printf("in %d lie => %s\n", other, answer);
 		ask(other, processes[other].first, "counts", answer, sizeof answer);
 		printf("in %d counts => %s\n", other, answer);
 	}
@@ -234,8 +232,6 @@ static int play_of_host(const char *line)
 		return set_weight(node, word);
 	if (!strcmp(line, "memory-migrate on"))
 		return has_pages = 1, 0; /* (a kernel always does, in cgroup v2) */
-	if (!strcmp(line, "rest"))
-		return rest();
 	return strcmp(line, "host") ? ENOSYS : 0;
 }
 
@@ -243,12 +239,6 @@ static void play_line(const char *line)
 {
 	char answer[2048];
 	int process = -1, task, begin;
-	if (sscanf(line, "zones %d", &task) == 1) {
-		is_filling = 1;
-		go_to_cpu_of(task);
-		tell_zones(line);
-		return;
-	}
 	if (sscanf(line, "in %d %n", &process, &begin) == 1)
 		play_in(process, line + begin, answer, sizeof answer);
 	else if (sscanf(line, "fork %d %*d %d", &process, &task) == 2)

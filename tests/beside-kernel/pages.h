@@ -68,47 +68,6 @@ static void list_counts(char *text, int size)
 			at += snprintf(text + at, size - at, "N%d=%lu ", node, counts[node]);
 }
 
-/* The lines of each zone that has pages, without the many of what was counted: what tools/free-pages
- * reads. */
-static void tell_zones(const char *asked)
-{
-	char line[1024], name[32], zone[8192] = "";
-	unsigned long managed = 0;
-	const char *mark = "";
-	FILE *file = fopen("/proc/zoneinfo", "r");
-	int node, at = 0, is_there = 1;
-	printf("%s => ", asked);
-	while (is_there) {
-		char value[256];
-		is_there = file && fgets(line, sizeof line, file);
-		if (!is_there || sscanf(line, "Node %d, zone %31s", &node, name) == 2) {
-			printf("%s%s", managed ? mark : "", managed ? zone : "");
-			mark = managed ? "; " : mark;
-			managed = 0;
-			at = snprintf(zone, sizeof zone, "Node %d, zone %s", node, name);
-		} else if (sscanf(line, " managed %lu", &managed) == 1) {
-			at += snprintf(zone + at, sizeof zone - at, "; managed %lu", managed);
-		} else if (sscanf(line, " pages free %255[0-9]", value) == 1) {
-			at += snprintf(zone + at, sizeof zone - at, "; pages free %s", value);
-		} else if (sscanf(line, " %31[a-z:] %255[^\n]", name, value) == 2 &&
-			   strstr("low protection: cpu: count: ", strcat(name, " "))) {
-			at += snprintf(zone + at, sizeof zone - at, "; %s%s", name, value);
-		}
-	}
-	if (file)
-		fclose(file);
-	printf("\n");
-}
-
-/* As if CPUs had no work for some seconds, after which their lists are short. */
-static int rest(void)
-{
-	int turn, failed = 0;
-	for (turn = 0; turn < 40 && !failed; turn++)
-		failed = write_file("/proc/sys/vm/stat_refresh", "1");
-	return failed;
-}
-
 /* ---- lines */
 
 static void move_one(unsigned long address, int node, char *answer, int size)
