@@ -291,9 +291,18 @@ uint32_t np_core_unmap(np_core *core, uint64_t start, uint64_t length);
 uint32_t np_core_mbind(np_core *core, uint64_t start, uint64_t length, const uint8_t *policy,
                        size_t policy_length);
 
+/* The same by mbind(2)'s own words: a mode (MPOL_BIND is 2), with MPOL_F_STATIC_NODES (0x8000) or
+ * MPOL_F_RELATIVE_NODES (0x4000) in it, and a mask of 256 bits, as an np_policy has both (`mode`,
+ * `asked`). What is wrong with them is answered first, even for a closed handle: 70 to 74. */
+uint32_t np_core_mbind_by(np_core *core, uint64_t start, uint64_t length, uint32_t mode,
+                          const np_nodes *nodes);
+
 /* Gives a task its policy (set_mempolicy(2)); as np_core_mbind. */
 uint32_t np_core_set_task(np_core *core, uint32_t task, const uint8_t *policy,
                           size_t policy_length);
+
+/* The same by set_mempolicy(2)'s own words; as np_core_mbind_by. */
+uint32_t np_core_set_task_by(np_core *core, uint32_t task, uint32_t mode, const np_nodes *nodes);
 
 /* Gives a task the policy that another has, or none, as a new thread has its maker's (clone(2)). */
 uint32_t np_core_inherit(np_core *core, uint32_t task, uint32_t from);

@@ -6,7 +6,7 @@ from ctypes import byref, c_size_t, c_uint8, c_uint32
 from typing import Any, Callable
 
 from ._causes import NoRoom, refusal
-from ._judged import utf8
+from ._judged import Nodes, list_of, utf8
 from ._library import LIBRARY, NodeSet
 
 STILL = 40  # (no failure: a worker goes on)
@@ -50,6 +50,14 @@ def written(name: str, *arguments: Any, room: int = 1024) -> str:
             return bytes(into[:length.value]).decode("utf-8", "surrogateescape")
         except NoRoom:
             room = length.value
+
+
+def node_set(name: str, nodes: Nodes) -> NodeSet:
+    """Nodes as a set, which may be empty."""
+    found, text = NodeSet(), list_of(name, nodes)
+    if text:
+        call("nodes_read", text, len(text), byref(found))
+    return found
 
 
 def members(words: NodeSet) -> list[int]:

@@ -5,7 +5,7 @@ from __future__ import annotations
 from ctypes import byref, c_size_t, c_uint8, c_uint64
 from typing import TYPE_CHECKING, Iterable, Iterator, Mapping, NamedTuple, Sequence
 
-from ._calls import STILL, encoded, members, written
+from ._calls import STILL, encoded, members, node_set, written
 from ._core_reports import CoreReports, predicting
 from ._judged import Nodes, Numbers, free_pages, list_of, u8, u16, u32, u64
 from ._library import Limits, PlacedPage, Span, StandingPolicy, ToldExplanation
@@ -177,9 +177,20 @@ class Core(CoreReports):
         "bind:0-1" or "interleave=static:0-3" (mbind(2)); "default" takes it away."""
         self._call("core_mbind", u64("start", start), u64("length", length), *encoded("policy", policy))
 
+    def mbind_by(self, start: int, length: int, mode: int, nodes: Nodes = ()) -> None:
+        """The same by mbind(2)'s own words: a mode (MPOL_BIND is 2), with MPOL_F_STATIC_NODES (0x8000)
+        or MPOL_F_RELATIVE_NODES (0x4000) in it, and nodes, as a Policy has both (`mode`, `asked`)."""
+        self._call("core_mbind_by", u64("start", start), u64("length", length), u32("mode", mode),
+                   byref(node_set("nodes", nodes)))
+
     def set_task(self, task: int, policy: str) -> None:
         """Gives a task its policy (set_mempolicy(2)); "default" takes it away."""
         self._call("core_set_task", u32("task", task), *encoded("policy", policy))
+
+    def set_task_by(self, task: int, mode: int, nodes: Nodes = ()) -> None:
+        """The same by set_mempolicy(2)'s own words, as mbind_by takes them."""
+        self._call("core_set_task_by", u32("task", task), u32("mode", mode),
+                   byref(node_set("nodes", nodes)))
 
     def inherit(self, task: int, from_task: int) -> None:
         """Gives a task the policy that another has, or none, as a new thread has its maker's."""

@@ -107,6 +107,46 @@ static void commands(void) {
     WANT(np_core_publish(&core), NP_CLOSED);
 }
 
+/* Policies by the system calls' own words: mode, flag and mask. */
+static void raw_words(void) {
+    static const np_nodes none = {{0, 0, 0, 0}}, second = {{2, 0, 0, 0}}, high = {{0, 0, 0, 1}};
+    const uint32_t prefer = 1, bind = 2, local = 4, fixed = 0x8000, relative = 0x4000;
+    np_core core = {0};
+    np_policy policy;
+    size_t count;
+    WANT(np_core_mbind_by(&core, 0x10000, 0x1000, bind, &second), NP_CLOSED);
+    WANT(np_core_mbind_by(&core, 0x10000, 0x1000, 7, &second), NP_UNKNOWN_MODE);
+    WANT(open_core(&core), NP_OK);
+    WANT(np_core_map(&core, 0x10000, 0x8000, 16), NP_OK);
+    WANT(np_core_mbind_by(&core, 0x10000, 0x1000, bind | fixed, &second), NP_OK);
+    WANT(np_core_range_policy(&core, 0, &policy), NP_OK);
+    WANT(policy.mode, bind | fixed);
+    WANT(policy.asked.words[0], 2);
+    /* by what is told of a policy the next page has the same, and both are one range */
+    WANT(np_core_mbind_by(&core, 0x11000, 0x1000, policy.mode, &policy.asked), NP_OK);
+    WANT(np_core_ranges(&core, &count), NP_OK);
+    WANT(count, 2);
+    WANT(np_core_mbind_by(&core, 0x10000, 0x1000, bind | fixed | relative, &second), NP_BOTH_FLAGS);
+    WANT(np_core_mbind_by(&core, 0x10000, 0x1000, bind, &none), NP_NODES_MISSING);
+    WANT(np_core_mbind_by(&core, 0x10000, 0x1000, local, &second), NP_NODES_FORBIDDEN);
+    WANT(np_core_mbind_by(&core, 0x10000, 0x1000, prefer | fixed, &none), NP_FLAGS_FORBIDDEN);
+    WANT(np_core_mbind_by(&core, 0x10000, 0x1000, bind, &high), NP_NODES_NOT_ALLOWED);
+    WANT(np_core_mbind_by(&core, 0x10000, 0x2000, 0, &none), NP_OK);
+    WANT(np_core_ranges(&core, &count), NP_OK);
+    WANT(count, 1);
+    WANT(np_core_set_task_by(&core, 5, 0x10000, &second), NP_UNKNOWN_MODE);
+    WANT(np_core_set_task_by(&core, 5, prefer | relative, &second), NP_OK);
+    WANT(np_core_task_policy(&core, 5, &policy), NP_OK);
+    WANT(policy.mode, prefer | relative);
+    WANT(np_core_set_task_by(&core, 5, prefer, &none), NP_OK);
+    WANT(np_core_task_policy(&core, 5, &policy), NP_OK);
+    WANT(policy.mode, local);
+    WANT(np_core_set_task_by(&core, 5, 0, &none), NP_OK);
+    WANT(np_core_task_policy(&core, 5, &policy), NP_OK);
+    WANT(policy.mode, 0);
+    np_core_close(&core);
+}
+
 /* Workers: two frames of node 0 and one of node 1; BIND falls back to no other node. */
 static void workers(void) {
     np_core core = {0};
@@ -273,6 +313,7 @@ int main(void) {
     closed();
     machines();
     commands();
+    raw_words();
     workers();
     plans();
     published();

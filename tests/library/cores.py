@@ -35,13 +35,18 @@ with Core([2, 1], [[10, 20], [20, 10]], workers=2) as core:
     core.mbind(0x11000, 0x2000, "interleave:0-1")
     assert core.ranges() == FIRST == list(core)
     with core.copy() as copy:
-        copy.mbind(0x20000, 0x2000, "bind=static:1")
+        copy.mbind_by(0x20000, 0x2000, 2 | 0x8000, [1])
         assert copy.ranges() == FIRST[:3] + [Range(0x20000, 0x2000, 32, "bind=static:1")]
         assert (core.ranges(), core.versions, copy.versions) == (FIRST, (3, 0), (4, 0))
         # more lines than the first room for a text has
         for k in range(300):
             copy.map(0x1000000 + k * 0x2000, 0x1000)
         assert copy.maps(1).count("\n") == 304
+        copy.set_task_by(1, 5, "0-1")
+        assert copy.task_policy(1) == numaplan.Policy(5, None, [0, 1], [0, 1])
+        copy.set_task_by(1, 0)
+        assert copy.task_policy(1) is None
+        assert is_refused(numaplan.NodesMissing, copy.mbind_by, 0x20000, 0x2000, 3)
     core.publish()
     with core.published_plan() as plan:
         core.mbind(0x20000, 0x1000, "bind:1")

@@ -23,11 +23,14 @@ fn main() -> Result<(), Refused> {
     core.map(0x20000, 0x2000, 32)?;
     core.mbind(0x11000, 0x2000, "interleave:0-1")?;
     let mut copy = core.copy()?;
-    copy.mbind(0x20000, 0x2000, "bind=static:1")?;
+    copy.mbind_by(0x20000, 0x2000, 2 | 0x8000, &[1])?;
+    copy.set_task_by(1, 1, &[1])?;
+    assert_eq!(copy.task_policy(1).map(|policy| (policy.mode, policy.asked)), Some((1, vec![1])));
+    assert_eq!(copy.set_task_by(1, 2, &[]), Err(Refused::NODES_MISSING));
     assert_eq!(core.ranges()?, wanted);
     wanted[3].policy = Some("bind=static:1".to_owned());
     assert_eq!(copy.ranges()?, wanted);
-    assert_eq!((core.versions(), copy.versions()), ((3, 0), (4, 0)));
+    assert_eq!((core.versions(), copy.versions()), ((3, 0), (5, 0)));
     // more lines than the first room for a text has
     for k in 0..300 {
         copy.map(0x1000000 + k * 0x2000, 0x1000, 5)?;

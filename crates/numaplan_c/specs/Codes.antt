@@ -18,6 +18,7 @@
 use Rattle.std.specs.Prelude.{ℕ, Option, Some, None, Result, Ok, Err}
 use Rattle.numa_mask.specs.declared.list.ListFault.{ListFault}
 use Rattle.numa_mask.specs.declared.list.ListFault.TheVariants as list
+use Rattle.numa_mode.specs.declared.specification.SpecError.{SpecError}
 use Rattle.numa_mode.specs.declared.specification.SpecError.TheVariants as spec
 use Rattle.numa_script.specs.declared.policy.WordError.{WordError}
 use Rattle.numa_script.specs.declared.policy.WordError.TheVariants as word
@@ -91,13 +92,16 @@ list_code list.BadDigit = 61
 list_code list.BackRange = 62
 list_code list.NodeTooHigh = 63
 
+abbrev pub spec_code : SpecError → ℕ
+spec_code spec.UnknownMode = 70
+spec_code spec.BothFlags = 71
+spec_code spec.NodesForbidden = 72
+spec_code spec.FlagsForbidden = 73
+spec_code spec.NodesMissing = 74
+
 abbrev pub word_code : WordError → ℕ
 word_code (word.List f) = list_code f
-word_code (word.Policy spec.UnknownMode) = 70
-word_code (word.Policy spec.BothFlags) = 71
-word_code (word.Policy spec.NodesForbidden) = 72
-word_code (word.Policy spec.FlagsForbidden) = 73
-word_code (word.Policy spec.NodesMissing) = 74
+word_code (word.Policy f) = spec_code f
 
 -- of a call that is refused for want of memory alone
 abbrev pub memory_code : {E : Type 0} → Result (Unit {0}) E → ℕ

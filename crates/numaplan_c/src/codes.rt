@@ -1,10 +1,11 @@
 //! The result codes of the library.
 ghost use Rattle.std.specs.Prelude.{◌≡◌, ◌≢◌};
 ghost use Rattle.numaplan_c.specs.Codes.{refusal_code, cause_code, answer_code, machine_code};
-ghost use Rattle.numaplan_c.specs.Codes.{list_code, word_code, place_code};
+ghost use Rattle.numaplan_c.specs.Codes.{list_code, spec_code, word_code, place_code};
 
 use numa_machine::{MachineFault, PlaceRefusal};
 use numa_mask::ListFault;
+use numa_mode::SpecError;
 use numa_requests::{CoreRefusal, CoreReply, Refusal};
 use numa_script::WordError;
 
@@ -193,13 +194,21 @@ pub(crate) fn machine_code(fault: MachineFault) -> u32
     }
 }
 
-/// The code of an error in a policy word: a policy's are in order from 70.
+/// The code of an error in a policy: in order from 70.
+pub(crate) fn spec_code(fault: SpecError) -> u32
+    ensures code { result ≡ spec_code fault }
+    ensures refused { result ≢ 0 }
+{
+    70 + fault as u32
+}
+
+/// The code of an error in a policy word.
 pub(crate) fn word_code(fault: WordError) -> u32
     ensures code { result ≡ word_code fault }
     ensures refused { result ≢ 0 }
 {
     match fault {
         WordError::List(fault) => list_code(fault),
-        WordError::Policy(fault) => 70 + fault as u32,
+        WordError::Policy(fault) => spec_code(fault),
     }
 }

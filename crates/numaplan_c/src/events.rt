@@ -1,17 +1,21 @@
 //! Events of a core: commands, their publication, and workers that look for frames.
 ghost use Rattle.std.specs.Prelude.{◌≡◌, MatchOption};
 ghost use Rattle.numa_mask.specs.Lists.{list_of};
+ghost use Rattle.numa_mask.specs.Words.{number_of};
+ghost use Rattle.numa_mode.specs.Policy.{raw_specification};
 ghost use Rattle.numa_script.specs.Policies.{policy_of};
 ghost use Rattle.numa_requests.specs.declared.event.Event.{Event};
 ghost use Rattle.numa_requests.specs.declared.command.Command.{Command};
 ghost use Rattle.numaplan_c.specs.Border.{Answers, AnswersRead, Places, Touched, Tried};
-ghost use Rattle.numaplan_c.specs.Codes.{answer_code, list_code, word_code};
+ghost use Rattle.numaplan_c.specs.Codes.{answer_code, list_code, spec_code, word_code};
 ghost use Rattle.numaplan_handles.specs.Handles.{core_in};
 
-use crate::codes::{Code, answer_code, list_code, word_code};
+use crate::codes::{Code, answer_code, list_code, spec_code, word_code};
 use crate::keeping::{if_open, or_return};
+use crate::nodes::NpNodes;
 use numa_machine::Frame;
-use numa_mask::read_list;
+use numa_mask::{NodeMask, read_list};
+use numa_mode::PolicySpec;
 use numa_requests::{Command, CoreRefusal, CoreReply, Event, Request};
 use numa_script::policy::read_policy;
 use numaplan_handles::CoreHandle;
@@ -76,6 +80,24 @@ pub extern "C" fn np_core_mbind(
     accept!(alloc, core => Mbind { start, length, spec })
 }
 
+/// Sets the policy of a span's pages, by a mode word and a set of nodes.
+#[unsafe(no_mangle)]
+pub extern "C" fn np_core_mbind_by(
+    alloc: Global,
+    core: &mut CoreHandle,
+    start: u64,
+    length: u64,
+    mode: u32,
+    nodes: &NpNodes,
+) -> u32
+    ensures { AnswersRead (raw_specification mode (number_of nodes.now.words)) spec_code
+        (λ spec. Command.Mbind start length spec) (core_in core.old) result (core_in core.new) }
+{
+    let asked = NodeMask::from_words(nodes.words);
+    let spec = or_return!(PolicySpec::from_raw(mode, asked), spec_code);
+    accept!(alloc, core => Mbind { start, length, spec })
+}
+
 /// Sets the policy of a task.
 #[unsafe(no_mangle)]
 pub extern "C" fn np_core_set_task(
@@ -88,6 +110,23 @@ pub extern "C" fn np_core_set_task(
         (core_in core.old) result (core_in core.new) }
 {
     let spec = or_return!(read_policy(policy), word_code);
+    accept!(alloc, core => SetTask { task, spec })
+}
+
+/// Sets the policy of a task, by a mode word and a set of nodes.
+#[unsafe(no_mangle)]
+pub extern "C" fn np_core_set_task_by(
+    alloc: Global,
+    core: &mut CoreHandle,
+    task: u32,
+    mode: u32,
+    nodes: &NpNodes,
+) -> u32
+    ensures { AnswersRead (raw_specification mode (number_of nodes.now.words)) spec_code
+        (λ spec. Command.SetTask task spec) (core_in core.old) result (core_in core.new) }
+{
+    let asked = NodeMask::from_words(nodes.words);
+    let spec = or_return!(PolicySpec::from_raw(mode, asked), spec_code);
     accept!(alloc, core => SetTask { task, spec })
 }
 

@@ -2,7 +2,7 @@
 
 use crate::calls::{done, is_still, text_of, written};
 use crate::raw::{self, Handle, Limits, Nodes, Span, StandingPolicy};
-use crate::values::members;
+use crate::values::{members, set_of};
 use crate::{Options, Placement, Plan, Refused};
 
 /// A range of pages: its address and length in bytes, the index of its first page, and the policy of
@@ -145,10 +145,28 @@ impl Core {
         })
     }
 
+    /// The same by mbind(2)'s own words: a mode with its flag in it, and nodes, as a [`Policy`] has both.
+    pub fn mbind_by(
+        &mut self,
+        start: u64,
+        length: u64,
+        mode: u32,
+        nodes: &[u8],
+    ) -> Result<(), Refused> {
+        let nodes = set_of(nodes);
+        done(unsafe { raw::np_core_mbind_by(&mut self.0, start, length, mode, &nodes) })
+    }
+
     /// Gives a task its policy.
     pub fn set_task(&mut self, task: u32, policy: &str) -> Result<(), Refused> {
         let text = policy.as_bytes();
         done(unsafe { raw::np_core_set_task(&mut self.0, task, text.as_ptr(), text.len()) })
+    }
+
+    /// The same by set_mempolicy(2)'s own words, as [`Core::mbind_by`] takes them.
+    pub fn set_task_by(&mut self, task: u32, mode: u32, nodes: &[u8]) -> Result<(), Refused> {
+        let nodes = set_of(nodes);
+        done(unsafe { raw::np_core_set_task_by(&mut self.0, task, mode, &nodes) })
     }
 
     /// Changes the nodes on which memory may be placed, a list as "0-1".

@@ -233,7 +233,9 @@ extern "C" {
     pub(crate) fn np_core_map(core: &mut Handle, start: u64, length: u64, offset: u64) -> u32;
     pub(crate) fn np_core_unmap(core: &mut Handle, start: u64, length: u64) -> u32;
     pub(crate) fn np_core_mbind(core: &mut Handle, start: u64, length: u64, policy: *const u8, policy_length: usize) -> u32;
+    pub(crate) fn np_core_mbind_by(core: &mut Handle, start: u64, length: u64, mode: u32, nodes: &Nodes) -> u32;
     pub(crate) fn np_core_set_task(core: &mut Handle, task: u32, policy: *const u8, policy_length: usize) -> u32;
+    pub(crate) fn np_core_set_task_by(core: &mut Handle, task: u32, mode: u32, nodes: &Nodes) -> u32;
     pub(crate) fn np_core_inherit(core: &mut Handle, task: u32, from: u32) -> u32;
     pub(crate) fn np_core_set_home(core: &mut Handle, start: u64, length: u64, node: u32) -> u32;
     pub(crate) fn np_core_set_weight(core: &mut Handle, node: u32, weight: u32) -> u32;

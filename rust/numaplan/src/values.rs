@@ -37,12 +37,18 @@ pub fn effective(policy: &str, allowed: &str) -> Result<Vec<u8>, Refused> {
     Ok(members(&nodes))
 }
 
-/// Nodes as a list: 0, 1, 2 and 5 are "0-2,5".
-pub fn nodes_text(numbers: &[u8]) -> Result<String, Refused> {
+/// The set of these nodes.
+pub(crate) fn set_of(numbers: &[u8]) -> Nodes {
     let mut nodes = Nodes { words: [0; 4] };
     for &node in numbers {
         nodes.words[usize::from(node) / 64] |= 1 << (node % 64);
     }
+    nodes
+}
+
+/// Nodes as a list: 0, 1, 2 and 5 are "0-2,5".
+pub fn nodes_text(numbers: &[u8]) -> Result<String, Refused> {
+    let nodes = set_of(numbers);
     written(1_024, |text, length| unsafe {
         raw::np_nodes_write(&nodes, text.as_mut_ptr(), text.len(), length)
     })
