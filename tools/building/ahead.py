@@ -86,10 +86,10 @@ def next_runs(crates, ways, cost, proved, running, left, processors):
             if SHARES[2] <= room or ways[name] == most and room > -SHARES[2]:
                 found.append(([name], 2))
                 room -= SHARES[2]
-        elif others and sum(cost[it] for it in others[-1]) < OF_RUN:
-            others[-1].append(name)
         elif room - len(others) >= SHARES[1]:
             others.append([name])
+        elif small := [it for it in others if sum(cost[each] for each in it) < OF_RUN]:
+            small[0].append(name)
     return [*found, *[(names, 1) for names in others]]
 
 
