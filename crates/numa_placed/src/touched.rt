@@ -147,46 +147,7 @@ fn send_alike(
     Ok(page + pages)
 }
 
-/// Sends some pages from one on that are to go, and all lie here up to another. Returns the page
-/// after them.
-fn send_some(
-    places: &mut Places,
-    space: &Space,
-    page: u64,
-    to: u64,
-    spot: Spot,
-    wants: &Wants<'_>,
-    touch: FaultingTask,
-    walk: &mut Walk,
-) -> Result<u64, NoMemory>
-    requires rises { page < to }
-    requires within { to ≤ 2 ^ 35 }
-    requires kept { AreKept places.old }
-    requires few { walk.old.told.moved + walk.old.told.left + (to - page) < 2 ^ 64 }
-    ensures kept { OnOk result (AreKept places.new) }
-    ensures next { IfOk result (λ next. page < next) }
-    ensures end { IfOk result (λ next. next ≤ to) }
-    ensures sent { IfOk result (λ next. Sends (λ p. wants_of wants.now p spot)
-        (nodes_in space.now touch.task touch.cpu) spot page next (spots_of places.old)
-        (spots_of places.new) walk.old walk.new) }
-    ensures few { IfOk result (λ next. walk.new.told.moved + walk.new.told.left
-        ≤ walk.old.told.moved + walk.old.told.left + (next - page)) }
-    ensures limit { places.new.map.max_ranges ≡ places.old.map.max_ranges }
-{
-    let end = stretch_end(space, page, to, spot, wants, touch.task);
-    if end == page + 1 {
-        let Ok(()) = send_wanted(places, space, page, spot, wants, touch, walk) else {
-            return Err(NoMemory);
-        };
-        return Ok(end);
-    }
-    let Ok(next) = send_alike(places, space, page, end, touch, walk) else {
-        return Err(NoMemory);
-    };
-    Ok(next)
-}
-
-/// Sends the pages from one to another that are to go. They all lie here.
+/// Sends the pages from one to another that are to go, one by one. They all lie here.
 fn send_pages(
     places: &mut Places,
     space: &Space,
@@ -211,10 +172,10 @@ fn send_pages(
 {
     let mut page = from;
     while page < to {
-        let Ok(next) = send_some(places, space, page, to, spot, wants, touch, walk) else {
+        let Ok(()) = send_wanted(places, space, page, spot, wants, touch, walk) else {
             return Err(NoMemory);
         };
-        page = next;
+        page += 1;
     }
     Ok(())
 }
@@ -250,8 +211,9 @@ fn slot_of(places: &Places, page: u64) -> Slot
     }
 }
 
-/// Sends some pages from one on that are to go, and all lie here up to another: in turn, where one
-/// policy says so, as many as find room, or else those of one period. Returns the page after them.
+/// Sends some pages from one on that are to go, and all lie here up to another: those that have one
+/// list, or the first alone. Where one policy gives them in turn, as many as find room, or else
+/// those of one period. Returns the page after them.
 fn touch_alike(
     places: &mut Places,
     space: &Space,
@@ -277,7 +239,17 @@ fn touch_alike(
     ensures limit { places.new.map.max_ranges ≡ places.old.map.max_ranges }
 {
     let Some((end, count)) = turn_end(space, page, to, spot, wants, touch.task) else {
-        return send_some(places, space, page, to, spot, wants, touch, walk);
+        let end = stretch_end(space, page, to, spot, wants, touch.task);
+        if end == page + 1 {
+            let Ok(()) = send_wanted(places, space, page, spot, wants, touch, walk) else {
+                return Err(NoMemory);
+            };
+            return Ok(end);
+        }
+        let Ok(next) = send_alike(places, space, page, end, touch, walk) else {
+            return Err(NoMemory);
+        };
+        return Ok(next);
     };
     let Ok(next) = send_turns(places, space, page, end, count, touch, walk) else {
         return Err(NoMemory);

@@ -1,4 +1,4 @@
-use Rattle.std.proofs.Common.{◌≡◌, ℕ, Bool, ◌∙◌, refl, subst, arith}
+use Rattle.std.proofs.Common.{◌≡◌, ◌+◌, ℕ, Bool, ◌∙◌, refl, subst, arith}
 use Rattle.numa_placed.specs.Binds.{nodes_in, wants_of}
 use Rattle.numa_placed.specs.Standing.{Sends}
 use Rattle.numa_placed.specs.Turns.{spots_of}
@@ -24,18 +24,17 @@ loop-page-preserved c =
     let test : ℕ → Bool = λ page. wants_of c.args.wants.now page c.args.spot in
     let inv = c.loop-page.invariant in
     let low = inv.rises in
-    let next = c.in-Ok.ensures.next in
     record {
       kept = c.in-Ok.ensures.kept;
-      limit = c.send_some.ensures.limit ∙ inv.limit;
-      rises = omega (arith, low, next);
-      within = c.in-Ok.ensures.end;
-      few = omega (arith, inv.few, c.in-Ok.ensures.few, low, next);
+      limit = c.send_wanted.ensures.limit ∙ inv.limit;
+      rises = omega (arith, low);
+      within = omega arith;
+      few = omega (arith, inv.few, c.in-Ok.ensures.few, low);
       sent = sends-append test (nodes_in c.args.space.now c.args.touch.task c.args.touch.cpu)
-          c.args.spot c.args.from c.loop-page.page c.in-Ok.next
+          c.args.spot c.args.from c.loop-page.page (c.loop-page.page + 1)
           (spots_of c.args.places.now) (spots_of c.loop-page.places)
-          (spots_of c.send_some.new.places) c.args.walk.now c.loop-page.walk
-          c.send_some.new.walk low (omega (arith, next)) inv.sent c.in-Ok.ensures.sent;
+          (spots_of c.send_wanted.new.places) c.args.walk.now c.loop-page.walk
+          c.send_wanted.new.walk low (omega arith) inv.sent c.in-Ok.ensures.sent;
     }
 
 pub returns-clause-sent : goal.returns-clause-sent
