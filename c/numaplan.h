@@ -276,7 +276,7 @@ uint32_t np_core_copy(np_core *core, np_core *copy);
 uint32_t np_core_versions(np_core *core, uint64_t *accepted, uint64_t *published);
 
 /* ---- commands: each that is accepted adds one to the version. NP_CLOSED; 10 to 25;
- * NP_NO_MEMORY */
+ * NP_NO_MEMORY, but never of a weight, of allowed nodes, of a task's "default" or of no bytes */
 
 /* Maps `length` bytes of unmapped pages from `start` on; the first page has the index `offset`. */
 uint32_t np_core_map(np_core *core, uint64_t start, uint64_t length, uint64_t offset);

@@ -92,8 +92,8 @@ uint32_t np_pages_core(np_pages *pages, np_core *core);
 uint32_t np_pages_version(np_pages *pages, uint64_t *version);
 
 /* ---- commands of the core: as those of an np_core (np_core_map and so on), and answered so. No
- * page moves by them. NP_CLOSED; 10 to 25; NP_NO_MEMORY. A faulty policy word or list is answered
- * first: 60 to 63, 70 to 74 */
+ * page moves by them. NP_CLOSED; 10 to 25; NP_NO_MEMORY, never where a core's command needs no
+ * memory. A faulty policy word or list is answered first: 60 to 63, 70 to 74 */
 
 uint32_t np_pages_map(np_pages *pages, uint64_t start, uint64_t length, uint64_t offset);
 
@@ -171,14 +171,15 @@ uint32_t np_pages_runs(np_pages *pages, np_page_run *runs, size_t room, size_t *
  * as in a cpuset of cgroup v2, or of v1 with memory_migrate (cpusets(7)): where the old nodes and
  * the new are as many, those of the k-th go to the k-th; else pages on a node that stays allowed
  * stay, and the k-th node's go to the k-th of the new ones, counted round. A faulty list is
- * answered first: 60 to 63. NP_CLOSED; 10 to 25; NP_TOO_MANY_RUNS, NP_NO_MEMORY. */
+ * answered first: 60 to 63. NP_CLOSED; 10 to 25; NP_TOO_MANY_RUNS, NP_NO_MEMORY, neither before the
+ * first np_pages_set_room. */
 uint32_t np_pages_move_mems(np_pages *pages, const uint8_t *nodes, size_t nodes_length,
                             np_moves *moves);
 
 /* Moves pages from the nodes of one list to the allowed nodes of another, by the same rule
  * (migrate_pages(2)). A faulty list is answered first, that of `from` before that of `to`: 60 to
  * 63. NP_CLOSED; NP_NODES_NOT_ALLOWED where no node of `to` is allowed; NP_TOO_MANY_RUNS,
- * NP_NO_MEMORY. */
+ * NP_NO_MEMORY, neither before the first np_pages_set_room. */
 uint32_t np_pages_migrate(np_pages *pages, const uint8_t *from, size_t from_length,
                           const uint8_t *to, size_t to_length, np_moves *moves);
 
@@ -193,7 +194,7 @@ uint32_t np_pages_move(np_pages *pages, uint64_t address, uint32_t node);
  * the node `cpu` would put it; all of them stay where the machine has no such node. What they did
  * is written to `bound`, where NP_OK is answered; where pages stayed and `strict` (MPOL_MF_STRICT
  * too), which "default" drops, with EIO. A faulty word is answered first: 60 to 63, 70 to 74.
- * NP_CLOSED; 10 to 25; NP_TOO_MANY_RUNS, NP_NO_MEMORY. */
+ * NP_CLOSED; 10 to 25; NP_TOO_MANY_RUNS, NP_NO_MEMORY, which no bytes may meet too. */
 uint32_t np_pages_mbind_moving(np_pages *pages, uint64_t start, uint64_t length,
                                const uint8_t *policy, size_t policy_length, bool strict,
                                uint32_t task, uint32_t cpu, np_bound *bound);

@@ -94,35 +94,45 @@ static uint32_t call(int which) {
     case 3: return np_pages_place(&pages, 0x10000, 0x8000, 1);
     case 4: return np_pages_place(&pages, 0x11000, 0x2000, 2);
     case 5: return np_pages_place(&pages, 0x15000, 0x1000, 0);
-    case 6: return np_pages_set_room(&pages, 3, 2);
-    case 7: return np_pages_mbind(&pages, 0x10000, 0x1000, TEXT("bind:1-2"));
-    case 8: return np_pages_mbind_strictly(&pages, 0x11000, 0x2000, TEXT("interleave:1-2"));
-    case 9: return np_pages_set_task(&pages, 7, TEXT("weighted:1-2"));
-    case 10: return np_pages_inherit(&pages, 8, 7);
-    case 11: return np_pages_set_home(&pages, 0x10000, 0x1000, 3);
-    case 12: return np_pages_set_weight(&pages, 1, 3);
-    case 13: return np_pages_copy(&pages, &copy);
-    case 14: return np_pages_migrate(&pages, TEXT("1"), TEXT("3"), &moves);
-    case 15: return np_pages_move(&pages, 0x17000, 0);
-    case 16: return np_pages_map(&pages, 0x20000, 0x2000, 0x20);
-    case 17: return np_pages_unmap(&pages, 0x12000, 0x1000);
-    case 18: return np_pages_move_mems(&pages, TEXT("1-3"), &moves);
-    case 19: return np_pages_set_mems(&pages, TEXT("0-2"));
-    case 20: return np_pages_core(&pages, &taken);
-    case 21: return np_pages_runs(&pages, told, 8, &count);
-    case 22:
+    case 6: return np_pages_move_mems(&pages, TEXT("0-2"), &moves);
+    case 7: return np_pages_migrate(&pages, TEXT("0-1"), TEXT("0-1"), &moves);
+    case 8: return np_pages_set_mems(&pages, TEXT("0-3"));
+    case 9: return np_pages_set_room(&pages, 3, 2);
+    case 10: return np_pages_mbind(&pages, 0x10000, 0x1000, TEXT("bind:1-2"));
+    case 11: return np_pages_mbind_strictly(&pages, 0x11000, 0x2000, TEXT("interleave:1-2"));
+    case 12: return np_pages_set_task(&pages, 7, TEXT("weighted:1-2"));
+    case 13: return np_pages_inherit(&pages, 8, 7);
+    case 14: return np_pages_set_home(&pages, 0x10000, 0x1000, 3);
+    case 15: return np_pages_set_weight(&pages, 1, 3);
+    case 16: return np_pages_copy(&pages, &copy);
+    case 17: return np_pages_migrate(&pages, TEXT("1"), TEXT("3"), &moves);
+    case 18: return np_pages_move(&pages, 0x17000, 0);
+    case 19: return np_pages_map(&pages, 0x20000, 0x2000, 0x20);
+    case 20: return np_pages_unmap(&pages, 0x12000, 0x1000);
+    case 21: return np_pages_move_mems(&pages, TEXT("1-3"), &moves);
+    case 22: return np_pages_set_mems(&pages, TEXT("0-2"));
+    case 23: return np_pages_core(&pages, &taken);
+    case 24: return np_pages_runs(&pages, told, 8, &count);
+    case 25:
         return np_pages_mbind_moving(&pages, 0x10000, 0x2000, TEXT("bind:0"), true, 7, 0, &bound);
-    case 23: return np_pages_set_room(&pages, 2, 2);
-    case 24: return np_pages_place(&pages, 0x16000, 0x1000, 2);
-    case 25: return np_pages_populate(&pages, 0x20000, 0x2000, 7, 0, &arrived);
-    case 26: return np_pages_unmap(&pages, 0x21000, 0x1000);
+    case 26: return np_pages_set_room(&pages, 2, 2);
+    case 27: return np_pages_place(&pages, 0x16000, 0x1000, 2);
+    case 28: return np_pages_populate(&pages, 0x20000, 0x2000, 7, 0, &arrived);
+    case 29: return np_pages_unmap(&pages, 0x21000, 0x1000);
+    case 30: return np_pages_unmap(&pages, 0x10000, 0);
+    case 31: return np_pages_mbind(&pages, 0x10000, 0, TEXT("bind:2"));
+    case 32: return np_pages_mbind_strictly(&pages, 0x10000, 0, TEXT("bind:2"));
+    case 33: return np_pages_set_home(&pages, 0x10000, 0, 3);
+    case 34: return np_pages_set_task(&pages, 8, TEXT("default"));
     default: return NP_UNKNOWN;
     }
 }
-enum { CALLS = 27 };
+enum { CALLS = 35 };
 
 /* Whether the header says that a call needs no memory. */
-static bool is_free(int which) { return which == 6 || which == 23; }
+static bool is_free(int which) {
+    return (6 <= which && which <= 9) || which == 15 || which == 22 || which == 26 || 30 <= which;
+}
 
 /* Whether two sights are the same. */
 static bool is_same(const struct seen *one, const struct seen *other) {

@@ -1,7 +1,8 @@
 #!/usr/bin/env python3
 """Cores with their pages by the Python module: rows worked by hand, and then the module against the
 model of tests/model, which has the rules from the documents' text and a kernel's: seeded commands,
-statements and moves, refused ones among them, each asked of both. Not proved."""
+statements and moves, refused ones among them, each asked of both; and a process of 1 TiB, which a script
+has too. Not proved."""
 
 import os
 import random
@@ -9,7 +10,7 @@ import sys
 from types import SimpleNamespace
 
 import numaplan
-from numaplan import Arrived, Bound, Core, Moved, PageRun, Pages
+from numaplan import Arrived, Bound, Core, Moved, PageRun, Pages, Script
 
 sys.path.insert(0, os.path.join(os.path.dirname(os.path.abspath(__file__)), "..", "model"))
 
@@ -117,6 +118,75 @@ def populated():
                 (lambda: pages.populate(BASE, 0x7000, 0, 4), numaplan.SpanUnmapped, 12)):
             assert (cause_of(call), cause.errno) == (cause, number)
         assert (pages.runs(), pages.room(0), pages.version) == before
+
+
+class Twins:
+    """Four nodes by the module, and by a script that is given the same, line by line."""
+
+    def __init__(self, pages, script):
+        self.pages, self.script = pages, script
+        script.line("machine 4 0-3 0 flat")
+        script.line("memory-migrate on")
+
+    def told(self, told):
+        """What a line of the script says that tells as much."""
+        version = f"v{self.pages.version}: "
+        if isinstance(told, Arrived):
+            counts = "".join(f" N{node}={count}" for node, count in told.nodes.items())
+            return f"{version}placed {told.placed} exhausted {told.exhausted}{counts}"
+        counts = "".join(f" N{old}->N{new}={count}" for (old, new), count in sorted(told.flows.items()))
+        return f"{version}moved {told.moved} left {told.left}{counts}"
+
+    def both(self, line, name, *arguments):
+        """A line, and a call, which is asked for what it tells."""
+        told, answer = getattr(self.pages, name)(*arguments), self.script.line(line)
+        if isinstance(told, Moved):
+            answer = self.script.line("moved")
+        if told is not None:
+            assert answer == self.told(told) + "\n", (answer, told)
+        return told
+
+    def map(self, start, length):
+        self.both(f"map {start} {length} {start // 4096}", "map", start, length)
+
+    def limit(self, room):
+        for node in range(4):
+            self.both(f"room {node} {room}", "set_room", node, room)
+
+    def task(self, policy):
+        self.both(f"task 1 {policy}", "set_task", 1, policy)
+
+    def populate(self, start, length, cpu):
+        return self.both(f"populate {start} {length} 1 {cpu}", "populate", start, length, 1, cpu)
+
+
+def terabyte():
+    """A process of 1 TiB whose task changes its policy midway, on nodes that fill, and of which one is
+    taken away: a script's lines and the module tell the same."""
+    room, part, free = 70_000_000, 2**38, 4 * 70_000_000 - 2**28
+    first, second, third, last = (2**44 + k * part for k in range(4))
+    with Core([0] * 4, [row[:4] for row in FLAT[:4]]) as core, Pages(core) as pages, Script() as script:
+        it = Twins(pages, script)
+        it.map(first, 4 * part)
+        it.limit(room)
+        it.task("interleave:0-3")
+        assert it.populate(first, part, 0).nodes == dict.fromkeys(range(4), 2**24)
+        it.task("local")
+        assert it.populate(second, part, 0).nodes == {0: room - 2**24, 1: 2**26 + 2**24 - room}
+        it.both(f"mbind {third} {part} bind:2-3", "mbind", third, part, "bind:2-3")
+        it.populate(third, part, 2)
+        it.both("weight 3 3", "set_weight", 3, 3)
+        it.task("weighted:1,3")
+        it.populate(last, part, 1)
+        assert sum(pages.counts().values()) == 2**28
+        assert [pages.room(node) for node in range(4)] == [0, free, 0, 0]
+        told = it.both("mems 1-3", "move_mems", "1-3")
+        assert (told.moved, told.left) == (free, room - free)
+        it.both(f"unmap {second} {part}", "unmap", second, part)
+        it.map(second, part)
+        it.populate(second, part, 3)
+        rooms = "".join(f" N{node}={pages.room(node)}" for node in range(4))
+        assert script.line("room") == f"room{rooms}\n"
 
 
 def span(dice):
@@ -268,6 +338,7 @@ def play(dice, rules):
 
 worked()
 populated()
+terabyte()
 dice = random.Random(SEED)
 rounds = [play(dice, ("document", "linux")[number % 2]) for number in range(ROUNDS)]
 # (so that the seed asks something)

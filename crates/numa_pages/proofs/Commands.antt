@@ -1,5 +1,5 @@
 -- What a command makes of a core and its pages.
-use Rattle.std.proofs.Common.{◌≡◌, ℕ, Some, Ok, refl}
+use Rattle.std.proofs.Common.{◌≡◌, ℕ, Some, Ok, Err, refl}
 use Rattle.std.proofs.Common.{subst}
 use Rattle.std.proofs.lemmas.Result.{on_err_weaker}
 use Rattle.numa_core.specs.Standing.{setup_of}
@@ -13,6 +13,9 @@ use Rattle.numa_page_state.specs.Outcomes.{Done, Lack, forgotten}
 use Rattle.numa_page_state.specs.Standing.{DoesAs, Forgets, Replaces}
 use Rattle.numa_pages.specs.Changes.{Accepts, Answers, Changes, PagesState}
 use Rattle.numa_pages.specs.Changes.{ground_of, lacking}
+use Rattle.numa_pages.specs.declared.refusal.ChangeRefusal.TheVariants.{OfPages}
+use Rattle.numa_pages.proofs.Needing.{stated-some}
+use Rattle.numa_pages.proofs.Refusing.{lies-so, lying_in}
 use Rattle.std.specs.Prelude.{[], OnErr, Result}
 
 module _ (before after : PagesState) (start bytes : ℕ) (placed : Laid)
@@ -29,8 +32,23 @@ module _ (before after : PagesState) (start bytes : ℕ) (placed : Laid)
         rw is.0 (replaces lying (forgotten start bytes lying.spots) lies refl is.2);
     setup = setup;
     err = tt;
+    room = tt;
     unchanged = tt;
   }
+
+-- what was stated of them can't be taken away
+pub not-unmapped : (before : PagesState) (start bytes : ℕ) (why : PlacedRefusal)
+    → Forgets (Some before.state) start bytes (Err why)
+    → Accepts (Unmap start bytes) before (Err (OfPages why)) before
+not-unmapped before start bytes why forgets = record {
+  core = tt;
+  pages = tt;
+  setup = refl;
+  err = λ lying lies. let is = forgets lying lies in rw is.0 is.1;
+  room = λ lack. stated-some (lying_in before.state).spots start bytes
+      (forgets (lying_in before.state) (lies-so before.state)).0;
+  unchanged = refl;
+}
 
 -- pages were changed by the space and the kept frames as they were read
 pub changed-so : {A : Type 0} (outcome : Lack → Ground → Lying → Done A PlacedRefusal)

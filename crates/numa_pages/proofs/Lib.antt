@@ -1,4 +1,5 @@
 pub mod Commands
 pub mod Listed
 pub mod Moves
+pub mod Needing
 pub mod Refusing

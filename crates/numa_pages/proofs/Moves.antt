@@ -1,5 +1,5 @@
 -- What pages that move make of a core and its pages.
-use Rattle.std.proofs.Common.{◌≡◌, ℕ, Bool, Option, Some, List, Ok, Err, [], refl, sym, ap}
+use Rattle.std.proofs.Common.{◌≡◌, ℕ, Bool, true, Option, Some, List, Ok, Err, [], refl, sym, ap}
 use Rattle.std.proofs.Common.{subst, ◌∙◌}
 use Rattle.std.specs.Prelude.{Result}
 use Rattle.numa_core.specs.Standing.{CoreState, setup_of}
@@ -21,7 +21,7 @@ use Rattle.numa_page_state.specs.declared.state.PageState.{PageState}
 use Rattle.numa_page_state.proofs.Asking.{settles}
 use Rattle.numa_pages.specs.Changes.{Accepted, Answers, BindsBy, GoAlong, IsLast, IsMovingCause}
 use Rattle.numa_pages.specs.Changes.{MovesMems, Moving, PagesState, lack_told, lacking, late_errno}
-use Rattle.numa_pages.specs.Changes.{process_of, shift_of}
+use Rattle.numa_pages.specs.Changes.{may_fill, process_of, shift_of}
 use Rattle.numa_pages.specs.declared.binding.Rebound.{Rebound}
 use Rattle.numa_pages.specs.declared.refusal.ChangeRefusal.TheVariants.{OfPages}
 
@@ -150,17 +150,19 @@ module _ (mask : ℕ) (before after : PagesState) (core : CoreState)
     told = last;
     setup = ap setup_of is ∙ setup;
     err = tt;
+    room = tt;
     unchanged = tt;
   }
 
   pub stayed : (why : PlacedRefusal) → after.core ≡ before.core → after.state ≡ before.state
-      → GoAlong before core (Err why) after.state
+      → may_fill before.state ≡ true → GoAlong before core (Err why) after.state
       → MovesMems mask before (Err (OfPages why)) after
-  stayed why is still along = record {
+  stayed why is still fills along = record {
     core = tt;
     pages = tt;
     told = tt;
     setup = ap setup_of is;
     err = (core, accepted, along);
+    room = λ lack. fills;
     unchanged = λ i. record { core = is i; state = still i };
   }

@@ -28,9 +28,13 @@ use Rattle.numa_pages.specs.Changes.{PagesState}
 
 -- ---- pages lie somehow
 
-abbrev room_in : Option Rooms → Option (ℕ → ℕ)
+abbrev pub room_in : Option Rooms → Option (ℕ → ℕ)
 room_in None = None
 room_in (Some rooms) = Some (room_of rooms)
+
+pub room-said : (rooms : Option Rooms) → is_some (room_in rooms) ≡ is_some rooms
+room-said None = refl
+room-said (Some rooms) = refl
 
 have-room : (rooms : Option Rooms) → HaveRoom rooms (room_in rooms)
 have-room None = tt

@@ -1,7 +1,7 @@
 -- What each call does to a core and its pages, and why it is refused.
 use Rattle.std.specs.Prelude.{◌≡◌, ℕ, ◌&&◌, Bool, true, false, Option, Some, None}
 use Rattle.std.specs.Prelude.{List, [], ◌∷◌, Result, Ok, Err, OnOk, OnErr, IfOk, IfErr}
-use Rattle.std.specs.Prelude.{if◌then◌else◌}
+use Rattle.std.specs.Prelude.{if◌then◌else◌, is_some}
 use Rattle.numa_core.specs.Executions.{CoreStep}
 use Rattle.numa_core.specs.Standing.{CoreState, LeadsTo, core_step_after, setup_of}
 use Rattle.numa_core.specs.Steps.{accept_answer}
@@ -18,8 +18,10 @@ use Rattle.numa_requests.specs.declared.page_refusal.MoveRefusal.TheVariants as 
 use Rattle.numa_requests.specs.declared.page_refusal.PlacedRefusal.{PlacedRefusal}
 use Rattle.numa_requests.specs.declared.page_refusal.PlacedRefusal.TheVariants as cause
 use Rattle.numa_requests.specs.declared.refusal.Refusal.{Refusal}
+use Rattle.numa_requests.specs.declared.refusal.Refusal.TheVariants as own
 use Rattle.numa_space.specs.Refusals.{refusal_of}
 use Rattle.numa_space.specs.Standing.{StandsFor}
+use Rattle.numa_space.specs.Steps.{MayNeedRoom}
 use Rattle.numa_page_state.specs.Lying.{Ground, Lying, Process, ground_in, process_in, with_spots}
 use Rattle.numa_page_state.specs.Outcomes.{Done, Lack, along_outcome, at_outcome, forgotten}
 use Rattle.numa_page_state.specs.Outcomes.{has_stated, lack_of, lack_told as lacked_by}
@@ -61,6 +63,18 @@ Answers before command answer after = (past : List CoreStep) → LeadsTo past be
 -- the core accepts the command, which leads to the other core
 abbrev pub Accepted : CoreState → Command → CoreState → Type 0
 Accepted before command after = (version : ℕ) × Answers before command (Ok version) after
+
+-- ---- memory that lacks
+
+-- memory, of the core, of its pages or beside them, lacks only where this holds
+abbrev pub LacksOnlyIf : Type 0 → ChangeRefusal → Type 0
+LacksOnlyIf takes (OfSpace refusal) = refusal ≡ own.NoMemory → takes
+LacksOnlyIf takes (OfPages why) = why ≡ cause.NoMemory → takes
+LacksOnlyIf takes NoMemory = takes
+
+-- whether a node may fill: none does before a room is said
+abbrev pub may_fill : PageState → Bool
+may_fill state = is_some state.rooms
 
 -- ---- commands
 
@@ -105,9 +119,10 @@ abbrev pub IsCause : Command → PagesState → ChangeRefusal → Type 0
 IsCause command pages (OfSpace refusal) = Answers pages.core command (Err refusal) pages.core
 IsCause command pages (OfPages cause) = (lying : Lying) → LiesAs pages.state lying
     → cause_of_pages (lacked_by cause) command lying ≡ Some cause
-IsCause command pages NoMemory = Unit {0}
+IsCause command pages NoMemory = ⊥
 
--- a command was accepted by the core and the pages, or by neither
+-- a command was accepted by the core and the pages, or by neither; memory lacks only for one that
+-- may need room
 pub record Accepts (command : Command) (before : PagesState) (answer : Result ℕ ChangeRefusal)
     (after : PagesState) : Type 0 where
   pub core : IfOk answer (λ version. Answers before.core command (Ok version) after.core)
@@ -115,6 +130,7 @@ pub record Accepts (command : Command) (before : PagesState) (answer : Result �
       → LiesAs after.state (lying_after command lying))
   pub setup : setup_of after.core ≡ setup_of before.core
   pub err : IfErr answer (IsCause command before)
+  pub room : IfErr answer (LacksOnlyIf (MayNeedRoom command))
   pub unchanged : OnErr answer (after ≡ before)
 
 -- ---- a policy that pages have to lie by
@@ -149,7 +165,8 @@ IsRefused core command (OfSpace refusal) = Answers core command (Err refusal) co
 IsRefused core command (OfPages why) = Unit {0}
 IsRefused core command NoMemory = Unit {0}
 
--- a policy was set for a span in which each page lies as it asks, or nothing has changed
+-- a policy was set for a span in which each page lies as it asks, or nothing has changed; for one
+-- of 0 bytes memory never lacks
 pub record BindsStrictly (start bytes : ℕ) (spec : Specification) (before : PagesState)
     (answer : Result ℕ ChangeRefusal) (after : PagesState) : Type 0 where
   pub core : IfOk answer (λ version. Answers before.core (Mbind start bytes spec) (Ok version)
@@ -159,6 +176,7 @@ pub record BindsStrictly (start bytes : ℕ) (spec : Specification) (before : Pa
       → IsJudged (lies_astray (strict_binding start bytes spec) (process_of before history)
       lying.spots) (is_astray start bytes spec (process_of before history) lying) answer
   pub refused : IfErr answer (IsRefused before.core (Mbind start bytes spec))
+  pub room : IfErr answer (LacksOnlyIf (MayNeedRoom (Mbind start bytes spec)))
   pub pages : after.state ≡ before.state
   pub setup : setup_of after.core ≡ setup_of before.core
   pub unchanged : OnErr answer (after ≡ before)
@@ -197,7 +215,7 @@ lack_told cause.NoMemory = NoMemory
 lack_told why = OfPages why
 
 -- why it is refused: by the core; or nothing there stands against it, and the pages' runs are too
--- many
+-- many; or memory lacks for the copies that it makes in any case
 abbrev pub IsMovingCause : Moving → PagesState → ChangeRefusal → Type 0
 IsMovingCause moving pages (OfSpace refusal) =
     Answers pages.core (command_of moving.said) (Err refusal) pages.core
@@ -259,7 +277,8 @@ IsMemsCause mask before after (OfPages why) = (core : CoreState)
     × Accepted before.core (SetMems mask) core × GoAlong before core (Err why) after
 IsMemsCause mask before after NoMemory = after ≡ before.state
 
--- the allowed nodes changed, and the pages went with them, as far as there was room
+-- the allowed nodes changed, and the pages went with them, as far as there was room; memory lacks
+-- only where a node may fill
 pub record MovesMems (mask : ℕ) (before : PagesState) (answer : Result Moved ChangeRefusal)
     (after : PagesState) : Type 0 where
   pub core : OnOk answer (Accepted before.core (SetMems mask) after.core)
@@ -267,6 +286,7 @@ pub record MovesMems (mask : ℕ) (before : PagesState) (answer : Result Moved C
   pub told : IfOk answer (IsLast after.state)
   pub setup : setup_of after.core ≡ setup_of before.core
   pub err : IfErr answer (IsMemsCause mask before after.state)
+  pub room : IfErr answer (LacksOnlyIf (may_fill before.state ≡ true))
   pub unchanged : OnErr answer (after ≡ before)
 
 -- ---- pages alone

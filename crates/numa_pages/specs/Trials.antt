@@ -1,4 +1,5 @@
--- Why a command that is tried on a copy of a core has no core after it.
+-- Why a command that is tried on a copy of a core has no core after it. A copy takes memory,
+-- whatever the command.
 use Rattle.std.specs.Prelude.{Err}
 use Rattle.numa_core.specs.Standing.{CoreState}
 use Rattle.numa_requests.specs.declared.command.Command.{Command}

@@ -1,10 +1,12 @@
 //! What comes of binding pages to a policy that they move to.
 ghost use Rattle.std.specs.Prelude.{◌≡◌};
+ghost use Rattle.numa_page_state.specs.Sending.{command_of};
 ghost use Rattle.numa_pages.specs.Changes.{late_errno};
 
 use numa_mode::PolicySpec;
-use numa_page_state::tells_left;
+use numa_page_state::{Rebinding, tells_left};
 use numa_placed::Bound;
+use numa_requests::Command;
 
 /// What setting a policy did, and moving the pages to where it puts them.
 #[derive(Clone, Copy, Drop)]
@@ -14,6 +16,17 @@ pub struct Rebound {
     /// The error number that mbind(2) answers although the policy is set: 5 (EIO), where it was
     /// asked to be strict and a page stayed that had to go; else 0.
     pub errno: u32,
+}
+
+/// The command of a policy for a span.
+pub(crate) fn command_of(said: &Rebinding) -> Command
+    ensures { result ≡ command_of said.now }
+{
+    Command::Mbind {
+        start: said.start,
+        length: said.length,
+        spec: said.spec,
+    }
 }
 
 /// The error number that is told though the policy is set, where so many pages stayed.

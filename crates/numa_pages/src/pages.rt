@@ -14,14 +14,13 @@ ghost use Rattle.numa_page_state.specs.Standing.{ArrivedAs, Forgets, LiesAs, Sen
 ghost use Rattle.numa_page_state.specs.Strict.{strict_binding_in};
 ghost use Rattle.numa_pages.specs.Changes.{Accepted, Accepts, BindsBy, BindsMoving, BindsStrictly};
 ghost use Rattle.numa_pages.specs.Changes.{Limits, Migrates, MovesMems, MovesPage, Places};
-ghost use Rattle.numa_pages.specs.Changes.{Populates};
-ghost use Rattle.numa_pages.specs.Changes.{lies_astray, lying_after, process_of};
-ghost use Rattle.numa_pages.specs.Changes.{stands_astray, unmaps};
+ghost use Rattle.numa_pages.specs.Changes.{Populates, lies_astray, lying_after, may_fill};
+ghost use Rattle.numa_pages.specs.Changes.{process_of, stands_astray, unmaps};
 
-use crate::binding::{Rebound, late_errno};
-use crate::questions::{last_moved, room_at};
+use crate::binding::{Rebound, command_of, late_errno};
+use crate::questions::{last_moved, may_fill, room_at};
 use crate::refusal::{ChangeRefusal, lack_told};
-use crate::trial::{TrialError, let_go, tried};
+use crate::trial::{TrialError, carried_out, let_go, tried};
 use numa_core::Core;
 use numa_machine::NoMemory;
 use numa_maps::Resident;
@@ -50,17 +49,6 @@ impl Model for Pages {
     ghost Value = { PagesState };
 
     ghost view = { λ a. record { core = a.core; state = a.state } };
-}
-
-/// The command of a policy for a span.
-fn command_of(said: &Rebinding) -> Command
-    ensures { result ≡ command_of said.now }
-{
-    Command::Mbind {
-        start: said.start,
-        length: said.length,
-        spec: said.spec,
-    }
 }
 
 impl Pages {
@@ -144,7 +132,8 @@ impl Pages {
     /// # Errors
     /// Nothing has changed. `OfPages`: what is stated of the unmapped pages can't be taken away, as
     /// [`Placed::forget`]; this comes before every cause of the core. `OfSpace`: as
-    /// [`Core::accept`].
+    /// [`Core::accept`]. Memory lacks only for a command that may need room: never for a weight,
+    /// the allowed nodes, a task's `DEFAULT`, or an unmap, a policy or a home of 0 bytes.
     pub fn accept(&mut self, command: &Command) -> Result<u64, ChangeRefusal>
         ensures { Accepts command.now self.old result self.new }
     {
@@ -168,8 +157,8 @@ impl Pages {
             → lying_after command.now lying ≡ lying }
         ensures { Accepts command.now self.old result self.new }
     {
-        match self.core.accept(command) {
-            Ok(acceptance) => Ok(acceptance.version),
+        match carried_out(&mut self.core, command) {
+            Ok(version) => Ok(version),
             Err(refusal) => Err(ChangeRefusal::OfSpace(refusal)),
         }
     }
@@ -179,10 +168,10 @@ impl Pages {
         requires { Forgets (Some self.old.state) start length (Ok (Some after)) }
         ensures { Accepts (Command.Unmap start length) self.old result self.new }
     {
-        match self.core.accept(&Command::Unmap { start, length }) {
-            Ok(acceptance) => {
+        match carried_out(&mut self.core, &Command::Unmap { start, length }) {
+            Ok(version) => {
                 self.state.replace(after);
-                Ok(acceptance.version)
+                Ok(version)
             }
             Err(refusal) => {
                 drop(after);
@@ -240,7 +229,7 @@ impl Pages {
     /// another node, and nothing else stands against the command but `TooManyRanges` and
     /// `NoMemory`, which come behind it, and by the kernel's rules `Hole`: they look at the pages
     /// before the range that ends at the first hole (`judged_pages`). `NoMemory`: a page lies on
-    /// another node, and there is no memory for a copy.
+    /// another node, and there is no memory for a copy. Memory never lacks for 0 bytes.
     pub fn bind_strictly(
         &mut self,
         start: u64,
@@ -254,14 +243,16 @@ impl Pages {
             length,
             spec,
         };
+        // Tells the proof that some execution leads to the core.
+        let _ = self.core.published();
         let Ok(stands) = self.stands_astray(&command) else {
             return Err(ChangeRefusal::NoMemory);
         };
         if stands {
             return Err(ChangeRefusal::OfPages(PlacedRefusal::Astray));
         }
-        match self.core.accept(&command) {
-            Ok(acceptance) => Ok(acceptance.version),
+        match carried_out(&mut self.core, &command) {
+            Ok(version) => Ok(version),
             Err(refusal) => Err(ChangeRefusal::OfSpace(refusal)),
         }
     }
@@ -275,7 +266,7 @@ impl Pages {
     ///
     /// # Errors
     /// Nothing has changed. `OfSpace`: as [`Core::accept`]. `OfPages`: `TooManyRuns`, as
-    /// [`Placed::bind_astray`]. `NoMemory`: out of memory.
+    /// [`Placed::bind_astray`]. `NoMemory`: out of memory for copies, which it makes in any case.
     pub fn bind_moving(
         &mut self,
         start: u64,
@@ -366,8 +357,39 @@ impl Pages {
     ///
     /// # Errors
     /// Nothing has changed. `OfSpace`: as [`Core::accept`]. `OfPages`: `TooManyRuns` or `NoMemory`,
-    /// as [`PageState::move_along`]. `NoMemory`: out of memory for a copy.
+    /// as [`PageState::move_along`]. `NoMemory`: out of memory for a copy. Where no node may fill,
+    /// since no room was said, it takes no memory.
     pub fn move_mems(&mut self, mask: NodeMask) -> Result<Moved, ChangeRefusal>
+        ensures { MovesMems mask self.old result self.new }
+    {
+        if may_fill(&self.state) {
+            return self.move_within(mask);
+        }
+        self.move_freely(mask)
+    }
+
+    /// Changes the allowed nodes, and moves the pages, where no node may fill: both in place.
+    fn move_freely(&mut self, mask: NodeMask) -> Result<Moved, ChangeRefusal>
+        requires { may_fill self.old.state ≡ false }
+        ensures { MovesMems mask self.old result self.new }
+    {
+        let old = self.core.space().allowed();
+        match carried_out(&mut self.core, &Command::SetMems { mask }) {
+            Ok(_) => {
+                let new = self.core.space().allowed();
+                let none = Resident::new(self.alloc);
+                match self.state.move_along(&old, &new, &none) {
+                    Ok(shift) => Ok(last_moved(&self.state, shift)),
+                    Err(_) => unreachable!(),
+                }
+            }
+            Err(refusal) => Err(ChangeRefusal::OfSpace(refusal)),
+        }
+    }
+
+    /// Changes the allowed nodes, and moves the pages as far as there is room.
+    fn move_within(&mut self, mask: NodeMask) -> Result<Moved, ChangeRefusal>
+        requires { may_fill self.old.state ≡ true }
         ensures { MovesMems mask self.old result self.new }
     {
         match tried(&self.core, &Command::SetMems { mask }) {
@@ -381,6 +403,7 @@ impl Pages {
     fn follow(&mut self, _mask: NodeMask, after: Core) -> Result<Moved, ChangeRefusal>
         requires accepted { Accepted self.old.core (Command.SetMems _mask) after }
         requires setup { setup_of after ≡ setup_of self.old.core }
+        requires fills { may_fill self.old.state ≡ true }
         ensures { MovesMems _mask self.old result self.new }
     {
         let old = self.core.space().allowed();
@@ -403,7 +426,8 @@ impl Pages {
     /// length are in bytes.
     ///
     /// # Errors
-    /// As [`Placed::state_within`]: `NoRoom`, more pages would come to the node than find room.
+    /// As [`Placed::state_within`]: `NoRoom`, more pages would come to the node than find room. Of
+    /// 0 bytes it takes no memory.
     pub fn place(&mut self, start: u64, length: u64, node: u32) -> Result<(), PlacedRefusal>
         ensures { Places start length node self.old result self.new }
     {
@@ -418,7 +442,7 @@ impl Pages {
     /// on. Start and length are in bytes. [`Pages::arrived`] tells what it did.
     ///
     /// # Errors
-    /// As [`Placed::populate`].
+    /// As [`Placed::populate`]. A copy of the runs takes memory even where all pages are there.
     pub fn populate(
         &mut self,
         start: u64,
@@ -445,7 +469,7 @@ impl Pages {
     /// migrate_pages(2). Returns what went where.
     ///
     /// # Errors
-    /// As [`Placed::migrate_within`].
+    /// As [`Placed::migrate_within`]. Where no node may fill it takes no memory.
     pub fn migrate(&mut self, from: &NodeMask, to: &NodeMask) -> Result<Moved, PlacedRefusal>
         ensures { Migrates from.now to.now self.old result self.new }
     {
@@ -460,7 +484,7 @@ impl Pages {
     /// address is any byte's of the page.
     ///
     /// # Errors
-    /// As [`Placed::move_page_within`].
+    /// As [`Placed::move_page_within`]. A page that lies there already may want memory too.
     pub fn move_page(&mut self, address: u64, node: u32) -> Result<(), MoveRefusal>
         ensures { MovesPage address node self.old result self.new }
     {

@@ -3,7 +3,7 @@ ghost use Rattle.std.specs.Prelude.{◌≡◌, ◌<◌, ℕ, MatchOption, None, 
 ghost use Rattle.numa_placed.specs.Shifts.{AreRooms};
 ghost use Rattle.numa_page_state.specs.Outcomes.{rooms_of};
 ghost use Rattle.numa_page_state.specs.Standing.{IsLastShift};
-ghost use Rattle.numa_pages.specs.Changes.{IsLast, shift_of};
+ghost use Rattle.numa_pages.specs.Changes.{IsLast, may_fill, shift_of};
 
 use numa_page_state::{Last, PageState, Shift};
 use numa_placed::{Moved, Rooms};
@@ -17,6 +17,16 @@ pub(crate) fn room_at(rooms: Option<&Rooms>, node: u8) -> u64
     match rooms {
         None => u64::MAX,
         Some(it) => it.at(node).unwrap_or(u64::MAX),
+    }
+}
+
+/// Whether a node may fill: none does before a room is said.
+pub(crate) fn may_fill(state: &PageState) -> bool
+    ensures { result ≡ may_fill state.now }
+{
+    match state.rooms() {
+        None => false,
+        Some(_) => true,
     }
 }
 

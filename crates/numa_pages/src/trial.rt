@@ -1,7 +1,8 @@
-//! Commands that are tried on a copy of a core.
-ghost use Rattle.std.specs.Prelude.{◌≡◌, IfErr, IfOk};
+//! Commands that a core carries out, or that are tried on a copy of it.
+ghost use Rattle.std.specs.Prelude.{◌≡◌, IfErr, IfOk, OnErr};
 ghost use Rattle.numa_core.specs.Standing.{setup_of};
-ghost use Rattle.numa_pages.specs.Changes.{Accepted};
+ghost use Rattle.numa_space.specs.Steps.{LacksRoom};
+ghost use Rattle.numa_pages.specs.Changes.{Accepted, Answers};
 ghost use Rattle.numa_pages.specs.Trials.{IsTrialError};
 
 use numa_core::Core;
@@ -14,6 +15,24 @@ pub(crate) enum TrialError {
     Refused(Refusal),
     /// Out of memory for the copy.
     NoMemory,
+}
+
+/// Has a core carry out a command, and returns the number of accepted ones.
+///
+/// # Errors
+/// As [`Core::accept`]. `NoMemory` comes only to a command that may need room.
+pub(crate) fn carried_out(core: &mut Core, command: &Command) -> Result<u64, Refusal>
+    ensures answers { Answers core.old command.now result core.new }
+    ensures setup { setup_of core.new ≡ setup_of core.old }
+    ensures room { IfErr result (LacksRoom command.now) }
+    ensures unchanged { OnErr result (core.new ≡ core.old) }
+{
+    // Tells the proof that some execution leads to the core.
+    let _ = core.published();
+    match core.accept(command) {
+        Ok(acceptance) => Ok(acceptance.version),
+        Err(refusal) => Err(refusal),
+    }
 }
 
 /// A copy of a core that has accepted a command.

@@ -1,8 +1,8 @@
-use Rattle.std.proofs.Common.{Ok, Err, refl, sym, ap, ◌∙◌, subst}
+use Rattle.std.proofs.Common.{◌≡◌, true, Ok, Err, refl, sym, ap, ◌∙◌, subst}
 use Rattle.numa_core.specs.Standing.{setup_of}
 use Rattle.numa_requests.specs.declared.command.Command.TheVariants.{SetMems}
 use Rattle.numa_space.specs.Standing.{SpaceState}
-use Rattle.numa_pages.specs.Changes.{Accepted, PagesState}
+use Rattle.numa_pages.specs.Changes.{Accepted, PagesState, may_fill}
 use Rattle.numa_pages.proofs.Moves.{goes-so, stayed, went-along}
 use Rattle.numa_pages.proofs.pages.Pages.follow.Goals as goal
 
@@ -30,6 +30,7 @@ returns c =
     (record { core = c.self.inside.core; state = c.move_along.new.self }) c.args.after
     (subst (λ (p : PagesState). Accepted p.core (SetMems c.args._mask) c.args.after)
     (sym c.self.view_is) c.requires.accepted) c.in-Err.cause refl c.in-Err.ensures.unchanged
+    (subst (λ (p : PagesState). may_fill p.state ≡ true) (sym c.self.view_is) c.requires.fills)
     (goes-so (record { core = c.self.inside.core; state = c.self.inside.state }) c.args.after
     c.new-none.result c.allowed-old.result c.allowed-new.result (Err c.in-Err.cause)
     c.move_along.new.self c.new-none.ensures

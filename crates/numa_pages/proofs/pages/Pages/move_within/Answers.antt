@@ -1,7 +1,7 @@
 use Rattle.std.proofs.Common.{subst}
 use Rattle.numa_requests.specs.declared.command.Command.TheVariants.{SetMems}
 use Rattle.numa_pages.specs.Changes.{Accepted, PagesState}
-use Rattle.numa_pages.proofs.pages.Pages.move_mems.Goals as goal
+use Rattle.numa_pages.proofs.pages.Pages.move_within.Goals as goal
 
 pub follow-requires-clause-accepted : goal.follow-requires-clause-accepted
 follow-requires-clause-accepted c =
