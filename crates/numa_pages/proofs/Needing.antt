@@ -51,22 +51,22 @@ use Rattle.numa_pages.proofs.Refusing.{lies-so, lying_in, room-said}
 
 -- ---- the core's memory
 
-abbrev no : Refusal → Result CoreReply CoreRefusal
-no refusal = Err (Because refusal)
+abbrev told_no : Refusal → Result CoreReply CoreRefusal
+told_no refusal = Err (Because refusal)
 
 abbrev cause_told : Result CoreReply CoreRefusal → Option Refusal
 cause_told (Err (Because refusal)) = Some refusal
 cause_told _ = None
 
 first-told : (first : Option Refusal) (refusal : Refusal) (reply : CoreReply)
-    → no refusal ≡ refused_or (because first) reply → first ≡ Some refusal
+    → told_no refusal ≡ refused_or (because first) reply → first ≡ Some refusal
 first-told None refusal reply is = sym (ap cause_told is)
 first-told (Some first) refusal reply is = sym (ap cause_told is)
 
 -- of the causes that a history gives none is want of memory
 pub core-lacks : (core : CoreState) (command : Command) (refusal : Refusal) → HasPast core
     → ((world : World) → CoreStandsFor core world → IsAnswer (setup_of core) world
-    (newest_published world) (Accept command) (no refusal)) → LacksRoom command refusal
+    (newest_published world) (Accept command) (told_no refusal)) → LacksRoom command refusal
 core-lacks core command refusal past answers lack =
     let world = world_of (setup_of core) past.past in
     elim (answers world past.leads.stands) [
