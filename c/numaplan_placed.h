@@ -152,6 +152,12 @@ uint32_t np_pages_room(np_pages *pages, uint32_t node, uint64_t *room);
 /* Writes the node on which the page of an address lies. NP_NOT_PLACED where it lies nowhere. */
 uint32_t np_pages_node(np_pages *pages, uint64_t address, uint32_t *node);
 
+/* The same for an array of pages (their numbers, in whatever order): writes the node on which each
+ * lies, or the mark `nowhere`, as 255 on a machine of fewer nodes, at the place in `nodes` that the
+ * page has in `numbers`. `places` is `count`, or else the answer is NP_NO_ROOM. Needs no memory. */
+uint32_t np_pages_nodes(np_pages *pages, const uint64_t *numbers, size_t count, uint8_t *nodes,
+                        size_t places, uint8_t nowhere);
+
 /* Counts, for each node, the pages that lie on it. */
 uint32_t np_pages_counts(np_pages *pages, np_counts *counts);
 

@@ -206,3 +206,13 @@ def bytes_to_write(name: str, buffer: Buffer) -> "tuple[Array[c_uint8], int]":
         raise TypeError(f"{name} has its bytes in several places; {wanted}")
     count = view.nbytes
     return (c_uint8 * count).from_buffer(view) if count else (c_uint8 * 1)(), count
+
+
+def places_for(count: int, nodes: "Buffer | None") -> "tuple[Buffer, Array[c_uint8]]":
+    """Where a byte for each of so many pages is written: a new bytearray, or the buffer that is handed
+    in, which has as many; and its place."""
+    into: Buffer = bytearray(count) if nodes is None else nodes
+    place, room = bytes_to_write("nodes", into)
+    if room != count:
+        raise ValueError(f"nodes has {room} bytes for {count} page{'s' * (count != 1)}")
+    return into, place

@@ -262,6 +262,7 @@ _SIGNATURES = {
     "pages_set_room": [_HANDLE, _U32, _U64],
     "pages_room": [_HANDLE, _U32, POINTER(_U64)],
     "pages_node": [_HANDLE, _U64, POINTER(_U32)],
+    "pages_nodes": [_HANDLE, c_void_p, c_size_t, POINTER(c_uint8), c_size_t, c_uint8],
     "pages_counts": [_HANDLE, POINTER(_U64 * 256)],
     "pages_runs": [_HANDLE, POINTER(PagesInRow), c_size_t, POINTER(c_size_t)],
     "pages_move_mems": [_HANDLE, _TEXT, c_size_t, POINTER(ToldMoves)],

@@ -3,14 +3,17 @@
 from __future__ import annotations
 
 from ctypes import byref, c_size_t, c_uint32, c_uint64
-from typing import NamedTuple
+from typing import TYPE_CHECKING, NamedTuple, overload
 
 from ._calls import encoded
 from ._causes import NoRoom, NotPlaced
 from ._cores import Core, by_node
-from ._judged import Nodes, ensure, list_of, u32, u64
+from ._judged import Nodes, Numbers, ensure, list_of, places_for, u8, u32, u64, u64s_to_read
 from ._library import PagesInRow, ToldArrived, ToldBound, ToldMoves
 from ._owners import Owner, counted
+
+if TYPE_CHECKING:
+    from ._buffers import AnyBuffer, Buffer
 
 ENDLESS = 2**64 - 1  # (NP_ENDLESS)
 
@@ -179,6 +182,21 @@ class Pages(Owner):
         except NotPlaced:
             return None
         return node.value
+
+    @overload
+    def nodes(self, pages: Numbers, nodes: None = None, nowhere: int = 255) -> bytearray: ...
+
+    @overload
+    def nodes(self, pages: Numbers, nodes: AnyBuffer, nowhere: int = 255) -> AnyBuffer: ...
+
+    def nodes(self, pages: Numbers, nodes: "Buffer | None" = None, nowhere: int = 255) -> Buffer:
+        """The node on which each of these pages (numbers: address / 4096, in any order) lies, a byte
+        each, and the mark `nowhere` for one that lies nowhere: in a new bytearray, or in the buffer
+        that is handed in, as Plan.choice_many takes them."""
+        numbers, count = u64s_to_read("pages", pages)
+        into, place = places_for(count, nodes)
+        self._call("pages_nodes", byref(numbers), count, place, count, u8("nowhere", nowhere))
+        return into
 
     def counts(self) -> dict[int, int]:
         """How many pages lie on each node that has some."""

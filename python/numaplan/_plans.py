@@ -7,7 +7,7 @@ from typing import TYPE_CHECKING, Any, NamedTuple, overload
 
 from ._calls import call
 from ._causes import NoRoom, Unmapped
-from ._judged import Numbers, bytes_to_write, u8, u32, u64, u64s_to_read
+from ._judged import Numbers, bytes_to_write, places_for, u8, u32, u64, u64s_to_read
 from ._library import LIBRARY, Handle, PagesInTurns
 from ._owners import Owner
 
@@ -98,11 +98,7 @@ class Plan(Owner):
         the mark `unmapped`, as 255; without a mark it raises Unmapped, and the buffer is as it was.
         Raises BadCpu."""
         numbers, count = u64s_to_read("pages", pages)
-        into: Buffer = bytearray(count) if nodes is None else nodes
-        place, room = bytes_to_write("nodes", into)
-        if room != count:
-            wanted = f"{count} page{'s' * (count != 1)}"
-            raise ValueError(f"nodes has {room} bytes for {wanted}")
+        into, place = places_for(count, nodes)
         asked = u32("task", task), u32("cpu", cpu), byref(numbers), count
         if unmapped is not None:
             self._call("plan_nodes", *asked, place, count, u8("unmapped", unmapped))

@@ -57,6 +57,7 @@ CALLS = [
     (lambda node=0, weight=1: core.set_weight(node, weight), {"node": 32, "weight": 32}),
     (lambda start=0, length=0, task=0, cpu=0: pages.populate(start, length, task, cpu),
      {"start": 64, "length": 64, "task": 32, "cpu": 32}),
+    (lambda nowhere=0: pages.nodes([16], None, nowhere), {"nowhere": 8}),
     (lambda worker=0, task=0, page=0, cpu=0: core.touch(worker, task, page, cpu),
      {"worker": 32, "task": 32, "page": 64, "cpu": 32}),
     (lambda worker=0, task=0, page=0, cpu=0: core.begin(worker, task, page, cpu),
@@ -88,6 +89,7 @@ CALLS = [
 # those that come in lists
 LISTS = [
     (lambda value: plan.choice_many(0, [16, value], 0), "a number of pages", 64),
+    (lambda value: pages.nodes([16, value]), "a number of pages", 64),
     (lambda value: core.set_mems([0, value]), "a number of nodes", 8),
     (lambda value: seat.take([value]), "a number of nodes", 8),
     (lambda value: numaplan.nodes_text([value]), "a number of numbers", 8),

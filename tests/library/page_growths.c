@@ -87,6 +87,8 @@ static uint32_t call(int which) {
     static const uint32_t frames[4] = {2, 0, 0, 2};
     static const uint8_t far[16] = {10, 20, 20, 20, 20, 10, 20, 20, 20, 20, 10, 20, 20, 20, 20, 10};
     static const np_limits limits = {64, 8, 1000};
+    static const uint64_t numbers[2] = {0x20, 0x10};
+    static uint8_t nodes[2];
     switch (which) {
     case 0: return np_core_open(&core, TEXT("0-3"), frames, 4, far, 16, &limits, 1);
     case 1: return np_core_map(&core, 0x10000, 0x8000, 0x10);
@@ -124,10 +126,11 @@ static uint32_t call(int which) {
     case 32: return np_pages_mbind_strictly(&pages, 0x10000, 0, TEXT("bind:2"));
     case 33: return np_pages_set_home(&pages, 0x10000, 0, 3);
     case 34: return np_pages_set_task(&pages, 8, TEXT("default"));
+    case 35: return np_pages_nodes(&pages, numbers, 2, nodes, 2, 255);
     default: return NP_UNKNOWN;
     }
 }
-enum { CALLS = 35 };
+enum { CALLS = 36 };
 
 /* Whether the header says that a call needs no memory. */
 static bool is_free(int which) {

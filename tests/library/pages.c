@@ -124,6 +124,25 @@ static void statements(void) {
     np_pages_close(&pages);
 }
 
+/* The nodes of an array of pages, in whatever order. */
+static void arrays(void) {
+    static const uint64_t numbers[6] = {21, 16, 19, 20, UINT64_MAX, 16};
+    static const uint8_t wanted[6] = {200, 0, 1, 2, 200, 0};
+    np_pages pages = {0};
+    uint8_t nodes[6];
+    memset(nodes, 9, sizeof nodes);
+    WANT(np_pages_nodes(&pages, numbers, 6, nodes, 5, 200), NP_CLOSED);
+    open_pages(&pages, 64, 99);
+    place_all(&pages, "001129");
+    WANT(np_pages_nodes(&pages, numbers, 6, nodes, 5, 200), NP_NO_ROOM);
+    WANT(np_pages_nodes(&pages, numbers, 5, nodes, 6, 200), NP_NO_ROOM);
+    WANT(nodes[0] * 10 + nodes[5], 99);
+    WANT(np_pages_nodes(&pages, numbers, 0, nodes, 0, 200), NP_OK);
+    WANT(np_pages_nodes(&pages, numbers, 6, nodes, 6, 200), NP_OK);
+    WANT(memcmp(nodes, wanted, 6), 0);
+    np_pages_close(&pages);
+}
+
 /* The allowed nodes change, and the pages follow (do_migrate_pages), or they don't. */
 static void followed(void) {
     np_pages pages = {0};
@@ -671,6 +690,7 @@ static void causes(void) {
 
 int main(void) {
     statements();
+    arrays();
     followed();
     migrated();
     rooms();

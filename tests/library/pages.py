@@ -7,6 +7,7 @@ has too. Not proved."""
 import os
 import random
 import sys
+from array import array
 from types import SimpleNamespace
 
 import numaplan
@@ -57,6 +58,9 @@ def worked():
             told = after.move_mems([1, 2, 3])
             assert told == Moved(5, 0, {(0, 1): 2, (1, 2): 2, (2, 3): 1})
             assert (after.node_of(BASE), after.node_of(BASE + 0x5000)) == (1, None)
+            assert after.nodes([21, 16, 20, 16]) == bytes([255, 1, 3, 1])
+            some = bytearray(2)
+            assert after.nodes(array("Q", [21, 19]), some, nowhere=9) is some == bytes([9, 2])
         pages.set_room(2, 1)
         assert (pages.room(2), pages.room(1)) == (1, None)
         assert pages.migrate("0-1", "2") == Moved(1, 3, {(0, 2): 1})

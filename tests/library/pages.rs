@@ -58,6 +58,10 @@ fn main() -> Result<(), Refused> {
     let flows = vec![flow(0, 1, 2), flow(1, 2, 2), flow(2, 3, 1)];
     assert_eq!(pages.move_mems("1-3")?, Moved { moved: 5, left: 0, flows });
     assert_eq!(nodes(&mut pages)?, [Some(1), Some(1), Some(2), Some(2), Some(3), None]);
+    let mut each = [9; 4];
+    assert_eq!(pages.nodes(&[21, 16], &mut each, 255), Err(Refused::NO_ROOM));
+    pages.nodes(&[21, 16, 20, 19], &mut each, 255)?;
+    assert_eq!(each, [255, 1, 3, 2]);
     assert_eq!((pages.version(), copy.version()), (3, 2));
     assert_eq!(copy.counts()[..4], [2, 2, 1, 0]);
     // room for one page of three

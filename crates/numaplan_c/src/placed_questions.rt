@@ -8,13 +8,15 @@ ghost use Rattle.numa_space.specs.History.{page_of};
 ghost use Rattle.numaplan_c.specs.Border.{Asked};
 ghost use Rattle.numaplan_c.specs.Placed.{TellsNode, TellsRoom, TellsRuns};
 ghost use Rattle.numaplan_handles.specs.Handles.{pages_in};
-ghost use Rattle.numaplan_handles.specs.Pages.{HasCounts, HasRoom, HasRuns};
+ghost use Rattle.numaplan_c.specs.Texts.{copy_code};
+ghost use Rattle.numaplan_handles.specs.Pages.{HasCounts, HasNodes, HasRoom, HasRuns};
 
 use crate::codes::Code;
 use crate::differences::write_items;
 use crate::keeping::if_open;
 use crate::placed_codes::placed_code;
 use crate::plans::NpCounts;
+use crate::texts::copy_code;
 use numa_pages::PageRun;
 use numa_requests::PAGE_BYTES;
 use numaplan_handles::PagesHandle;
@@ -36,6 +38,22 @@ pub extern "C" fn np_pages_node(
         *node = u32::from(found);
         0
     })
+}
+
+/// Writes the node on which each of some pages lies, or a mark.
+#[unsafe(no_mangle)]
+pub extern "C" fn np_pages_nodes(
+    alloc: Global,
+    pages: &mut PagesHandle,
+    numbers: &[u64],
+    nodes: &mut [u8],
+    nowhere: u8,
+) -> u32
+    ensures { Asked (pages_in pages.old) (pages_in pages.new) result (nodes.new ≡ nodes.old)
+        (λ kept. (told : Result ℕ ℕ) × (result ≡ copy_code told)
+        × HasNodes numbers.now nowhere told nodes.old nodes.new kept) }
+{
+    if_open!(pages.nodes_of(alloc, numbers, nowhere, nodes), told => copy_code(told))
 }
 
 /// Counts, for each node, the pages that lie on it.

@@ -1,6 +1,7 @@
 -- What a call does to a core with its pages that is kept, and what it answers.
-use Rattle.std.specs.Prelude.{◌≡◌, ◌<◌, ℕ, true, false, Option, Some, None, Result, Ok, Err, List}
-use Rattle.std.specs.Prelude.{OnOk, OnErr, IfOk, IfSome, MatchOption, is_some, slice_index}
+use Rattle.std.specs.Prelude.{◌≡◌, ◌≢◌, ◌<◌, ℕ, true, false, Option, Some, None, Result, Ok, Err, List}
+use Rattle.std.specs.Prelude.{OnOk, OnErr, IfOk, IfSome, MatchOption, is_some, slice_index, EachIndex}
+use Rattle.std.specs.Prelude.{length, unwrap_or}
 use Rattle.numa_core.specs.Standing.{CoreState}
 use Rattle.numa_machine.specs.declared.no_memory.NoMemory.{NoMemory}
 use Rattle.numa_pages.specs.Changes.{PagesState, Populates}
@@ -67,6 +68,19 @@ pub record Touches (start bytes task cpu : ℕ) (before : PagesState)
 -- this is the node on which a page lies, if it lies on one
 abbrev pub HasNode : ℕ → Option ℕ → PagesState → Type 0
 HasNode page found pages = found ≡ node_of (spot_at pages.state.placed page)
+
+-- this is the node on which a page lies, or the mark where it lies nowhere
+abbrev pub HasNodeOr : ℕ → ℕ → ℕ → PagesState → Type 0
+HasNodeOr mark page node pages = (found : Option ℕ) → HasNode page found pages
+    → node ≡ unwrap_or found mark
+
+-- of pages in whatever order: at each one's place the node on which it lies, or the mark; there are
+-- as many places as pages, or nothing is told
+abbrev pub HasNodes : List ℕ → ℕ → Result ℕ ℕ → List ℕ → List ℕ → PagesState → Type 0
+HasNodes numbers mark (Ok count) old new pages = (count ≡ length numbers) × (length old ≡ count)
+    × EachIndex new (λ k. HasNodeOr mark (slice_index numbers k) (slice_index new k) pages)
+HasNodes numbers mark (Err count) old new pages = (count ≡ length numbers) × (length old ≢ count)
+    × (new ≡ old)
 
 -- so many pages lie on each node
 abbrev pub HasCounts : List ℕ → PagesState → Type 0

@@ -1,15 +1,16 @@
 //! Questions to a handle of a core with its pages.
-ghost use Rattle.std.specs.Prelude.{◌≡◌, IfOk};
+ghost use Rattle.std.specs.Prelude.{◌≡◌, ◌<◌, ℕ, EachIndex, IfOk, length, slice_index};
 ghost use Rattle.numaplan_handles.specs.Calls.{Asks};
 ghost use Rattle.numaplan_handles.specs.Handles.{pages_in};
 ghost use Rattle.numa_pages.specs.Listing.{AreListed};
 ghost use Rattle.numa_placed.specs.Spots.{spot_at};
-ghost use Rattle.numaplan_handles.specs.Pages.{HasCounts, HasNode, HasRoom, HasRuns, TellsOf};
+ghost use Rattle.numaplan_handles.specs.Pages.{HasCounts, HasNode, HasNodeOr, HasNodes, HasRoom};
+ghost use Rattle.numaplan_handles.specs.Pages.{HasRuns, TellsOf};
 
 use crate::handle::of_kept;
 use crate::pages_handle::{PagesHandle, pages_kept};
 use numa_machine::NoMemory;
-use numa_pages::{PageRun, list_runs};
+use numa_pages::{PageRun, Pages, list_runs};
 use numa_placed::Placed;
 use numa_requests::PlacedRefusal;
 use std::alloc::Global;
@@ -22,6 +23,40 @@ fn runs_of(alloc: Global, placed: &Placed) -> Result<Vec<PageRun>, NoMemory>
         Ok(list) => Ok(list),
         Err(_) => Err(NoMemory),
     }
+}
+
+/// The node on which a page lies, or the mark.
+fn node_or(pages: &Pages, page: u64, nowhere: u8) -> u8
+    ensures { HasNodeOr nowhere page result pages.now }
+{
+    match pages.placed().at(page).node() {
+        Some(node) => node,
+        None => nowhere,
+    }
+}
+
+/// Writes the node on which each of these pages lies, or the mark for one that lies nowhere.
+fn write_nodes(pages: &Pages, numbers: &[u64], nowhere: u8, nodes: &mut [u8])
+    requires { length numbers.now ≡ length nodes.old }
+    ensures long { length nodes.new ≡ length nodes.old }
+    ensures nodes { (k : ℕ) → k < length numbers.now
+        → HasNodeOr nowhere (slice_index numbers.now k) (slice_index nodes.new k) pages.now }
+{
+    for place in 0..numbers.len() {
+        nodes[place] = node_or(pages, numbers[place], nowhere);
+    }
+}
+
+/// The same, if there are as many places as pages; returns how many they are.
+fn tell_nodes(pages: &Pages, numbers: &[u64], nowhere: u8, nodes: &mut [u8]) -> Result<usize, usize>
+    ensures { HasNodes numbers.now nowhere result nodes.old nodes.new pages.now }
+{
+    let count = numbers.len();
+    if nodes.len() != count {
+        return Err(count);
+    }
+    write_nodes(pages, numbers, nowhere, nodes);
+    Ok(count)
 }
 
 impl PagesHandle {
@@ -39,6 +74,26 @@ impl PagesHandle {
             (pages_in self.old) result (pages_in self.new) }
     {
         of_kept!(self.handle, alloc, kept => pages_kept(&kept).placed().at(page).node())
+    }
+
+    /// Writes the node on which each of these pages lies, and the mark `nowhere` for those that lie
+    /// nowhere; returns how many they are. `None` if the handle is closed.
+    ///
+    /// # Errors
+    /// How many places there have to be: there aren't as many as pages. Then nothing has been
+    /// written.
+    pub fn nodes_of(
+        &mut self,
+        alloc: Global,
+        numbers: &[u64],
+        nowhere: u8,
+        nodes: &mut [u8],
+    ) -> Option<Result<usize, usize>>
+        ensures told { Asks (λ answer. TellsOf (HasNodes numbers.now nowhere answer nodes.old
+            nodes.new) (pages_in self.old)) (pages_in self.old) result (pages_in self.new) }
+        ensures closed { pages_in self.old ≡ None → nodes.new ≡ nodes.old }
+    {
+        of_kept!(self.handle, alloc, kept => tell_nodes(pages_kept(&kept), numbers, nowhere, nodes))
     }
 
     /// The number of pages that lie on each node. `None` if the handle is closed.

@@ -213,6 +213,19 @@ impl Pages {
         }
     }
 
+    /// Writes the node on which each of these pages (by their numbers, address / 4096) lies, and the
+    /// mark `nowhere` for those that lie nowhere.
+    ///
+    /// # Errors
+    /// `NO_ROOM` where there aren't as many places as pages.
+    pub fn nodes(&mut self, pages: &[u64], out: &mut [u8], nowhere: u8) -> Result<(), Refused> {
+        let (numbers, count) = (pages.as_ptr(), pages.len());
+        let (nodes, places) = (out.as_mut_ptr(), out.len());
+        done(unsafe {
+            raw::np_pages_nodes(&mut self.0, numbers, count, nodes, places, nowhere)
+        })
+    }
+
     /// How many pages lie on each node.
     #[must_use]
     pub fn counts(&mut self) -> [u64; 256] {

@@ -339,6 +339,7 @@ extern "C" {
     pub(crate) fn np_pages_set_room(pages: &mut Handle, node: u32, room: u64) -> u32;
     pub(crate) fn np_pages_room(pages: &mut Handle, node: u32, room: &mut u64) -> u32;
     pub(crate) fn np_pages_node(pages: &mut Handle, address: u64, node: &mut u32) -> u32;
+    pub(crate) fn np_pages_nodes(pages: &mut Handle, numbers: *const u64, count: usize, nodes: *mut u8, places: usize, nowhere: u8) -> u32;
     pub(crate) fn np_pages_counts(pages: &mut Handle, counts: &mut Counts) -> u32;
     pub(crate) fn np_pages_runs(pages: &mut Handle, runs: *mut PageRun, room: usize, count: &mut usize) -> u32;
     pub(crate) fn np_pages_move_mems(pages: &mut Handle, nodes: *const u8, nodes_length: usize, moves: &mut ToldMoves) -> u32;

@@ -1,0 +1,14 @@
+use Rattle.std.proofs.Common.{◌<◌, ◌∙◌, length, arith, length-set}
+use Rattle.numaplan_handles.proofs.Noded.{noded_more}
+use Rattle.numaplan_handles.proofs.pages_questions.write_nodes.Goals as goal
+
+pub loop-place-preserved : goal.loop-place-preserved
+loop-place-preserved c =
+    let within : c.loop-place.place < length c.loop-place.nodes =
+    omega (arith, c.loop-place.invariant.long, c.requires, c.loop-place-test.true) in
+    record {
+      long = length-set _ _ _ ∙ c.loop-place.invariant.long;
+      nodes = noded_more c.args.pages.now c.args.nowhere c.loop-place.place c.args.numbers.now
+          c.loop-place.nodes c.node_or.result within c.loop-place.invariant.nodes
+          c.node_or.ensures;
+    }
