@@ -66,7 +66,7 @@ def named_text(text, areas, process=None):
 
 def clipped(name):
     """A name as a picture has it: of a long one the end."""
-    return name if len(name) <= 40 else ".." + name[-38:]
+    return name if len(name) <= 28 else ".." + name[-26:]
 
 
 def picture_difference(picture, areas, process=None):

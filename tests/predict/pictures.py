@@ -8,7 +8,7 @@ SVG = "{http://www.w3.org/2000/svg}"
 DRAWN = 40
 CELLS = 64
 CELL = 12
-NAMED = 8
+NAMED = 4
 PAGE = re.compile(r"([0-9a-f]{8,}): node (\d+)")
 NODE = re.compile(r"node (\d+): ([\d,]+) pages? \(.*\)")
 LACKING = re.compile(r"no free page: ([\d,]+) pages? \(.*\)")
@@ -133,7 +133,7 @@ def difference(text, rows, nodes, left=None, number=DRAWN):
         return f"{len(groups['range'])} ranges are drawn, not {len(drawn)}"
     sizes, widths = [], []
     for row, group in zip(drawn, groups["range"]):
-        line = (f"{row.start:08x}-{row.end:08x} anon={sum(row.counts.values())}"
+        line = (f"{row.start:08x}-{row.end:08x} {amount(sum(row.counts.values()))}"
                 f"{counts_text(row.counts, row.lacking)} {row.policy}")
         if group.find(SVG + "text").text != line:
             return f"{group.find(SVG + 'text').text!r}, not {line!r}"
@@ -146,7 +146,7 @@ def difference(text, rows, nodes, left=None, number=DRAWN):
     if others:
         counts = sum((Counter(row.counts) for row in others), Counter())
         lacking = sum(row.lacking for row in others)
-        line = (f"{said(len(others), 'other range')} anon={sum(counts.values())}"
+        line = (f"{said(len(others), 'other range')}, {amount(sum(counts.values()))}"
                 f"{counts_text(counts, lacking)}")
         if groups["rest"][0].find(SVG + "text").text != line:
             return f"{groups['rest'][0].find(SVG + 'text').text!r}, not {line!r}"
@@ -154,6 +154,12 @@ def difference(text, rows, nodes, left=None, number=DRAWN):
         widths.append(width_of(parts_of(groups["rest"][0])))
     wrong = length_difference(text, sizes, widths, len(drawn)) if sizes else None
     return wrong or total_difference(root, groups["total"][0], rows, nodes, left or {})
+
+
+def span_text(addresses, differ):
+    """The line of a span of these addresses, of whose pages so many differ."""
+    start, end = (int(it, 16) for it in addresses.split("-"))
+    return f"{addresses} differs={differ:,} of {amount((end - start) // 4096)}"
 
 
 def moves_difference(picture, page, lines, number):
@@ -164,9 +170,10 @@ def moves_difference(picture, page, lines, number):
     rest = [differ[k] for k in range(len(lines)) if k not in order]
     root = ElementTree.fromstring(picture)
     groups = [it for it in root.findall(SVG + "g") if it.get("class") == "span"]
-    told = [it.find(SVG + "text").text.split(" of ")[0] for it in groups]
-    if told != [" ".join(lines[k].split(" ")[:2]) for k in order]:
-        return f"spans {told} are drawn"
+    told = [it.find(SVG + "text").text for it in groups]
+    want = [span_text(lines[k].split(" ")[0], differ[k]) for k in order]
+    if told != want:
+        return f"spans {told} are drawn, not {want}"
     tops = [it.get("transform") for it in groups]
     if tops != [f"translate(16,{60 + 60 * k})" for k in range(len(groups))]:
         return f"spans are drawn at {tops}"
@@ -178,9 +185,9 @@ def moves_difference(picture, page, lines, number):
     behind = f", of them {sum(rest)} in {said(len(rest), 'span')} that " if rest else ""
     behind += ("isn't drawn" if len(rest) == 1 else "aren't drawn") if rest else ""
     total = root.find(f"{SVG}text[@class='total']").text
-    if total != f"total differs={sum(differ)}{behind}":
+    if total != f"total differs={amount(sum(differ))}{behind}":
         return f"{total!r} behind the spans"
-    starts = [f"{it['start']:08x}-{it['end']:08x} differs={it['differs']}" for it in page["spans"]]
+    starts = [span_text(f"{it['start']:08x}-{it['end']:08x}", it["differs"]) for it in page["spans"]]
     if starts != told or page.get("others") != (
             {"spans": len(rest), "differs": sum(rest)} if rest else None):
         return f"page: {starts} and {page.get('others')}"

@@ -17,6 +17,7 @@ section h1 { font-size: 20px; }
 table { border-collapse: collapse; font-family: monospace; }
 td, th { padding: 2px 10px; text-align: left; border-bottom: 1px solid #ddd; }
 td.number { text-align: right; }
+td.number, td.one { white-space: nowrap; }
 th { cursor: pointer; background: #eee; position: sticky; top: 0; }
 tbody tr { cursor: pointer; }
 tbody tr:hover, tr.chosen { background: #eef4ff; }
@@ -41,6 +42,7 @@ pre { background: #f6f6f6; padding: 8px; max-width: 1184px; white-space: pre-wra
   th { position: static; }
   .wide { overflow: visible; }
   tr, .strip { break-inside: avoid; }
+  td.one { white-space: normal; overflow-wrap: anywhere; }
   body, .bar, .mark, .cell { print-color-adjust: exact; }
 }
 </style>

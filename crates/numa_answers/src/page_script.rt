@@ -13,7 +13,8 @@ let page = whole;
 let said = document.getElementById('said');
 let mark = '';
 let process;
-const CELLS = 64;
+// (On a phone's width 64 numbers would lie over each other.)
+const CELLS = window.innerWidth < 600 ? 16 : 64;
 // A table has a column for each of so many nodes.
 const FEW = 16;
 // By process the views that can be opened, and what makes sections that aren't made yet.
@@ -30,7 +31,19 @@ function make(name, parent, text, kind) {
 const hex = (number) => '0x' + number.toString(16);
 const fill = (node) => COLOURS[node % 16][0];
 const ink = (node) => COLOURS[node % 16][1];
-const pagesText = (pages) => pages + (pages === 1 ? ' page' : ' pages');
+const grouped = (number) => number.toLocaleString('en');
+const pagesText = (pages) => grouped(pages) + (pages === 1 ? ' page' : ' pages');
+
+// The size of so many pages, rounded, in a unit of which there are 1 to 1,024.
+function sizeText(pages) {
+  let [size, left] = [pages * 4, ['MiB', 'GiB', 'TiB']];
+  let unit = 'KiB';
+  while (size >= 1024 && left.length) {
+    size /= 1024;
+    [unit, ...left] = left;
+  }
+  return (size < 10 ? Math.round(size * 10) / 10 : grouped(Math.round(size))) + ' ' + unit;
+}
 const nodesText = (nodes, what) => nodes.map((it) => 'N' + it.node + '=' + it[what]).join(' ');
 
 function paint(made, node) {
@@ -219,7 +232,7 @@ function explain(views, address) {
 
 // The pages of a range by node: a column for each of few nodes, else all in one.
 const countOf = (range, node) => (range.nodes.find((it) => it.node === node) || { pages: 0 }).pages;
-const countCell = (pages) => ({ key: pages, text: pages ? String(pages) : '' });
+const countCell = (pages) => ({ key: pages, text: pages ? String(pages) : '', isNumber: true });
 const nodeHeads = (nodes) => (nodes.length > FEW ? ['nodes'] : nodes.map((node) => 'N' + node));
 const nodeCells = (range, nodes) => (nodes.length > FEW ? [nodesText(range.nodes, 'pages')]
   : nodes.map((node) => countCell(countOf(range, node))));
@@ -274,12 +287,12 @@ function totals(title, total) {
   const most = Math.max(1, ...nodes.map((it) => it.pages));
   table(
     title,
-    ['node', 'pages', 'bytes', ''],
+    ['node', 'pages', 'size', ''],
     nodes.map((it) => ({
       cells: [
         { key: it.node, text: String(it.node), mark: true },
         it.pages,
-        it.pages * 4096,
+        { key: it.pages, text: sizeText(it.pages), isNumber: true },
         { key: it.pages, text: '', bar: Math.round((400 * it.pages) / most), node: it.node },
       ],
     })),

@@ -71,7 +71,9 @@ function pictureOf(rows) {
 
 // Fills a cell.
 function fillCell(line, it) {
-  const cell = make('td', line, shown(it), typeof it === 'number' ? 'number' : '');
+  const isNumber = typeof it === 'number' || (it && it.isNumber);
+  const kind = shown(it).length < 60 ? 'one' : '';
+  const cell = make('td', line, shown(it), isNumber ? 'number' : kind);
   if (it && it.bar !== undefined) cell.textContent = '';
   if (it && it.bar > 0) {
     const bar = make('span', cell, undefined, 'bar');

@@ -15,7 +15,7 @@ const HEADING: &[u8] = b"<text class=\"heading\" ";
 const BOLD: &[u8] = b"font-weight=\"bold\">";
 
 /// The most bytes of a name; of a longer one the end is shown.
-const WIDE: usize = 40;
+const WIDE: usize = 28;
 
 /// Where some bytes end that begin among the first of a line; nothing if they don't.
 fn end_of(line: &[u8], part: &[u8]) -> Option<usize> {

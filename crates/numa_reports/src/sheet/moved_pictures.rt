@@ -97,7 +97,11 @@ pub(crate) fn put_span(text: &mut Written, span: PageSpan, counts: NodeMoves<'_>
     text.put(b"<text y=\"11\">");
     let end = span.first.saturating_add(span.pages);
     text.put_addresses(bytes(span.first), bytes(end));
-    text.put_form(b" differs=$ of $</text>", &[counts.moved(), span.pages]);
+    text.put(b" differs=");
+    text.put_grouped(counts.moved());
+    text.put(b" of ");
+    text.put_amount(span.pages);
+    text.put(b"</text>");
     let width = scale.width(span.pages);
     let mut done = 0u64;
     for from in 0..counts.nodes {
@@ -125,9 +129,10 @@ fn put_legend(text: &mut Written, nodes: u32, top: u64) {
 /// Ends the picture, behind these spans, with all pages.
 pub(crate) fn put_total(text: &mut Written, shown: ShownSpans, counts: NodeMoves<'_>) {
     text.put_form(
-        b"<text class=\"total\" x=\"16\" y=\"$\">total differs=$",
-        &[below(shown.rows).saturating_add(20), counts.moved()],
+        b"<text class=\"total\" x=\"16\" y=\"$\">total differs=",
+        &[below(shown.rows).saturating_add(20)],
     );
+    text.put_amount(counts.moved());
     text.put_undrawn(b"span", shown.others, shown.moved);
     text.put(b"</text>\n");
     put_legend(text, counts.nodes, below(shown.rows).saturating_add(32));

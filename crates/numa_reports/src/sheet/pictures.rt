@@ -11,7 +11,7 @@ use crate::sheet::nodes::{NodePages, put_nodes};
 use numa_sheets::{CELL, Rectangle, Scale, Touch, Written, fill_of, mark_at, put_rectangle, share};
 
 /// The most nodes that are named in the line of a range.
-const NAMED: usize = 8;
+const NAMED: usize = 4;
 
 /// The first row of pixels of the ranges, and the rows of a range and of a node.
 const TOP: u64 = 60;
@@ -87,7 +87,8 @@ pub(crate) fn put_range(
 ) {
     begin_row(text, b"range", before);
     text.put_addresses(row.start, row.end);
-    text.put_form(b" anon=$", &[row.placed.pages]);
+    text.put(b" ");
+    text.put_amount(row.placed.pages);
     put_counts(text, row.placed.nodes);
     put_lacking(text, row.placed);
     text.put(b" ");
@@ -119,8 +120,8 @@ pub(crate) fn put_rest(
 ) {
     begin_row(text, b"rest", before);
     text.put_number(ranges);
-    text.put_either(ranges, b" other range", b" other ranges");
-    text.put_form(b" anon=$", &[placed.pages]);
+    text.put_either(ranges, b" other range, ", b" other ranges, ");
+    text.put_amount(placed.pages);
     put_counts(text, placed.nodes);
     put_lacking(text, placed);
     text.put(b"</text>");

@@ -98,7 +98,9 @@ pub(crate) fn put_placed(
 pub(crate) fn put_moved(text: &mut Written, sections: &[u8], end: u64, moved: u64) {
     let top = put_sections(text, sections, end, MOVED_ROWS);
     text.put_form(
-        b"<text class=\"total\" x=\"16\" y=\"$\">total differs=$</text>\n</svg>\n",
-        &[top.saturating_add(16), moved],
+        b"<text class=\"total\" x=\"16\" y=\"$\">total differs=",
+        &[top.saturating_add(16)],
     );
+    text.put_amount(moved);
+    text.put(b"</text>\n</svg>\n");
 }
