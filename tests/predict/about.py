@@ -32,6 +32,7 @@ TOUCH = "Task 1 touches pages on a CPU of node 0"
 HOSTILE = "mems\t'0'&\"\x1b[1m</script><script>alert(1)</script>\u202e"
 SHOWN = ("mems\ufffd'0'&\"\ufffd[1m</script><script>alert(1)</script>" + 3 * "\ufffd")
 LONG = "task 2 bind:" + ",".join(["0,2"] * 60)
+SPACED = " ".join(["mbind 0x10000 0x1000 interleave:0-1"] * 9)
 
 
 class Page(HTMLParser):
@@ -64,10 +65,17 @@ def rows_of(text, form):
     return page.rows.splitlines()
 
 
-def wrapped(line):
-    """The rows of a line that is added."""
-    parts = [line[k:k + 110] for k in range(0, len(line), 110)] or [""]
-    return ["Added line: " + parts[0], *("            " + it for it in parts[1:])]
+def wrapped(line, wide=110):
+    """The rows of a line that is added: a word that fits in a row isn't cut."""
+    rows, row = [], ""
+    for word in re.findall(r"[^ ]* |[^ ]+$", line):
+        if len(word) <= wide < len(row) + len(word):
+            rows, row = [*rows, row], ""
+        row += word
+        while len(row) > wide:
+            rows, row = [*rows, row[:wide]], row[wide:]
+    first, *others = [*rows, row]
+    return ["Added line: " + first, *("            " + it for it in others)]
 
 
 def try_about(call, tell, folder):
@@ -77,8 +85,8 @@ def try_about(call, tell, folder):
         name = f"{folder}/about-{kind}"
         with open(name, "w", encoding="utf-8") as file:
             file.write(script)
-        added = [HOSTILE, LONG] if allowed else ["cgroup-mems 5 1"]
-        shown = [row for it in ([SHOWN, LONG] if allowed else added) for row in wrapped(it)]
+        added = [HOSTILE, LONG, SPACED] if allowed else ["cgroup-mems 5 1"]
+        shown = [row for it in ([SHOWN, LONG, SPACED] if allowed else added) for row in wrapped(it)]
         then = [word for it in added for word in ("--then", it)]
         ends = [*rows, version]
         now = [f"Allowed nodes: {allowed}"] * bool(allowed)

@@ -56,7 +56,7 @@ def largest(rows, number):
 def counts_text(counts, lacking):
     named = "".join(f" N{node}={pages}" for node, pages in sorted(counts.items()))
     named = named if len(counts) <= NAMED else f" on {len(counts)} nodes"
-    return named + (f" exhausted={lacking}" if lacking else "")
+    return named + (f" exhausted={lacking:,}" if lacking else "")
 
 
 def parts_of(group):
@@ -182,7 +182,7 @@ def moves_difference(picture, page, lines, number):
         want = re.findall(r" N(\d+)->N(\d+)=(\d+)", lines[k])
         if any(f"node {a} to node {b}: {amount(int(pages))}" not in parts for a, b, pages in want):
             return f"{parts} of {lines[k]}"
-    behind = f", of them {sum(rest)} in {said(len(rest), 'span')} that " if rest else ""
+    behind = f", of them {sum(rest):,} in {said(len(rest), 'span')} that " if rest else ""
     behind += ("isn't drawn" if len(rest) == 1 else "aren't drawn") if rest else ""
     total = root.find(f"{SVG}text[@class='total']").text
     if total != f"total differs={amount(sum(differ))}{behind}":
@@ -198,7 +198,7 @@ def total_difference(root, group, rows, nodes, left):
     """What is wrong with what each node gets, or None."""
     counts = sum((Counter(row.counts) for row in rows), Counter())
     lacking, anon = sum(row.lacking for row in rows), sum(counts.values())
-    lacks = f" exhausted={lacking}" if lacking else ""
+    lacks = f" exhausted={lacking:,}" if lacking else ""
     want = [f"total anon={amount(anon)}{lacks}"]
     for node in range(nodes):
         behind = f", {amount(left[node])} left" if node in left else ""

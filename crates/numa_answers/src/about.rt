@@ -151,16 +151,45 @@ fn put_touch(text: &mut Written, about: &About<'_>) {
     }
 }
 
-/// Writes a line as rows of text; those behind its first begin with `next`.
+/// The bytes of a line up to its first space, which counts too.
+fn word_length(line: &[u8]) -> usize {
+    let mut length = 0usize;
+    for byte in line {
+        length = length.saturating_add(1);
+        if *byte == b' ' {
+            return length;
+        }
+    }
+    length
+}
+
+/// Whether a row with so many bytes ends before the rest of its line: it has no room, or a word
+/// begins that fits in a row, and not in this one.
+fn ends_before(column: usize, rest: &[u8], begins_word: bool) -> bool {
+    if column == WIDE {
+        return true;
+    }
+    if !begins_word {
+        return false;
+    }
+    let length = word_length(rest);
+    length <= WIDE && column.saturating_add(length) > WIDE
+}
+
+/// Writes a line as rows of text, which end behind a space where words fit; those behind its first
+/// begin with `next`.
 pub(crate) fn put_wrapped(text: &mut Written, line: &[u8], next: &[u8]) {
     let mut column = 0usize;
-    for byte in line {
-        if column == WIDE {
+    let mut begins_word = false;
+    for place in 0..line.len() {
+        if ends_before(column, &line[place..], begins_word) {
             text.put(b"\n");
             text.put(next);
             column = 0;
         }
-        text.put_escaped(&[*byte]);
+        let byte = line[place];
+        begins_word = byte == b' ';
+        text.put_escaped(&[byte]);
         column = column.saturating_add(1);
     }
     text.put(b"\n");

@@ -199,7 +199,9 @@ impl Written {
         if parts == 0 {
             return;
         }
-        self.put_form(b", of them $ in $ ", &[moved, parts]);
+        self.put(b", of them ");
+        self.put_grouped(moved);
+        self.put_form(b" in $ ", &[parts]);
         self.put(kind);
         self.put_either(parts, b" that isn't drawn", b"s that aren't drawn");
     }

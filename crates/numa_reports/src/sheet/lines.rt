@@ -5,7 +5,7 @@ use crate::sheet::nodes::{NodePages, put_nodes};
 use numa_sheets::Written;
 
 /// Writes the number of pages that find no free page, if there are any.
-pub(crate) fn put_lacking(text: &mut Written, placed: PlacedPages<'_>) {
+fn put_lacking(text: &mut Written, placed: PlacedPages<'_>) {
     if let Some(pages) = placed.lacking() {
         text.put_form(b" exhausted=$", &[pages]);
     }

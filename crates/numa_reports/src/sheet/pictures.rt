@@ -6,7 +6,6 @@
 
 use crate::sheet::bars::{put_nodes as put_bar, put_pages, put_part};
 use crate::sheet::fields::{PlacedPages, RangeRow};
-use crate::sheet::lines::put_lacking;
 use crate::sheet::nodes::{NodePages, put_nodes};
 use numa_sheets::{CELL, Rectangle, Scale, Touch, Written, fill_of, mark_at, put_rectangle, share};
 
@@ -58,6 +57,14 @@ fn put_counts(text: &mut Written, nodes: &[NodePages]) {
         text.put_form(b" on $ nodes", &[nodes.len() as u64]);
     } else {
         put_nodes(text, nodes);
+    }
+}
+
+/// Writes the number of pages that find no free page, if there are any.
+fn put_lacking(text: &mut Written, placed: PlacedPages<'_>) {
+    if let Some(pages) = placed.lacking() {
+        text.put(b" exhausted=");
+        text.put_grouped(pages);
     }
 }
 
