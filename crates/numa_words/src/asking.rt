@@ -1,12 +1,48 @@
-//! Predictions after scripts.
+//! Questions about the state that scripts lead to.
+use crate::differing::difference;
+use crate::explaining::{ExplainAsked, explanation_after};
 use numa_host_script::HostScript;
 use numa_placed::Placed;
-use numa_play::{Findings, PLAIN, Scripts, answer, play, subject_after, subject_of};
+use numa_play::{Look, PLAIN, Scripts, answer, plain_by, play, subject_after, subject_of};
 use numa_questions::{EachAsked, prediction_of};
 use numa_sheets::{Format, FreePages, Touch, Watch};
-use numa_subjects::{Ended, Halt};
+use numa_subjects::{Ended, Halt, Subject, Twin};
+use numa_what_if::DiffAsked;
 use std::alloc::Global;
 use std::io::{Read, Write};
+
+/// A question about the state that scripts lead to. Of a host without a process it is answered by
+/// process, one after the other.
+#[derive(Clone, Copy)]
+pub enum Question<'a> {
+    /// Where all mapped pages would go, if they were touched now and none were there. Nodes in
+    /// `free` have that many free pages, and the text says how many are left; counting them is
+    /// watched. Of a host the answer is of all together too, from one account of the free pages.
+    Predict(EachAsked<'a>),
+    /// Which pages would go to another node after these lines than before, if they were touched;
+    /// comparing is watched. Of a host the answer is of the processes that are there before and
+    /// after, and of all together. The lines have the name `--then` in messages, and numbers from 1
+    /// on.
+    Diff(DiffAsked<'a>),
+    /// Why a page would go where it goes, if it were touched now, and by which rules, if by the
+    /// others it would go elsewhere; of a span, which policy and which rule serve each stretch. Of
+    /// a host the answer is of the processes that have mapped the page. Of a page that is there it
+    /// says too where it lies, and how it comes there.
+    Explain(ExplainAsked),
+}
+
+/// Where all mapped pages would go, as a text, if there is something of which it is asked.
+pub(crate) fn prediction<P: Watch>(
+    alloc: Global,
+    subject: Result<Subject<'_>, Halt>,
+    asked: EachAsked<'_>,
+    watch: &mut P,
+) -> Result<Vec<u8>, Halt> {
+    match subject {
+        Ok(subject) => prediction_of(alloc, subject, asked, watch),
+        Err(halt) => Err(halt),
+    }
+}
 
 /// Where all mapped pages would go after the lines so far, if they were touched now, but that those
 /// that are there stay where they lie, as a text. `there` is where they lie in the one space, or in
@@ -19,66 +55,51 @@ pub fn prediction_there<P: Watch>(
     alloc: Global,
     script: &HostScript,
     process: Option<u32>,
-    asked: Touch,
+    touch: Touch,
     format: Format,
     free: &[FreePages],
     there: &[Placed],
     watch: &mut P,
 ) -> Result<Vec<u8>, Halt> {
     let asked = EachAsked {
-        touch: asked,
+        touch,
         format,
         free,
         there,
     };
-    match subject_of(script, process) {
-        Ok(subject) => prediction_of(alloc, subject, asked, watch),
-        Err(halt) => Err(halt),
+    prediction(alloc, subject_of(script, process), asked, watch)
+}
+
+/// How scripts are played for a question: for an explanation by both sets of rules.
+fn look_for(question: &Question<'_>) -> Look {
+    match question {
+        Question::Explain(_) => plain_by(Twin::Always),
+        _ => PLAIN,
     }
 }
 
-/// Finishes the messages, and returns where all mapped pages would go, if they were touched now, as
-/// a text.
-fn prediction<T: Write, P: Watch>(
-    alloc: Global,
-    findings: &mut Findings<T>,
-    process: Option<u32>,
-    asked: EachAsked<'_>,
-    watch: &mut P,
-) -> Result<Vec<u8>, Halt> {
-    match subject_after(findings, process) {
-        Ok(subject) => prediction_of(alloc, subject, asked, watch),
-        Err(halt) => Err(halt),
-    }
-}
-
-/// Plays the scripts, and writes where all mapped pages would go, if they were touched now. Nodes
-/// in `free` have that many free pages, and the text says how many are left; counting them is
-/// watched. Of a host without a process the answer is by process, one after the other, and of all
-/// together, from one account of the free pages. What is wrong with a line is written to `told`,
-/// and the line is skipped, which the result says too. The answer is complete before its first byte
-/// is written.
+/// Plays the scripts, and writes the answer to a question about the state that they lead to. What
+/// is wrong with a line is written to `told`, and the line is skipped, which the result says too.
+/// The answer is complete before its first byte is written.
 ///
 /// # Errors
 /// Why there is no answer. Text already written to `told` stays.
-pub fn predict<R: Read + Drop, W: Write, T: Write + Drop, P: Watch>(
+pub fn answer_after<R: Read + Drop, W: Write, T: Write + Drop, P: Watch>(
     alloc: Global,
     scripts: Scripts<R>,
-    asked: Touch,
-    format: Format,
-    free: &[FreePages],
+    question: Question<'_>,
     output: &mut W,
     told: T,
     watch: &mut P,
 ) -> Result<Ended, Halt> {
     let process = scripts.process;
-    let asked = EachAsked {
-        touch: asked,
-        format,
-        free,
-        there: &[],
+    let mut findings = play(alloc, scripts, look_for(&question), told)?;
+    let text = match question {
+        Question::Predict(asked) => {
+            prediction(alloc, subject_after(&mut findings, process), asked, watch)
+        }
+        Question::Diff(asked) => difference(alloc, &mut findings, process, asked, watch),
+        Question::Explain(asked) => explanation_after(alloc, &mut findings, process, asked),
     };
-    let mut findings = play(alloc, scripts, PLAIN, told)?;
-    let text = prediction(alloc, &mut findings, process, asked, watch);
     answer(findings, text, output)
 }

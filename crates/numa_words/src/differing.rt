@@ -1,12 +1,12 @@
 //! Differences after scripts.
 use numa_host_script::HostScript;
 use numa_lines::{RunFault, TakeLine};
-use numa_play::{Findings, PLAIN, Scripts, answer, play, subject_of};
-use numa_sheets::{Format, Touch, Watch};
-use numa_subjects::{Ended, Halt};
+use numa_play::{Findings, subject_of};
+use numa_sheets::Watch;
+use numa_subjects::Halt;
 use numa_what_if::{DiffAsked, StatesBefore, difference_since, states_of};
 use std::alloc::Global;
-use std::io::{Read, Write};
+use std::io::Write;
 
 /// The name of the added lines in messages.
 const ADDED: &str = "--then";
@@ -70,11 +70,10 @@ fn difference_from<T: Write, P: Watch>(
     before: &StatesBefore,
     findings: &mut Findings<T>,
     process: Option<u32>,
-    lines: &[String],
     asked: DiffAsked<'_>,
     watch: &mut P,
 ) -> Result<Vec<u8>, Halt> {
-    if let Err(why) = play_lines(findings, lines) {
+    if let Err(why) = play_lines(findings, asked.lines) {
         return Err(Halt::Stopped(why));
     }
     match subject_of(findings.script(), process) {
@@ -83,12 +82,11 @@ fn difference_from<T: Write, P: Watch>(
     }
 }
 
-/// Which pages go elsewhere after the lines, as a text.
-fn difference<T: Write, P: Watch>(
+/// Which pages go elsewhere after the lines, which are played, as a text.
+pub(crate) fn difference<T: Write, P: Watch>(
     alloc: Global,
     findings: &mut Findings<T>,
     process: Option<u32>,
-    lines: &[String],
     asked: DiffAsked<'_>,
     watch: &mut P,
 ) -> Result<Vec<u8>, Halt> {
@@ -96,36 +94,7 @@ fn difference<T: Write, P: Watch>(
         Ok(before) => before,
         Err(halt) => return Err(halt),
     };
-    let text = difference_from(alloc, &before, findings, process, lines, asked, watch);
+    let text = difference_from(alloc, &before, findings, process, asked, watch);
     drop(before);
     text
-}
-
-/// Plays the scripts and then the lines, and writes which pages would go to another node after the
-/// lines than before, if they were touched; comparing is watched. Of a host without a process the
-/// answer is by process, of those that are there before and after, and of all together. What is
-/// wrong with a line is written to `told`, and the line is skipped; the added lines have the name
-/// `--then` and numbers from 1 on. The answer is complete before its first byte is written.
-///
-/// # Errors
-/// Why there is no answer. Text already written to `told` stays.
-pub fn diff<R: Read + Drop, W: Write, T: Write + Drop, P: Watch>(
-    alloc: Global,
-    scripts: Scripts<R>,
-    lines: &[String],
-    asked: Touch,
-    format: Format,
-    output: &mut W,
-    told: T,
-    watch: &mut P,
-) -> Result<Ended, Halt> {
-    let process = scripts.process;
-    let asked = DiffAsked {
-        touch: asked,
-        format,
-        lines,
-    };
-    let mut findings = play(alloc, scripts, PLAIN, told)?;
-    let text = difference(alloc, &mut findings, process, lines, asked, watch);
-    answer(findings, text, output)
 }

@@ -1,26 +1,15 @@
 //! Why pages go where they go, after scripts.
-use crate::there::{Played, Reading, play_there, stated_in};
+use crate::there::{Played, stated_in};
 use numa_host_script::HostScript;
 use numa_lines::RunFault;
 use numa_moves::{AtLines, PassOver, RefusedAt};
 use numa_placed::Placed;
-use numa_play::{
-    Findings, Scripts, answer, other_subject, page_places, plain_by, play, subject_of,
-};
-use numa_questions::{AskedPages, ReasonsAsked, reasons_of};
+use numa_play::{Findings, other_subject, page_places, subject_of};
+use numa_questions::{AskedPages, ReasonsAsked, place_of, reasons_of};
 use numa_sheets::{Format, Touch};
-use numa_subjects::{Ended, Halt, PagePlace, Twin};
+use numa_subjects::{Halt, PagePlace};
 use std::alloc::{AllocError, Global};
-use std::io::{Read, Write};
-
-/// Lines that state where pages lie count, and an explanation tells the rules.
-const KEEPING: Reading = Reading {
-    task: None,
-    other: Twin::Always,
-    heeds_at: true,
-    heeds_all_at: true,
-    keeps_at: true,
-};
+use std::io::Write;
 
 /// What is to be explained.
 #[derive(Clone, Copy)]
@@ -53,14 +42,6 @@ fn place_among(known: Option<PagePlace>, placed: &Placed, page: u64) -> Option<P
     }
 }
 
-/// Where the page lies in one of the processes, if it is known to be there.
-fn known_of(known: &[Option<PagePlace>], number: usize) -> Option<PagePlace> {
-    match known.get(number) {
-        Some(place) => *place,
-        None => None,
-    }
-}
-
 /// Where a page lies in the one space, or in each process, by where it is known to lie and where
 /// pages are stated to lie.
 fn places_among(
@@ -71,7 +52,7 @@ fn places_among(
 ) -> Result<Vec<Option<PagePlace>>, AllocError> {
     let mut places = Vec::with_capacity(alloc, there.len())?;
     for number in 0..there.len() {
-        let place = place_among(known_of(known, number), &there[number], page);
+        let place = place_among(place_of(known, number), &there[number], page);
         places.push(place)?;
     }
     Ok(places)
@@ -133,15 +114,10 @@ pub fn explanation(
     asked: ExplainAsked,
     there: &[Option<PagePlace>],
 ) -> Result<Vec<u8>, Halt> {
-    let ExplainAsked {
-        touch,
-        pages,
-        format,
-    } = asked;
     let asked = ReasonsAsked {
-        touch,
-        pages,
-        format,
+        touch: asked.touch,
+        pages: asked.pages,
+        format: asked.format,
         there,
     };
     match subject_of(script, process) {
@@ -151,7 +127,7 @@ pub fn explanation(
 }
 
 /// Finishes the messages, and returns the explanation.
-fn explanation_after<T: Write>(
+pub(crate) fn explanation_after<T: Write>(
     alloc: Global,
     findings: &mut Findings<T>,
     process: Option<u32>,
@@ -169,38 +145,15 @@ fn explanation_after<T: Write>(
     text
 }
 
-/// Plays the scripts, and writes why a page would go where it goes, if it were touched now, and by
-/// which rules, if by the others it would go elsewhere; of a span, which policy and which rule
-/// serve each stretch. Of a host without a process the answer is by process, of those that have
-/// mapped the page. Of a page that is there it says too where it lies, and how it comes there. What
-/// is wrong with a line is written to `told`, and the line is skipped. The answer is complete before
-/// its first byte is written.
-///
-/// # Errors
-/// Why there is no answer. Text already written to `told` stays.
-pub fn explain<R: Read + Drop, W: Write, T: Write + Drop>(
-    alloc: Global,
-    scripts: Scripts<R>,
-    asked: ExplainAsked,
-    output: &mut W,
-    told: T,
-) -> Result<Ended, Halt> {
-    let process = scripts.process;
-    let mut findings = play(alloc, scripts, plain_by(Twin::Always), told)?;
-    let text = explanation_after(alloc, &mut findings, process, asked);
-    answer(findings, text, output)
-}
-
 /// The explanation after scripts and lines that state where pages lie, where it is told why such
 /// lines are refused.
-fn explanation_told<T: Write>(
+pub(crate) fn explanation_told<T: Write>(
     alloc: Global,
     played: &mut Played<T>,
-    process: Option<u32>,
     asked: ExplainAsked,
 ) -> Result<Vec<u8>, Halt> {
     let (script, other) = (played.findings.script(), played.findings.other());
-    let (at, page) = (&played.at, asked.pages.page);
+    let (at, process, page) = (&played.at, played.process, asked.pages.page);
     let mut refused = Vec::new(alloc);
     let there = places_in(alloc, script, at, process, page, &mut refused);
     played.faults.tell_refused(at, refused.as_slice());
@@ -212,23 +165,4 @@ fn explanation_told<T: Write>(
     let text = explanation(alloc, script, other, process, asked, there.as_slice());
     drop(there);
     text
-}
-
-/// The same as [`explain`], where the page lies as lines `at` of the scripts, and of further texts,
-/// which alone aren't played, state it too.
-///
-/// # Errors
-/// Why there is no answer. Text already written to `told` stays.
-pub fn explain_at<R: Read + Drop, A: Read + Drop, W: Write, T: Write + Drop>(
-    alloc: Global,
-    scripts: Scripts<R>,
-    texts_at: Vec<(String, A)>,
-    asked: ExplainAsked,
-    output: &mut W,
-    told: T,
-) -> Result<Ended, Halt> {
-    let process = scripts.process;
-    let mut played = play_there(alloc, scripts, texts_at, KEEPING, told)?;
-    let text = explanation_told(alloc, &mut played, process, asked);
-    played.write(text, output)
 }

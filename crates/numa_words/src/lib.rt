@@ -2,9 +2,10 @@
 //! (`explain`), what a change of a script would make of them (`diff`), what a trace of accesses
 //! meets (`replay`), and what becomes of those that are there (`moves`).
 //!
+//! [`answer_after`] plays scripts, and answers a question about the state that they lead to;
 //! numa_questions and numa_what_if answer the same about a space, without scripts. Where pages lie
-//! that are there state lines of scripts, or of further texts ([`play_there`]): [`moves`] tells
-//! what becomes of them, in [`predict_at`] they stay, and [`explain_at`] says where one lies.
+//! that are there state lines of scripts, or of further texts ([`play_there`]): [`answer_there`]
+//! tells what becomes of them, where others would go, and where one lies.
 #![tactic(auto)]
 
 mod asking;
@@ -15,10 +16,10 @@ mod placing;
 mod replaying;
 mod there;
 
-pub use asking::{predict, prediction_there};
-pub use differing::{diff, play_added};
-pub use explaining::{ExplainAsked, explain, explain_at, explanation, places_in};
-pub use moving::{Answer, Playing, moves_of};
-pub use placing::{PlacedAsked, moves, predict_at};
+pub use asking::{Question, answer_after, prediction_there};
+pub use differing::play_added;
+pub use explaining::{ExplainAsked, explanation, places_in};
+pub use moving::{Answer, MovesAsked, Playing, moves_of};
+pub use placing::{QuestionThere, answer_there};
 pub use replaying::{Traced, replay};
 pub use there::{LineFaults, Played, Reading, play_there, stated_in};

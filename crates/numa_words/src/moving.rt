@@ -1,5 +1,5 @@
 //! Playing lines that move pages that are there, and telling what becomes of these.
-use crate::there::{LineFaults, scene_of};
+use crate::there::{LineFaults, Played, scene_of};
 use numa_answers::{About, told_of};
 use numa_host_script::HostScript;
 use numa_lines::{RunFault, TakeLine};
@@ -11,7 +11,7 @@ use numa_moves::{
 use numa_placed::Rooms;
 use numa_play::Findings;
 use numa_reports::ReportError;
-use numa_sheets::{Format, FreePages};
+use numa_sheets::{Format, FreePages, Touch};
 use numa_subjects::{Halt, Subject};
 use std::alloc::{AllocError, Global};
 use std::io::Write;
@@ -45,6 +45,20 @@ pub struct Playing<'a> {
     pub format: Format,
 }
 
+/// What becomes of pages by lines, if it is asked for.
+#[derive(Clone, Copy)]
+pub struct MovesAsked<'a> {
+    /// The lines.
+    pub lines: &'a [String],
+    /// The touch by which pages came to lie where they do, while every node had room; else lines
+    /// state where they lie.
+    pub touch: Option<Touch>,
+    /// Text, JSON or SVG.
+    pub format: Format,
+    /// How many more pages nodes take.
+    pub free: &'a [FreePages],
+}
+
 /// An answer, and whether it is another by the other rules, if the lines were played by those too.
 #[derive(Drop)]
 pub struct Answer {
@@ -57,6 +71,22 @@ pub struct Answer {
 struct Course {
     holdings: Holdings,
     steps: Vec<Step>,
+}
+
+/// Where pages lie by the rules of a script, and by the other rules, as long as there is a course
+/// by these.
+#[derive(Drop)]
+struct Courses {
+    own: Course,
+    other: Option<Course>,
+}
+
+/// Lines that are played, what plays them, and what is wrong with them.
+#[derive(Drop)]
+struct Play<'a, T> {
+    findings: &'a mut Findings<T>,
+    playing: Playing<'a>,
+    faults: &'a mut LineFaults,
 }
 
 /// Refuses free pages of nodes that a machine with so many lacks.
@@ -145,32 +175,6 @@ fn why_passed(line: &MoveLine, plays_all: bool) -> Option<&'static str> {
     }
 }
 
-/// Plays a line in the scripts, if it is one of theirs, and tells what is wrong with it.
-fn play_line<T: Write>(
-    findings: &mut Findings<T>,
-    holdings: &Holdings,
-    playing: Playing<'_>,
-    place: u64,
-    line: &str,
-    faults: &mut LineFaults,
-) -> Result<(), Halt> {
-    let moving = read_move(line.as_bytes());
-    if let Some(why) = why_passed(&moving, playing.plays_all) {
-        faults.tell(ADDED, place, why);
-        return Ok(());
-    }
-    let MoveLine::Migrate { process, to, .. } = moving else {
-        return match findings.take(ADDED, place, line.as_bytes(), &mut ()) {
-            Ok(()) => Ok(()),
-            Err(why) => Err(Halt::Stopped(why)),
-        };
-    };
-    if let Some(why) = why_not(holdings, process_of(process, playing.process), &to) {
-        faults.tell(ADDED, place, why);
-    }
-    Ok(())
-}
-
 /// What a line does to the pages of a script that has played it.
 fn step_of(
     alloc: Global,
@@ -228,26 +232,6 @@ fn go_on_beside(
     }
 }
 
-/// Plays the lines, and notes what each did to the pages that are there.
-fn play_lines<T: Write>(
-    alloc: Global,
-    findings: &mut Findings<T>,
-    course: &mut Course,
-    other: &mut Option<Course>,
-    playing: Playing<'_>,
-    faults: &mut LineFaults,
-) -> Result<(), Halt> {
-    let mut place = 1u64;
-    for line in playing.lines {
-        let line = line.as_str();
-        play_line(findings, &course.holdings, playing, place, line, faults)?;
-        course.go_on(alloc, findings.script(), playing, line)?;
-        go_on_beside(alloc, other, findings.other(), playing, line);
-        place = place.saturating_add(1);
-    }
-    Ok(())
-}
-
 /// Whether what became of the pages by the other rules is another text.
 fn is_other(alloc: Global, text: &[u8], other: &Option<Course>, told: Asked<'_>) -> bool {
     let Some(other) = other else {
@@ -264,14 +248,9 @@ fn is_other(alloc: Global, text: &[u8], other: &Option<Course>, told: Asked<'_>)
 }
 
 /// What became of the pages, as a text.
-fn answer_of(
-    alloc: Global,
-    course: &Course,
-    other: &Option<Course>,
-    told: Asked<'_>,
-) -> Result<Answer, Halt> {
-    let text = moves_text(alloc, course.steps.as_slice(), told)?;
-    let is_other = is_other(alloc, text.as_slice(), other, told);
+fn answer_of(alloc: Global, courses: &Courses, told: Asked<'_>) -> Result<Answer, Halt> {
+    let text = moves_text(alloc, courses.own.steps.as_slice(), told)?;
+    let is_other = is_other(alloc, text.as_slice(), &courses.other, told);
     Ok(Answer { text, is_other })
 }
 
@@ -310,50 +289,82 @@ fn limits_of(alloc: Global, rooms: &Rooms) -> Result<Vec<FreePages>, AllocError>
     Ok(limits)
 }
 
-/// Plays the lines, and returns what becomes of the pages, as a text, which tells at the end what
-/// is left on these nodes.
-fn moves_by<T: Write>(
-    alloc: Global,
-    findings: &mut Findings<T>,
-    course: &mut Course,
-    other: &mut Option<Course>,
-    playing: Playing<'_>,
-    limits: &[FreePages],
-    faults: &mut LineFaults,
-) -> Result<Answer, Halt> {
-    let scene = scene_of(findings.script(), playing.process, playing.format)?;
-    let told = Asked {
-        lines: playing.lines,
-        is_each: scene.is_each(),
-        nodes: scene.nodes(),
-        free: limits,
-        format: playing.format,
-    };
-    match play_lines(alloc, findings, course, other, playing, faults) {
-        Ok(()) => answer_of(alloc, course, other, told),
-        Err(halt) => Err(halt),
+impl<T: Write> Play<'_, T> {
+    /// Plays a line in the scripts, if it is one of theirs, and tells what is wrong with it.
+    fn play_line(&mut self, holdings: &Holdings, place: u64, line: &str) -> Result<(), Halt> {
+        let moving = read_move(line.as_bytes());
+        if let Some(why) = why_passed(&moving, self.playing.plays_all) {
+            self.faults.tell(ADDED, place, why);
+            return Ok(());
+        }
+        let MoveLine::Migrate { process, to, .. } = moving else {
+            let taken = self.findings.take(ADDED, place, line.as_bytes(), &mut ());
+            return match taken {
+                Ok(()) => Ok(()),
+                Err(why) => Err(Halt::Stopped(why)),
+            };
+        };
+        if let Some(why) = why_not(holdings, process_of(process, self.playing.process), &to) {
+            self.faults.tell(ADDED, place, why);
+        }
+        Ok(())
     }
-}
 
-/// The same, where it is told what is left of the nodes whose free pages are asked for, or else of
-/// those that fill.
-fn moves_left<T: Write>(
-    alloc: Global,
-    findings: &mut Findings<T>,
-    course: &mut Course,
-    other: &mut Option<Course>,
-    playing: Playing<'_>,
-    faults: &mut LineFaults,
-) -> Result<Answer, Halt> {
-    if !playing.free.is_empty() {
-        let free = playing.free;
-        return moves_by(alloc, findings, course, other, playing, free, faults);
+    /// Plays these lines, and notes what each did to the pages that are there.
+    fn play_lines(
+        &mut self,
+        alloc: Global,
+        courses: &mut Courses,
+        lines: &[String],
+    ) -> Result<(), Halt> {
+        let playing = self.playing;
+        let mut place = 1u64;
+        for line in lines {
+            let line = line.as_str();
+            self.play_line(&courses.own.holdings, place, line)?;
+            let findings = &*self.findings;
+            courses.own.go_on(alloc, findings.script(), playing, line)?;
+            go_on_beside(alloc, &mut courses.other, findings.other(), playing, line);
+            place = place.saturating_add(1);
+        }
+        Ok(())
     }
-    let limits = limits_of(alloc, course.holdings.rooms())?;
-    let free = limits.as_slice();
-    let answer = moves_by(alloc, findings, course, other, playing, free, faults);
-    drop(limits);
-    answer
+
+    /// Plays the lines, and returns what becomes of the pages, as a text, which tells at the end
+    /// what is left on these nodes.
+    fn moves_by(
+        &mut self,
+        alloc: Global,
+        courses: &mut Courses,
+        limits: &[FreePages],
+    ) -> Result<Answer, Halt> {
+        let playing = self.playing;
+        let scene = scene_of(self.findings.script(), playing.process, playing.format)?;
+        let told = Asked {
+            lines: playing.lines,
+            is_each: scene.is_each(),
+            nodes: scene.nodes(),
+            free: limits,
+            format: playing.format,
+        };
+        match self.play_lines(alloc, courses, playing.lines) {
+            Ok(()) => answer_of(alloc, courses, told),
+            Err(halt) => Err(halt),
+        }
+    }
+
+    /// The same, where it is told what is left of the nodes whose free pages are asked for, or else
+    /// of those that fill.
+    fn moves_left(&mut self, alloc: Global, courses: &mut Courses) -> Result<Answer, Halt> {
+        if !self.playing.free.is_empty() {
+            let free = self.playing.free;
+            return self.moves_by(alloc, courses, free);
+        }
+        let limits = limits_of(alloc, courses.own.holdings.rooms())?;
+        let answer = self.moves_by(alloc, courses, limits.as_slice());
+        drop(limits);
+        answer
+    }
 }
 
 /// Plays lines, and returns what becomes of the pages that are there, as a text. Nodes take as many
@@ -369,10 +380,41 @@ pub fn moves_of<T: Write>(
     playing: Playing<'_>,
     faults: &mut LineFaults,
 ) -> Result<Answer, Halt> {
-    let mut course = begin_told(alloc, findings.script(), at, origin, playing, faults)?;
-    let mut other = begin_beside(alloc, findings.other(), origin, playing);
-    let answer = moves_left(alloc, findings, &mut course, &mut other, playing, faults);
-    drop(course);
-    drop(other);
+    let own = begin_told(alloc, findings.script(), at, origin, playing, faults)?;
+    let other = begin_beside(alloc, findings.other(), origin, playing);
+    let mut courses = Courses { own, other };
+    let mut play = Play {
+        findings: &mut *findings,
+        playing,
+        faults: &mut *faults,
+    };
+    let answer = play.moves_left(alloc, &mut courses);
+    drop(play);
+    drop(courses);
     told_of_moves(alloc, findings.script(), origin, playing, answer?)
+}
+
+/// What becomes of pages by lines, as a text.
+pub(crate) fn moves_told<T: Write>(
+    alloc: Global,
+    played: &mut Played<T>,
+    asked: MovesAsked<'_>,
+) -> Result<Vec<u8>, Halt> {
+    let playing = Playing {
+        lines: asked.lines,
+        plays_all: false,
+        process: played.process,
+        free: asked.free,
+        format: asked.format,
+    };
+    let at = &played.at;
+    let origin = match asked.touch {
+        Some(touch) => Origin::Touched(touch),
+        None => Origin::Stated(at.lines.as_slice()),
+    };
+    let findings = &mut played.findings;
+    match moves_of(alloc, findings, at, origin, playing, &mut played.faults) {
+        Ok(answer) => Ok(answer.text),
+        Err(halt) => Err(halt),
+    }
 }

@@ -202,6 +202,8 @@ pub struct Played<T> {
     pub faults: LineFaults,
     /// The areas that the scripts name, in order.
     pub areas: Areas,
+    /// The process of a host that is asked about, if not all are.
+    pub process: Option<u32>,
 }
 
 /// The state before the first line.
@@ -237,6 +239,7 @@ fn played_of<T: Write>(
     findings: Findings<T>,
     at: AtLines<PassOver>,
     mut areas: Areas,
+    process: Option<u32>,
 ) -> Played<T> {
     let mut faults = LineFaults::new(alloc);
     faults.tell_bad(&at);
@@ -246,6 +249,7 @@ fn played_of<T: Write>(
         at,
         faults,
         areas,
+        process,
     }
 }
 
@@ -296,7 +300,7 @@ pub fn play_there<S: Read + Drop, A: Read + Drop, T: Write + Drop>(
     let Keeping { at, areas, .. } = read;
     let (findings, at) = at.parted();
     match read_by(alloc, texts_at, at) {
-        Ok(at) => Ok(played_of(alloc, findings, at, areas)),
+        Ok(at) => Ok(played_of(alloc, findings, at, areas, process)),
         Err(why) => {
             drop(areas);
             drop(findings);
@@ -322,6 +326,26 @@ fn tell_all<T: Write>(findings: &mut Findings<T>, faults: LineFaults) -> Result<
     }
 }
 
+impl<T: Write> Played<T> {
+    /// Where pages lie that are there: in the one space, or in each process of a host if none is
+    /// asked about. It is noted why lines that state it are refused.
+    pub(crate) fn there(&mut self, alloc: Global) -> Result<Vec<Placed>, Halt> {
+        let mut refused = Vec::new(alloc);
+        let mut there = Vec::new(alloc);
+        let (script, at) = (self.findings.script(), &self.at);
+        let stated = stated_in(alloc, script, at, self.process, &mut refused, &mut there);
+        self.faults.tell_refused(&self.at, refused.as_slice());
+        drop(refused);
+        match stated {
+            Ok(()) => Ok(there),
+            Err(halt) => {
+                drop(there);
+                Err(halt)
+            }
+        }
+    }
+}
+
 impl<T: Write + Drop> Played<T> {
     /// Writes an answer, if there is one, once all that is wrong with lines is told.
     ///
@@ -337,6 +361,7 @@ impl<T: Write + Drop> Played<T> {
             at,
             faults,
             areas,
+            process: _,
         } = self;
         drop(areas);
         drop(at);

@@ -5,7 +5,6 @@ ghost use Rattle.numaplan_c.specs.Reports.{Reported, is_untold};
 use crate::asking::{Question, free_by_node, question_of};
 use crate::reports::{NpFree, NpQuestion, NpReport, made, tell_made, touch_of};
 use numa_sheets::FreePages;
-use numa_words::PlacedAsked;
 use numaplan_reports::{Origin, Report, explain_at, moves, predict_at};
 use std::alloc::Global;
 
@@ -45,12 +44,7 @@ fn predicted(alloc: Global, there: Result<There<'_>, u32>, at: &[u8]) -> Result<
         touch,
         format,
     } = asked;
-    let asked = PlacedAsked {
-        touch,
-        format,
-        free: free.as_slice(),
-    };
-    let report = predict_at(alloc, script, at, asked);
+    let report = predict_at(alloc, script, at, touch, format, free.as_slice());
     drop(free);
     made(report)
 }

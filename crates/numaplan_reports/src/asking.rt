@@ -3,22 +3,25 @@
 use crate::lines::lines_of;
 use crate::report::{Report, report_of};
 use crate::sources::{ScriptText, first_of, named, scripts_of};
-use numa_questions::AskedPages;
+use numa_play::Scripts;
+use numa_questions::{AskedPages, EachAsked};
 use numa_sheets::{Format, FreePages, Touch, Written};
 use numa_subjects::{Ended, Halt, NOTHING_SERVED, Twin};
 use numa_traces::ReplayError;
-use numa_words::{ExplainAsked, Traced};
+use numa_what_if::DiffAsked;
+use numa_words::{ExplainAsked, Question, Traced, answer_after};
 use std::alloc::{AllocError, Global};
 
-/// The report of a word of the program, which appends its answer and the messages about lines to
-/// the texts of these names.
-macro_rules! report_by {
-    ($alloc:expr, $answer:ident, $told:ident => $word:expr) => {{
-        let mut $answer = Vec::new($alloc);
-        let mut $told = Vec::new($alloc);
-        let ended = $word;
-        report_of($answer, $told, ended)
-    }};
+/// The report of the answer to a question after scripts.
+fn report_after(
+    alloc: Global,
+    scripts: Scripts<&[u8]>,
+    question: Question<'_>,
+) -> Result<Report, AllocError> {
+    let mut answer = Vec::new(alloc);
+    let mut told = Vec::new(alloc);
+    let ended = answer_after(alloc, scripts, question, &mut answer, &mut told, &mut ());
+    report_of(answer, told, ended)
 }
 
 /// What is wrong with the lines of a script, and what a running kernel would do differently with
@@ -33,50 +36,58 @@ pub fn check(alloc: Global, script: ScriptText<'_>, format: Format) -> Result<Re
     report_of(answer, Vec::new(alloc), ended)
 }
 
-/// Where all mapped pages would go after a script, as [`numa_words::predict`] writes it.
+/// A prediction that is asked for.
+pub(crate) fn predict_asked(touch: Touch, format: Format, free: &[FreePages]) -> EachAsked<'_> {
+    EachAsked {
+        touch,
+        format,
+        free,
+        there: &[],
+    }
+}
+
+/// Where all mapped pages would go after a script, as [`numa_words::answer_after`] writes it.
 ///
 /// # Errors
 /// `AllocError`: out of memory.
 pub fn predict(
     alloc: Global,
     script: ScriptText<'_>,
-    asked: Touch,
+    touch: Touch,
     format: Format,
     free: &[FreePages],
 ) -> Result<Report, AllocError> {
-    let scripts = scripts_of(alloc, script)?;
-    report_by!(alloc, answer, told => {
-        numa_words::predict(alloc, scripts, asked, format, free, &mut answer, &mut told, &mut ())
-    })
+    let asked = predict_asked(touch, format, free);
+    report_after(alloc, scripts_of(alloc, script)?, Question::Predict(asked))
 }
 
 /// The difference that lines make, after a script without them.
 fn diff_by(
     alloc: Global,
     script: ScriptText<'_>,
-    lines: &[String],
-    asked: Touch,
-    format: Format,
+    asked: DiffAsked<'_>,
 ) -> Result<Report, AllocError> {
-    let scripts = first_of(alloc, script)?;
-    report_by!(alloc, answer, told => {
-        numa_words::diff(alloc, scripts, lines, asked, format, &mut answer, &mut told, &mut ())
-    })
+    report_after(alloc, first_of(alloc, script)?, Question::Diff(asked))
 }
 
 /// Which pages would go to another node after the lines behind a script than before them, as
-/// [`numa_words::diff`] writes it.
+/// [`numa_words::answer_after`] writes it.
 ///
 /// # Errors
 /// `AllocError`: out of memory.
 pub fn diff(
     alloc: Global,
     script: ScriptText<'_>,
-    asked: Touch,
+    touch: Touch,
     format: Format,
 ) -> Result<Report, AllocError> {
     let lines = lines_of(alloc, script.then)?;
-    let report = diff_by(alloc, script, lines.as_slice(), asked, format);
+    let asked = DiffAsked {
+        touch,
+        format,
+        lines: lines.as_slice(),
+    };
+    let report = diff_by(alloc, script, asked);
     drop(lines);
     report
 }
@@ -91,7 +102,7 @@ pub(crate) fn explain_asked(touch: Touch, page: u64, format: Format) -> ExplainA
     }
 }
 
-/// Why a page would go where it goes after a script, as [`numa_words::explain`] writes it.
+/// Why a page would go where it goes after a script, as [`numa_words::answer_after`] writes it.
 ///
 /// # Errors
 /// `AllocError`: out of memory.
@@ -102,11 +113,8 @@ pub fn explain(
     page: u64,
     format: Format,
 ) -> Result<Report, AllocError> {
-    let scripts = scripts_of(alloc, script)?;
     let asked = explain_asked(asked, page, format);
-    report_by!(alloc, answer, told => {
-        numa_words::explain(alloc, scripts, asked, &mut answer, &mut told)
-    })
+    report_after(alloc, scripts_of(alloc, script)?, Question::Explain(asked))
 }
 
 /// The message about a trace whose pages find no place.

@@ -3,9 +3,9 @@
 //!
 //! [`check`], [`predict`], [`predict_at`], [`moves`], [`diff`], [`explain`], [`explain_at`] and
 //! [`replay`] play a script, and are one call of numa_play, numa_words or numa_what_if each.
-//! [`predict_core`], [`fill_core`], [`explain_core`], [`diff_cores`] and [`replay_core`] ask a core,
-//! and are one call of numa_reports, numa_rules or numa_traces on its space and the plan of its
-//! accepted commands.
+//! [`predict_core`], [`fill_core`], [`explain_core`], [`diff_cores`] and [`replay_core`] ask a
+//! core, and are one call of numa_reports, numa_rules or numa_traces on its space and the plan of
+//! its accepted commands.
 //! [`predict_core_text`], [`diff_cores_text`], [`explain_core_text`] and [`replay_core_text`]
 //! answer as the words do, of cores.
 #![tactic(auto)]

@@ -1,32 +1,43 @@
 //! The words of the program about pages that are there, over texts in memory.
 
-use crate::asking::explain_asked;
+use crate::asking::{explain_asked, predict_asked};
 use crate::lines::lines_of;
 use crate::report::{Report, report_of};
 use crate::sources::{ScriptText, first_of, named, scripts_of};
 use numa_play::Scripts;
 use numa_sheets::{Format, FreePages, Touch};
-use numa_words::PlacedAsked;
+use numa_words::{MovesAsked, QuestionThere, answer_there};
 use std::alloc::{AllocError, Global};
 
-/// A script, and the text that states where pages lie, with the name `at`.
-fn with_at<'a>(
+/// The report of the answer to a question after scripts, and where the text `at` states that pages
+/// lie, under that name.
+fn report_there(
     alloc: Global,
-    scripts: Scripts<&'a [u8]>,
-    at: &'a [u8],
-) -> Result<(Scripts<&'a [u8]>, Vec<(String, &'a [u8])>), AllocError> {
-    match named(alloc, "at", at) {
-        Ok(texts_at) => Ok((scripts, texts_at)),
-        Err(fault) => {
-            drop(scripts);
-            Err(fault)
-        }
-    }
+    scripts: Scripts<&[u8]>,
+    at: &[u8],
+    question: QuestionThere<'_>,
+) -> Result<Report, AllocError> {
+    let Ok(at) = named(alloc, "at", at) else {
+        drop(scripts);
+        return Err(AllocError);
+    };
+    let mut answer = Vec::new(alloc);
+    let mut told = Vec::new(alloc);
+    let ended = answer_there(
+        alloc,
+        scripts,
+        at,
+        question,
+        &mut answer,
+        &mut told,
+        &mut (),
+    );
+    report_of(answer, told, ended)
 }
 
 /// Where all mapped pages would go after a script, but that those stay that lie where lines `at` of
-/// the script, of the lines behind it or of the text `at` say, as [`numa_words::predict_at`] writes
-/// it. Messages call that text `at`.
+/// the script, of the lines behind it or of the text `at` say, as [`numa_words::answer_there`]
+/// writes it. Messages call that text `at`.
 ///
 /// # Errors
 /// `AllocError`: out of memory.
@@ -34,17 +45,17 @@ pub fn predict_at(
     alloc: Global,
     script: ScriptText<'_>,
     at: &[u8],
-    asked: PlacedAsked<'_>,
+    touch: Touch,
+    format: Format,
+    free: &[FreePages],
 ) -> Result<Report, AllocError> {
-    let (scripts, at) = with_at(alloc, scripts_of(alloc, script)?, at)?;
-    let mut answer = Vec::new(alloc);
-    let mut told = Vec::new(alloc);
-    let ended = numa_words::predict_at(alloc, scripts, at, asked, &mut answer, &mut told, &mut ());
-    report_of(answer, told, ended)
+    let scripts = scripts_of(alloc, script)?;
+    let asked = predict_asked(touch, format, free);
+    report_there(alloc, scripts, at, QuestionThere::Predict(asked))
 }
 
 /// Why a page would go where it goes after a script, and how it came where it lies by the script,
-/// the lines behind it and lines `at` of the text `at`, as [`numa_words::explain_at`] writes it.
+/// the lines behind it and lines `at` of the text `at`, as [`numa_words::answer_there`] writes it.
 /// Messages call that text `at`.
 ///
 /// # Errors
@@ -57,12 +68,9 @@ pub fn explain_at(
     page: u64,
     format: Format,
 ) -> Result<Report, AllocError> {
-    let (scripts, at) = with_at(alloc, scripts_of(alloc, script)?, at)?;
+    let scripts = scripts_of(alloc, script)?;
     let asked = explain_asked(touch, page, format);
-    let mut answer = Vec::new(alloc);
-    let mut told = Vec::new(alloc);
-    let ended = numa_words::explain_at(alloc, scripts, at, asked, &mut answer, &mut told);
-    report_of(answer, told, ended)
+    report_there(alloc, scripts, at, QuestionThere::Explain(asked))
 }
 
 /// How pages came to lie where they do.
@@ -96,26 +104,11 @@ impl<'a> Origin<'a> {
 fn moves_by(
     alloc: Global,
     script: ScriptText<'_>,
-    lines: &[String],
-    origin: Origin<'_>,
-    format: Format,
-    free: &[FreePages],
+    at: &[u8],
+    asked: MovesAsked<'_>,
 ) -> Result<Report, AllocError> {
-    let (scripts, texts_at) = with_at(alloc, first_of(alloc, script)?, origin.text())?;
-    let mut answer = Vec::new(alloc);
-    let mut told = Vec::new(alloc);
-    let ended = numa_words::moves(
-        alloc,
-        scripts,
-        texts_at,
-        lines,
-        origin.touch(),
-        format,
-        free,
-        &mut answer,
-        &mut told,
-    );
-    report_of(answer, told, ended)
+    let scripts = first_of(alloc, script)?;
+    report_there(alloc, scripts, at, QuestionThere::Moves(asked))
 }
 
 /// The lines of a text, of which the last ends with or without a line feed.
@@ -126,8 +119,8 @@ fn steps_of(alloc: Global, text: &[u8]) -> Result<Vec<String>, AllocError> {
     lines_of(alloc, text.strip_suffix(b"\n").unwrap_or(text))
 }
 
-/// What becomes of pages that are there by the lines behind a script, as [`numa_words::moves`]
-/// writes it. Messages call the text that states where pages lie `at`.
+/// What becomes of pages that are there by the lines behind a script, as
+/// [`numa_words::answer_there`] writes it. Messages call the text that states where pages lie `at`.
 ///
 /// # Errors
 /// `AllocError`: out of memory.
@@ -139,7 +132,13 @@ pub fn moves(
     free: &[FreePages],
 ) -> Result<Report, AllocError> {
     let lines = steps_of(alloc, script.then)?;
-    let report = moves_by(alloc, script, lines.as_slice(), origin, format, free);
+    let asked = MovesAsked {
+        lines: lines.as_slice(),
+        touch: origin.touch(),
+        format,
+        free,
+    };
+    let report = moves_by(alloc, script, origin.text(), asked);
     drop(lines);
     report
 }
