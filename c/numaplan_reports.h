@@ -8,10 +8,10 @@
  * trace `trace` and a text of lines `at` `at`.
  *
  * Pages that are there. np_predict_at, np_explain_at and np_moves_at go by the pages that a script
- * of one process leaves (at, populate, moves), and then by lines `at START LENGTH NODE` of a further
- * text `at`, in a host by lines `in P at ..` of both; other lines of that text are passed over. The
- * other calls are about first touches, and judge lines `at` as np_script_run does; np_explain says
- * too where the lines of a script put its page.
+ * leaves (at, populate, moves), and then by lines `at START LENGTH NODE`, in a host `in P at ..`,
+ * of a further text `at`; other lines of that text are passed over. The other calls are about first
+ * touches, and judge lines `at` as np_script_run does; np_explain says too where the lines of a
+ * script put its page.
  *
  * Rooms. The answer stands at the start of `text`, and the messages after it. `report` gets how
  * many bytes each has. NP_NO_ROOM where both together are longer than the room: then `report` gives
@@ -166,15 +166,15 @@ uint32_t np_replay(const uint8_t *script, size_t length, const uint8_t *lines, s
                    uint8_t *text, size_t room, np_report *report);
 
 /* As np_predict, with its answers, but pages that are there are counted where they lie, and take
- * no free page (numaplan predict --at). `at` has lines `at`, and so may the script and the lines.
+ * no free page (numaplan predict --at). `at` has lines `at`, which follow the script and the lines.
  * There is no page for a browser, but text. */
 uint32_t np_predict_at(const uint8_t *script, size_t length, const uint8_t *lines,
                        size_t lines_length, const uint8_t *at, size_t at_length,
                        const np_question *asked, const np_free *free_pages, size_t free_count,
                        uint8_t *text, size_t room, np_report *report);
 
-/* As np_explain, with its answers, but the page lies where lines `at` of this text say, too, of a
- * host lines `in P at ..` of the script, the lines and this text (numaplan explain --at). */
+/* As np_explain, with its answers, but lines `at` of this text, in a host `in P at ..`, follow the
+ * script and the lines (numaplan explain --at). */
 uint32_t np_explain_at(const uint8_t *script, size_t length, const uint8_t *lines,
                        size_t lines_length, const uint8_t *at, size_t at_length,
                        const np_question *asked, uint64_t page, uint8_t *text, size_t room,
@@ -182,10 +182,10 @@ uint32_t np_explain_at(const uint8_t *script, size_t length, const uint8_t *line
 
 /* What becomes of pages that are there, line by line (numaplan moves --then): a line `mems`,
  * `migrate`, `cgroup-mems` or `attach` each, of which the last may end with a line feed. `at` has
- * lines `at`, and so may the script. Nodes take as many more pages as free_pages says, else as the
- * lines `room` of a script of one process leave; others never fill. The question's task and node
- * don't count. NP_BAD_RULES; NP_BAD_FORMAT; NP_NO_MEMORY; NP_NO_MACHINE; NP_MANY_PROCESSES for a
- * picture of a host; NP_NO_SUCH_NODE as np_predict. */
+ * lines `at`, which follow the script. Nodes take as many more pages as free_pages says, else as
+ * the script leaves them (`room`); others never fill. The question's task and node don't count.
+ * NP_BAD_RULES; NP_BAD_FORMAT; NP_NO_MEMORY; NP_NO_MACHINE; NP_MANY_PROCESSES for a picture of a
+ * host; NP_NO_SUCH_NODE as np_predict. */
 uint32_t np_moves_at(const uint8_t *script, size_t length, const uint8_t *lines,
                      size_t lines_length, const uint8_t *at, size_t at_length,
                      const np_question *asked, const np_free *free_pages, size_t free_count,

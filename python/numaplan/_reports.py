@@ -81,9 +81,9 @@ def predict(script: Text, lines: Iterable[str] = (), *, task: int = 1, node: int
             rules: str = "document", at: "Text | None" = None) -> Report:
     """Where all mapped pages would go after a script and further lines, if `task` touched each of
     them on a CPU of `node`; by `free` nodes have so many free pages, and others never run out. As
-    `numaplan predict` prints it, in the format "text", "json", "csv", "svg" or "html". With `at`, the name
-    of a file or a text as bytes, pages that are there are counted where they lie: its lines
-    `at START LENGTH NODE` say where, and those of the script (at=b"": those alone). Raises NoMachine,
+    `numaplan predict` prints it, in the format "text", "json", "csv", "svg" or "html". With `at`, the
+    name of a file or a text as bytes, pages that are there are counted where they lie: as the script
+    and the lines leave them, and then as its lines `at START LENGTH NODE` say. Raises NoMachine,
     BadCpu or NoSuchNode, whose `messages` are about the script's lines."""
     name, text = read(script)
     asked = AskedReport(u32("task", task), u32("node", node), rules_number(rules),
@@ -99,11 +99,11 @@ def moves(script: Text, lines: Iterable[str], *, at: "Text | None" = None, task:
           node: "int | None" = None, free: "Mapping[int, int] | None" = None, format: str = "json",
           rules: str = "document") -> Report:
     """What becomes of pages that are there by each line (`mems`, `migrate`, `cgroup-mems` or
-    `attach`), as `numaplan moves --then` prints it, in the format "text", "json" or "svg". Lines
-    `at START LENGTH NODE` of the script and of `at`, the name of a file or a text as bytes, say where
-    pages lie; with `node` they lie where `task` touched them on a CPU of it. By `free` nodes take so
-    many more, and others never fill. Raises NoMachine, BadCpu, NoSuchNode, or ManyProcesses for a
-    picture of a host."""
+    `attach`), as `numaplan moves --then` prints it, in the format "text", "json" or "svg". Pages lie
+    as the script leaves them, and then as lines `at START LENGTH NODE` of `at` say, the name of a file
+    or a text as bytes; with `node` they lie where `task` touched them on a CPU of it. By `free` nodes
+    take so many more, else as many as the script leaves. Raises NoMachine, BadCpu, NoSuchNode, or
+    ManyProcesses for a picture of a host."""
     if at is not None and node is not None:
         raise ValueError("pages lie where lines of at say, or where a CPU of node touched them: not both")
     name, text = read(script)
@@ -129,9 +129,8 @@ def explain(script: Text, page: int, lines: Iterable[str] = (), *, task: int = 1
             format: str = "text", rules: str = "document", at: "Text | None" = None) -> Report:
     """Why the page of a number (address / 4096) would go where it goes, and of one that is there where
     it lies and how it would come there, as `numaplan explain` prints it. With `at`, the name of a file
-    or a text as bytes, it lies where lines `at START LENGTH NODE` of that say, too, of a host lines
-    `in P at ..` of it and of the script. The format is "text", "json" or "svg". Raises NoMachine,
-    BadCpu or Unmapped."""
+    or a text as bytes, lines `at START LENGTH NODE` of that, in a host `in P at ..`, follow the script
+    and the lines. The format is "text", "json" or "svg". Raises NoMachine, BadCpu or Unmapped."""
     name, text = read(script)
     asked = AskedReport(u32("task", task), u32("node", node), rules_number(rules),
                         format_number(format))

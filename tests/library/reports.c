@@ -151,8 +151,8 @@ static void there(void) {
     room[told.answer + told.messages] = 0;
     const char *said = (const char *)room + told.answer;
     static const char *const each[] = {
-        "-:5:1: bad words: ", "\n-:6: bad words; write at START LENGTH NODE",
-        "\nat:3: bad words; write at START LENGTH NODE", "\nat:1: refused Unaligned EINVAL: ",
+        "-:5:1: bad words: ", "\n-:6:12: bad words: too few words; at wants START LENGTH NODE",
+        "\nat:1: refused Unaligned EINVAL: ", "\nat:3:6: bad words: too few words; at wants",
         "\n--then:2: moves takes lines mems", "\n--then:1: refused NoSuchNode",
         "\nnot judged, since no machine was ready: 1\n"};
     for (size_t k = 0; k < sizeof each / sizeof each[0]; k++) {
@@ -162,6 +162,27 @@ static void there(void) {
         WANT(found != NULL, 1);
         said = found == NULL ? said : found;
     }
+}
+
+/* Two processes of a group, each with a page on node 1 by the script, one with another by the text; node
+ * 0 takes one more. */
+#define TWO                                                                                        \
+    "machine 2 0-1 0 flat\nhost\ncgroup 1 0\nprocess 1 1\nprocess 2 1\nin 1 map 0x10000 0x2000 0\n"  \
+    "in 2 map 0x10000 0x2000 0\nroom 0 1\nin 2 at 0x10000 0x1000 1\nin 1 at 0x10000 0x1000 1\n"
+
+static void hosts(void) {
+    forget();
+    WANT(np_moves_at(TEXT(TWO), TEXT("cgroup-mems 1 0"), TEXT("in 1 at 0x11000 0x1000 1\n"), &asked,
+                     none, 0, room, sizeof room, &told),
+         NP_OK);
+    /* the first that came takes the room of both */
+    WANT(is_told("process 1\n00010000-00012000 placed=2 moved=1 N1->N0=1 noroom=1 N1=1\n"
+                 "total placed=2 moved=1 N1->N0=1 noroom=1 N1=1\n"
+                 "process 2\n00010000-00012000 placed=1 moved=0 noroom=1 N1=1\n"
+                 "total placed=1 moved=0 noroom=1 N1=1\n"
+                 "all processes\ntotal placed=3 moved=1 N1->N0=1 noroom=2 N1=2\nleft N0=0\n",
+                 ""),
+         1);
 }
 
 /* With just enough room, with a byte less, with none; messages count too. */
@@ -427,6 +448,7 @@ static void texts(void) {
 int main(void) {
     words();
     there();
+    hosts();
     rooms();
     causes();
     cores();

@@ -81,18 +81,51 @@ def try_others(call, tell, room):
     return tell(got == (0, want, ""), f"moves goes by other lines about pages: {got}")
 
 
+# Of three processes the one made last comes to its group, which is told first, before the last group's:
+# node 2 takes one of its pages, and then is full.
+HOST = TOP + "/examples/services-lose-a-node.numaplan"
+HOSTED = ("process 10\n00010000-00016000 placed=6 moved=2 N1->N2=2 stays=4 N0=2 N2=2\n"
+          "total placed=6 moved=2 N1->N2=2 stays=4 N0=2 N2=2\n"
+          "process 20\n00040000-00044000 placed=4 moved=0 stays=2 N0=2 noroom=2 N1=2\n"
+          "total placed=4 moved=0 stays=2 N0=2 noroom=2 N1=2\n"
+          "process 11\n00010000-00016000 placed=2 moved=1 N1->N2=1 stays=1 N2=1\n"
+          "total placed=2 moved=1 N1->N2=1 stays=1 N2=1\n"
+          "all processes\ntotal placed=12 moved=3 N1->N2=3 stays=7 N0=4 N2=3 noroom=2 N1=2\n"
+          "left N0=0 N1=3 N2=0\n")
+# Of one process that is named, whose pages a file states by lines without its number; the others' pages
+# go too, and take the room that is left of node 2.
+ONE = ("00040000-00044000 placed=4 moved=0 stays=2 N0=1 N2=1 noroom=2 N1=2\n"
+       "total placed=4 moved=0 stays=2 N0=1 N2=1 noroom=2 N1=2\nleft N0=1 N1=2 N2=0\n")
+
+
+def try_host(call, tell, room):
+    """Pages of a host's processes lie as its script leaves them, share the rooms, and go in its order."""
+    with open(HOST, encoding="utf-8") as file:
+        text = file.read()
+    with open(room + "/host", "w", encoding="utf-8") as file:
+        file.write(text[:text.index("cgroup-mems 9 0,2")])
+    with open(room + "/host.at", "w", encoding="utf-8") as file:
+        file.write("in 10 at 0x10000 0x1000 0\nat 0x41000 0x1000 2\nroom 2 0\n")
+    words = ["moves", "--then", "cgroup-mems 9 0,2"]
+    got = call(*words, room + "/host")
+    good = tell(got == (0, HOSTED, ""), f"moves goes by what a host's script leaves: {got}")
+    got = call(*words, "--process", "20", "--at", room + "/host.at", room + "/host")
+    told = room.join(["", "/host.at:1: process 10: refused NoRoom ENOMEM: more pages come to the node than"
+                      " find room; raise room, or state fewer pages\n"])
+    return tell(got == (3, ONE, told), f"moves of a process, with lines that name none: {got}") and good
+
+
 # Lines that aren't as they have to be, and what is told of them.
 FAULTS = [
-    ("at 0x30000 0x1000", [], "AT:1: bad words; write at START LENGTH NODE, in a host in P at START"
-     " LENGTH NODE\n"),
-    ("at 0x30001 0x1000 0", [], "AT:1: refused Unaligned EINVAL: the start isn't a multiple of"
-     " 4,096\n"),
+    ("at 0x30000 0x1000", [], "AT:1:19: bad words: too few words; at wants START LENGTH NODE\n"),
+    ("at 0x30001 0x1000 0", [], "AT:1: refused Unaligned EINVAL: page 0x30000 begins lower than"
+     " START; round START down, and LENGTH up\n"),
     ("at 0x800000000000 0x1000 0", [], "AT:1: refused OutOfSpace ENOMEM: the span ends above address"
-     " 2^47\n"),
-    ("at 0x30000 0x1000 4", [], "AT:1: refused NoSuchNode EINVAL: the machine has no such node with"
-     " memory\n"),
-    ("in 3 at 0x30000 0x1000 0", [], "AT:1: refused NoSuchProcess ESRCH: there is no such process; in"
-     " a host write in P at ..\n"),
+     " 2^47; use lower addresses\n"),
+    ("at 0x30000 0x1000 4", [], "AT:1: refused NoSuchNode EINVAL: the machine lacks the node, or the"
+     " node has no memory; its nodes are 0 to 3\n"),
+    ("in 3 at 0x30000 0x1000 0", [], "AT:1:1: bad words: only a host's script has this line; write"
+     " host after machine\n"),
     ("", ["migrate 0"], "--then:1: bad words; write migrate FROM TO, each a list of nodes as"
      " 0-1,3\n"),
     ("", ["task 1 bind:0"], "--then:1: moves takes lines mems, migrate, cgroup-mems and attach\n"),
@@ -144,23 +177,23 @@ def try_early(call, tell, room):
     good = True
     with open(EXAMPLE + ".numaplan", encoding="utf-8") as file:
         plain = file.read()
-    for is_there, all_words in (True, THERE), (False, ELSEWHERE):
-        for words in all_words:
-            bad = room + ("/early:2: bad words; write at" if is_there else "/early:2:12: bad words: too few")
-            for text in plain, "":
-                for name, lines in ("plain", ""), ("early", "at 0x30000 0x1000 2\nat 0x30000\n"):
-                    with open(f"{room}/{name}", "w", encoding="utf-8") as file:
-                        file.write(lines + text)
-                want = call(*words, room + "/plain")
-                status, answer, errors = call(*words, room + "/early")
-                is_so = (status, answer) == (3, want[1]) and errors.startswith(bad) and EARLY in errors
-                what = f"lines at that come too early, {'with' if text else 'without'} a machine: "
-                good &= tell(is_so, what + " ".join(words) + ("" if is_so else f": {status} {errors}"))
+    bad = room + "/early:2:12: bad words: too few"
+    for words in THERE + ELSEWHERE:
+        for text in plain, "":
+            for name, lines in ("plain", ""), ("early", "at 0x30000 0x1000 2\nat 0x30000\n"):
+                with open(f"{room}/{name}", "w", encoding="utf-8") as file:
+                    file.write(lines + text)
+            want = call(*words, room + "/plain")
+            status, answer, errors = call(*words, room + "/early")
+            is_so = (status, answer) == (3, want[1]) and errors.startswith(bad) and EARLY in errors
+            what = f"lines at that come too early, {'with' if text else 'without'} a machine: "
+            good &= tell(is_so, what + " ".join(words) + ("" if is_so else f": {status} {errors}"))
     return good
 
 
 def try_faults(call, tell, room):
     good = try_lines(call, tell) and try_others(call, tell, room) and try_early(call, tell, room)
+    good &= try_host(call, tell, room)
     for line, lines, want in FAULTS:
         with open(room + "/at", "w", encoding="utf-8") as file:
             file.write(line + "\n")

@@ -1,6 +1,7 @@
+pub mod Adding
+pub mod Arranged
 pub mod Counted
 pub mod Lists
 pub mod PageMoves
-pub mod Stated
 pub mod Telling
 pub mod Touched

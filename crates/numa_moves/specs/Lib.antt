@@ -1,3 +1,3 @@
+pub mod Held
 pub mod Moving
 pub mod Shares
-pub mod Stating

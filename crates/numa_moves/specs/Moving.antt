@@ -1,7 +1,7 @@
 -- What becomes of the pages of shares when those of each node go to another, as many as have room:
 -- the first ones go first.
 use Rattle.std.specs.Prelude.{◌≡◌, ℕ, zero, suc, ◌-◌, ◌<◌, ◌^◌, ◌==◌, ◌&&◌, ◌++◌, true, List, []}
-use Rattle.std.specs.Prelude.{◌∷◌, false, map, min, nat_lt, if◌then◌else◌, All, Option, Some}
+use Rattle.std.specs.Prelude.{◌∷◌, map, min, nat_lt, if◌then◌else◌, All, unwrap_or}
 use Rattle.numa_mask.specs.NodeSet.{both}
 use Rattle.numa_ranges.specs.Counts.{count_pages}
 use Rattle.numa_placed.specs.Moves.{moved_node}
@@ -10,14 +10,14 @@ use Rattle.numa_placed.specs.Shifts.{stated_below}
 use Rattle.numa_placed.specs.declared.spot.Spot.{Spot}
 use Rattle.numa_reports.specs.Common.{AreRising, has_page}
 use Rattle.numa_reports.specs.declared.outlook.PageSpan.{PageSpan}
+use Rattle.numa_moves.specs.Held.{allowed_in}
 use Rattle.numa_moves.specs.Shares.{pages_on, share_by, stated_in}
 use Rattle.numa_moves.specs.declared.holding.Holding.{Holding}
 use Rattle.numa_moves.specs.declared.holding.HoldingMoves.{HoldingMoves}
 use Rattle.numa_moves.specs.declared.holding.Act.{Act}
 use Rattle.numa_moves.specs.declared.holding.Act.TheVariants.{Follow, Migrate, Stay}
 use Rattle.numa_moves.specs.declared.holding.Step.{Step}
-use Rattle.numa_moves.specs.declared.stating.Scene.{Scene}
-use Rattle.numa_moves.specs.declared.stating.Scene.TheVariants.{Own, One, Each}
+use Rattle.numa_moves.specs.declared.scene.Scene.{Scene}
 use Rattle.numa_moves.specs.declared.moving.ShareMove.{ShareMove}
 use Rattle.numa_moves.specs.declared.share.Share.{Share}
 
@@ -82,20 +82,11 @@ abbrev pub migrates_to : ℕ → ℕ → ℕ → Holding → ℕ
 migrates_to process from to holding =
     if holding.process == process then both to holding.allowed else from
 
--- the nodes that the processes of one space are allowed
-abbrev pub Allows : Scene → Option ℕ → Type 0
-Allows (Own space there) result = result ≡ Some space.now.allowed
-Allows (One process space) result = result ≡ Some space.now.allowed
-Allows (Each host) result = Unit {0}
-
--- between which sets the pages of each process go when it follows the nodes that it is allowed:
--- told of one space
+-- between which sets the pages of each process go when it follows the nodes that it is allowed; a
+-- process that isn't there stays as it is
 abbrev pub Follows : Scene → (Holding → ℕ) → (Holding → ℕ) → Type 0
-Follows (Own space there) from to = (holding : Holding)
-    → (from holding ≡ holding.allowed) × (to holding ≡ space.now.allowed)
-Follows (One process space) from to = (holding : Holding)
-    → (from holding ≡ holding.allowed) × (to holding ≡ space.now.allowed)
-Follows (Each host) from to = true ≡ false
+Follows scene from to = (holding : Holding) → (from holding ≡ holding.allowed)
+    × (to holding ≡ unwrap_or (allowed_in scene holding.process) holding.allowed)
 
 -- between which sets a line sends the pages of each process
 abbrev pub Sends : Act → (Holding → ℕ) → (Holding → ℕ) → Type 0

@@ -1,27 +1,22 @@
 //! Where the pages of processes lie, and what becomes of them.
-ghost use Rattle.std.specs.Prelude.{◌≡◌, ◌<◌, ◌^◌, ◌++◌, ◌∷◌, ℕ, List, [], IfOk, OnOk, map};
-ghost use Rattle.numa_page_state.specs.Lying.{Lying};
-ghost use Rattle.numa_page_state.specs.Outcomes.{Lack, rooms_of};
-ghost use Rattle.numa_page_state.specs.Standing.{LiesAs};
+ghost use Rattle.std.specs.Prelude.{◌≡◌, ◌<◌, ◌^◌, ◌++◌, ◌∷◌, ℕ, [], IfOk, OnOk, map};
 ghost use Rattle.numa_placed.specs.Shifts.{AreRooms};
+ghost use Rattle.numa_moves.specs.Held.{Before, IsAsLeft, IsLeft, arranged, held_by, held_in};
+ghost use Rattle.numa_moves.specs.Held.{limited_by, order_in, processes_in, rooms_in};
+ghost use Rattle.numa_moves.specs.Held.{shares_at, spots_in, told_of};
 ghost use Rattle.numa_moves.specs.Moving.{AreCounted, AreLeft, Follows, IsStep, Sends};
 ghost use Rattle.numa_moves.specs.Moving.{migrates_to};
 ghost use Rattle.numa_moves.specs.Moving.{moves_of, shares_behind, shift_by};
 ghost use Rattle.numa_moves.specs.Shares.{pages_on};
-ghost use Rattle.numa_moves.specs.Stating.{AreHeld, Held, IsLeft, IsStated, Told, held_by, held_in};
-ghost use Rattle.numa_moves.specs.Stating.{limited_by, processes_in, rooms_left, shares_at};
-ghost use Rattle.numa_moves.specs.Stating.{stated_by, told_of};
-ghost use Rattle.numa_moves.specs.declared.at_lines.AtLine.{AtLine};
 ghost use Rattle.numa_moves.specs.declared.holding.Holding.{Holding};
 
-use crate::at_lines::AtLine;
+use crate::arranging::arrange;
 use crate::moving::{ShareMove, moves_within, shares_behind};
+use crate::scene::{Member, Scene, placed_of};
 use crate::share::Share;
 use crate::shares::{stated_shares, touched_shares};
-use crate::stating::{Member, RefusedAt, Scene, note_lacking, pages_of};
 use numa_compile::compile;
 use numa_mask::NodeMask;
-use numa_page_state::PageState;
 use numa_placed::Rooms;
 use numa_reports::ReportError;
 use numa_sheets::{FreePages, Touch};
@@ -34,6 +29,8 @@ use std::mem::replace;
 pub struct Holding {
     /// The process; 0 for one space.
     pub process: u32,
+    /// How many of the processes were made before it.
+    pub made: usize,
     /// The nodes that it is allowed.
     pub allowed: NodeMask,
     /// The pages of each range.
@@ -45,17 +42,19 @@ pub struct Holding {
 pub struct HoldingMoves {
     /// The process; 0 for one space.
     pub process: u32,
+    /// How many of the processes were made before it.
+    pub made: usize,
     /// What became of each share.
     pub moves: Vec<ShareMove>,
 }
 
 /// How pages came to lie where they do.
 #[derive(Clone, Copy)]
-pub enum Origin<'a> {
+pub enum Origin {
     /// A task touched each, while every node had room.
     Touched(Touch),
-    /// Lines state it.
-    Stated(&'a [AtLine]),
+    /// Scripts have left them so.
+    Left,
 }
 
 /// Where pages of a space lie that were all touched while every node had room.
@@ -68,86 +67,49 @@ fn touched(alloc: Global, space: &Space, touch: Touch) -> Result<Vec<Share>, Rep
     shares
 }
 
-/// How many more pages each node takes.
-fn rooms_in(pages: &PageState) -> Rooms
-    ensures { (lying : Lying) → LiesAs pages.now lying → AreRooms result (rooms_of lying.room) }
+/// Where pages of a process lie, as scripts have left them.
+fn stated(alloc: Global, member: Member<'_>) -> Result<Vec<Share>, AllocError>
+    ensures { (before : Before) → IsLeft member.entry.scene before
+        → IfOk result (λ shares. shares.items
+        ≡ shares_at member.entry.space.now (spots_in before member.entry.process)) }
 {
-    match pages.rooms() {
-        Some(rooms) => *rooms,
-        None => Rooms::endless(),
-    }
-}
-
-/// Where pages of a process lie, as its script has left them and lines state it, and how many more
-/// each node takes then.
-fn stated(
-    alloc: Global,
-    member: Member<'_>,
-    lines: &[AtLine],
-    refused: &mut Vec<RefusedAt>,
-    rooms: &mut Rooms,
-) -> Result<Vec<Share>, AllocError>
-    ensures shares { (at : Lying) → IsLeft member.entry.scene at
-        → IfOk result (λ shares. (lacks : ℕ → Lack) × (shares.items
-        ≡ shares_at member.entry.space.now
-        (stated_by lacks member.entry.scene lines.now at (told_of member.entry)))) }
-    ensures rooms { (at : Lying) → IsLeft member.entry.scene at → OnOk result
-        ((lacks : ℕ → Lack) × AreRooms rooms.new
-        (rooms_left lacks member.entry.scene lines.now at (told_of member.entry))) }
-{
-    let pages = pages_of(alloc, member, lines, refused)?;
-    *rooms = rooms_in(&pages);
-    let shares = stated_shares(alloc, member.space, pages.placed());
-    drop(pages);
+    let placed = placed_of(alloc, member)?;
+    let shares = stated_shares(alloc, member.space, &placed);
+    drop(placed);
     shares
 }
 
-/// Where pages of a process lie. The rooms are those that it leaves, where lines state that.
-fn shares_by(
-    alloc: Global,
-    member: Member<'_>,
-    origin: Origin<'_>,
-    refused: &mut Vec<RefusedAt>,
-    rooms: &mut Rooms,
-) -> Result<Vec<Share>, ReportError>
-    ensures shares { (at : Lying) (lines : List AtLine) → IsLeft member.entry.scene at
-        → IsStated origin.entry lines
-        → IfOk result (λ shares. (lacks : ℕ → Lack) × (shares.items
-        ≡ shares_at member.entry.space.now
-        (stated_by lacks member.entry.scene lines at (told_of member.entry)))) }
-    ensures rooms { (at : Lying) (lines : List AtLine) → IsLeft member.entry.scene at
-        → IsStated origin.entry lines → OnOk result ((lacks : ℕ → Lack) × AreRooms rooms.new
-        (rooms_left lacks member.entry.scene lines at (told_of member.entry))) }
+/// Where pages of a process lie.
+fn shares_by(alloc: Global, member: Member<'_>, origin: Origin) -> Result<Vec<Share>, ReportError>
+    ensures { (before : Before) → IsLeft member.entry.scene before → IsAsLeft origin
+        → IfOk result (λ shares. shares.items
+        ≡ shares_at member.entry.space.now (spots_in before member.entry.process)) }
 {
     match origin {
         Origin::Touched(touch) => touched(alloc, member.space, touch),
-        Origin::Stated(lines) => match stated(alloc, member, lines, refused, rooms) {
+        Origin::Left => match stated(alloc, member) {
             Ok(shares) => Ok(shares),
             Err(_) => Err(ReportError::Memory),
         },
     }
 }
 
-/// Appends what a process holds. The rooms are those that it leaves, where lines state that.
+/// Appends what a process holds, before which so many were made.
 fn add_one(
     alloc: Global,
     member: Member<'_>,
-    origin: Origin<'_>,
-    refused: &mut Vec<RefusedAt>,
-    rooms: &mut Rooms,
+    made: usize,
+    origin: Origin,
     holdings: &mut Vec<Holding>,
 ) -> Result<(), ReportError>
-    ensures held { (at : Lying) (lines : List AtLine) → IsLeft member.entry.scene at
-        → IsStated origin.entry lines → OnOk result ((lacks : ℕ → Lack)
-        × (map held_in holdings.new.items ≡ map held_in holdings.old.items
-        ++ held_by lacks member.entry.scene lines at (told_of member.entry) ∷ [])) }
-    ensures rooms { (at : Lying) (lines : List AtLine) → IsLeft member.entry.scene at
-        → IsStated origin.entry lines → OnOk result ((lacks : ℕ → Lack) × AreRooms rooms.new
-        (rooms_left lacks member.entry.scene lines at (told_of member.entry))) }
+    ensures { (before : Before) → IsLeft member.entry.scene before → IsAsLeft origin
+        → OnOk result (map held_in holdings.new.items
+        ≡ map held_in holdings.old.items ++ held_by before (told_of member.entry) ∷ []) }
 {
-    let shares = shares_by(alloc, member, origin, refused, rooms)?;
+    let shares = shares_by(alloc, member, origin)?;
     let holding = Holding {
         process: member.process,
+        made,
         allowed: member.space.allowed(),
         shares,
     };
@@ -157,34 +119,34 @@ fn add_one(
     }
 }
 
-/// Appends what the one space holds, or each process of a host. The rooms are those that a script
-/// of one process leaves; in a host no node fills.
+/// Appends what the one space holds, or each process of a host, in the order in which they were
+/// made.
 fn add_all(
     alloc: Global,
     scene: Scene<'_>,
-    origin: Origin<'_>,
-    refused: &mut Vec<RefusedAt>,
-    rooms: &mut Rooms,
+    origin: Origin,
     holdings: &mut Vec<Holding>,
 ) -> Result<(), ReportError>
-    ensures held { (at : Lying) (lines : List AtLine) → IsLeft scene.entry at
-        → IsStated origin.entry lines → OnOk result ((added : List Held)
-        × (map held_in holdings.new.items ≡ map held_in holdings.old.items ++ added)
-        × AreHeld scene.entry lines at added (processes_in scene.entry)) }
-    ensures rooms { (at : Lying) (lines : List AtLine) (told : Told) → IsLeft scene.entry at
-        → IsStated origin.entry lines → processes_in scene.entry ≡ told ∷ []
-        → OnOk result ((lacks : ℕ → Lack)
-        × AreRooms rooms.new (rooms_left lacks scene.entry lines at told)) }
+    ensures { (before : Before) → IsLeft scene.entry before → IsAsLeft origin
+        → OnOk result (map held_in holdings.new.items ≡ map held_in holdings.old.items
+        ++ map (held_by before) (processes_in scene.entry)) }
 {
-    if let Origin::Stated(lines) = origin {
-        if note_lacking(scene, lines, refused).is_err() {
-            return Err(ReportError::Memory);
-        }
-    }
     for place in 0..scene.members() {
-        add_one(alloc, scene.member(place), origin, refused, rooms, holdings)?;
+        add_one(alloc, scene.member(place), place, origin, holdings)?;
     }
     Ok(())
+}
+
+/// How many more pages each node takes: as scripts leave them, or all that come where a task
+/// touches pages.
+fn rooms_by(scene: Scene<'_>, origin: Origin) -> Rooms
+    ensures { (before : Before) → IsLeft scene.entry before → IsAsLeft origin
+        → AreRooms result (rooms_in before) }
+{
+    match origin {
+        Origin::Touched(_) => Rooms::endless(),
+        Origin::Left => scene.rooms(),
+    }
 }
 
 /// Moves pages of a process from one set of nodes to another, and notes where they lie then.
@@ -211,6 +173,7 @@ fn move_pages(
     drop(replace(&mut holding.shares, behind));
     Ok(HoldingMoves {
         process: holding.process,
+        made: holding.made,
         moves,
     })
 }
@@ -312,8 +275,7 @@ fn limit_all(rooms: &mut Rooms, free: &[FreePages])
 
 impl Holdings {
     /// Where pages lie before the first line. Named nodes take so many more, the others as many as
-    /// a script of one process leaves them, if it has stated where pages lie. Lines that are
-    /// refused are noted.
+    /// scripts leave them; if a task touches the pages, any number.
     ///
     /// # Errors
     /// `Refused(BadCpu)`: the machine lacks the node on which a task touches pages. `Memory`: out
@@ -321,23 +283,20 @@ impl Holdings {
     pub fn new(
         alloc: Global,
         scene: Scene<'_>,
-        origin: Origin<'_>,
+        origin: Origin,
         free: &[FreePages],
-        refused: &mut Vec<RefusedAt>,
     ) -> Result<Holdings, ReportError>
-        ensures held { (at : Lying) (lines : List AtLine) → IsLeft scene.entry at
-            → IsStated origin.entry lines → IfOk result (λ holdings.
-            AreHeld scene.entry lines at (map held_in holdings.list.items)
-            (processes_in scene.entry)) }
-        ensures rooms { (at : Lying) (lines : List AtLine) (told : Told) → IsLeft scene.entry at
-            → IsStated origin.entry lines → processes_in scene.entry ≡ told ∷ []
-            → IfOk result (λ holdings. (lacks : ℕ → Lack) × AreRooms holdings.rooms
-            (limited_by free.now (rooms_left lacks scene.entry lines at told))) }
+        ensures held { (before : Before) → IsLeft scene.entry before → IsAsLeft origin
+            → IfOk result (λ holdings. map held_in holdings.list.items
+            ≡ map (held_by before) (processes_in scene.entry)) }
+        ensures rooms { (before : Before) → IsLeft scene.entry before → IsAsLeft origin
+            → IfOk result (λ holdings. AreRooms holdings.rooms
+            (limited_by free.now (rooms_in before))) }
     {
         let mut list = Vec::new(alloc);
-        let mut rooms = Rooms::endless();
-        match add_all(alloc, scene, origin, refused, &mut rooms, &mut list) {
+        match add_all(alloc, scene, origin, &mut list) {
             Ok(()) => {
+                let mut rooms = rooms_by(scene, origin);
                 limit_all(&mut rooms, free);
                 Ok(Holdings { list, rooms })
             }
@@ -349,18 +308,21 @@ impl Holdings {
     }
 
     /// Moves the pages of each process whose allowed nodes have changed, as a control group with
-    /// memory that migrates does: of one process after the other, in the order in which they were
-    /// made.
+    /// memory that migrates does: of one process after the other, in the order in which a host
+    /// tells them of their nodes.
     ///
     /// # Errors
     /// `AllocError`: out of memory.
     pub fn follow(&mut self, alloc: Global, scene: Scene<'_>) -> Result<Step, AllocError>
-        ensures does { (from to : Holding → ℕ) (room : ℕ → ℕ) → Follows scene.entry from to
+        ensures does { (before : Before) (from to : Holding → ℕ) (room : ℕ → ℕ)
+            → IsLeft scene.entry before → Follows scene.entry from to
             → AreRooms self.old.rooms room → AreCounted self.old.list.items
-            → IfOk result (IsStep from to self.old.list.items room) }
+            → IfOk result (IsStep from to
+            (arranged (order_in scene.entry before) self.old.list.items) room) }
         ensures left { IfOk result (AreLeft self.new.list.items) }
         ensures rooms { IfOk result (λ step. step.rooms ≡ self.new.rooms) }
     {
+        arrange(alloc, scene, &mut self.list)?;
         let act = Act::Follow(scene);
         act_on_each(alloc, self.list.as_mut_slice(), act, &mut self.rooms)
     }

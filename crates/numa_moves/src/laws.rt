@@ -34,15 +34,15 @@ pub fn shares_go_as_pages()
         → (motion (Some room) spots old new).told.from
         ≡ (shift_by (shares_over (stated_in spots) nodes spans) old new room).gone }
     ensures migrated { (lack : Lack) (basis : Ground) (from to : ℕ) (nodes : ℕ)
-        (spans : List PageSpan) (at : Lying) (room : ℕ → ℕ) → HaveAll at.spots nodes spans → at.room ≡ Some room
-        → migrate_cause basis.allowed to ≡ None
+        (spans : List PageSpan) (at : Lying) (room : ℕ → ℕ) → HaveAll at.spots nodes spans
+        → at.room ≡ Some room → migrate_cause basis.allowed to ≡ None
         → lack_in at.room lack (motion at.room at.spots from (both to basis.allowed)).spots ≡ None
         → (migrate_outcome lack basis from to at).1.room
         ≡ Some (shift_by (shares_over (stated_in at.spots) nodes spans) from
         (both to basis.allowed) room).room }
     ensures followed { (lack : Lack) (kept : Kept) (old new : ℕ) (nodes : ℕ)
-        (spans : List PageSpan) (at : Lying) (room : ℕ → ℕ) → HaveAll at.spots nodes spans → at.room ≡ Some room
-        → at.follows ≡ true
+        (spans : List PageSpan) (at : Lying) (room : ℕ → ℕ) → HaveAll at.spots nodes spans
+        → at.room ≡ Some room → at.follows ≡ true
         → lack_in at.room lack (motion at.room at.spots old new).spots ≡ None
         → (followed lack old new kept at).room
         ≡ Some (shift_by (shares_over (stated_in at.spots) nodes spans) old new room).room }

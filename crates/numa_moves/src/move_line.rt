@@ -1,10 +1,46 @@
-//! Lines that move pages.
+//! Lines that move pages, and lines that state where they lie.
 
-use crate::at_lines::keyword_of;
 use numa_mask::NodeMask;
-use numa_script::keyword::Keyword;
+use numa_script::keyword::{Keyword, read_keyword};
 use numa_script::line::parse;
+use numa_script::number::small;
+use numa_script::parts::words;
 use numa_script::{Line, PageLine};
+
+/// The keyword with which a line begins, or, behind `in P`, what the process is told.
+fn keyword_of(line: &[u8]) -> Option<Keyword> {
+    let mut rest = words(line);
+    let keyword = read_keyword(rest.next()?)?;
+    if !keyword.is_in() {
+        return Some(keyword);
+    }
+    let _ = small(rest.next()?)?;
+    read_keyword(rest.next()?)
+}
+
+/// Whose pages a line states to lie somewhere.
+#[derive(Clone, Copy)]
+pub enum AtLine {
+    /// `in P at START LENGTH NODE`: those of a process that it names; or it begins as such a line
+    /// does, and is malformed.
+    Named,
+    /// `at START LENGTH NODE`: it names none.
+    Unnamed,
+    /// It says something else.
+    Other,
+}
+
+/// Whose pages a line states to lie somewhere.
+pub fn read_at(line: &[u8]) -> AtLine {
+    if keyword_of(line) != Some(Keyword::At) {
+        return AtLine::Other;
+    }
+    let said = parse(line);
+    match &said.line {
+        Line::Pages(Ok(_)) if said.process.is_none() => AtLine::Unnamed,
+        _ => AtLine::Named,
+    }
+}
 
 /// What a line moves.
 #[derive(Clone, Copy)]

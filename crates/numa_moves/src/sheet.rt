@@ -23,12 +23,34 @@ pub struct Asked<'a> {
     pub lines: &'a [String],
     /// Whether it is about all processes of a host.
     pub is_each: bool,
+    /// The process of a host that it is about alone, if it is about one.
+    pub process: Option<u32>,
     /// The number of nodes of the machine.
     pub nodes: u32,
     /// The nodes with so much room, which is told of again at the end of each step.
     pub free: &'a [FreePages],
     /// Text, JSON or SVG.
     pub format: Format,
+}
+
+/// What was told of a process, or of the one space.
+fn one_of(told: &[HoldingMoves], process: Option<u32>) -> Option<&HoldingMoves> {
+    match process {
+        Some(process) => told.iter().find(|one| one.process == process),
+        None => told.first(),
+    }
+}
+
+/// The places of what was told of processes, in the order in which these were made.
+fn as_made(alloc: Global, told: &[HoldingMoves]) -> Result<Vec<usize>, AllocError> {
+    let mut places = Vec::new(alloc);
+    places.resize(told.len(), 0)?;
+    for place in 0..told.len() {
+        if let Some(entry) = places.get_mut(told[place].made) {
+            *entry = place;
+        }
+    }
+    Ok(places)
 }
 
 /// An answer that is written span by span.
@@ -119,15 +141,26 @@ impl Sheet {
         self.put_moves(told.moves.as_slice(), true);
     }
 
-    /// Writes what became of the pages of all processes.
-    fn put_all(&mut self, alloc: Global, told: &[HoldingMoves]) -> Result<(), AllocError> {
-        let mut all = AllMoves::new(alloc)?;
+    /// Writes what became of the pages of all processes, those at these places one after the other.
+    fn put_each(&mut self, told: &[HoldingMoves], order: &[usize], all: &mut AllMoves) {
         let mut is_first = true;
-        for one in told {
+        for place in order {
+            let Some(one) = told.get(*place) else {
+                continue;
+            };
             self.put_process(one, is_first);
             all.add(&self.total);
             is_first = false;
         }
+    }
+
+    /// Writes what became of the pages of all processes, in the order in which they were made, and
+    /// the sums.
+    fn put_all(&mut self, alloc: Global, told: &[HoldingMoves]) -> Result<(), AllocError> {
+        let mut all = AllMoves::new(alloc)?;
+        let order = as_made(alloc, told)?;
+        self.put_each(told, order.as_slice(), &mut all);
+        drop(order);
         match self.format {
             Format::Json => objects::put_all(&mut self.text, &all, self.nodes),
             _ => lines::put_all(&mut self.text, &all, self.nodes),
@@ -159,7 +192,7 @@ impl Sheet {
         }
         if asked.is_each {
             self.put_all(alloc, step.told.as_slice())?;
-        } else if let Some(one) = step.told.first() {
+        } else if let Some(one) = one_of(step.told.as_slice(), asked.process) {
             self.put_moves(one.moves.as_slice(), false);
         }
         match self.format {

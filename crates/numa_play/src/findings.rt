@@ -32,10 +32,7 @@ pub struct Look {
     pub other: Twin,
     /// The process of a host, if messages are wanted of its lines alone.
     pub process: Option<u32>,
-    /// Whether it is told why a line `at` of a script of one process is refused; else it doesn't
-    /// matter.
-    pub tells_own_at: bool,
-    /// The same of any other line `at`; else others tell it, or it doesn't matter.
+    /// Whether it is told why a line `at` is refused; else it doesn't matter.
     pub tells_at: bool,
     /// Text or JSON.
     pub format: Format,
@@ -46,7 +43,6 @@ pub const PLAIN: Look = Look {
     hints: false,
     other: Twin::None,
     process: None,
-    tells_own_at: true,
     tells_at: true,
     format: Format::Text,
 };
@@ -399,15 +395,9 @@ fn hint_of_next(script: &HostScript, said: &ScriptLine<'_>) -> Result<Option<Hos
 }
 
 impl<W: Write> Findings<W> {
-    /// Whether what was found in a line is for others to tell: not that it comes too early.
-    fn is_told_elsewhere(&self, said: &ScriptLine<'_>, finding: &Finding) -> bool {
-        let is_own = self.script().host().is_none() && said.process.is_none();
-        let tells = if is_own {
-            self.look.tells_own_at
-        } else {
-            self.look.tells_at
-        };
-        !tells && is_at(said) && !matches!(finding.detail, Detail::NoMachine)
+    /// Whether what was found in a line doesn't matter: not that it comes too early.
+    fn is_passed(&self, said: &ScriptLine<'_>, finding: &Finding) -> bool {
+        !self.look.tells_at && is_at(said) && !matches!(finding.detail, Detail::NoMachine)
     }
 
     /// Writes what was found in a line that doesn't lack memory, and what a kernel would do
@@ -451,7 +441,7 @@ impl<W: Write> Findings<W> {
         if finding.fault.lacks_memory() {
             return Err(RunFault::Memory);
         }
-        if self.is_told_elsewhere(said, &finding) {
+        if self.is_passed(said, &finding) {
             return Ok(());
         }
         self.tell_found(name, place, &finding, hint)

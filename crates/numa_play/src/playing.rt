@@ -68,7 +68,6 @@ pub fn check<R: Read + Drop, W: Write + Drop>(
         hints: true,
         other: Twin::None,
         process,
-        tells_own_at: true,
         tells_at: true,
         format,
     };

@@ -3,9 +3,10 @@
 //! meets (`replay`), and what becomes of those that are there (`moves`).
 //!
 //! [`answer_after`] plays scripts, and answers a question about the state that they lead to;
-//! numa_questions and numa_what_if answer the same about a space, without scripts. Where pages lie
-//! that are there state lines of scripts, or of further texts ([`play_there`]): [`answer_there`]
-//! tells what becomes of them, where others would go, and where one lies.
+//! numa_questions and numa_what_if answer the same about a space, without scripts. Pages that are
+//! there lie as scripts left them, and then as lines `at` of further texts state it
+//! ([`play_there`]): [`answer_there`] tells what becomes of them, where others would go, and where
+//! one lies.
 #![tactic(auto)]
 
 mod asking;
@@ -18,7 +19,7 @@ mod there;
 
 pub use asking::{Question, answer_after, prediction_there};
 pub use differing::play_added;
-pub use explaining::{ExplainAsked, explanation, places_in};
+pub use explaining::{ExplainAsked, explanation};
 pub use moving::{Answer, MovesAsked, Playing, moves_of};
 pub use placing::{QuestionThere, answer_there};
 pub use replaying::{Traced, replay};

@@ -4,15 +4,12 @@ use numa_answers::{About, told_of};
 use numa_host_script::HostScript;
 use numa_lines::{RunFault, TakeLine};
 use numa_mask::NodeMask;
-use numa_moves::{
-    Asked, AtLines, Holdings, MoveLine, Origin, PassOver, RefusedAt, Scene, Step, moves_text,
-    read_move,
-};
+use numa_moves::{Asked, Holdings, MoveLine, Origin, Step, moves_text, read_move};
 use numa_placed::Rooms;
-use numa_play::Findings;
+use numa_play::{Findings, subject_of};
 use numa_reports::ReportError;
 use numa_sheets::{Format, FreePages, Touch};
-use numa_subjects::{Halt, Subject};
+use numa_subjects::Halt;
 use std::alloc::{AllocError, Global};
 use std::io::Write;
 
@@ -50,8 +47,8 @@ pub struct Playing<'a> {
 pub struct MovesAsked<'a> {
     /// The lines.
     pub lines: &'a [String],
-    /// The touch by which pages came to lie where they do, while every node had room; else lines
-    /// state where they lie.
+    /// The touch by which pages came to lie where they do, while every node had room; else scripts
+    /// left them there.
     pub touch: Option<Touch>,
     /// Text, JSON or SVG.
     pub format: Format,
@@ -102,18 +99,17 @@ fn process_of(named: Option<u32>, asked: Option<u32>) -> u32 {
     named.or(asked).unwrap_or(0)
 }
 
-/// Where pages lie before the first line. Lines that state it and are refused are noted.
+/// Where pages lie before the first line.
 fn begin(
     alloc: Global,
     script: &HostScript,
-    origin: Origin<'_>,
+    origin: Origin,
     playing: Playing<'_>,
-    refused: &mut Vec<RefusedAt>,
 ) -> Result<Course, Halt> {
     let scene = scene_of(script, playing.process, playing.format)?;
     let nodes = scene.nodes();
     judge_free(playing.free, nodes)?;
-    match Holdings::new(alloc, scene, origin, playing.free, refused) {
+    match Holdings::new(alloc, scene, origin, playing.free) {
         Ok(holdings) => Ok(Course {
             holdings,
             steps: Vec::new(alloc),
@@ -123,34 +119,15 @@ fn begin(
     }
 }
 
-/// The same, where it is told why such lines are refused.
-fn begin_told(
-    alloc: Global,
-    script: &HostScript,
-    at: &AtLines<PassOver>,
-    origin: Origin<'_>,
-    playing: Playing<'_>,
-    faults: &mut LineFaults,
-) -> Result<Course, Halt> {
-    let mut refused = Vec::new(alloc);
-    let course = begin(alloc, script, origin, playing, &mut refused);
-    faults.tell_refused(at, refused.as_slice());
-    drop(refused);
-    course
-}
-
 /// The same by the other rules, if scripts were played by those.
 fn begin_beside(
     alloc: Global,
     script: Option<&HostScript>,
-    origin: Origin<'_>,
+    origin: Origin,
     playing: Playing<'_>,
 ) -> Option<Course> {
     let script = script?;
-    let mut refused = Vec::new(alloc);
-    let course = begin(alloc, script, origin, playing, &mut refused);
-    drop(refused);
-    course.ok()
+    begin(alloc, script, origin, playing).ok()
 }
 
 /// Why the pages of a process may not migrate to a set, if they may not.
@@ -258,19 +235,17 @@ fn answer_of(alloc: Global, courses: &Courses, told: Asked<'_>) -> Result<Answer
 fn told_of_moves(
     alloc: Global,
     script: &HostScript,
-    origin: Origin<'_>,
+    origin: Origin,
     playing: Playing<'_>,
     answer: Answer,
 ) -> Result<Answer, Halt> {
     let Answer { text, is_other } = answer;
-    let subject = match scene_of(script, playing.process, playing.format) {
-        Ok(Scene::Own(space, _) | Scene::One(_, space)) => Subject::One(space),
-        Ok(Scene::Each(host)) => Subject::Each(host),
-        Err(_) => return Ok(Answer { text, is_other }),
+    let Ok(subject) = subject_of(script, playing.process) else {
+        return Ok(Answer { text, is_other });
     };
     let touch = match origin {
         Origin::Touched(touch) => Some(touch),
-        Origin::Stated(_) => None,
+        Origin::Left => None,
     };
     let about = About::of(subject, touch, playing.lines);
     let text = told_of(alloc, playing.format, &about, text)?;
@@ -342,7 +317,8 @@ impl<T: Write> Play<'_, T> {
         let scene = scene_of(self.findings.script(), playing.process, playing.format)?;
         let told = Asked {
             lines: playing.lines,
-            is_each: scene.is_each(),
+            is_each: scene.is_each() && playing.process.is_none(),
+            process: playing.process,
             nodes: scene.nodes(),
             free: limits,
             format: playing.format,
@@ -368,19 +344,18 @@ impl<T: Write> Play<'_, T> {
 }
 
 /// Plays lines, and returns what becomes of the pages that are there, as a text. Nodes take as many
-/// more pages as is asked for, else as many as a script of one process leaves them.
+/// more pages as is asked for, else as many as scripts leave them.
 ///
 /// # Errors
 /// Why there is no answer.
 pub fn moves_of<T: Write>(
     alloc: Global,
     findings: &mut Findings<T>,
-    at: &AtLines<PassOver>,
-    origin: Origin<'_>,
+    origin: Origin,
     playing: Playing<'_>,
     faults: &mut LineFaults,
 ) -> Result<Answer, Halt> {
-    let own = begin_told(alloc, findings.script(), at, origin, playing, faults)?;
+    let own = begin(alloc, findings.script(), origin, playing)?;
     let other = begin_beside(alloc, findings.other(), origin, playing);
     let mut courses = Courses { own, other };
     let mut play = Play {
@@ -407,13 +382,12 @@ pub(crate) fn moves_told<T: Write>(
         free: asked.free,
         format: asked.format,
     };
-    let at = &played.at;
     let origin = match asked.touch {
         Some(touch) => Origin::Touched(touch),
-        None => Origin::Stated(at.lines.as_slice()),
+        None => Origin::Left,
     };
     let findings = &mut played.findings;
-    match moves_of(alloc, findings, at, origin, playing, &mut played.faults) {
+    match moves_of(alloc, findings, origin, playing, &mut played.faults) {
         Ok(answer) => Ok(answer.text),
         Err(halt) => Err(halt),
     }

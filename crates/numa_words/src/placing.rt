@@ -1,7 +1,7 @@
 //! Questions about pages that are there, after scripts: where others would go, why a page goes
 //! where it goes, and what becomes of those that are there.
 use crate::asking::prediction;
-use crate::explaining::{ExplainAsked, explanation_told};
+use crate::explaining::{ExplainAsked, explanation_in};
 use crate::moving::{MovesAsked, moves_told};
 use crate::there::{Played, Reading, play_there};
 use numa_play::{Scripts, subject_of};
@@ -11,13 +11,11 @@ use numa_subjects::{Ended, Halt, Twin};
 use std::alloc::Global;
 use std::io::{Read, Write};
 
-/// Lines that state where pages lie count, and nothing is remarked on an answer.
+/// It matters where pages lie, and nothing is remarked on an answer.
 const KEEPING: Reading = Reading {
     task: None,
     other: Twin::None,
     heeds_at: true,
-    heeds_all_at: false,
-    keeps_at: true,
 };
 
 /// A question about the state that scripts lead to, in which pages are there.
@@ -40,7 +38,6 @@ fn reading_for(question: &QuestionThere<'_>) -> Reading {
     match question {
         QuestionThere::Explain(_) => Reading {
             other: Twin::Always,
-            heeds_all_at: true,
             ..KEEPING
         },
         _ => KEEPING,
@@ -58,7 +55,7 @@ fn format_beside(format: Format) -> Format {
 /// Where all mapped pages would go; those that are there stay.
 fn prediction_told<T: Write, P: Watch>(
     alloc: Global,
-    played: &mut Played<T>,
+    played: &Played<T>,
     asked: EachAsked<'_>,
     watch: &mut P,
 ) -> Result<Vec<u8>, Halt> {
@@ -75,9 +72,10 @@ fn prediction_told<T: Write, P: Watch>(
 }
 
 /// Plays the scripts, and writes the answer to a question about the state that they lead to, in
-/// which pages are there: where these lie state lines `at` of the scripts, or of further texts,
-/// which alone aren't played. What is wrong with a line is written to `told`, and the line is
-/// skipped, which the result says too. The answer is complete before its first byte is written.
+/// which pages are there: they lie as the scripts left them, and then as lines `at` of further
+/// texts state it, of which no others are played. What is wrong with a line is written to `told`,
+/// and the line is skipped, which the result says too. The answer is complete before its first byte
+/// is written.
 ///
 /// # Errors
 /// Why there is no answer. Text already written to `told` stays.
@@ -92,8 +90,10 @@ pub fn answer_there<R: Read + Drop, A: Read + Drop, W: Write, T: Write + Drop, P
 ) -> Result<Ended, Halt> {
     let mut played = play_there(alloc, scripts, texts_at, reading_for(&question), told)?;
     let text = match question {
-        QuestionThere::Predict(asked) => prediction_told(alloc, &mut played, asked, watch),
-        QuestionThere::Explain(asked) => explanation_told(alloc, &mut played, asked),
+        QuestionThere::Predict(asked) => prediction_told(alloc, &played, asked, watch),
+        QuestionThere::Explain(asked) => {
+            explanation_in(alloc, &played.findings, played.process, asked)
+        }
         QuestionThere::Moves(asked) => moves_told(alloc, &mut played, asked),
     };
     played.write(text, output)

@@ -1,35 +1,34 @@
-//! Reading scripts and where pages lie that are there, telling what is wrong with lines about such
-//! pages, and writing an answer after them.
+//! Reading scripts and lines that state where pages lie, and writing an answer after them.
 use numa_beside::Areas;
 use numa_host::Host;
+use numa_host_pages::HostPages;
 use numa_host_script::HostScript;
 use numa_lines::{RunFault, TakeLine};
 use numa_machine::Rules;
-use numa_moves::{AtLine, AtLines, PassOver, RefusedAt, Scene, There, add_stated};
+use numa_moves::{AtLine, Scene, add_placed, read_at};
 use numa_placed::Placed;
 use numa_play::{Findings, Look, PLAIN, Scripts, answer};
 use numa_sheets::{Format, Written};
 use numa_subjects::{Ended, Halt, Twin};
 use numa_traces::read_by;
-use std::alloc::Global;
+use std::alloc::{AllocError, Global};
 use std::io::{Read, Write};
 
-/// The message for a line that begins as one that states where pages lie, and isn't one.
-const BAD_AT: &str = "bad words; write at START LENGTH NODE, in a host in P at START LENGTH NODE";
-
-/// What is told of in a host.
-fn scene_of_host(host: &Host, process: Option<u32>, format: Format) -> Result<Scene<'_>, Halt> {
+/// What is told of in a host: all processes, since what becomes of one hangs on the others.
+fn scene_of_host<'a>(
+    host: &'a Host,
+    pages: &'a HostPages,
+    process: Option<u32>,
+    format: Format,
+) -> Result<Scene<'a>, Halt> {
     match (process, format) {
-        (Some(process), _) => match host.process(process) {
-            Some(space) => Ok(Scene::One(process, space)),
-            None => Err(Halt::NoProcess(process)),
-        },
+        (Some(process), _) if host.process(process).is_none() => Err(Halt::NoProcess(process)),
         (None, Format::Svg(_)) => Err(Halt::ManyProcesses),
-        (None, _) => Ok(Scene::Each(host)),
+        _ => Ok(Scene::Each(host, pages)),
     }
 }
 
-/// What is told of after a script: in a picture of one process.
+/// What is told of after a script, all of it or of one process; in a picture of one.
 ///
 /// # Errors
 /// `NoMachine`, `NoHost`, `NoProcess` or `ManyProcesses`.
@@ -38,23 +37,22 @@ pub(crate) fn scene_of(
     process: Option<u32>,
     format: Format,
 ) -> Result<Scene<'_>, Halt> {
-    if let Some(host) = script.host() {
-        return scene_of_host(host, process, format);
+    if let (Some(host), Some(pages)) = (script.host(), script.host_pages()) {
+        return scene_of_host(host, pages, process, format);
     }
     let Some(script) = script.script() else {
         return Err(Halt::NoMachine);
     };
-    let (Some(core), Some(resident)) = (script.core(), script.resident()) else {
+    let Some(core) = script.core() else {
         return Err(Halt::NoMachine);
     };
     if process.is_some() {
         return Err(Halt::NoHost);
     }
-    let pages = script.pages();
-    Ok(Scene::Own(core.space(), There { resident, pages }))
+    Ok(Scene::Own(core.space(), script.pages()))
 }
 
-/// What is wrong with lines about pages that are there: a message on each, and how many.
+/// What is wrong with added lines: a message on each, and how many.
 #[derive(Drop)]
 pub struct LineFaults {
     messages: Written,
@@ -79,39 +77,21 @@ impl LineFaults {
         messages.put(why.as_bytes());
         messages.put(b"\n");
     }
-
-    /// Adds which lines that state where pages lie are malformed.
-    fn tell_bad(&mut self, at: &AtLines<PassOver>) {
-        for place in &at.bad {
-            self.tell(at.name(place.text), place.line, BAD_AT);
-        }
-    }
-
-    /// Adds why lines that state where pages lie are refused.
-    pub fn tell_refused(&mut self, at: &AtLines<PassOver>, refused: &[RefusedAt]) {
-        for one in refused {
-            let RefusedAt { place, .. } = one;
-            self.tell(at.name(place.text), place.line, one.why());
-        }
-    }
 }
 
-/// Appends where pages lie after a script and these lines, of the one space or of each process in
-/// the order in which they were made, and notes the lines that are refused. Pages that keep frames
-/// aren't among them.
+/// Appends where pages lie after a script: of the one space, or of each process in the order in
+/// which they were made, or of one alone. Pages that keep frames aren't among them.
 ///
 /// # Errors
 /// `NoMachine`, `NoHost`, `NoProcess`, or `Stopped`: out of memory.
 pub fn stated_in(
     alloc: Global,
     script: &HostScript,
-    at: &AtLines<PassOver>,
     process: Option<u32>,
-    refused: &mut Vec<RefusedAt>,
     there: &mut Vec<Placed>,
 ) -> Result<(), Halt> {
     let scene = scene_of(script, process, Format::Text)?;
-    match add_stated(alloc, scene, at.lines.as_slice(), refused, there) {
+    match add_placed(alloc, scene, process, there) {
         Ok(()) => Ok(()),
         Err(_) => Err(Halt::Stopped(RunFault::Memory)),
     }
@@ -124,42 +104,18 @@ pub struct Reading {
     pub task: Option<u32>,
     /// The rules by which they are played too.
     pub other: Twin,
-    /// Whether lines `at` of a script of one process count, so that it is told why one is refused.
+    /// Whether it matters where pages lie, so that it is told why a line `at` is refused.
     pub heeds_at: bool,
-    /// Whether the lines `at` of a host's script count too, as the host carries them out.
-    pub heeds_all_at: bool,
-    /// Whether pages are there: then lines that state where they lie are kept, but those that a
-    /// script carries out that count, and judged at the end. Else they are passed over, but for
-    /// malformed and early ones.
-    pub keeps_at: bool,
 }
 
-/// Scripts that are played, the lines of which some are kept, and the areas that they name.
+/// Scripts that are played, and the areas that they name.
 #[derive(Drop)]
-struct Keeping<T> {
-    at: AtLines<Findings<T>>,
-    heeds_all_at: bool,
-    keeps_at: bool,
+struct Reader<T> {
+    findings: Findings<T>,
     areas: Areas,
 }
 
-/// Whether the lines have one behind so many that names no process.
-fn has_own(lines: &[AtLine], count: usize) -> bool {
-    match lines.last() {
-        Some(line) => lines.len() > count && line.process.is_none(),
-        None => false,
-    }
-}
-
-/// Whether no machine is ready.
-fn lacks_machine(script: &HostScript) -> bool {
-    match script.script() {
-        Some(script) => script.core().is_none(),
-        None => false,
-    }
-}
-
-impl<T: Write> TakeLine<()> for Keeping<T> {
+impl<T: Write> TakeLine<()> for Reader<T> {
     fn take(
         &mut self,
         name: &str,
@@ -170,35 +126,87 @@ impl<T: Write> TakeLine<()> for Keeping<T> {
         if self.areas.read(line).is_err() {
             return Err(RunFault::Memory);
         }
-        if !self.keeps_at {
-            return self.at.taker.take(name, place, line, output);
-        }
-        let is_early = lacks_machine(self.at.taker.script());
-        let is_alone = self.at.taker.script().host().is_none();
-        let count = self.at.lines.len();
-        let taken = self.at.take(name, place, line, output);
-        // (An early line isn't judged, as none is that wants a machine. That of a script of one
-        // process is carried out there, and that of a host too.)
-        let is_own = is_alone && has_own(self.at.lines.as_slice(), count);
-        if is_early || is_own || self.heeds_all_at {
-            self.at.lines.truncate(count);
-        }
-        taken
+        self.findings.take(name, place, line, output)
     }
 
     fn hand_over(&mut self, output: &mut ()) -> Result<(), RunFault> {
-        self.at.hand_over(output)
+        self.findings.hand_over(output)
     }
 }
 
-/// Scripts that were played, the lines that state where pages lie, and what is wrong with these.
+/// Further texts, of which only the lines count that state where pages lie: behind the scripts they
+/// are played too.
+#[derive(Drop)]
+struct AtReader<T> {
+    alloc: Global,
+    findings: Findings<T>,
+    // The process of a host that lines mean which name none.
+    process: Option<u32>,
+}
+
+/// A line as a process is told it.
+fn told_line(alloc: Global, process: u32, line: &[u8]) -> Result<Vec<u8>, AllocError> {
+    let mut told = Written::new(alloc);
+    told.put_form(b"in $ ", &[u64::from(process)]);
+    told.put(line);
+    let text = told.take();
+    drop(told);
+    text
+}
+
+impl<T: Write> AtReader<T> {
+    /// Plays a line that a process is told.
+    fn take_told(
+        &mut self,
+        name: &str,
+        place: u64,
+        process: u32,
+        line: &[u8],
+    ) -> Result<(), RunFault> {
+        let Ok(told) = told_line(self.alloc, process, line) else {
+            return Err(RunFault::Memory);
+        };
+        let taken = self.findings.take(name, place, told.as_slice(), &mut ());
+        drop(told);
+        taken
+    }
+
+    /// The process that a line means which names none.
+    fn meant(&self) -> Option<u32> {
+        match self.findings.script().host() {
+            Some(_) => self.process,
+            None => None,
+        }
+    }
+}
+
+impl<T: Write> TakeLine<()> for AtReader<T> {
+    fn take(
+        &mut self,
+        name: &str,
+        place: u64,
+        line: &[u8],
+        output: &mut (),
+    ) -> Result<(), RunFault> {
+        // (In the place of other lines stand empty ones, so that each text has a first line.)
+        match (read_at(line), self.meant()) {
+            (AtLine::Other, _) => self.findings.take(name, place, b"", output),
+            (AtLine::Unnamed, Some(process)) => self.take_told(name, place, process, line),
+            _ => self.findings.take(name, place, line, output),
+        }
+    }
+
+    fn hand_over(&mut self, output: &mut ()) -> Result<(), RunFault> {
+        self.findings.hand_over(output)
+    }
+}
+
+/// Scripts that were played, and what is wrong with added lines.
 #[derive(Drop)]
 pub struct Played<T> {
-    /// The scripts, and what is wrong with their other lines.
+    /// The scripts, and what is wrong with their lines.
     pub findings: Findings<T>,
-    /// The lines.
-    pub at: AtLines<PassOver>,
-    /// Which of them are malformed.
+    /// What else is wrong with added lines.
     pub faults: LineFaults,
     /// The areas that the scripts name, in order.
     pub areas: Areas,
@@ -213,11 +221,10 @@ fn begin<T: Write + Drop>(
     process: Option<u32>,
     how: Reading,
     told: T,
-) -> Result<Keeping<T>, Halt> {
+) -> Result<Reader<T>, Halt> {
     let look = Look {
         other: how.other,
-        tells_own_at: how.heeds_at,
-        tells_at: how.heeds_all_at,
+        tells_at: how.heeds_at,
         ..PLAIN
     };
     let mut findings = Findings::new(alloc, rules, look, told).asking(process, how.task);
@@ -225,29 +232,23 @@ fn begin<T: Write + Drop>(
         drop(findings);
         return Err(Halt::Stopped(RunFault::Memory));
     }
-    Ok(Keeping {
-        at: AtLines::new(alloc, findings),
-        heeds_all_at: how.heeds_all_at,
-        keeps_at: how.keeps_at,
+    Ok(Reader {
+        findings,
         areas: Areas::new(alloc),
     })
 }
 
-/// Scripts that were played, these lines with what is wrong with them, and areas with names.
+/// Scripts that were played, and areas with names.
 fn played_of<T: Write>(
     alloc: Global,
     findings: Findings<T>,
-    at: AtLines<PassOver>,
     mut areas: Areas,
     process: Option<u32>,
 ) -> Played<T> {
-    let mut faults = LineFaults::new(alloc);
-    faults.tell_bad(&at);
     areas.sort();
     Played {
         findings,
-        at,
-        faults,
+        faults: LineFaults::new(alloc),
         areas,
         process,
     }
@@ -257,17 +258,35 @@ fn played_of<T: Write>(
 fn read_scripts<S: Read + Drop, T: Write + Drop>(
     alloc: Global,
     texts: Vec<(String, S)>,
-    before: Keeping<T>,
-) -> Result<Keeping<T>, Halt> {
+    before: Reader<T>,
+) -> Result<Reader<T>, Halt> {
     match read_by(alloc, texts, before) {
         Ok(read) => Ok(read),
         Err(why) => Err(Halt::Stopped(why)),
     }
 }
 
-/// Plays scripts, and keeps the lines that state where pages lie, if they count: theirs, and those
-/// of further texts, which alone aren't played. What is wrong with other lines is written to
-/// `told`.
+/// Plays the lines of further texts that state where pages lie.
+fn read_at_lines<A: Read + Drop, T: Write + Drop>(
+    alloc: Global,
+    texts: Vec<(String, A)>,
+    findings: Findings<T>,
+    process: Option<u32>,
+) -> Result<Findings<T>, Halt> {
+    let before = AtReader {
+        alloc,
+        findings,
+        process,
+    };
+    match read_by(alloc, texts, before) {
+        Ok(AtReader { findings, .. }) => Ok(findings),
+        Err(why) => Err(Halt::Stopped(why)),
+    }
+}
+
+/// Plays scripts, and behind them the lines of further texts that state where pages lie; of a host
+/// those that name no process are of the one that is asked for. What is wrong with lines is written
+/// to `told`.
 ///
 /// # Errors
 /// `Stopped`: a read or a write failed, or out of memory.
@@ -297,19 +316,17 @@ pub fn play_there<S: Read + Drop, A: Read + Drop, T: Write + Drop>(
             return Err(halt);
         }
     };
-    let Keeping { at, areas, .. } = read;
-    let (findings, at) = at.parted();
-    match read_by(alloc, texts_at, at) {
-        Ok(at) => Ok(played_of(alloc, findings, at, areas, process)),
-        Err(why) => {
+    let Reader { findings, areas } = read;
+    match read_at_lines(alloc, texts_at, findings, process) {
+        Ok(findings) => Ok(played_of(alloc, findings, areas, process)),
+        Err(halt) => {
             drop(areas);
-            drop(findings);
-            Err(Halt::Stopped(why))
+            Err(halt)
         }
     }
 }
 
-/// Writes what is wrong with lines: first with those about pages that are there.
+/// Writes what is wrong with lines: first with added ones.
 fn tell_all<T: Write>(findings: &mut Findings<T>, faults: LineFaults) -> Result<(), RunFault> {
     let LineFaults { messages, .. } = faults;
     let mut messages = messages;
@@ -328,15 +345,10 @@ fn tell_all<T: Write>(findings: &mut Findings<T>, faults: LineFaults) -> Result<
 
 impl<T: Write> Played<T> {
     /// Where pages lie that are there: in the one space, or in each process of a host if none is
-    /// asked about. It is noted why lines that state it are refused.
-    pub(crate) fn there(&mut self, alloc: Global) -> Result<Vec<Placed>, Halt> {
-        let mut refused = Vec::new(alloc);
+    /// asked about.
+    pub(crate) fn there(&self, alloc: Global) -> Result<Vec<Placed>, Halt> {
         let mut there = Vec::new(alloc);
-        let (script, at) = (self.findings.script(), &self.at);
-        let stated = stated_in(alloc, script, at, self.process, &mut refused, &mut there);
-        self.faults.tell_refused(&self.at, refused.as_slice());
-        drop(refused);
-        match stated {
+        match stated_in(alloc, self.findings.script(), self.process, &mut there) {
             Ok(()) => Ok(there),
             Err(halt) => {
                 drop(there);
@@ -358,13 +370,11 @@ impl<T: Write + Drop> Played<T> {
     ) -> Result<Ended, Halt> {
         let Played {
             findings,
-            at,
             faults,
             areas,
             process: _,
         } = self;
         drop(areas);
-        drop(at);
         let mut findings = findings;
         let has_faults = faults.count > 0;
         if let Err(why) = tell_all(&mut findings, faults) {

@@ -144,8 +144,8 @@ impl<'a> Question<'a> {
         })
     }
 
-    /// The same, but pages that are there are counted where they lie, and take no free page: lines
-    /// `at START LENGTH NODE` say where, of this text, of the script and of the lines:
+    /// The same, but pages that are there are counted where they lie, and take no free page: as the
+    /// script and the lines leave them, and then as lines `at START LENGTH NODE` of this text say:
     /// `numaplan predict --at`. There is no page for a browser, but text.
     ///
     /// ```
@@ -180,8 +180,9 @@ impl<'a> Question<'a> {
     }
 
     /// What becomes of pages that are there by each of the lines (`mems`, `migrate`, `cgroup-mems`,
-    /// `attach`): `numaplan moves`. Lines `at START LENGTH NODE`, of this text and of the script, say
-    /// where they lie. Nodes take so many more pages; others never fill.
+    /// `attach`): `numaplan moves`. They lie as the script leaves them, and then as lines `at START
+    /// LENGTH NODE` of this text say. Nodes take so many more pages, else as many as the script
+    /// leaves.
     ///
     /// ```
     /// use numaplan::{Format, Question};
@@ -269,8 +270,8 @@ impl<'a> Question<'a> {
         })
     }
 
-    /// The same, but the page lies where lines `at START LENGTH NODE` of this text say, too, of a host
-    /// lines `in P at ..` of the script, the lines and this text: `numaplan explain --at`.
+    /// The same, but lines `at START LENGTH NODE` of this text, in a host `in P at ..`, follow the
+    /// script and the lines: `numaplan explain --at`.
     ///
     /// ```
     /// use numaplan::{Format, Question};

@@ -72,17 +72,17 @@ them. For each range, and in total, it counts those that go from one node to ano
 (N2->N0=), that need not go (stays=), and that find no room (noroom=). A line of --then is \
 `mems LIST`, which moves pages as a control group of version 2 does; `migrate FROM TO`, two \
 lists of nodes, as migrate_pages(2) does; or in a host `cgroup-mems`, `attach`, or `in P \
-migrate ..`.\n\nPages lie where a script of one process leaves them (at, populate, moves), \
-and then where lines `at START LENGTH NODE` of the file of --at state (in a host `in P at \
-..`, of the scripts too); with --node where the task would touch them on a CPU of node N, \
-while every node had room. Nodes take as many more pages as lines `room` leave, and with \
---free the named ones so many; the others never fill. Nodes are emptied one by one, the \
-lowest pages first, and a node that fills ends the move. Of a host each process is answered \
-for, in the order in which they were made, and then all together; with --process only \
-process P is.\n\nLines that are faulty or refused are reported on standard error as by \
-`check`, and skipped. The status is 3 if there are some, unless --lenient is given, and if \
-no machine is ready after the scripts. If neither --rules nor a line says whose rules count, \
-and a kernel's would give another answer, a line on standard error says so.",
+migrate ..`.\n\nPages lie where the scripts leave them (at, populate, moves), and then where \
+lines `at START LENGTH NODE` of the file of --at state, in a host `in P at ..`; with --node \
+where the task would touch them on a CPU of node N, while every node had room. Nodes take as \
+many more pages as the scripts leave (room), and with --free the named ones so many; the \
+others never fill. Nodes are emptied one by one, the lowest pages first, and a node that fills \
+ends the move. Of a host each process is answered for, in the order in which they were made, \
+and then all together; with --process only process P is.\n\nLines that are faulty or refused \
+are reported on standard error as by `check`, and skipped. The status is 3 if there are some, \
+unless --lenient is given, and if no machine is ready after the scripts. If neither --rules \
+nor a line says whose rules count, and a kernel's would give another answer, a line on standard \
+error says so.",
     reads_lines: true,
     arguments: &[
         AT, TASK, NODE, THEN, FREE, PROCESS, DRAWN_TOO, LARGEST, NAMES, LENIENT, FILES,

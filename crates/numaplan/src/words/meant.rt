@@ -4,7 +4,6 @@ use crate::words::by_node::of_nodes;
 use numa_console::{Asking, Question};
 use numa_host_script::HostScript;
 use numa_lines::RunFault;
-use numa_moves::{AtLines, PassOver, RefusedAt};
 use numa_placed::Placed;
 use numa_play::subject_of;
 use numa_sheets::{Format, FreePages, Touch, Watch};
@@ -13,12 +12,10 @@ use numa_what_if::{DiffAsked, StatesBefore, difference_since, states_of};
 use numa_words::{prediction_there, stated_in};
 use std::alloc::Global;
 
-/// What is asked, the lines that state where pages lie, the touches that are meant, and the process
-/// of a host, if not all are asked for.
+/// What is asked, the touches that are meant, and the process of a host, if not all are asked for.
 #[derive(Clone, Copy)]
 pub struct Meant<'a> {
     pub asking: Asking<'a>,
-    pub stated: &'a AtLines<PassOver>,
     pub touches: &'a [Touch],
     pub process: Option<u32>,
 }
@@ -74,25 +71,18 @@ fn prediction_beside<P: Watch>(
     meant.whole(alloc, texts)
 }
 
-/// Where pages would go after a script; with a file that states where pages lie, these stay.
+/// Where pages would go after a script; with a file that states where pages lie, those that are
+/// there stay.
 pub fn prediction_in<P: Watch>(
     alloc: Global,
     script: &HostScript,
     meant: Meant<'_>,
     free: &[FreePages],
-    refused: &mut Vec<RefusedAt>,
     watch: &mut P,
 ) -> Result<Vec<u8>, Halt> {
     let mut there = Vec::new(alloc);
     if !meant.asking.at.is_empty() {
-        if let Err(halt) = stated_in(
-            alloc,
-            script,
-            meant.stated,
-            meant.process,
-            refused,
-            &mut there,
-        ) {
+        if let Err(halt) = stated_in(alloc, script, meant.process, &mut there) {
             drop(there);
             return Err(halt);
         }
@@ -112,10 +102,8 @@ pub fn goes_elsewhere(
     free: &[FreePages],
 ) -> bool {
     let meant = meant.as_text();
-    let mut refused = Vec::new(alloc);
-    let own = prediction_in(alloc, script, meant, free, &mut refused, &mut ());
-    let by_other = prediction_in(alloc, other, meant, free, &mut refused, &mut ());
-    drop(refused);
+    let own = prediction_in(alloc, script, meant, free, &mut ());
+    let by_other = prediction_in(alloc, other, meant, free, &mut ());
     differ(own, by_other)
 }
 

@@ -6,8 +6,10 @@ use crate::words::report_page::ReportPage;
 use crate::words::report_rules::{RangeOf, by_rules, largest_of, ranges_of};
 use numa_answers::About;
 use numa_beside::{Areas, named};
+use numa_host::Host;
 use numa_host_script::HostScript;
 use numa_moves::{MoveLine, Origin, read_move};
+use numa_placed::Placed;
 use numa_play::{Findings, page_places, subject_of};
 use numa_questions::AskedPages;
 use numa_sheets::{Format, Touch, Watch};
@@ -89,9 +91,7 @@ fn put_policies(
         areas,
         ranges,
     } = told;
-    let mut refused = Vec::new(alloc);
-    let text = prediction_in(alloc, script, meant.as_text(), &[], &mut refused, &mut ());
-    drop(refused);
+    let text = prediction_in(alloc, script, meant.as_text(), &[], &mut ());
     let text = named(alloc, areas, meant.process, Format::Text, true, text?)?;
     let tells_process = meant.process.is_none();
     let listed = by_rules(alloc, script, touch, ranges, tells_process, text.as_slice());
@@ -114,10 +114,7 @@ fn put_prediction<P: Watch>(
     meant: Meant<'_>,
     watch: &mut P,
 ) -> Result<(), Halt> {
-    let mut refused = Vec::new(alloc);
-    let picture = prediction_in(alloc, script, meant, &[], &mut refused, watch);
-    drop(refused);
-    let picture = picture?;
+    let picture = prediction_in(alloc, script, meant, &[], watch)?;
     page.put_heading("predict", "Where pages would go");
     page.put_picture(picture.as_slice());
     drop(picture);
@@ -153,27 +150,44 @@ fn effect_of(lines: &[String]) -> Effect {
     effect
 }
 
+/// Whether some pages lie somewhere.
+fn some_lie(placed: &Placed) -> bool {
+    let counts = placed.counts();
+    counts.iter().any(|count| *count > 0)
+}
+
+/// Whether a script says where pages of some process of a host lie.
+fn has_places_in(script: &HostScript, host: &Host) -> bool {
+    for process in host.processes() {
+        if let Some(pages) = script.pages_of(process.id) {
+            if some_lie(pages.placed()) {
+                return true;
+            }
+        }
+    }
+    false
+}
+
 /// Whether a script says where pages lie.
 fn has_places(script: &HostScript) -> bool {
+    if let Some(host) = script.host() {
+        return has_places_in(script, host);
+    }
     let Some(script) = script.script() else {
         return false;
     };
     match script.pages() {
-        Some(pages) => {
-            let counts = pages.placed().counts();
-            counts.iter().any(|count| *count > 0)
-        }
+        Some(pages) => some_lie(pages.placed()),
         None => false,
     }
 }
 
 /// How pages came to lie where they do: as lines say, or else as the task would touch them.
-fn origin_of<'a>(script: &HostScript, meant: Meant<'a>, touch: Touch) -> Origin<'a> {
-    let lines = meant.stated.lines.as_slice();
-    if lines.is_empty() && !has_places(script) {
-        return Origin::Touched(touch);
+fn origin_of(script: &HostScript, touch: Touch) -> Origin {
+    if has_places(script) {
+        return Origin::Left;
     }
-    Origin::Stated(lines)
+    Origin::Touched(touch)
 }
 
 /// How moves are told: drawn if they are of one process.
@@ -187,17 +201,17 @@ fn moves_format(script: &HostScript, meant: Meant<'_>) -> Format {
 /// What is told of pages that are there: what lines do to them, how they came to lie where they do,
 /// and in which format.
 #[derive(Clone, Copy)]
-struct Moving<'a> {
+struct Moving {
     effect: Effect,
-    origin: Origin<'a>,
+    origin: Origin,
     format: Format,
 }
 
 /// What is told of pages that are there after a script.
-fn moving_of<'a>(script: &HostScript, told: Told<'a>, lines: &[String]) -> Moving<'a> {
+fn moving_of(script: &HostScript, told: Told<'_>, lines: &[String]) -> Moving {
     Moving {
         effect: effect_of(lines),
-        origin: origin_of(script, told.meant, told.touch),
+        origin: origin_of(script, told.touch),
         format: moves_format(script, told.meant),
     }
 }
@@ -208,7 +222,7 @@ fn play_lines<T: Write>(
     findings: &mut Findings<T>,
     meant: Meant<'_>,
     lines: &[String],
-    moving: Moving<'_>,
+    moving: Moving,
     faults: &mut LineFaults,
 ) -> Result<Option<Answer>, Halt> {
     let Effect::Moves = moving.effect else {
@@ -224,14 +238,7 @@ fn play_lines<T: Write>(
         free: &[],
         format: moving.format,
     };
-    match moves_of(
-        alloc,
-        findings,
-        meant.stated,
-        moving.origin,
-        playing,
-        faults,
-    ) {
+    match moves_of(alloc, findings, moving.origin, playing, faults) {
         Ok(moves) => Ok(Some(moves)),
         Err(halt) => Err(halt),
     }
@@ -261,7 +268,7 @@ fn put_moves(
     alloc: Global,
     page: &mut ReportPage,
     areas: &Areas,
-    moving: Moving<'_>,
+    moving: Moving,
     moves: Option<Answer>,
 ) -> Result<bool, Halt> {
     page.put_heading("moves", "What becomes of pages that are there");
@@ -274,7 +281,7 @@ fn put_moves(
     };
     page.put_words(match moving.origin {
         Origin::Touched(_) => "Pages lie where the task would touch them.",
-        Origin::Stated(_) => "Pages lie where lines of the scripts leave them.",
+        Origin::Left => "Pages lie where lines of the scripts leave them.",
     });
     put_moved(alloc, page, areas, moving.format, text)?;
     Ok(is_other)

@@ -14,8 +14,7 @@ use numa_sheets::{AddressAsked, Format, FreePages, Touch, Watch};
 use numa_subjects::{Halt, PagePlace};
 use numa_what_if::StatesBefore;
 use numa_words::{
-    Answer, ExplainAsked, LineFaults, Played, Playing, Reading, explanation, moves_of, places_in,
-    play_added,
+    Answer, ExplainAsked, LineFaults, Played, Playing, Reading, explanation, moves_of, play_added,
 };
 use std::alloc::Global;
 use std::io::Write;
@@ -26,15 +25,10 @@ fn prediction<T: Write, P: Watch>(
     findings: &Findings<T>,
     meant: Meant<'_>,
     free: &[FreePages],
-    faults: &mut LineFaults,
     watch: &mut P,
 ) -> Result<Answer, Halt> {
-    let mut refused = Vec::new(alloc);
     let script = findings.script();
-    let text = prediction_in(alloc, script, meant, free, &mut refused, watch);
-    faults.tell_refused(meant.stated, refused.as_slice());
-    drop(refused);
-    let text = text?;
+    let text = prediction_in(alloc, script, meant, free, watch)?;
     let is_other = match findings.other() {
         Some(other) => goes_elsewhere(alloc, script, other, meant, free),
         None => false,
@@ -63,8 +57,7 @@ fn play<T: Write>(
         free: &[],
         format: meant.asking.format,
     };
-    let origin = Origin::Stated(meant.stated.lines.as_slice());
-    match moves_of(alloc, findings, meant.stated, origin, playing, faults) {
+    match moves_of(alloc, findings, Origin::Left, playing, faults) {
         Ok(moves) => Ok(Some(moves)),
         Err(halt) => Err(halt),
     }
@@ -166,40 +159,17 @@ fn reasons_beside<T: Write>(
     })
 }
 
-/// The same, where it is told which lines of a file that states where pages lie are refused.
-fn reasons_there<T: Write>(
-    alloc: Global,
-    findings: &Findings<T>,
-    meant: Meant<'_>,
-    pages: AskedPages,
-    faults: &mut LineFaults,
-) -> Result<Answer, Halt> {
-    let (script, stated, process) = (findings.script(), meant.stated, meant.process);
-    let mut refused = Vec::new(alloc);
-    let there = places_in(alloc, script, stated, process, pages.page, &mut refused);
-    faults.tell_refused(stated, refused.as_slice());
-    drop(refused);
-    let there = there?;
-    let answer = reasons_beside(alloc, findings, there.as_slice(), meant, pages);
-    drop(there);
-    answer
-}
-
-/// Why pages go where they go; with a file that states where pages lie, the page lies there.
+/// Why pages go where they go, and where the first lies, if it is there.
 fn reasons<T: Write>(
     alloc: Global,
     findings: &Findings<T>,
     meant: Meant<'_>,
     address: AddressAsked,
     pages: Option<u32>,
-    faults: &mut LineFaults,
 ) -> Result<Answer, Halt> {
     let script = findings.script();
     let page = page_meant(script, meant.process, address)?;
     let pages = AskedPages { page, pages };
-    if !meant.asking.at.is_empty() {
-        return reasons_there(alloc, findings, meant, pages, faults);
-    }
     let Ok(there) = page_places(alloc, script, meant.process, page) else {
         return Err(Halt::Stopped(RunFault::Memory));
     };
@@ -219,7 +189,7 @@ fn moves<T: Write>(
 ) -> Result<Answer, Halt> {
     let origin = match meant.touches.first() {
         Some(touch) => Origin::Touched(*touch),
-        None => Origin::Stated(meant.stated.lines.as_slice()),
+        None => Origin::Left,
     };
     let playing = Playing {
         lines,
@@ -228,7 +198,7 @@ fn moves<T: Write>(
         free,
         format: meant.asking.format,
     };
-    moves_of(alloc, findings, meant.stated, origin, playing, faults)
+    moves_of(alloc, findings, origin, playing, faults)
 }
 
 /// The answer.
@@ -241,11 +211,9 @@ fn answer_of<T: Write, P: Watch>(
     watch: &mut P,
 ) -> Result<Answer, Halt> {
     match meant.asking.question {
-        Question::Predict(free) => prediction(alloc, findings, meant, free, faults, watch),
+        Question::Predict(free) => prediction(alloc, findings, meant, free, watch),
         Question::Diff(lines) => difference(alloc, findings, meant, lines, faults, watch),
-        Question::Explain(address, pages) => {
-            reasons(alloc, findings, meant, address, pages, faults)
-        }
+        Question::Explain(address, pages) => reasons(alloc, findings, meant, address, pages),
         Question::Moves(lines, free) => moves(alloc, findings, meant, lines, free, faults),
         Question::Report(lines) => report(alloc, findings, areas, meant, lines, faults, watch),
     }
@@ -278,22 +246,17 @@ fn touches_in<T: Write>(
     }
 }
 
-/// How scripts are played for a question: lines that state where pages lie are kept for those about
-/// pages that are there.
+/// How scripts are played for a question: where pages lie matters to those about pages that are
+/// there.
 pub fn reading_of(asking: Asking<'_>) -> Reading {
-    let (is_moves, is_explain) = match asking.question {
-        Question::Moves(..) => (true, false),
-        Question::Explain(..) => (false, true),
-        Question::Report(lines) => (!lines.is_empty(), lines.is_empty()),
-        _ => (false, false),
-    };
-    let keeps_at = is_moves || !asking.at.is_empty();
+    let tells_places = matches!(
+        asking.question,
+        Question::Moves(..) | Question::Explain(..) | Question::Report(..)
+    );
     Reading {
         task: asking.task(),
         other: asking.twin(),
-        heeds_at: keeps_at || is_explain,
-        heeds_all_at: is_explain,
-        keeps_at,
+        heeds_at: tells_places || !asking.at.is_empty(),
     }
 }
 
@@ -331,7 +294,6 @@ pub fn text_of<'a, T: Write, P: Watch>(
     let touches = touches_in(alloc, &played.findings, process, asking)?;
     let meant = Meant {
         asking,
-        stated: &played.at,
         touches: touches.as_slice(),
         process,
     };

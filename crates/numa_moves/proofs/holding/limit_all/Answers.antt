@@ -2,7 +2,7 @@ use Rattle.std.proofs.Common.{◌≡◌, ◌∙◌, ◌==◌, ℕ, List, [], ap,
 use Rattle.std.specs.Prelude.{if◌then◌else◌}
 use Rattle.std.proofs.lemmas.List.{drop_all, drop_more}
 use Rattle.numa_sheets.specs.declared.asked.FreePages.{FreePages}
-use Rattle.numa_moves.specs.Stating.{limited_by}
+use Rattle.numa_moves.specs.Held.{limited_by}
 use Rattle.numa_moves.proofs.holding.limit_all.Goals as goal
 
 pub loop-one-init : goal.loop-one-init
