@@ -1,6 +1,6 @@
 -- What is held of processes before the first line that moves pages: these lie as scripts left them.
-use Rattle.std.specs.Prelude.{◌≡◌, ℕ, ◌==◌, List, [], ◌∷◌, Option, Some, None, MatchOption, map}
-use Rattle.std.specs.Prelude.{◌++◌, find, if◌then◌else◌}
+use Rattle.std.specs.Prelude.{◌≡◌, ℕ, suc, ◌==◌, List, [], ◌∷◌, Option, Some, None, MatchOption}
+use Rattle.std.specs.Prelude.{◌++◌, find, if◌then◌else◌, map}
 use Rattle.std.specs.Option.{option_map}
 use Rattle.numa_host.specs.declared.process.Process.{Process}
 use Rattle.numa_host_pages.specs.Homes.{HostLying, pages_in}
@@ -92,25 +92,34 @@ abbrev pub shares_at : SpaceState → (ℕ → Spot) → List Share
 shares_at space spots =
     shares_over (stated_in spots) space.machine.nodes (map span_of space.ranges)
 
--- what is known of a process: its nodes, and where its pages lie
+-- what is known of a process: how many were made before it, its nodes, and where its pages lie
 pub record Held : Type 0 where
   pub process : ℕ
+  pub made : ℕ
   pub allowed : ℕ
   pub shares : List Share
 
 abbrev pub held_in : Holding → Held
 held_in holding = record {
   process = holding.process;
+  made = holding.made;
   allowed = holding.allowed;
   shares = holding.shares.items;
 }
 
-abbrev pub held_by : Before → Told → Held
-held_by before told = record {
+abbrev pub held_by : Before → ℕ → Told → Held
+held_by before made told = record {
   process = told.process;
+  made = made;
   allowed = told.space.allowed;
   shares = shares_at told.space (spots_in before told.process);
 }
+
+-- what these hold, before which so many were made
+abbrev pub held_from : Before → ℕ → List Told → List Held
+held_from before made [] = []
+held_from before made (told ∷ more) =
+    held_by before made told ∷ held_from before (suc made) more
 
 -- named nodes take so many more pages
 abbrev pub limited_by : List FreePages → (ℕ → ℕ) → ℕ → ℕ

@@ -52,14 +52,26 @@ shares_behind (move ∷ moves) =
 
 -- ---- by lines
 
--- what becomes of the pages of one process after the other, when those of each leave one set for
--- another: those of each find the rooms that are behind the ones before it
-abbrev pub told_by : (Holding → ℕ) → (Holding → ℕ) → List Holding → (ℕ → ℕ)
-    → List (List ShareMove)
+-- what becomes of the pages of a process, before which so many were made
+pub record Moved : Type 0 where
+  pub process : ℕ
+  pub made : ℕ
+  pub moves : List ShareMove
+
+-- when they leave one set for another
+abbrev pub moved_by : (Holding → ℕ) → (Holding → ℕ) → Holding → (ℕ → ℕ) → Moved
+moved_by from to holding room = record {
+  process = holding.process;
+  made = holding.made;
+  moves = moves_of holding.shares.items (from holding) (to holding) room;
+}
+
+-- those of one process after the other: those of each find the rooms that are behind the ones
+-- before it
+abbrev pub told_by : (Holding → ℕ) → (Holding → ℕ) → List Holding → (ℕ → ℕ) → List Moved
 told_by from to [] room = []
 told_by from to (holding ∷ holdings) room =
-    moves_of holding.shares.items (from holding) (to holding) room
-    ∷ told_by from to holdings
+    moved_by from to holding room ∷ told_by from to holdings
     (shift_by holding.shares.items (from holding) (to holding) room).room
 
 -- the rooms behind them
@@ -73,9 +85,13 @@ abbrev pub AreCounted : List Holding → Type 0
 AreCounted holdings = All (λ (h : Holding). (node : ℕ) → pages_on h.shares.items node < 2 ^ 64)
     holdings
 
--- what was told of the pages of a process
-abbrev pub moves_in : HoldingMoves → List ShareMove
-moves_in told = told.moves.items
+-- what was told of a process
+abbrev pub moves_in : HoldingMoves → Moved
+moves_in told = record {
+  process = told.process;
+  made = told.made;
+  moves = told.moves.items;
+}
 
 -- pages of one process alone migrate, to nodes that it is allowed
 abbrev pub migrates_to : ℕ → ℕ → ℕ → Holding → ℕ
@@ -102,12 +118,34 @@ IsStep from to holdings room step =
     (map moves_in step.told.items ≡ told_by from to holdings room)
     × AreRooms step.rooms (rooms_by from to holdings room)
 
--- where the pages of a process lie, and where those lie of which something was told
-abbrev pub shares_in : Holding → List Share
-shares_in holding = holding.shares.items
+-- what was told is of this process
+abbrev pub IsTold : Holding → HoldingMoves → Type 0
+IsTold holding told = (told.process ≡ holding.process) × (told.made ≡ holding.made)
 
-abbrev pub left_by : HoldingMoves → List Share
-left_by told = shares_behind told.moves.items
+-- it is this process still
+abbrev pub IsSame : Holding → Holding → Type 0
+IsSame before after = (after.process ≡ before.process) × (after.made ≡ before.made)
+
+-- whose pages lie where
+pub record SharesOf : Type 0 where
+  pub process : ℕ
+  pub made : ℕ
+  pub shares : List Share
+
+-- those of a process, and those of which something was told
+abbrev pub shares_in : Holding → SharesOf
+shares_in holding = record {
+  process = holding.process;
+  made = holding.made;
+  shares = holding.shares.items;
+}
+
+abbrev pub left_by : HoldingMoves → SharesOf
+left_by told = record {
+  process = told.process;
+  made = told.made;
+  shares = shares_behind told.moves.items;
+}
 
 -- they lie as a line left them
 abbrev pub AreLeft : List Holding → Step → Type 0

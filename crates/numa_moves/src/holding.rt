@@ -1,12 +1,11 @@
 //! Where the pages of processes lie, and what becomes of them.
 ghost use Rattle.std.specs.Prelude.{◌≡◌, ◌<◌, ◌^◌, ◌++◌, ◌∷◌, ℕ, [], IfOk, OnOk, map};
 ghost use Rattle.numa_placed.specs.Shifts.{AreRooms};
-ghost use Rattle.numa_moves.specs.Held.{Before, IsAsLeft, IsLeft, arranged, held_by, held_in};
-ghost use Rattle.numa_moves.specs.Held.{limited_by, order_in, processes_in, rooms_in};
+ghost use Rattle.numa_moves.specs.Held.{Before, IsAsLeft, IsLeft, arranged, held_by, held_from};
+ghost use Rattle.numa_moves.specs.Held.{held_in, limited_by, order_in, processes_in, rooms_in};
 ghost use Rattle.numa_moves.specs.Held.{shares_at, spots_in, told_of};
-ghost use Rattle.numa_moves.specs.Moving.{AreCounted, AreLeft, Follows, IsStep, Sends};
-ghost use Rattle.numa_moves.specs.Moving.{migrates_to};
-ghost use Rattle.numa_moves.specs.Moving.{moves_of, shares_behind, shift_by};
+ghost use Rattle.numa_moves.specs.Moving.{AreCounted, AreLeft, Follows, IsSame, IsStep, IsTold};
+ghost use Rattle.numa_moves.specs.Moving.{Sends, migrates_to, moves_of, shares_behind, shift_by};
 ghost use Rattle.numa_moves.specs.Shares.{pages_on};
 ghost use Rattle.numa_moves.specs.declared.holding.Holding.{Holding};
 
@@ -104,7 +103,7 @@ fn add_one(
 ) -> Result<(), ReportError>
     ensures { (before : Before) → IsLeft member.entry.scene before → IsAsLeft origin
         → OnOk result (map held_in holdings.new.items
-        ≡ map held_in holdings.old.items ++ held_by before (told_of member.entry) ∷ []) }
+        ≡ map held_in holdings.old.items ++ held_by before made (told_of member.entry) ∷ []) }
 {
     let shares = shares_by(alloc, member, origin)?;
     let holding = Holding {
@@ -129,7 +128,7 @@ fn add_all(
 ) -> Result<(), ReportError>
     ensures { (before : Before) → IsLeft scene.entry before → IsAsLeft origin
         → OnOk result (map held_in holdings.new.items ≡ map held_in holdings.old.items
-        ++ map (held_by before) (processes_in scene.entry)) }
+        ++ held_from before 0 (processes_in scene.entry)) }
 {
     for place in 0..scene.members() {
         add_one(alloc, scene.member(place), place, origin, holdings)?;
@@ -161,6 +160,8 @@ fn move_pages(
         → ((node : ℕ) → pages_on holding.old.shares.items node < 2 ^ 64)
         → IfOk result (λ told. told.moves.items
         ≡ moves_of holding.old.shares.items old.now new.now room) }
+    ensures named { IfOk result (IsTold holding.old) }
+    ensures same { OnOk result (IsSame holding.old holding.new) }
     ensures behind { IfOk result (λ told.
         holding.new.shares.items ≡ shares_behind told.moves.items) }
     ensures rooms { (room : ℕ → ℕ) → AreRooms rooms.old room
@@ -201,6 +202,8 @@ fn act_on(
         → ((node : ℕ) → pages_on holding.old.shares.items node < 2 ^ 64)
         → IfOk result (λ told. told.moves.items
         ≡ moves_of holding.old.shares.items (from holding.old) (to holding.old) room) }
+    ensures named { IfOk result (IsTold holding.old) }
+    ensures same { OnOk result (IsSame holding.old holding.new) }
     ensures behind { IfOk result (λ told.
         holding.new.shares.items ≡ shares_behind told.moves.items) }
     ensures rooms { (from to : Holding → ℕ) (room : ℕ → ℕ) → Sends act.entry from to
@@ -288,7 +291,7 @@ impl Holdings {
     ) -> Result<Holdings, ReportError>
         ensures held { (before : Before) → IsLeft scene.entry before → IsAsLeft origin
             → IfOk result (λ holdings. map held_in holdings.list.items
-            ≡ map (held_by before) (processes_in scene.entry)) }
+            ≡ held_from before 0 (processes_in scene.entry)) }
         ensures rooms { (before : Before) → IsLeft scene.entry before → IsAsLeft origin
             → IfOk result (λ holdings. AreRooms holdings.rooms
             (limited_by free.now (rooms_in before))) }

@@ -3,11 +3,10 @@ use Rattle.std.proofs.Common.{drop, get_or, length, refl, sym}
 use Rattle.std.specs.Prelude.{map}
 use Rattle.std.proofs.lemmas.List.{append-nil, drop_all, drop_more, take_all}
 use Rattle.numa_host.proofs.Following.{partly-more, partly-next}
-use Rattle.numa_moves.specs.Moving.{left_by, moves_in, rooms_by, shares_in, told_by}
+use Rattle.numa_moves.specs.Moving.{Moved, left_by, moves_in, rooms_by, shares_in, told_by}
 use Rattle.numa_moves.specs.Shares.{pages_on}
 use Rattle.numa_moves.specs.declared.holding.Holding.{Holding}
 use Rattle.numa_moves.specs.declared.holding.HoldingMoves.{HoldingMoves}
-use Rattle.numa_moves.specs.declared.moving.ShareMove.{ShareMove}
 use Rattle.numa_moves.proofs.Telling.{behind, left-next, rooms-next, told-next}
 use Rattle.numa_moves.proofs.holding.act_on_each.Goals as goal
 
@@ -53,15 +52,16 @@ loop-holding-preserved c =
             c.in_ok-moves.ensures.rooms from to so.0 sends so.1 few,
             told-next from to (drop k olds) (drop (k + 1) olds) now c.loop-holding.told.items
                 c.push.new.self.items c.in_ok-moves.moves so.0 (told_by from to olds room) ahead
-                c.in_ok-push.ensures.items
+                c.in_ok-push.ensures.items c.in_ok-moves.ensures.named
                 (c.in_ok-moves.ensures.moves from to so.0 sends so.1 few) so.2,
             rooms-next from to (drop k olds) (drop (k + 1) olds) now so.0
                 (rooms_by from to olds room) ahead so.3,
           );
-      left = left-next k news c.act_on.new.holding c.loop-holding.told.items
+      left = left-next k news now c.act_on.new.holding c.loop-holding.told.items
           c.push.new.self.items c.in_ok-moves.moves
           (omega (arith, inside, partly.count)) c.in_ok-push.ensures.items
-          c.in_ok-moves.ensures.behind c.loop-holding.invariant.left;
+          c.in_ok-moves.ensures.named c.in_ok-moves.ensures.same c.in_ok-moves.ensures.behind
+          c.loop-holding.invariant.left;
     }
 
 pub returns-clause-left : goal.returns-clause-left
@@ -77,7 +77,7 @@ returns-clause-does c from to room sends are counted =
     let k = c.loop-holding.holding-index in
     let olds : List Holding = c.args.holdings.now in
     let so = c.loop-holding.invariant.told from to room sends are counted in
-    let told : List (List ShareMove) = map moves_in c.loop-holding.told.items in
+    let told : List Moved = map moves_in c.loop-holding.told.items in
     let short : length {A = Holding} olds ≤ k =
     omega (arith, c.loop-holding-test.false, c.loop-holding.invariant.partly.count) in
     let none : drop k olds ≡ [] = drop_all k olds short in (

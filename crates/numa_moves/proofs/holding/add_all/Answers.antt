@@ -1,7 +1,7 @@
 use Rattle.std.proofs.Common.{◌≡◌, ◌∙◌, ◌<◌, ◌≤◌, ◌++◌, List, ap, arith, length, get_or, map, sym}
 use Rattle.std.proofs.lemmas.List.{append-nil, take_all}
 use Rattle.std.proofs.lemmas.Option.{get_or_from_slice_get}
-use Rattle.numa_moves.specs.Held.{Told, held_by, held_in, processes_in, told_of}
+use Rattle.numa_moves.specs.Held.{Told, held_from, held_in, processes_in, told_of}
 use Rattle.numa_moves.specs.declared.scene.Scene.{Scene}
 use Rattle.numa_moves.proofs.Adding.{held-next, left-in}
 use Rattle.numa_moves.proofs.holding.add_all.Goals as goal
@@ -33,5 +33,5 @@ returns c before left so =
     let all : length {A = Told} procs ≤ k =
     omega (arith, c.loop-place-test.false, c.members-place-end.ensures) in
     c.loop-place.invariant before left so
-    ∙ ap (λ (l : List Told). map held_in c.args.holdings.now.items ++ map (held_by before) l)
+    ∙ ap (λ (l : List Told). map held_in c.args.holdings.now.items ++ held_from before 0 l)
     (take_all k procs all)
