@@ -1,10 +1,11 @@
 -- What is told of one more process.
 use Rattle.std.proofs.Common.{◌≡◌, ◌∙◌, ℕ, ◌++◌, List, [], ◌∷◌, ap, ap₂, append_assoc}
-use Rattle.std.proofs.Common.{◌+◌, ◌<◌, length, set, sym, take}
+use Rattle.std.proofs.Common.{◌+◌, ◌<◌, get_or, length, set, sym, take}
 use Rattle.std.specs.Prelude.{map}
-use Rattle.std.proofs.lemmas.List.{map-append, take_more_set}
+use Rattle.std.proofs.lemmas.List.{map-append, map_more, take_more_set}
 use Rattle.numa_moves.specs.Moving.{IsSame, IsTold, Moved, SharesOf, left_by, moved_by, moves_in}
-use Rattle.numa_moves.specs.Moving.{moves_of, rooms_by, shares_behind, shares_in, shift_by, told_by}
+use Rattle.numa_moves.specs.Moving.{moves_of, nodes_in, rooms_by, shares_behind, shares_in}
+use Rattle.numa_moves.specs.Moving.{shift_by, told_by}
 use Rattle.numa_moves.specs.declared.holding.Holding.{Holding}
 use Rattle.numa_moves.specs.declared.holding.HoldingMoves.{HoldingMoves}
 use Rattle.numa_moves.specs.declared.share.Share.{Share}
@@ -85,3 +86,15 @@ left-next k news holding new before after told inside added named same behind do
     (left-as holding new told named same behind)
     ∙ sym (map-append left_by before (told ∷ []))
     ∙ ap (λ (l : List HoldingMoves). map left_by l) (sym added)
+
+-- one more process, with the nodes that a line leaves it
+pub nodes-next : (by : Holding → ℕ) (k : ℕ) (olds news : List Holding) (d new : Holding)
+    → k < length {A = Holding} olds → k < length {A = Holding} news
+    → new.allowed ≡ by (get_or olds k d)
+    → map nodes_in (take k news) ≡ map by (take k olds)
+    → map nodes_in (take (k + 1) (set news k new)) ≡ map by (take (k + 1) olds)
+nodes-next by k olds news d new here there is done =
+    ap (λ (l : List Holding). map nodes_in l) (take_more_set news k new there)
+    ∙ map-append nodes_in (take k news) (new ∷ [])
+    ∙ ap₂ (λ (l : List ℕ) (n : ℕ). l ++ (n ∷ [])) done is
+    ∙ sym (map_more by olds k d here)

@@ -98,11 +98,18 @@ abbrev pub migrates_to : ℕ → ℕ → ℕ → Holding → ℕ
 migrates_to process from to holding =
     if holding.process == process then both to holding.allowed else from
 
--- between which sets the pages of each process go when it follows the nodes that it is allowed; a
--- process that isn't there stays as it is
+-- the nodes that a process is allowed, and those that a scene allows it; one that isn't there keeps
+-- its own
+abbrev pub nodes_in : Holding → ℕ
+nodes_in holding = holding.allowed
+
+abbrev pub nodes_after : Scene → Holding → ℕ
+nodes_after scene holding = unwrap_or (allowed_in scene holding.process) holding.allowed
+
+-- between which sets the pages of each process go when it follows the nodes that it is allowed
 abbrev pub Follows : Scene → (Holding → ℕ) → (Holding → ℕ) → Type 0
 Follows scene from to = (holding : Holding) → (from holding ≡ holding.allowed)
-    × (to holding ≡ unwrap_or (allowed_in scene holding.process) holding.allowed)
+    × (to holding ≡ nodes_after scene holding)
 
 -- between which sets a line sends the pages of each process
 abbrev pub Sends : Act → (Holding → ℕ) → (Holding → ℕ) → Type 0
@@ -111,6 +118,12 @@ Sends (Migrate process old new) from to = (holding : Holding)
     → (from holding ≡ old.now) × (to holding ≡ migrates_to process old.now new.now holding)
 Sends Stay from to = (holding : Holding)
     → (from holding ≡ holding.allowed) × (to holding ≡ holding.allowed)
+
+-- the nodes that a line leaves a process
+abbrev pub nodes_by : Act → Holding → ℕ
+nodes_by (Follow scene) = nodes_after scene
+nodes_by (Migrate process old new) = nodes_in
+nodes_by Stay = nodes_in
 
 -- what a line did to the pages of all processes
 abbrev pub IsStep : (Holding → ℕ) → (Holding → ℕ) → List Holding → (ℕ → ℕ) → Step → Type 0

@@ -5,7 +5,8 @@ ghost use Rattle.numa_moves.specs.Held.{Before, IsAsLeft, IsLeft, arranged, held
 ghost use Rattle.numa_moves.specs.Held.{held_in, limited_by, order_in, processes_in, rooms_in};
 ghost use Rattle.numa_moves.specs.Held.{shares_at, spots_in, told_of};
 ghost use Rattle.numa_moves.specs.Moving.{AreCounted, AreLeft, Follows, IsSame, IsStep, IsTold};
-ghost use Rattle.numa_moves.specs.Moving.{Sends, migrates_to, moves_of, shares_behind, shift_by};
+ghost use Rattle.numa_moves.specs.Moving.{Sends, migrates_to, moves_of, nodes_after, nodes_by};
+ghost use Rattle.numa_moves.specs.Moving.{nodes_in, shares_behind, shift_by};
 ghost use Rattle.numa_moves.specs.Shares.{pages_on};
 ghost use Rattle.numa_moves.specs.declared.holding.Holding.{Holding};
 
@@ -168,6 +169,7 @@ fn move_pages(
         → ((node : ℕ) → pages_on holding.old.shares.items node < 2 ^ 64)
         → OnOk result
         (AreRooms rooms.new (shift_by holding.old.shares.items old.now new.now room).room) }
+    ensures nodes { OnOk result (holding.new.allowed ≡ holding.old.allowed) }
 {
     let moves = moves_within(alloc, holding.shares.as_slice(), old, new, rooms)?;
     let behind = shares_behind(alloc, moves.as_slice())?;
@@ -211,6 +213,7 @@ fn act_on(
         → ((node : ℕ) → pages_on holding.old.shares.items node < 2 ^ 64)
         → OnOk result (AreRooms rooms.new
         (shift_by holding.old.shares.items (from holding.old) (to holding.old) room).room) }
+    ensures nodes { OnOk result (holding.new.allowed ≡ nodes_by act.entry holding.old) }
 {
     let nodes = holding.allowed;
     match act {
@@ -249,6 +252,8 @@ fn act_on_each(
         → IfOk result (IsStep from to holdings.old room) }
     ensures left { IfOk result (AreLeft holdings.new) }
     ensures rooms { IfOk result (λ step. step.rooms ≡ rooms.new) }
+    ensures nodes { OnOk result
+        (map nodes_in holdings.new ≡ map (nodes_by act.entry) holdings.old) }
 {
     let mut told = Vec::new(alloc);
     for holding in holdings.iter_mut() {
@@ -310,6 +315,20 @@ impl Holdings {
         }
     }
 
+    /// Moves the pages of each process whose allowed nodes have changed, of one after the other.
+    fn follow_each(&mut self, alloc: Global, scene: Scene<'_>) -> Result<Step, AllocError>
+        ensures does { (from to : Holding → ℕ) (room : ℕ → ℕ) → Follows scene.entry from to
+            → AreRooms self.old.rooms room → AreCounted self.old.list.items
+            → IfOk result (IsStep from to self.old.list.items room) }
+        ensures left { IfOk result (AreLeft self.new.list.items) }
+        ensures rooms { IfOk result (λ step. step.rooms ≡ self.new.rooms) }
+        ensures nodes { OnOk result (map nodes_in self.new.list.items
+            ≡ map (nodes_after scene.entry) self.old.list.items) }
+    {
+        let act = Act::Follow(scene);
+        act_on_each(alloc, self.list.as_mut_slice(), act, &mut self.rooms)
+    }
+
     /// Moves the pages of each process whose allowed nodes have changed, as a control group with
     /// memory that migrates does: of one process after the other, in the order in which a host
     /// tells them of their nodes.
@@ -324,10 +343,12 @@ impl Holdings {
             (arranged (order_in scene.entry before) self.old.list.items) room) }
         ensures left { IfOk result (AreLeft self.new.list.items) }
         ensures rooms { IfOk result (λ step. step.rooms ≡ self.new.rooms) }
+        ensures nodes { (before : Before) → IsLeft scene.entry before → OnOk result
+            (map nodes_in self.new.list.items ≡ map (nodes_after scene.entry)
+            (arranged (order_in scene.entry before) self.old.list.items)) }
     {
         arrange(alloc, scene, &mut self.list)?;
-        let act = Act::Follow(scene);
-        act_on_each(alloc, self.list.as_mut_slice(), act, &mut self.rooms)
+        self.follow_each(alloc, scene)
     }
 
     /// Moves the pages of a process from one set of nodes to the allowed nodes of another, as
@@ -348,6 +369,8 @@ impl Holdings {
             self.old.list.items room) }
         ensures left { IfOk result (AreLeft self.new.list.items) }
         ensures rooms { IfOk result (λ step. step.rooms ≡ self.new.rooms) }
+        ensures nodes { OnOk result
+            (map nodes_in self.new.list.items ≡ map nodes_in self.old.list.items) }
     {
         let act = Act::Migrate(process, from, to);
         act_on_each(alloc, self.list.as_mut_slice(), act, &mut self.rooms)
@@ -364,6 +387,8 @@ impl Holdings {
             self.old.list.items room) }
         ensures left { IfOk result (AreLeft self.new.list.items) }
         ensures rooms { IfOk result (λ step. step.rooms ≡ self.new.rooms) }
+        ensures nodes { OnOk result
+            (map nodes_in self.new.list.items ≡ map nodes_in self.old.list.items) }
     {
         act_on_each(alloc, self.list.as_mut_slice(), Act::Stay, &mut self.rooms)
     }

@@ -3,11 +3,12 @@ use Rattle.std.proofs.Common.{drop, get_or, length, refl, sym}
 use Rattle.std.specs.Prelude.{map}
 use Rattle.std.proofs.lemmas.List.{append-nil, drop_all, drop_more, take_all}
 use Rattle.numa_host.proofs.Following.{partly-more, partly-next}
-use Rattle.numa_moves.specs.Moving.{Moved, left_by, moves_in, rooms_by, shares_in, told_by}
+use Rattle.numa_moves.specs.Moving.{Moved, left_by, moves_in, nodes_by, nodes_in, rooms_by}
+use Rattle.numa_moves.specs.Moving.{shares_in, told_by}
 use Rattle.numa_moves.specs.Shares.{pages_on}
 use Rattle.numa_moves.specs.declared.holding.Holding.{Holding}
 use Rattle.numa_moves.specs.declared.holding.HoldingMoves.{HoldingMoves}
-use Rattle.numa_moves.proofs.Telling.{behind, left-next, rooms-next, told-next}
+use Rattle.numa_moves.proofs.Telling.{behind, left-next, nodes-next, rooms-next, told-next}
 use Rattle.numa_moves.proofs.holding.act_on_each.Goals as goal
 
 pub loop-holding-init : goal.loop-holding-init
@@ -25,6 +26,7 @@ loop-holding-init c = record {
     refl,
   );
   left = ap (λ (l : List HoldingMoves). map left_by l) (sym c.new-told.ensures.items);
+  nodes = refl;
 }
 
 pub loop-holding-preserved : goal.loop-holding-preserved
@@ -62,6 +64,10 @@ loop-holding-preserved c =
           (omega (arith, inside, partly.count)) c.in_ok-push.ensures.items
           c.in_ok-moves.ensures.named c.in_ok-moves.ensures.same c.in_ok-moves.ensures.behind
           c.loop-holding.invariant.left;
+      nodes = nodes-next (nodes_by c.args.act) k olds news d c.act_on.new.holding inside
+          (omega (arith, inside, partly.count))
+          (c.in_ok-moves.ensures.nodes ∙ ap (λ (h : Holding). nodes_by c.args.act h) same)
+          c.loop-holding.invariant.nodes;
     }
 
 pub returns-clause-left : goal.returns-clause-left
@@ -71,6 +77,18 @@ returns-clause-left c =
     let short : length {A = Holding} news ≤ k = omega (arith, c.loop-holding-test.false) in
     ap (λ (l : List Holding). map shares_in l) (sym (take_all k news short))
     ∙ c.loop-holding.invariant.left
+
+pub returns-clause-nodes : goal.returns-clause-nodes
+returns-clause-nodes c =
+    let k = c.loop-holding.holding-index in
+    let olds : List Holding = c.args.holdings.now in
+    let news : List Holding = c.loop-holding.holdings in
+    let short : length {A = Holding} news ≤ k = omega (arith, c.loop-holding-test.false) in
+    let all : length {A = Holding} olds ≤ k =
+    omega (arith, c.loop-holding-test.false, c.loop-holding.invariant.partly.count) in
+    ap (λ (l : List Holding). map nodes_in l) (sym (take_all k news short))
+    ∙ c.loop-holding.invariant.nodes
+    ∙ ap (λ (l : List Holding). map (nodes_by c.args.act) l) (take_all k olds all)
 
 pub returns-clause-does : goal.returns-clause-does
 returns-clause-does c from to room sends are counted =

@@ -3,8 +3,8 @@ use Rattle.std.proofs.Common.{◌≡◌, ℕ, ◌++◌, drop, take}
 use Rattle.std.specs.Prelude.{map}
 use Rattle.numa_host.proofs.Following.{ArePartly}
 use Rattle.numa_placed.specs.Shifts.{AreRooms}
-use Rattle.numa_moves.specs.Moving.{AreCounted, Sends, left_by, moves_in, rooms_by}
-use Rattle.numa_moves.specs.Moving.{shares_in, told_by}
+use Rattle.numa_moves.specs.Moving.{AreCounted, Sends, left_by, moves_in, nodes_by, nodes_in}
+use Rattle.numa_moves.specs.Moving.{rooms_by, shares_in, told_by}
 use Rattle.numa_moves.specs.declared.holding.Holding.{Holding}
 use Rattle.numa_moves.proofs.holding.act_on_each.Given as goal
 
@@ -20,4 +20,6 @@ invariant-loop-holding l = record {
       × (rooms_by from to (drop l.holding-index l.fn.holdings) rest
       ≡ rooms_by from to l.fn.holdings room);
   left : map shares_in (take l.holding-index l.holdings) ≡ map left_by l.told.items;
+  nodes : map nodes_in (take l.holding-index l.holdings)
+      ≡ map (nodes_by l.act) (take l.holding-index l.fn.holdings);
 }
