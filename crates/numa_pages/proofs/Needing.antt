@@ -83,9 +83,11 @@ core-lacks core command refusal past answers lack =
 none-of : (spots : ℕ → Spot) (first pages list : ℕ) → pages ≡ 0
     → astray_cause spots first pages list ≡ astray_cause (λ page. Nowhere) first pages list
 none-of spots first pages list none =
-    rw (any_page-false (λ page. is_astray list (spots page)) first pages
-    (λ page low high. absurd (omega (arith, low, high, none))),
-    any_page-false (λ page. false) first pages (λ page low high. refl)) refl
+    rw (
+      any_page-false (λ page. is_astray list (spots page)) first pages
+          (λ page low high. absurd (omega (arith, low, high, none))),
+      any_page-false (λ page. false) first pages (λ page low high. refl),
+    ) refl
 
 -- nothing is stated of 0 bytes
 pub stated-some : (spots : ℕ → Spot) (start bytes : ℕ) → has_stated spots start bytes ≡ true
