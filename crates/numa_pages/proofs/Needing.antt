@@ -161,12 +161,16 @@ judging-lacks pages command past astray =
     astray-needs command (process_of pages history) (lying_in pages.state).spots refl
     (astray history (lying_in pages.state) past.leads.stands.space (lies-so pages.state))
 
+-- a page lies astray of a policy
+abbrev pub Strays : ℕ → ℕ → Specification → PagesState → Type 0
+Strays start bytes spec pages = (history : List Command) (lying : Lying)
+    → StandsFor pages.core.space history → LiesAs pages.state lying
+    → lies_astray (strict_binding_in (Mbind start bytes spec)) (process_of pages history)
+    lying.spots ≡ true
+
 -- then nothing has changed
 pub not-judged : (before : PagesState) (start bytes : ℕ) (spec : Specification)
-    → HasPast before.core
-    → ((history : List Command) (lying : Lying) → StandsFor before.core.space history
-    → LiesAs before.state lying → lies_astray (strict_binding_in (Mbind start bytes spec))
-    (process_of before history) lying.spots ≡ true)
+    → HasPast before.core → Strays start bytes spec before
     → BindsStrictly start bytes spec before (Err change.NoMemory) before
 not-judged before start bytes spec past astray = record {
   core = tt;
@@ -188,7 +192,7 @@ free-goes (Some room) lack after free = absurd (both_ways true free refl)
 goes-on : (first : Option PlacedRefusal) (at : Lying) (done : Done Shift PlacedRefusal)
     → first ≡ None → is_ok done.0 ≡ true → is_ok (unless_refused first at done).0 ≡ true
 goes-on None at done none ok = ok
-goes-on (Some why) at done none ok = absurd (both_ways false refl (ap is_some none))
+goes-on (Some why) at done none ok = absurd (both_ways true (ap is_some none) refl)
 
 -- pages that follow the allowed nodes all go
 pub all-go : (state after : PageState) (kept : Kept) (old new : ℕ) (why : PlacedRefusal)

@@ -8,9 +8,9 @@ use Rattle.numa_pages.proofs.pages.Pages.move_freely.Goals as goal
 pub unreachable-requires : goal.unreachable-requires
 unreachable-requires c =
     all-go c.self.inside.state c.move_along.new.self c.new-none.result c.allowed-old.result
-    c.allowed-new.result c.in-Err.field-0
+    c.allowed-new.result c.in-Err-move_along.field-0
     (subst (λ (p : PagesState). may_fill p.state ≡ false) (sym c.self.view_is) c.requires)
-    c.in-Err.ensures.does
+    c.in-Err-move_along.ensures.does
 
 pub returns-in-Ok-move_along : goal.returns-in-Ok-move_along
 returns-in-Ok-move_along c =
@@ -23,5 +23,5 @@ returns-in-Ok-move_along c =
     (goes-so before c.carried_out.new.core c.new-none.result c.allowed-old.result
     c.allowed-new.result (Ok c.in-Ok-move_along.shift) c.move_along.new.self c.new-none.ensures
     (c.allowed-old.ensures.allowed ∙ ap (λ (s : SpaceState). s.allowed) c.space.ensures.space)
-    (c.allowed-new.ensures.allowed ∙ ap (λ (s : SpaceState). s.allowed) c.space-2.ensures.space)
+    (c.allowed-new.ensures.allowed ∙ ap (λ (s : SpaceState). s.allowed) c.space-in-Ok.ensures.space)
     c.in-Ok-move_along.ensures.does))

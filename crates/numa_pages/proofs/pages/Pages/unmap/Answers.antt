@@ -1,5 +1,3 @@
-use Rattle.std.proofs.Common.{Err, Some, sym, subst}
-use Rattle.numa_page_state.specs.Standing.{Forgets}
 use Rattle.numa_pages.specs.Changes.{PagesState}
 use Rattle.numa_pages.proofs.Commands.{not-unmapped}
 use Rattle.numa_pages.proofs.pages.Pages.unmap.Goals as goal
