@@ -22,7 +22,6 @@ use Rattle.numa_requests.specs.declared.event.CoreReply.{CoreReply}
 use Rattle.numa_requests.specs.declared.event.Event.TheVariants.{Accept}
 use Rattle.numa_requests.specs.declared.page_refusal.PlacedRefusal.{PlacedRefusal}
 use Rattle.numa_requests.specs.declared.refusal.Refusal.{Refusal}
-use Rattle.numa_requests.specs.declared.refusal.Refusal.TheVariants.{NoMemory}
 use Rattle.numa_space.specs.History.{page_of, page_count}
 use Rattle.numa_space.specs.Pages.{page_in}
 use Rattle.numa_space.specs.Refusals.{PageMap, refusal_of, scene_of}
