@@ -81,6 +81,9 @@ impl Core {
     /// assert_eq!((moves[0].from, moves[0].to, moves[0].moved), (1, 0, 2));
     /// # Ok::<(), numaplan::Refused>(())
     /// ```
+    ///
+    /// # Errors
+    /// `BAD_CPU` where one of the machines lacks the node; `NO_MEMORY`.
     pub fn diff(&mut self, after: &mut Core, task: u32, cpu: u32) -> Result<Vec<Move>, Refused> {
         let (moves, _) = listed(|room: &mut [Move], count| unsafe {
             raw::np_core_diff(
@@ -110,6 +113,9 @@ impl Core {
     /// assert_eq!(fault.unwrap_err().place, Some(1));
     /// # Ok::<(), Box<dyn std::error::Error>>(())
     /// ```
+    ///
+    /// # Errors
+    /// `BAD_ACCESS`, with the access's place; `NO_MEMORY`.
     pub fn replay(&mut self, trace: &[Access]) -> Result<Vec<Route>, Unreplayed> {
         let (routes, told) = listed(|room: &mut [ToldRoute], count| unsafe {
             raw::np_core_replay(
@@ -130,6 +136,9 @@ impl Core {
 
     /// Where all mapped pages would go, where nodes (the first of each pair) have so many free pages;
     /// others never run out: as `numaplan predict` prints it.
+    ///
+    /// # Errors
+    /// `NO_MEMORY`, `NO_SUCH_NODE`, `BAD_CPU`.
     pub fn predict_text(
         &mut self,
         task: u32,
@@ -164,6 +173,9 @@ impl Core {
     /// assert_eq!(report.text.lines().last(), Some("total differs=4 N0->N1=4"));
     /// # Ok::<(), Box<dyn std::error::Error>>(())
     /// ```
+    ///
+    /// # Errors
+    /// `NO_MEMORY`, `BAD_CPU`.
     pub fn diff_text(
         &mut self,
         after: &mut Core,
@@ -186,6 +198,9 @@ impl Core {
 
     /// Why the page of a number (address / 4096) would go where it goes: as `numaplan explain` prints
     /// it.
+    ///
+    /// # Errors
+    /// `NO_MEMORY`, `BAD_CPU`, `UNMAPPED`.
     pub fn explain_text(
         &mut self,
         page: u64,
@@ -208,6 +223,9 @@ impl Core {
 
     /// What a trace of accesses, `TASK ADDRESS CPU [COUNT]` a line, meets where no page is placed: as
     /// `numaplan replay` prints it.
+    ///
+    /// # Errors
+    /// `NO_MEMORY`, `BAD_ACCESS`.
     pub fn replay_text(&mut self, trace: &str, format: Format) -> Result<Report, Unanswered> {
         let asked = asked(0, 0, format);
         told(|text, report| unsafe {

@@ -78,6 +78,10 @@ unsafe impl Send for Core {}
 impl Core {
     /// A core of a machine: the nodes with memory as a list ("0-1"), the frames of each node, the
     /// distances row by row, and so many workers. The rules are those of the documents.
+    ///
+    /// # Errors
+    /// `LIST_EMPTY` to `LIST_TOO_HIGH` for a faulty list; `BAD_NODE_COUNT` to `BAD_WORKERS`;
+    /// `NO_MEMORY`.
     pub fn open(
         memory: &str,
         frames: &[u32],
@@ -88,6 +92,10 @@ impl Core {
     }
 
     /// The same by these options.
+    ///
+    /// # Errors
+    /// As [`Core::open`]; `BAD_NODE_COUNT` also where a node of the options' CPUs is none of the
+    /// machine's.
     pub fn open_by(
         memory: &str,
         frames: &[u32],
@@ -121,6 +129,9 @@ impl Core {
 
     /// A core that stands as this one does, to be asked "what if": what is done to one of the two
     /// doesn't change the other.
+    ///
+    /// # Errors
+    /// `NO_MEMORY`.
     pub fn copy(&mut self) -> Result<Core, Refused> {
         let mut other = Core(Handle::closed());
         done(unsafe { raw::np_core_copy(&mut self.0, &mut other.0) })?;
@@ -128,16 +139,29 @@ impl Core {
     }
 
     /// Maps a span of unmapped pages; the first has the index `offset`.
+    ///
+    /// # Errors
+    /// `COMMANDS_SPENT`, `UNALIGNED`, `OUT_OF_SPACE`, `EMPTY_LENGTH`, `BAD_OFFSET`, `OVERLAP`,
+    /// `TOO_MANY_RANGES`, `NO_MEMORY`.
     pub fn map(&mut self, start: u64, length: u64, offset: u64) -> Result<(), Refused> {
         done(unsafe { raw::np_core_map(&mut self.0, start, length, offset) })
     }
 
     /// Unmaps the pages of a span.
+    ///
+    /// # Errors
+    /// `COMMANDS_SPENT`, `UNALIGNED`, `OUT_OF_SPACE`, `TOO_MANY_RANGES`, `NO_MEMORY`; by the
+    /// kernel's rules `BAD_SPAN` and `EMPTY_LENGTH`.
     pub fn unmap(&mut self, start: u64, length: u64) -> Result<(), Refused> {
         done(unsafe { raw::np_core_unmap(&mut self.0, start, length) })
     }
 
     /// Gives the pages of a span a policy of their own, as "bind:0-1".
+    ///
+    /// # Errors
+    /// `LIST_EMPTY` to `LIST_TOO_HIGH` and `UNKNOWN_MODE` to `NODES_MISSING` for a faulty word;
+    /// `COMMANDS_SPENT`, `UNALIGNED`, `OUT_OF_SPACE`, `HOLE`, `NODES_NOT_ALLOWED`,
+    /// `TOO_MANY_RANGES`, `NO_MEMORY`; by the kernel's rules `BAD_SPAN`.
     pub fn mbind(&mut self, start: u64, length: u64, policy: &str) -> Result<(), Refused> {
         let text = policy.as_bytes();
         done(unsafe {
@@ -146,6 +170,9 @@ impl Core {
     }
 
     /// The same by mbind(2)'s own words: a mode with its flag in it, and nodes, as a [`Policy`] has both.
+    ///
+    /// # Errors
+    /// As [`Core::mbind`], but that no list can be faulty.
     pub fn mbind_by(
         &mut self,
         start: u64,
@@ -158,38 +185,62 @@ impl Core {
     }
 
     /// Gives a task its policy.
+    ///
+    /// # Errors
+    /// `LIST_EMPTY` to `LIST_TOO_HIGH` and `UNKNOWN_MODE` to `NODES_MISSING` for a faulty word;
+    /// `COMMANDS_SPENT`, `NODES_NOT_ALLOWED`, `TOO_MANY_TASKS`, `NO_MEMORY`.
     pub fn set_task(&mut self, task: u32, policy: &str) -> Result<(), Refused> {
         let text = policy.as_bytes();
         done(unsafe { raw::np_core_set_task(&mut self.0, task, text.as_ptr(), text.len()) })
     }
 
     /// The same by set_mempolicy(2)'s own words, as [`Core::mbind_by`] takes them.
+    ///
+    /// # Errors
+    /// As [`Core::set_task`], but that no list can be faulty.
     pub fn set_task_by(&mut self, task: u32, mode: u32, nodes: &[u8]) -> Result<(), Refused> {
         let nodes = set_of(nodes);
         done(unsafe { raw::np_core_set_task_by(&mut self.0, task, mode, &nodes) })
     }
 
     /// Changes the nodes on which memory may be placed, a list as "0-1".
+    ///
+    /// # Errors
+    /// `LIST_EMPTY` to `LIST_TOO_HIGH` for a faulty list; `COMMANDS_SPENT`, `NO_SUCH_NODE`,
+    /// `NODES_NOT_ALLOWED`; by the kernel's rules `NO_NODES`.
     pub fn set_mems(&mut self, nodes: &str) -> Result<(), Refused> {
         done(unsafe { raw::np_core_set_mems(&mut self.0, nodes.as_ptr(), nodes.len()) })
     }
 
     /// Gives a node its weight for weighted interleaving.
+    ///
+    /// # Errors
+    /// `COMMANDS_SPENT`, `NO_SUCH_NODE`, `BAD_WEIGHT`.
     pub fn set_weight(&mut self, node: u32, weight: u32) -> Result<(), Refused> {
         done(unsafe { raw::np_core_set_weight(&mut self.0, node, weight) })
     }
 
     /// Gives a task the policy that another has, or none, as a new thread has its maker's.
+    ///
+    /// # Errors
+    /// `COMMANDS_SPENT`, `TOO_MANY_TASKS`, `NO_MEMORY`.
     pub fn inherit(&mut self, task: u32, from: u32) -> Result<(), Refused> {
         done(unsafe { raw::np_core_inherit(&mut self.0, task, from) })
     }
 
     /// Gives the policies of a span's pages a home node.
+    ///
+    /// # Errors
+    /// `COMMANDS_SPENT`, `UNALIGNED`, `OUT_OF_SPACE`, `NO_SUCH_NODE`, `NOT_SUPPORTED`,
+    /// `TOO_MANY_RANGES`, `NO_MEMORY`; by the kernel's rules `BAD_SPAN` and `NO_POLICY_THERE`.
     pub fn set_home(&mut self, start: u64, length: u64, node: u32) -> Result<(), Refused> {
         done(unsafe { raw::np_core_set_home(&mut self.0, start, length, node) })
     }
 
     /// Publishes all accepted commands.
+    ///
+    /// # Errors
+    /// `NO_MEMORY`.
     pub fn publish(&mut self) -> Result<(), Refused> {
         done(unsafe { raw::np_core_publish(&mut self.0) })
     }
@@ -225,6 +276,9 @@ impl Core {
     }
 
     /// The ranges of pages by all accepted commands, in order of address.
+    ///
+    /// # Errors
+    /// None: a core is open as long as it is there.
     pub fn ranges(&mut self) -> Result<Vec<Range>, Refused> {
         let mut count = 0;
         done(unsafe { raw::np_core_ranges(&mut self.0, &mut count) })?;
@@ -267,6 +321,9 @@ impl Core {
 
     /// The ranges as /proc/PID/numa_maps shows them, with the policy by which a fault of this task is
     /// served, and with the pages of these placements.
+    ///
+    /// # Errors
+    /// `PLACED_TWICE`, `NO_MEMORY`.
     pub fn maps(&mut self, task: u32, placements: &[Placement]) -> Result<String, Refused> {
         written(4_096, |text, length| unsafe {
             raw::np_core_maps(
@@ -282,6 +339,10 @@ impl Core {
     }
 
     /// A worker places a page that a task touched on the node `cpu`.
+    ///
+    /// # Errors
+    /// `EXHAUSTED` where no node of the page's list has a free frame; `NO_SUCH_WORKER`, `BUSY`,
+    /// `BAD_CPU`, `UNMAPPED`.
     pub fn touch(
         &mut self,
         worker: u32,
@@ -296,18 +357,27 @@ impl Core {
 
     /// An idle worker begins to look for a frame for a page; `EXHAUSTED` where no node of its list
     /// has a frame.
+    ///
+    /// # Errors
+    /// `EXHAUSTED`, `NO_SUCH_WORKER`, `BUSY`, `BAD_CPU`, `UNMAPPED`.
     pub fn begin(&mut self, worker: u32, task: u32, page: u64, cpu: u32) -> Result<(), Refused> {
         is_still(unsafe { raw::np_core_begin(&mut self.0, worker, task, page, cpu) }).map(|_| ())
     }
 
     /// A worker looks at the 64 frames of a word of its current node, and meets those that are taken;
     /// `EXHAUSTED` where it has then met each frame of each listed node.
+    ///
+    /// # Errors
+    /// `EXHAUSTED`, `NO_SUCH_WORKER`, `IDLE`, `BAD_TRY`.
     pub fn look(&mut self, worker: u32, word: u32) -> Result<(), Refused> {
         is_still(unsafe { raw::np_core_look(&mut self.0, worker, word) }).map(|_| ())
     }
 
     /// A worker tries a frame of its current node: None where it is taken, and the worker goes on;
     /// `EXHAUSTED` as for `look`.
+    ///
+    /// # Errors
+    /// `EXHAUSTED`, `NO_SUCH_WORKER`, `IDLE`, `BAD_TRY`.
     pub fn try_frame(
         &mut self,
         worker: u32,
@@ -320,11 +390,17 @@ impl Core {
     }
 
     /// A worker gives one of its frames back.
+    ///
+    /// # Errors
+    /// `NO_SUCH_WORKER`, `BUSY`, `NOT_OWNED`.
     pub fn give(&mut self, worker: u32, node: u8, frame: u16) -> Result<(), Refused> {
         done(unsafe { raw::np_core_give(&mut self.0, worker, node, frame) })
     }
 
     /// The plan of all accepted commands.
+    ///
+    /// # Errors
+    /// `NO_MEMORY`.
     pub fn compile(&mut self) -> Result<Plan, Refused> {
         let mut plan = Plan(Handle::closed());
         done(unsafe { raw::np_core_compile(&mut self.0, &mut plan.0) })?;
@@ -332,6 +408,9 @@ impl Core {
     }
 
     /// The plan of the published commands, by which workers place pages.
+    ///
+    /// # Errors
+    /// `NO_MEMORY`.
     pub fn published_plan(&mut self) -> Result<Plan, Refused> {
         let mut plan = Plan(Handle::closed());
         done(unsafe { raw::np_core_plan(&mut self.0, &mut plan.0) })?;

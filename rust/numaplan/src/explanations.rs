@@ -61,6 +61,9 @@ impl Core {
     /// assert_eq!(core.explain(1, 0x10, 0)?.scope, numaplan::Scope::Task);
     /// # Ok::<(), numaplan::Refused>(())
     /// ```
+    ///
+    /// # Errors
+    /// `BAD_CPU`, `NO_MEMORY`.
     pub fn predict(&mut self, task: u32, cpu: u32) -> Result<[u64; 256], Refused> {
         let mut counts = Counts { pages: [0; 256] };
         done(unsafe { raw::np_core_predict(&mut self.0, task, cpu, &mut counts) })?;
@@ -70,6 +73,9 @@ impl Core {
     /// What remains of so many free pages of each node, if the task touched all mapped pages so, in
     /// order of address: a page takes a free page of the first node of its list that has one, or goes
     /// nowhere.
+    ///
+    /// # Errors
+    /// `BAD_CPU`, `NO_MEMORY`.
     pub fn fill(&mut self, task: u32, cpu: u32, free: &[u64; 256]) -> Result<[u64; 256], Refused> {
         let mut left = Counts { pages: *free };
         done(unsafe { raw::np_core_fill(&mut self.0, task, cpu, &mut left) })?;
@@ -78,6 +84,9 @@ impl Core {
 
     /// Why the page of a number (address / 4096) would go where it goes, if the task touched it now on
     /// a CPU of node `cpu`.
+    ///
+    /// # Errors
+    /// `BAD_CPU`, `UNMAPPED`, `NO_MEMORY`.
     pub fn explain(&mut self, task: u32, page: u64, cpu: u32) -> Result<Explanation, Refused> {
         let mut told = ToldExplanation {
             policy: untold(),

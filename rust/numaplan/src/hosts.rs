@@ -65,6 +65,10 @@ unsafe impl Send for Host {}
 impl Host {
     /// A host of a machine, described as for a core by options, without a group below the root and without
     /// a process.
+    ///
+    /// # Errors
+    /// `LIST_EMPTY` to `LIST_TOO_HIGH` for a faulty list; `BAD_NODE_COUNT` to `TOO_MANY_FRAMES`;
+    /// `NO_MEMORY`.
     pub fn open(
         memory: &str,
         frames: &[u32],
@@ -96,6 +100,9 @@ impl Host {
 
     /// A host that stands as this one does, to be asked "what if": what is done to one of the two doesn't
     /// change the other.
+    ///
+    /// # Errors
+    /// `NO_MEMORY`.
     pub fn copy(&mut self) -> Result<Host, Refused> {
         let mut other = Host(Handle::closed());
         done(unsafe { raw::np_host_copy(&mut self.0, &mut other.0) })?;
@@ -111,12 +118,19 @@ impl Host {
     }
 
     /// Makes a group below another, without a list of its own; the root is 0.
+    ///
+    /// # Errors
+    /// `COMMANDS_SPENT`, `GROUP_EXISTS`, `NO_SUCH_GROUP`, `TOO_MANY_GROUPS`, `NO_MEMORY`.
     pub fn new_group(&mut self, group: u32, parent: u32) -> Result<(), Refused> {
         done(unsafe { raw::np_host_new_group(&mut self.0, group, parent) })
     }
 
     /// Gives a group a list of its own, as "0-1" (cpuset.mems). The policies of each process whose
     /// allowed nodes change follow, in all of them or in none.
+    ///
+    /// # Errors
+    /// `LIST_EMPTY` to `LIST_TOO_HIGH` for a faulty list; `COMMANDS_SPENT`, `NO_SUCH_GROUP`,
+    /// `ROOT_GROUP`, `NO_SUCH_NODE`.
     pub fn set_group_mems(&mut self, group: u32, nodes: &str) -> Result<(), Refused> {
         done(unsafe {
             raw::np_host_set_group_mems(&mut self.0, group, nodes.as_ptr(), nodes.len())
@@ -124,11 +138,17 @@ impl Host {
     }
 
     /// Takes a group's own list away.
+    ///
+    /// # Errors
+    /// `COMMANDS_SPENT`, `NO_SUCH_GROUP`, `ROOT_GROUP`, `POPULATED`.
     pub fn unset_group_mems(&mut self, group: u32) -> Result<(), Refused> {
         done(unsafe { raw::np_host_unset_group_mems(&mut self.0, group) })
     }
 
     /// The effective nodes of a group (cpuset.mems.effective), which its processes are allowed.
+    ///
+    /// # Errors
+    /// `NO_SUCH_GROUP`.
     pub fn group_nodes(&mut self, group: u32) -> Result<Vec<u8>, Refused> {
         let mut nodes = Nodes { words: [0; 4] };
         done(unsafe { raw::np_host_group_nodes(&mut self.0, group, &mut nodes) })?;
@@ -136,6 +156,9 @@ impl Host {
     }
 
     /// The groups below the root, the newest first.
+    ///
+    /// # Errors
+    /// None: a host is open as long as it is there.
     pub fn groups(&mut self) -> Result<Vec<Group>, Refused> {
         let mut count = 0;
         done(unsafe { raw::np_host_groups(&mut self.0, &mut count) })?;
@@ -154,22 +177,35 @@ impl Host {
     }
 
     /// Makes a process in a group: nothing is mapped, no task has a policy.
+    ///
+    /// # Errors
+    /// `COMMANDS_SPENT`, `PROCESS_EXISTS`, `NO_SUCH_GROUP`, `TOO_MANY_PROCESSES`, `NO_MEMORY`.
     pub fn new_process(&mut self, process: u32, group: u32) -> Result<(), Refused> {
         done(unsafe { raw::np_host_new_process(&mut self.0, process, group) })
     }
 
     /// Makes a copy of a process, in its group, whose task `task` has the policy that `from` has in the
     /// parent (fork(2)). It keeps the policies of all tasks.
+    ///
+    /// # Errors
+    /// `COMMANDS_SPENT`, `PROCESS_EXISTS`, `NO_SUCH_PROCESS`, `TOO_MANY_PROCESSES`,
+    /// `TOO_MANY_TASKS`, `NO_MEMORY`.
     pub fn fork(&mut self, parent: u32, child: u32, from: u32, task: u32) -> Result<(), Refused> {
         done(unsafe { raw::np_host_fork(&mut self.0, parent, child, from, task) })
     }
 
     /// Moves a process to another group (cgroup.procs); its policies follow.
+    ///
+    /// # Errors
+    /// `COMMANDS_SPENT`, `NO_SUCH_PROCESS`, `NO_SUCH_GROUP`.
     pub fn attach(&mut self, process: u32, group: u32) -> Result<(), Refused> {
         done(unsafe { raw::np_host_attach(&mut self.0, process, group) })
     }
 
     /// Ends a process; its number is free.
+    ///
+    /// # Errors
+    /// `COMMANDS_SPENT`, `NO_SUCH_PROCESS`.
     pub fn exit(&mut self, process: u32) -> Result<(), Refused> {
         done(unsafe { raw::np_host_exit(&mut self.0, process) })
     }
@@ -188,11 +224,17 @@ impl Host {
     }
 
     /// Gives a node its weight for weighted interleaving, for every process.
+    ///
+    /// # Errors
+    /// `COMMANDS_SPENT`, `NO_SUCH_NODE`, `BAD_WEIGHT`.
     pub fn set_weight(&mut self, node: u32, weight: u32) -> Result<(), Refused> {
         done(unsafe { raw::np_host_set_weight(&mut self.0, node, weight) })
     }
 
     /// Maps a span of unmapped pages of a process; the first has the index `offset`.
+    ///
+    /// # Errors
+    /// As [`Core::map`](crate::Core::map), and `NO_SUCH_PROCESS`.
     pub fn map(
         &mut self,
         process: u32,
@@ -204,11 +246,17 @@ impl Host {
     }
 
     /// Unmaps the pages of a process's span.
+    ///
+    /// # Errors
+    /// As [`Core::unmap`](crate::Core::unmap), and `NO_SUCH_PROCESS`.
     pub fn unmap(&mut self, process: u32, start: u64, length: u64) -> Result<(), Refused> {
         done(unsafe { raw::np_host_unmap(&mut self.0, process, start, length) })
     }
 
     /// Gives the pages of a process's span a policy of their own, as "bind:0-1".
+    ///
+    /// # Errors
+    /// As [`Core::mbind`](crate::Core::mbind), and `NO_SUCH_PROCESS`.
     pub fn mbind(
         &mut self,
         process: u32,
@@ -223,6 +271,9 @@ impl Host {
     }
 
     /// Gives a task of a process its policy.
+    ///
+    /// # Errors
+    /// As [`Core::set_task`](crate::Core::set_task), and `NO_SUCH_PROCESS`.
     pub fn set_task(&mut self, process: u32, task: u32, policy: &str) -> Result<(), Refused> {
         let text = policy.as_bytes();
         done(unsafe {
@@ -231,11 +282,17 @@ impl Host {
     }
 
     /// Gives a task of a process the policy that another has, or none, as a new thread has its maker's.
+    ///
+    /// # Errors
+    /// As [`Core::inherit`](crate::Core::inherit), and `NO_SUCH_PROCESS`.
     pub fn inherit(&mut self, process: u32, task: u32, from: u32) -> Result<(), Refused> {
         done(unsafe { raw::np_host_inherit(&mut self.0, process, task, from) })
     }
 
     /// Gives the policies of the pages of a process's span a home node.
+    ///
+    /// # Errors
+    /// As [`Core::set_home`](crate::Core::set_home), and `NO_SUCH_PROCESS`.
     pub fn set_home(
         &mut self,
         process: u32,
@@ -247,6 +304,9 @@ impl Host {
     }
 
     /// The nodes on which memory for a page of a process is looked for, the first first.
+    ///
+    /// # Errors
+    /// `NO_SUCH_PROCESS`, `BAD_CPU`, `UNMAPPED`.
     pub fn choice(
         &mut self,
         process: u32,
@@ -272,6 +332,9 @@ impl Host {
     }
 
     /// The plan of all that a process has accepted, which answers as a core's does.
+    ///
+    /// # Errors
+    /// `NO_SUCH_PROCESS`, `NO_MEMORY`.
     pub fn compile(&mut self, process: u32) -> Result<Plan, Refused> {
         let mut plan = Plan(Handle::closed());
         done(unsafe { raw::np_host_compile(&mut self.0, process, &mut plan.0) })?;
@@ -279,6 +342,9 @@ impl Host {
     }
 
     /// The ranges of pages of a process, in order of address.
+    ///
+    /// # Errors
+    /// `NO_SUCH_PROCESS`.
     pub fn ranges(&mut self, process: u32) -> Result<Vec<Range>, Refused> {
         let mut count = 0;
         done(unsafe { raw::np_host_ranges(&mut self.0, process, &mut count) })?;
@@ -309,6 +375,9 @@ impl Host {
     }
 
     /// The policy of a task of a process, if it has one.
+    ///
+    /// # Errors
+    /// `NO_SUCH_PROCESS`.
     pub fn task_policy(&mut self, process: u32, task: u32) -> Result<Option<Policy>, Refused> {
         let mut policy = untold();
         done(unsafe { raw::np_host_task_policy(&mut self.0, process, task, &mut policy) })?;

@@ -85,6 +85,9 @@ unsafe impl Send for Pages {}
 
 impl Pages {
     /// A copy of a core: its pages lie nowhere yet, and no node ever fills.
+    ///
+    /// # Errors
+    /// `NO_MEMORY`.
     pub fn open(core: &mut Core) -> Result<Pages, Refused> {
         let mut pages = Pages(Handle::closed());
         done(unsafe { raw::np_pages_open(&mut pages.0, &mut core.0) })?;
@@ -92,6 +95,9 @@ impl Pages {
     }
 
     /// The same once more, to be asked "what if": what is done to one of the two doesn't change the other.
+    ///
+    /// # Errors
+    /// `NO_MEMORY`.
     pub fn copy(&mut self) -> Result<Pages, Refused> {
         let mut other = Pages(Handle::closed());
         done(unsafe { raw::np_pages_copy(&mut self.0, &mut other.0) })?;
@@ -99,6 +105,9 @@ impl Pages {
     }
 
     /// A copy of the core, for plans, ranges, reports and all else that a core is asked.
+    ///
+    /// # Errors
+    /// `NO_MEMORY`.
     pub fn core(&mut self) -> Result<Core, Refused> {
         let mut core = Core(Handle::closed());
         done(unsafe { raw::np_pages_core(&mut self.0, &mut core.0) })?;
@@ -114,16 +123,25 @@ impl Pages {
     }
 
     /// Maps a span of unmapped pages; the first has the index `offset`.
+    ///
+    /// # Errors
+    /// As [`Core::map`].
     pub fn map(&mut self, start: u64, length: u64, offset: u64) -> Result<(), Refused> {
         done(unsafe { raw::np_pages_map(&mut self.0, start, length, offset) })
     }
 
     /// Unmaps the pages of a span; then they lie nowhere, and give back the room that they took.
+    ///
+    /// # Errors
+    /// `TOO_MANY_RUNS` first, else as [`Core::unmap`].
     pub fn unmap(&mut self, start: u64, length: u64) -> Result<(), Refused> {
         done(unsafe { raw::np_pages_unmap(&mut self.0, start, length) })
     }
 
     /// Gives the pages of a span a policy of their own, as "bind:0-1", wherever they lie.
+    ///
+    /// # Errors
+    /// As [`Core::mbind`].
     pub fn mbind(&mut self, start: u64, length: u64, policy: &str) -> Result<(), Refused> {
         let text = policy.as_bytes();
         done(unsafe {
@@ -133,6 +151,9 @@ impl Pages {
 
     /// The same, refused as [`Refused::ASTRAY`] where one of the pages lies on a node that isn't in the
     /// policy's list as it is written (MPOL_MF_STRICT).
+    ///
+    /// # Errors
+    /// `ASTRAY`, else as [`Core::mbind`].
     pub fn mbind_strictly(&mut self, start: u64, length: u64, policy: &str) -> Result<(), Refused> {
         let text = policy.as_bytes();
         done(unsafe {
@@ -141,33 +162,51 @@ impl Pages {
     }
 
     /// Gives a task its policy.
+    ///
+    /// # Errors
+    /// As [`Core::set_task`].
     pub fn set_task(&mut self, task: u32, policy: &str) -> Result<(), Refused> {
         let text = policy.as_bytes();
         done(unsafe { raw::np_pages_set_task(&mut self.0, task, text.as_ptr(), text.len()) })
     }
 
     /// Gives a task the policy that another has, or none, as a new thread has its maker's.
+    ///
+    /// # Errors
+    /// As [`Core::inherit`].
     pub fn inherit(&mut self, task: u32, from: u32) -> Result<(), Refused> {
         done(unsafe { raw::np_pages_inherit(&mut self.0, task, from) })
     }
 
     /// Gives the policies of the pages of a span a home node.
+    ///
+    /// # Errors
+    /// As [`Core::set_home`].
     pub fn set_home(&mut self, start: u64, length: u64, node: u32) -> Result<(), Refused> {
         done(unsafe { raw::np_pages_set_home(&mut self.0, start, length, node) })
     }
 
     /// Gives a node its weight for weighted interleaving.
+    ///
+    /// # Errors
+    /// As [`Core::set_weight`].
     pub fn set_weight(&mut self, node: u32, weight: u32) -> Result<(), Refused> {
         done(unsafe { raw::np_pages_set_weight(&mut self.0, node, weight) })
     }
 
     /// Changes the nodes on which memory may be placed, as "0-1". The pages stay where they lie.
+    ///
+    /// # Errors
+    /// As [`Core::set_mems`].
     pub fn set_mems(&mut self, nodes: &str) -> Result<(), Refused> {
         done(unsafe { raw::np_pages_set_mems(&mut self.0, nodes.as_ptr(), nodes.len()) })
     }
 
     /// States that the mapped pages of a span lie on a node; a later statement counts. Refused as
     /// [`Refused::NODE_FULL`] where more come to the node than it takes.
+    ///
+    /// # Errors
+    /// `UNALIGNED`, `OUT_OF_SPACE`, `NO_SUCH_NODE`, `NODE_FULL`, `TOO_MANY_RUNS`, `NO_MEMORY`.
     pub fn place(&mut self, start: u64, length: u64, node: u32) -> Result<(), Refused> {
         done(unsafe { raw::np_pages_place(&mut self.0, start, length, node) })
     }
@@ -176,6 +215,9 @@ impl Pages {
     /// it (madvise(2), MADV_POPULATE_WRITE): the lowest first, each that lies nowhere goes to the first node
     /// of its list that has room by then. Pages that lie somewhere are passed over; one that finds no room
     /// stays nowhere, and the next go on. Refused as [`Refused::SPAN_UNMAPPED`] where one isn't mapped.
+    ///
+    /// # Errors
+    /// `UNALIGNED`, `OUT_OF_SPACE`, `NO_SUCH_CPU`, `SPAN_UNMAPPED`, `TOO_MANY_RUNS`, `NO_MEMORY`.
     pub fn populate(
         &mut self,
         start: u64,
@@ -193,11 +235,17 @@ impl Pages {
     /// Says how many more pages a node takes from now on: each page that comes to it (by `place`, `populate`
     /// or a move) takes one, and each that leaves it (by a later `place`, a move or `unmap`) gives one back.
     /// `None`, as at first: it never fills.
+    ///
+    /// # Errors
+    /// `NO_SUCH_NODE`, also for a node without memory.
     pub fn set_room(&mut self, node: u32, pages: Option<u64>) -> Result<(), Refused> {
         done(unsafe { raw::np_pages_set_room(&mut self.0, node, pages.unwrap_or(ENDLESS)) })
     }
 
     /// How many more pages a node takes; `None` where it never fills.
+    ///
+    /// # Errors
+    /// `NO_SUCH_NODE`, also for a node without memory.
     pub fn room(&mut self, node: u32) -> Result<Option<u64>, Refused> {
         let mut room = 0;
         done(unsafe { raw::np_pages_room(&mut self.0, node, &mut room) })?;
@@ -205,6 +253,9 @@ impl Pages {
     }
 
     /// The node on which the page of an address lies, if it lies on one.
+    ///
+    /// # Errors
+    /// None: that the page lies nowhere is no error.
     pub fn node_of(&mut self, address: u64) -> Result<Option<u8>, Refused> {
         let mut node = 0;
         match done(unsafe { raw::np_pages_node(&mut self.0, address, &mut node) }) {
@@ -235,6 +286,9 @@ impl Pages {
     }
 
     /// The runs of pages that lie on one node, in order of address and as long as they can be.
+    ///
+    /// # Errors
+    /// `NO_MEMORY`.
     pub fn runs(&mut self) -> Result<Vec<PageRun>, Refused> {
         let (mut runs, mut count) = (vec![PageRun::default(); 64], 0);
         loop {
@@ -251,6 +305,9 @@ impl Pages {
 
     /// Changes the nodes on which memory may be placed, as "0-1", and moves the pages along, as far as there
     /// is room: as in a cpuset of cgroup v2, or of v1 with memory_migrate.
+    ///
+    /// # Errors
+    /// As [`Core::set_mems`]; `TOO_MANY_RUNS`, `NO_MEMORY`.
     pub fn move_mems(&mut self, nodes: &str) -> Result<Moved, Refused> {
         let mut told = ToldMoves::none();
         done(unsafe {
@@ -261,6 +318,10 @@ impl Pages {
 
     /// Moves pages from the nodes of one list to the allowed nodes of another, as far as there is room
     /// (migrate_pages(2)).
+    ///
+    /// # Errors
+    /// `LIST_EMPTY` to `LIST_TOO_HIGH` for a faulty list; `NODES_NOT_ALLOWED`, `TOO_MANY_RUNS`,
+    /// `NO_MEMORY`.
     pub fn migrate(&mut self, old: &str, new: &str) -> Result<Moved, Refused> {
         let mut told = ToldMoves::none();
         done(unsafe {
@@ -280,6 +341,9 @@ impl Pages {
     /// it is written (MPOL_MF_MOVE): the lowest first, each to the first node with room of its list, as a
     /// fault of the task on the node `cpu` would put it; all of them stay where the machine has no such node.
     /// If `strict`, that pages stayed is answered by EIO (MPOL_MF_STRICT too; "default" drops it).
+    ///
+    /// # Errors
+    /// As [`Core::mbind`]; `TOO_MANY_RUNS`.
     pub fn mbind_moving(
         &mut self,
         start: u64,
@@ -308,6 +372,10 @@ impl Pages {
     }
 
     /// Moves the page of an address to a node (move_pages(2)); a page that lies there stays.
+    ///
+    /// # Errors
+    /// `NO_SUCH_TARGET`, `TARGET_NOT_ALLOWED`, `PAGE_UNMAPPED`, `NOT_PLACED`, `NODE_FULL`,
+    /// `TOO_MANY_RUNS`, `NO_MEMORY`.
     pub fn move_page(&mut self, address: u64, node: u32) -> Result<(), Refused> {
         done(unsafe { raw::np_pages_move(&mut self.0, address, node) })
     }

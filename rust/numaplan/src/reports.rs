@@ -110,6 +110,9 @@ impl<'a> Question<'a> {
 
     /// What is wrong with the lines of the script alone, and what a running kernel would do otherwise
     /// with them: `numaplan check`.
+    ///
+    /// # Errors
+    /// `NO_MEMORY`.
     pub fn check(&self, format: Format) -> Result<Report, Unanswered> {
         let asked = self.asked(format);
         told(|text, report| unsafe {
@@ -126,6 +129,9 @@ impl<'a> Question<'a> {
 
     /// Where all mapped pages would go, where nodes (the first of each pair) have so many free pages;
     /// others never run out: `numaplan predict`.
+    ///
+    /// # Errors
+    /// `NO_MEMORY`, `NO_MACHINE`, `NO_SUCH_NODE`, `BAD_CPU`.
     pub fn predict(&self, format: Format, free: &[(u8, u64)]) -> Result<Report, Unanswered> {
         let (asked, free) = (self.asked(format), free_pages(free));
         told(|text, report| unsafe {
@@ -159,6 +165,9 @@ impl<'a> Question<'a> {
     /// assert_eq!(report.text.lines().last(), Some("total placed=4 moved=4 N0->N1=4"));
     /// # Ok::<(), numaplan::Unanswered>(())
     /// ```
+    ///
+    /// # Errors
+    /// As [`Question::predict`].
     pub fn predict_at(&self, at: &str, format: Format, free: &[(u8, u64)]) -> Result<Report, Unanswered> {
         let (asked, free) = (self.asked(format), free_pages(free));
         told(|text, report| unsafe {
@@ -193,6 +202,9 @@ impl<'a> Question<'a> {
     ///     total placed=3 moved=2 N1->N0=2 noroom=1 N1=1\nleft N0=0\n");
     /// # Ok::<(), numaplan::Unanswered>(())
     /// ```
+    ///
+    /// # Errors
+    /// `NO_MEMORY`, `NO_MACHINE`, `NO_SUCH_NODE`; `MANY_PROCESSES` for a picture of a host.
     pub fn moves_at(&self, at: &str, format: Format, free: &[(u8, u64)]) -> Result<Report, Unanswered> {
         let (asked, free) = (self.asked(format), free_pages(free));
         told(|text, report| unsafe {
@@ -215,6 +227,9 @@ impl<'a> Question<'a> {
 
     /// The same of pages that lie where the task touched them on a CPU of the node, while every node had
     /// room: `numaplan moves --node`.
+    ///
+    /// # Errors
+    /// As [`Question::moves_at`]; `BAD_CPU`.
     pub fn moves_touched(&self, format: Format, free: &[(u8, u64)]) -> Result<Report, Unanswered> {
         let (asked, free) = (self.asked(format), free_pages(free));
         told(|text, report| unsafe {
@@ -235,6 +250,9 @@ impl<'a> Question<'a> {
 
     /// Which pages would go to another node after the lines than after the script alone:
     /// `numaplan diff`.
+    ///
+    /// # Errors
+    /// `NO_MEMORY`, `NO_MACHINE`, `BAD_CPU`.
     pub fn diff(&self, format: Format) -> Result<Report, Unanswered> {
         let asked = self.asked(format);
         told(|text, report| unsafe {
@@ -253,6 +271,9 @@ impl<'a> Question<'a> {
 
     /// Why the page of a number (address / 4096) would go where it goes, and of one that is there
     /// where it lies and how it would come there: `numaplan explain`.
+    ///
+    /// # Errors
+    /// `NO_MEMORY`, `NO_MACHINE`, `BAD_CPU`, `UNMAPPED`.
     pub fn explain(&self, page: u64, format: Format) -> Result<Report, Unanswered> {
         let asked = self.asked(format);
         told(|text, report| unsafe {
@@ -281,6 +302,9 @@ impl<'a> Question<'a> {
     /// assert_eq!(report.text.lines().next(), Some("page 0x10000 is resident on node 1"));
     /// # Ok::<(), numaplan::Unanswered>(())
     /// ```
+    ///
+    /// # Errors
+    /// As [`Question::explain`].
     pub fn explain_at(&self, at: &str, page: u64, format: Format) -> Result<Report, Unanswered> {
         let asked = self.asked(format);
         told(|text, report| unsafe {
@@ -302,6 +326,9 @@ impl<'a> Question<'a> {
 
     /// What a trace of accesses, `TASK ADDRESS CPU [COUNT]` or `mark TEXT` a line, meets where no
     /// page is placed, or beside the script's pages where no node has a frame: `numaplan replay`.
+    ///
+    /// # Errors
+    /// `NO_MEMORY`, `NO_MACHINE`; `BAD_ACCESS`, of which the last message says why.
     pub fn replay(&self, trace: &str, format: Format) -> Result<Report, Unanswered> {
         let asked = self.asked(format);
         told(|text, report| unsafe {

@@ -15,11 +15,17 @@ unsafe impl Send for Script {}
 impl Script {
     /// A script before its first line, where the rules of the documents count unless a line gives
     /// others.
+    ///
+    /// # Errors
+    /// `NO_MEMORY`.
     pub fn open() -> Result<Script, Refused> {
         Script::open_by(Rules::Document)
     }
 
     /// The same with these rules, unless a line gives others.
+    ///
+    /// # Errors
+    /// `NO_MEMORY`.
     pub fn open_by(rules: Rules) -> Result<Script, Refused> {
         let mut script = Script(Handle::closed());
         done(unsafe { raw::np_script_open_by(&mut script.0, rules.number()) })?;
@@ -27,6 +33,9 @@ impl Script {
     }
 
     /// The answers to a whole script, as `numaplan run` prints them.
+    ///
+    /// # Errors
+    /// `NO_MEMORY`.
     pub fn run(script: &str) -> Result<String, Refused> {
         written(65_536, |answers, length| unsafe {
             raw::np_script_run(
@@ -41,6 +50,9 @@ impl Script {
 
     /// Serves a line, which comes without its line feed, and gives its answer, which has one. What is
     /// faulty or refused stands in the answer.
+    ///
+    /// # Errors
+    /// `NO_MEMORY`: nothing has changed; `ANSWER_LOST`: the line was served.
     pub fn line(&mut self, line: &str) -> Result<Vec<u8>, Refused> {
         let mut needed = 0;
         done(unsafe {

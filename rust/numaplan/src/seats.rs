@@ -20,6 +20,10 @@ unsafe impl Send for Seat {}
 
 impl Seat {
     /// The first seat at new pools of a machine's frames, described as for a core.
+    ///
+    /// # Errors
+    /// `LIST_EMPTY` to `LIST_TOO_HIGH` for a faulty list; `BAD_NODE_COUNT` to `TOO_MANY_FRAMES`;
+    /// `NO_MEMORY`.
     pub fn open(memory: &str, frames: &[u32], distances: &[u8]) -> Result<Seat, Refused> {
         let mut seat = Seat {
             handle: Handle::closed(),
@@ -40,6 +44,9 @@ impl Seat {
     }
 
     /// A seat at the same pools, for another thread; it holds nothing.
+    ///
+    /// # Errors
+    /// `NO_MEMORY`.
     pub fn split(&mut self) -> Result<Seat, Refused> {
         let mut other = Seat {
             handle: Handle::closed(),
@@ -50,7 +57,10 @@ impl Seat {
     }
 
     /// Takes a free frame of the first of the listed nodes that has one, and returns the node's place
-    /// in the list. `ALL_TAKEN` where each frame of each of them was found taken.
+    /// in the list.
+    ///
+    /// # Errors
+    /// `ALL_TAKEN` where each frame of each of them was found taken.
     pub fn take(&mut self, nodes: &[u8]) -> Result<(Frame, usize), Refused> {
         let (mut frame, mut rank) = (Frame::default(), 0);
         done(unsafe {
@@ -65,14 +75,20 @@ impl Seat {
         Ok((frame, rank))
     }
 
-    /// Gives back a frame that the seat holds. `NOT_OWNED` where it doesn't.
+    /// Gives back a frame that the seat holds.
+    ///
+    /// # Errors
+    /// `NOT_OWNED` where the seat doesn't hold it.
     pub fn give(&mut self, frame: Frame) -> Result<(), Refused> {
         done(unsafe { raw::np_seat_give(&mut self.handle, frame.node, frame.number) })
     }
 
     /// Exchanges a frame that the seat holds for one of a node, as for a page that moves there: takes
-    /// the new one, and then gives back the old one. `NOT_OWNED` where the seat doesn't hold the
-    /// frame; `ALL_TAKEN` where each frame of the node was found taken. It then holds what it held.
+    /// the new one, and then gives back the old one.
+    ///
+    /// # Errors
+    /// `NOT_OWNED` where the seat doesn't hold the frame; `ALL_TAKEN` where each frame of the node
+    /// was found taken. It then holds what it held.
     pub fn migrate(&mut self, frame: Frame, to: u8) -> Result<Frame, Refused> {
         let mut found = Frame::default();
         done(unsafe {
@@ -81,8 +97,10 @@ impl Seat {
         Ok(found)
     }
 
-    /// Gets the frames that another seat at the same pools holds. A seat at other pools is handed
-    /// back.
+    /// Gets the frames that another seat at the same pools holds.
+    ///
+    /// # Errors
+    /// The other seat, where it is at other pools.
     pub fn join(&mut self, mut other: Seat) -> Result<(), Seat> {
         // (the one thing that np_seat_join leaves to its caller)
         if !Arc::ptr_eq(&self.pools, &other.pools) {

@@ -18,11 +18,18 @@ pub(crate) fn read(text: &str) -> Result<Nodes, Refused> {
 }
 
 /// The nodes of a list, as "0-2,5".
+///
+/// # Errors
+/// `LIST_EMPTY` to `LIST_TOO_HIGH` for a faulty list.
 pub fn nodes(text: &str) -> Result<Vec<u8>, Refused> {
     read(text).map(|nodes| members(&nodes))
 }
 
 /// The nodes that a policy has once it is set where these are allowed.
+///
+/// # Errors
+/// `LIST_EMPTY` to `LIST_TOO_HIGH` and `UNKNOWN_MODE` to `NODES_MISSING` for a faulty word or list;
+/// `NO_POLICY`, `NODES_NOT_ALLOWED`.
 pub fn effective(policy: &str, allowed: &str) -> Result<Vec<u8>, Refused> {
     let mut nodes = Nodes { words: [0; 4] };
     done(unsafe {
@@ -47,6 +54,9 @@ pub(crate) fn set_of(numbers: &[u8]) -> Nodes {
 }
 
 /// Nodes as a list: 0, 1, 2 and 5 are "0-2,5".
+///
+/// # Errors
+/// None.
 pub fn nodes_text(numbers: &[u8]) -> Result<String, Refused> {
     let nodes = set_of(numbers);
     written(1_024, |text, length| unsafe {
@@ -56,11 +66,17 @@ pub fn nodes_text(numbers: &[u8]) -> Result<String, Refused> {
 
 /// The nodes that a policy has once the allowed nodes have changed from `old` to `new`, by the rules of
 /// the documents.
+///
+/// # Errors
+/// As [`effective`], of the word and both lists.
 pub fn rebind(policy: &str, old: &str, new: &str) -> Result<Vec<u8>, Refused> {
     rebind_by(Rules::Document, policy, old, new)
 }
 
 /// The same by these rules.
+///
+/// # Errors
+/// As [`effective`], of the word and both lists.
 pub fn rebind_by(rules: Rules, policy: &str, old: &str, new: &str) -> Result<Vec<u8>, Refused> {
     let mut nodes = Nodes { words: [0; 4] };
     done(unsafe {
@@ -79,6 +95,9 @@ pub fn rebind_by(rules: Rules, policy: &str, old: &str, new: &str) -> Result<Vec
 }
 
 /// A policy as numa_maps shows it once it is set where these nodes are allowed.
+///
+/// # Errors
+/// As [`effective`].
 pub fn policy_text(policy: &str, allowed: &str) -> Result<String, Refused> {
     written(1_024, |text, length| unsafe {
         raw::np_policy_text(
