@@ -1,23 +1,31 @@
-"""Makes the wheel of the Python package, with libnumaplan.so in it, and nothing to be fetched:
+"""Makes the wheel of the Python package, with libnumaplan.so in it, and nothing to be fetched; or its
+sources alone:
 
     python3 wheels.py LIBRARY FOLDER
+    python3 wheels.py FOLDER
 
-or as pip does it (PEP 517), where NUMAPLAN_LIBRARY names the library. Not proved."""
+or as pip does it (PEP 517), where NUMAPLAN_LIBRARY names the library. The same sources make the same
+bytes. Not proved."""
 
 import base64
 import glob
+import gzip
 import hashlib
+import io
 import os
 import re
 import subprocess
 import sys
 import sysconfig
+import tarfile
 import zipfile
 
 HERE = os.path.dirname(os.path.abspath(__file__))
 NAME = "libnumaplan.so.0"  # (as the package looks for it in its own folder)
-TOOL = os.path.join(HERE, "..", "tools", "machine-line")  # (Core.from_hardware runs it)
+TOOLS = [os.path.join(HERE, folder, "machine-line") for folder in ("numaplan", "../tools")]
+TOOL = next(filter(os.path.exists, TOOLS))  # (Core.from_hardware runs it)
 MODULES = glob.glob(os.path.join(HERE, "numaplan", "*.py")) + [os.path.join(HERE, "numaplan", "py.typed")]
+YEAR_1980 = 315532800  # (as the files of a wheel have it)
 
 
 def project(key):
@@ -44,13 +52,35 @@ def metadata():
     return "\n".join(lines) + "\n"
 
 
+def package():
+    """The files of the package itself, by the names that they have in it."""
+    return {f"numaplan/{os.path.basename(path)}": path for path in [*MODULES, TOOL]}
+
+
+def write_sources(folder):
+    """Writes the sources, of which pip makes the wheel, and answers with their archive's name."""
+    stem = f"{project('name')}-{project('version')}"
+    parts = {**package(), **{name: os.path.join(HERE, name) for name in ("pyproject.toml", "wheels.py")}}
+    with open(os.path.join(folder, f"{stem}.tar.gz"), "wb") as file, \
+            gzip.GzipFile("", "wb", 9, file, 0) as packed, \
+            tarfile.open(fileobj=packed, mode="w", format=tarfile.PAX_FORMAT) as sources:
+        def put(name, data, mode):
+            one = tarfile.TarInfo(f"{stem}/{name}")
+            one.size, one.mode, one.mtime = len(data), mode, YEAR_1980
+            sources.addfile(one, io.BytesIO(data))
+
+        put("PKG-INFO", metadata().encode(), 0o644)
+        for name, path in sorted(parts.items()):
+            with open(path, "rb") as part:
+                put(name, part.read(), 0o755 if path == TOOL else 0o644)
+    return f"{stem}.tar.gz"
+
+
 def write_wheel(library, folder):
     """Writes the wheel into a folder, and answers with its name."""
     tag = f"py3-none-{platform_of(library)}"
     stem = f"{project('name')}-{project('version')}"
-    parts = {f"numaplan/{os.path.basename(path)}": path for path in MODULES}
-    parts["numaplan/machine-line"] = TOOL
-    parts[f"numaplan/{NAME}"] = library
+    parts = {**package(), f"numaplan/{NAME}": library}
     texts = {
         "METADATA": metadata(),
         "WHEEL": f"Wheel-Version: 1.0\nGenerator: wheels.py\nRoot-Is-Purelib: false\nTag: {tag}\n",
@@ -85,7 +115,12 @@ def build_wheel(wheel_directory, config_settings=None, metadata_directory=None):
     return write_wheel(library, wheel_directory)
 
 
+def build_sdist(sdist_directory, config_settings=None):
+    """What pip and build call."""
+    return write_sources(sdist_directory)
+
+
 if __name__ == "__main__":
-    if len(sys.argv) != 3:
-        raise SystemExit("usage: wheels.py LIBRARY FOLDER")
-    print(write_wheel(*sys.argv[1:]))
+    if len(sys.argv) not in (2, 3):
+        raise SystemExit("usage: wheels.py [LIBRARY] FOLDER")
+    print(write_wheel(*sys.argv[1:]) if len(sys.argv) == 3 else write_sources(sys.argv[1]))

@@ -1,11 +1,16 @@
 # A part of the test of ./numaplan: its packages, of the stand-in's program and library. They have
 # what they should, of one version, and nothing is left behind. Not proved.
 
-# What the packages are called.
+# packed FOLDER [without]: what the packages are called, in order; those for Debian too, or not.
 packed() {
-    local version
+    local version first='' last=''
     version=$(<"$top/VERSION")
-    [[ $(cd "$1" && echo *) = "numaplan-$version-linux-x86_64.tar.gz numaplan-$version-"*".whl$2" ]]
+    if [ "${2:-}" != without ]; then
+        first="libnumaplan-dev_$version-1_amd64.deb libnumaplan0_$version-1_amd64.deb "
+        last=" numaplan_$version-1_amd64.deb python3-numaplan_$version-1_all.deb"
+    fi
+    [[ $(cd "$1" && LC_ALL=C && echo *) = "${first}numaplan-$version-linux-x86_64.tar.gz"\
+" numaplan-$version-py3-none-"*".whl numaplan-$version.tar.gz$last" ]]
 }
 
 # The library's crate, with what builds its archive, beside the others.
@@ -22,7 +27,7 @@ make_library() {
 # Unpacks the tarball, and sets where.
 unpack() {
     tree=$top/unpacked/numaplan-$(<"$top/VERSION")-linux-x86_64
-    mkdir "$top/unpacked" && tar -C "$top/unpacked" -xzf "$top/made/"*.tar.gz && [ -d "$tree" ]
+    mkdir "$top/unpacked" && tar -C "$top/unpacked" -xzf "$top/made/"*-linux-x86_64.tar.gz && [ -d "$tree" ]
 }
 
 # Whether the tree has each of these files.
@@ -66,17 +71,98 @@ try_tree() {
         test "$answer" = "$(<"$top/VERSION")"
 }
 
-try_deb() {
-    local deb version
+# ---- the packages for Debian, unpacked where they would be installed
+
+debs() { (LC_ALL=C && echo "$top/made/"*.deb); }
+
+# A line of each: its name, and what it depends on.
+list_relations() {
+    local deb
+    for deb in $(debs); do
+        # shellcheck disable=SC2016 # (dpkg-deb's own)
+        dpkg-deb -W --showformat='${Package} ${Version} ${Architecture} ${Depends}\n' "$deb"
+    done
+}
+
+wanted_relations() {
+    local version=$1-1 libc='libc6 (>= 2.N)'
+    printf '%s\n' "libnumaplan-dev $version amd64 libnumaplan0 (= $version)" \
+        "libnumaplan0 $version amd64 $libc" "numaplan $version amd64 $libc" \
+        "python3-numaplan $version all python3 (>= 3.8), libnumaplan0 (= $version)"
+}
+
+install_debs() {
+    local deb
+    for deb in $(debs); do dpkg-deb -x "$deb" "$root" || return; done
+}
+
+# Each file is in one package alone. (Folders end with /.)
+are_apart() {
+    local deb
+    for deb in $(debs); do dpkg-deb -c "$deb"; done | awk '{ print $6 }' | grep -v '/$' | sort | uniq -d |
+        diff /dev/null -
+}
+
+# What dpkg is told: no script, and of the shared library alone what others need.
+list_told() {
+    local deb
+    for deb in $(debs); do
+        dpkg-deb --ctrl-tarfile "$deb" | tar -t | grep -vE '^\./((control|md5sums)?)$' |
+            sed "s@^\.@$(dpkg-deb -f "$deb" Package)@"
+    done
+}
+
+is_recorded_in_debs() {
+    (cd "$root/usr" && sha256sum -c --quiet share/doc/*numaplan*/PROOF 2>"$top/said") &&
+        [ "$(cat "$root/usr/share/doc/"*/PROOF | grep -cE '^[0-9a-f]{64}  ')" = 3 ]
+}
+
+# What pkg-config and CMake find, as if the root were /.
+are_found() {
+    local library=$root/usr/lib/x86_64-linux-gnu
+    answer=$(PKG_CONFIG_PATH=$library/pkgconfig \
+        pkg-config --define-variable=prefix="$root/usr" --cflags --libs numaplan)
+    [[ $answer = "-I$root/usr/include -L$library -lnumaplan"* ]]
+}
+
+are_found_by_cmake() {
+    mkdir -p "$top/cmake" && printf '%s\n' 'cmake_minimum_required(VERSION 3.13)' 'project(x C)' \
+        'find_package(numaplan REQUIRED)' 'foreach(one numaplan archive)' \
+        '  get_target_property(file numaplan::${one} IMPORTED_LOCATION)' \
+        '  get_target_property(folder numaplan::${one} INTERFACE_INCLUDE_DIRECTORIES)' \
+        '  if(NOT EXISTS ${file} OR NOT EXISTS ${folder}/numaplan.h)' \
+        '    message(FATAL_ERROR "${file} ${folder}")' '  endif()' 'endforeach()' \
+        >"$top/cmake/CMakeLists.txt" &&
+        answer=$(cmake -S "$top/cmake" -B "$top/cmake/made" -DCMAKE_PREFIX_PATH="$root/usr" 2>&1)
+}
+
+# Python's package finds the library where the loader looks, and numaplan-emulate the package.
+is_imported() {
+    local place
+    for place in lib/python3/dist-packages share/numaplan; do
+        answer=$(cd "$root/usr/$place" && LD_LIBRARY_PATH=$root/usr/lib/x86_64-linux-gnu python3 -B -c \
+            'import numaplan; print(numaplan.__version__, numaplan.LIBRARY._name)')
+        [ "$answer" = "$1 libnumaplan.so.0" ] || return
+    done
+}
+
+try_debs() {
+    local version root=$top/root
     version=$(<"$top/VERSION")
-    deb=$top/made/numaplan_$version-1_amd64.deb
-    answer=$(dpkg-deb -f "$deb" Version Depends)
-    check 'the .deb is of the version, and needs libc alone' bash -c \
-        "[[ '$answer' =~ ^Version:\ $version-1\$'\n'Depends:\ libc6\ \(\>=\ 2\.[0-9.]+\)\$ ]]"
-    answer=$(dpkg-deb -c "$deb" | grep -vE '^[d-][rwx-]{9} root/root .* \./(usr/.*)?$|^l')
+    answer=$(list_relations | sed -E 's/(libc6 \(>= 2)\.[0-9.]+/\1.N/' | diff - <(wanted_relations "$version"))
+    check 'the .debs need libc, Python and each other of the same version' test -z "$answer"
+    check 'they unpack' install_debs
+    check 'no file is in two of them' are_apart
+    answer=$(for deb in $(debs); do dpkg-deb -c "$deb"; done |
+        grep -vE '^[d-][rwx-]{9} root/root .* \./(usr/.*)?$|^l')
     check 'all of it is root'"'"'s, and below /usr' test -z "$answer"
-    answer=$(dpkg-deb -I "$deb" | grep -cE ' (pre|post)(inst|rm) ')
-    check 'and no script runs as it is installed' test "$answer" = 0
+    answer=$(list_told)
+    check 'and no script runs as they are installed' \
+        test "$answer" = $'libnumaplan0/shlibs\nlibnumaplan0/triggers'
+    check 'each has the sums of what was proved' is_recorded_in_debs
+    check 'the Python package is imported from both of its places' is_imported "$version"
+    ! command -v pkg-config >/dev/null || check 'pkg-config finds the library' are_found
+    ! command -v cmake >/dev/null || check 'and CMake' are_found_by_cmake
 }
 
 try_packages() {
@@ -91,14 +177,13 @@ try_packages() {
     run package "$top/made"
     check 'packages prove what they are made of first' says 'proving the C library and the 3 crates'
     check 'and say where they are' says "in $top/made: numaplan-"
-    check 'a tarball, a wheel and a .deb' \
-        packed "$top/made" " numaplan_$(<"$top/VERSION")-1_amd64.deb"
+    check 'a tarball, a wheel, its sources and four .debs' packed "$top/made"
     check 'nothing half done stays behind packages' is_tidy
     try_tree
-    [ ! -x /usr/bin/dpkg-deb ] || try_deb
+    [ ! -x /usr/bin/dpkg-deb ] || try_debs
     cp -r "$top/made" "$top/earlier"
     run package ../made
-    check 'a second time nothing is proved' notes 'pack '
+    check 'a second time nothing is proved' notes 'pack pack pack pack '
     check 'and the same bytes are made' diff -r "$top/made" "$top/earlier"
     try_faults_of_packing
 }
@@ -117,7 +202,7 @@ try_faults_of_packing() {
     mv "$top/kit/bin/dpkg-deb" "$top/kit/away"
     path=$top/kit/bin:$top/bare run package
     check 'without dpkg-deb that is said' says "dpkg-deb isn't in PATH, so there is no .deb"
-    check 'and the others are made' packed "$top/out/packages" ''
+    check 'and the others are made' packed "$top/out/packages" without
     mv "$top/kit/away" "$top/kit/bin/dpkg-deb"
     touch "$top/taken"
     run package "$top/taken/below"

@@ -1,5 +1,5 @@
 # A part of ./numaplan: makes packages of the program and the library as they were proved: a
-# tarball, a package for Debian, and the wheel.
+# tarball, packages for Debian (debian.bash), the wheel, and the Python package's sources.
 #
 # All is made in the room, by one command that can be ended at any time, and goes to its folder
 # whole. The same sources and proofs make the same bytes: times are that of the commit. Not proved.
@@ -38,7 +38,7 @@ pack_documents() {
         "$top/docs/LIBRARY.md" >"$documents/LIBRARY.md" && cp "$top/CHANGELOG.md" "$documents/"
 }
 
-# Makes the tree that is packed, below a folder like /usr, and the wheel beside it.
+# Makes the tree that is packed, below a folder like /usr, and beside it the wheel and its sources.
 make_tree() {
     local tree=$1 made=$2
     # (a subshell each, since they end the script where they fail)
@@ -47,61 +47,13 @@ make_tree() {
         sed -i 's@^prefix=.*@prefix=${pcfiledir}/../..@' "$tree/lib/pkgconfig/numaplan.pc" &&
         write_record "$tree" >"$room/PROOF" &&
         mv "$room/PROOF" "$tree/share/doc/numaplan/" || return
-    ! compgen -G "$tree/share/numaplan/*.whl" >/dev/null || mv "$tree/share/numaplan/"*.whl "$made"
+    ! compgen -G "$tree/share/numaplan/*.whl" >/dev/null ||
+        { mv "$tree/share/numaplan/"*.whl "$made" && python3 -B "$top/python/wheels.py" "$made" >/dev/null; }
 }
 
 make_tarball() {
     tar -C "$room" --sort=name --owner=0 --group=0 --numeric-owner --mode=u+w,go-w,a+rX \
         --mtime="@$SOURCE_DATE_EPOCH" -cf - "$package_name" | gzip -9n >"$1/$package_name.tar.gz"
-}
-
-# ---- the package for Debian
-
-# The newest libc that a file asks for.
-libc_of() { objdump -T "$@" | grep -o 'GLIBC_[0-9][0-9.]*' | sort -uV | tail -n 1 | cut -d _ -f 2; }
-
-write_control() {
-    local root=$1
-    printf '%s\n' 'Package: numaplan' "Version: $version-1" 'Architecture: amd64' 'Section: utils' \
-        'Priority: optional' "Maintainer: $maintainer" \
-        "Installed-Size: $(du -sk --apparent-size "$root/usr" | cut -f 1)" \
-        "Depends: libc6 (>= $(libc_of "$root/usr/bin/numaplan" "$root/usr/lib/libnumaplan.so"))" \
-        'Recommends: python3 (>= 3.10)' \
-        'Description: says where Linux would place memory under NUMA policies' \
-        ' It answers for a machine and policies that are described: nodes and' \
-        ' distances, mbind and set_mempolicy, weights, home nodes, and the nodes that' \
-        ' a cpuset allows. The program and the library libnumaplan are proved, and' \
-        ' need libc alone; numaplan-emulate and the other scripts need Python.'
-}
-
-# Places and forms that Debian has of its own: compressed pages and changes, zsh's completions, and where
-# Python looks for packages.
-suit_debian() {
-    local usr=$1/usr documents=$1/usr/share/doc/numaplan
-    mkdir -p "$usr/share/zsh/vendor-completions" "$usr/lib/python3/dist-packages" &&
-        ln -s ../../../share/numaplan/numaplan "$usr/lib/python3/dist-packages/numaplan" &&
-        mv "$usr/share/zsh/site-functions/_numaplan" "$usr/share/zsh/vendor-completions/" &&
-        rmdir "$usr/share/zsh/site-functions" &&
-        mv "$documents/CHANGELOG.md" "$documents/changelog" &&
-        printf '%s\n' "numaplan ($version-1) unstable; urgency=medium" '' \
-            '  * Made by ./numaplan package, of' "    $commit." '' \
-            " -- $maintainer  $(date -uRd "@$SOURCE_DATE_EPOCH")" >"$documents/changelog.Debian" &&
-        printf '%s\n' 'No licence has been granted yet; that is for the owners of the' \
-            'repository of numaplan to decide.' >"$documents/copyright" &&
-        chmod a-x "$usr/lib/libnumaplan.so.$version" && mkdir -p "$usr/share/lintian/overrides" &&
-        printf '%s\n' '# (what was proved is packed as it was built: PROOF has its sum)' \
-            'numaplan: unstripped-binary-or-object' >"$usr/share/lintian/overrides/numaplan" &&
-        gzip -9n "$documents"/changelog{,.Debian} "$usr/share/man"/man*/*
-}
-
-make_deb() {
-    local root=$room/root made=$1
-    mkdir -p "$root/DEBIAN" && cp -a "$room/$package_name" "$root/usr" && suit_debian "$root" &&
-        chmod -R u+w,go-w,a+rX "$root" && write_control "$root" >"$root/DEBIAN/control" &&
-        echo 'activate-noawait ldconfig' >"$root/DEBIAN/triggers" &&
-        echo "libnumaplan ${version%%.*} numaplan (>= $version)" >"$root/DEBIAN/shlibs" &&
-        (cd "$root" && find usr -type f | LC_ALL=C sort | xargs md5sum >DEBIAN/md5sums) &&
-        dpkg-deb --root-owner-group --build "$root" "$made/numaplan_$version-1_amd64.deb"
 }
 
 # ---- all of them
@@ -114,7 +66,7 @@ make_packages() {
     umask 022
     mkdir -p "$made" "$tree" "$TMPDIR" && make_tree "$tree" "$made" &&
         make_tarball "$made" || return
-    ! command -v dpkg-deb >/dev/null || make_deb "$made"
+    ! command -v dpkg-deb >/dev/null || make_debs "$made"
 }
 
 # Puts what was made into its folder, in place of what an earlier run made there of this version.
@@ -153,7 +105,7 @@ package_in() {
 
 # Tells what was made, and what wasn't.
 tell_packages() {
-    say "in $1: $(cd "$1" && echo "$package_name".tar.gz numaplan*"$version"*.@(deb|whl))"
+    say "in $1: $(cd "$1" && echo numaplan-"$version"{,-*}.tar.gz *numaplan*"$version"*.@(deb|whl))"
     command -v dpkg-deb >/dev/null || say "dpkg-deb isn't in PATH, so there is no .deb"
-    command -v python3 >/dev/null || say "python3 isn't in PATH, so there is no wheel"
+    command -v python3 >/dev/null || say "python3 isn't in PATH, so there is no wheel, nor its sources"
 }
