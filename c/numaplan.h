@@ -20,7 +20,7 @@
  * program that swaps the plan of running threads does so under a lock of its own.
  *
  * Pointers are not null, not even where a length is 0, and hold for the call; no two of one call
- * overlap. Texts are bytes with a length, without a zero at the end.
+ * overlap. Texts are bytes with a length, without a zero at the end: NP_TEXT makes both of a string.
  *
  * Answers. Each function that can fail answers one of the numbers of `enum np_answer`, as a
  * uint32_t: a later version may answer a number that this header lacks. NP_OK is 0. A call that
@@ -33,14 +33,15 @@
  * What a call takes and answers, a struct's fields and what a number means change by a major number
  * alone, but for faults, which CHANGELOG tells.
  *
- * Memory comes from malloc, realloc and free by three functions in libnumaplan.a (rattle_alloc,
- * rattle_realloc, rattle_dealloc), which another object that is linked before it can supply. */
+ * Memory comes from malloc, realloc and free by three functions in libnumaplan.a, which a program
+ * that is linked with it can supply itself: numaplan_memory.h declares them. */
 #ifndef NUMAPLAN_H
 #define NUMAPLAN_H
 
 #include <stdbool.h>
 #include <stddef.h>
 #include <stdint.h>
+#include <string.h>
 
 #ifdef __cplusplus
 extern "C" {
@@ -160,6 +161,10 @@ enum np_answer {
 };
 
 /* ---- types */
+
+/* A string as the two arguments that a call takes for a text, its bytes and how many they are, as in
+ * `np_core_set_task(&core, 1, NP_TEXT("bind:0-1"))`; it is evaluated twice. */
+#define NP_TEXT(string) (const uint8_t *)(string), strlen(string)
 
 /* A core: commands, published versions, and workers that look for frames. */
 typedef struct np_core {

@@ -10,7 +10,6 @@
 #include <pthread.h>
 #include <stdatomic.h>
 #include <stdio.h>
-#include <string.h>
 
 enum { THREADS = 4, FAULTS = 10000, PAGES = 1000, FIRST = 16, NODES = 2 };
 
@@ -95,14 +94,14 @@ static int hand_out(np_core *core) {
 
 static int open_core(np_core *core) {
     static const np_limits limits = {65536, 1024, UINT32_MAX};
-    return np_core_open(core, (const uint8_t *)"0-1", 3, frames, NODES, distances, NODES * NODES,
-                        &limits, 1) ||
+    return np_core_open(core, NP_TEXT("0-1"), frames, NODES, distances, NODES * NODES, &limits,
+                        1) ||
            np_core_map(core, FIRST * 4096, PAGES * 4096, FIRST);
 }
 
 /* Opens the pools, with a seat for each thread. */
 static int open_seats(struct worker *workers) {
-    int failed = np_seat_open(&workers[0].seat, (const uint8_t *)"0-1", 3, frames, NODES, distances,
+    int failed = np_seat_open(&workers[0].seat, NP_TEXT("0-1"), frames, NODES, distances,
                               NODES * NODES) != NP_OK;
     for (int k = 1; k < THREADS && !failed; k++)
         failed = np_seat_split(&workers[0].seat, &workers[k].seat) != NP_OK;
@@ -125,9 +124,7 @@ static int change(np_core *core) {
     int failed = 0;
     for (int turn = 0; turn < 300 && !failed; turn++) {
         const char *policy = policies[turn % 3];
-        size_t length = strlen(policy);
-        failed = np_core_mbind(core, FIRST * 4096, PAGES * 4096, (const uint8_t *)policy, length) ||
-                 hand_out(core);
+        failed = np_core_mbind(core, FIRST * 4096, PAGES * 4096, NP_TEXT(policy)) || hand_out(core);
     }
     return failed;
 }

@@ -9,7 +9,6 @@
 #include <pthread.h>
 #include <stdatomic.h>
 #include <stdio.h>
-#include <string.h>
 
 enum { THREADS = 4, FAULTS = 100000, FIRST = 16, PAGES = 1000, TASK = 1 };
 
@@ -52,8 +51,7 @@ static void *serve(void *argument) {
 static uint32_t change(np_core *core, const char *policy) {
     np_plan made = {0}, old;
     uint64_t version;
-    uint32_t code = np_core_mbind(core, FIRST * 4096, PAGES * 4096, (const uint8_t *)policy,
-                                  strlen(policy));
+    uint32_t code = np_core_mbind(core, FIRST * 4096, PAGES * 4096, NP_TEXT(policy));
     if (!code)
         code = np_core_compile(core, &made);
     if (code || (code = np_plan_version(&made, &version)))
@@ -76,7 +74,7 @@ int main(void) {
     np_core core = {0};
     long faults = 0;
 
-    if (np_core_open(&core, (const uint8_t *)"0-1", 3, frames, 2, distances, 4, &limits, 1) ||
+    if (np_core_open(&core, NP_TEXT("0-1"), frames, 2, distances, 4, &limits, 1) ||
         np_core_map(&core, FIRST * 4096, PAGES * 4096, FIRST) || change(&core, policies[0]))
         return 1;
     for (int k = 0; k < THREADS; k++)

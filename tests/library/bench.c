@@ -18,7 +18,7 @@
 #define ROUND 100000 /* look-ups in a round, which jump over all ranges */
 #define FILLED 1048576
 #define PAGE 4096
-#define TEXT(words) (const uint8_t *)(words), strlen(words)
+#define TEXT NP_TEXT
 
 static np_plan spread, whole;
 static np_pages pages;

@@ -17,7 +17,7 @@ static int wrong;
         }                                                                                          \
     } while (0)
 
-#define TEXT(words) (const uint8_t *)(words), strlen(words)
+#define TEXT NP_TEXT
 
 static const uint32_t frames[2] = {2, 1};
 static const uint8_t distances[4] = {10, 20, 20, 10};

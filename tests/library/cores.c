@@ -17,7 +17,7 @@ static int wrong;
         }                                                                                          \
     } while (0)
 
-#define TEXT(words) (const uint8_t *)(words), strlen(words)
+#define TEXT NP_TEXT
 
 /* Two nodes: two frames of the first, one of the second; two workers. Three spans of 4, 2 and 1
  * pages; the two pages in the middle of the first are interleaved. */

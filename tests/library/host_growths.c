@@ -3,33 +3,30 @@
  * which the header says that they need none are never refused so; and no block is held at the end.
  * Not proved. */
 #include "numaplan_hosts.h"
+#include "numaplan_memory.h"
 
 #include <stdio.h>
 #include <stdlib.h>
 #include <string.h>
 
-struct tried {
-    bool ok;
-    void *at;
-};
 static long left = -1; /* how many growths are still let through; -1: all */
 static long blocks;    /* how many are held */
 static char nothing[16];
 
-static struct tried tried(void *at) {
-    struct tried got = {at != NULL, at ? at : nothing};
+static np_tried tried(void *at) {
+    np_tried got = {at != NULL, at ? at : nothing};
     return got;
 }
 
 static bool refused(void) { return left >= 0 && left-- == 0; }
 
-struct tried rattle_alloc(size_t length, size_t align) {
+np_tried rattle_alloc(size_t length, size_t align) {
     void *at = refused() ? NULL : malloc(length ? length : align);
     blocks += at != NULL;
     return tried(at);
 }
 
-struct tried rattle_realloc(void *at, size_t kept, size_t length, size_t align) {
+np_tried rattle_realloc(void *at, size_t kept, size_t length, size_t align) {
     (void)kept;
     return tried(refused() ? NULL : realloc(at, length ? length : align));
 }
@@ -39,7 +36,7 @@ void rattle_dealloc(void *at) {
     free(at);
 }
 
-#define TEXT(words) (const uint8_t *)(words), strlen(words)
+#define TEXT NP_TEXT
 
 /* What all handles keep. */
 static np_host host, copy;

@@ -18,7 +18,7 @@ static int wrong;
         }                                                                                          \
     } while (0)
 
-#define TEXT(words) (const uint8_t *)(words), strlen(words)
+#define TEXT NP_TEXT
 #define BEHIND 99 /* (what stands behind a list of nodes) */
 
 static const uint32_t frames[4] = {0, 0, 0, 0};

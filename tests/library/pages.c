@@ -18,7 +18,7 @@ static int wrong;
         }                                                                                          \
     } while (0)
 
-#define TEXT(words) (const uint8_t *)(words), strlen(words)
+#define TEXT NP_TEXT
 #define BASE 0x10000 /* (page 16) */
 
 static const uint32_t frames[5] = {0, 0, 0, 0, 0};

@@ -1,34 +1,31 @@
 /* Each growth of a report refused in turn, through the library's three functions of memory: the call
  * answers NP_NO_MEMORY and has changed nothing, or what it answers with memory, and no block is held.
  * Not proved. */
+#include "numaplan_memory.h"
 #include "numaplan_reports.h"
 
 #include <stdio.h>
 #include <stdlib.h>
 #include <string.h>
 
-struct tried {
-    bool ok;
-    void *at;
-};
 static long left = -1; /* how many growths are still let through; -1: all */
 static long blocks;    /* how many are held */
 static char nothing[16];
 
-static struct tried tried(void *at) {
-    struct tried got = {at != NULL, at ? at : nothing};
+static np_tried tried(void *at) {
+    np_tried got = {at != NULL, at ? at : nothing};
     return got;
 }
 
 static bool refused(void) { return left >= 0 && left-- == 0; }
 
-struct tried rattle_alloc(size_t length, size_t align) {
+np_tried rattle_alloc(size_t length, size_t align) {
     void *at = refused() ? NULL : malloc(length ? length : align);
     blocks += at != NULL;
     return tried(at);
 }
 
-struct tried rattle_realloc(void *at, size_t kept, size_t length, size_t align) {
+np_tried rattle_realloc(void *at, size_t kept, size_t length, size_t align) {
     (void)kept;
     return tried(refused() ? NULL : realloc(at, length ? length : align));
 }
@@ -38,7 +35,7 @@ void rattle_dealloc(void *at) {
     free(at);
 }
 
-#define TEXT(words) (const uint8_t *)(words), strlen(words)
+#define TEXT NP_TEXT
 #define HOST "machine 4 0-3 2 flat\nlimits 64 64 64\nmap 0x10000 0x8000 0x10\nmbend 1\n" \
     "mbind 0x10000 0x4000 weighted:0-2\nweight 1 3\ntask 1 interleave=static:0-3\nmap 1 1 1\n"
 #define LINES "mems 0-1\nmems 9\n# \xff"

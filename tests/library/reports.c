@@ -18,7 +18,7 @@ static int wrong;
         }                                                                                          \
     } while (0)
 
-#define TEXT(words) (const uint8_t *)(words), strlen(words)
+#define TEXT NP_TEXT
 
 /* four interleaved pages, of which a line moves two */
 #define HOST "machine 2 0-1 8 flat\nmap 0x10000 0x4000 0x10\ntask 1 interleave:0-1\n"

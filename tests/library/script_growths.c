@@ -1,34 +1,31 @@
 /* Each growth of a script refused in turn, through the library's three functions of memory: the call
  * tells it by its number or in the line's answer, and the same line is then served. Not proved. */
 #include "numaplan.h"
+#include "numaplan_memory.h"
 
 #include <stdio.h>
 #include <stdlib.h>
 #include <string.h>
 
-struct tried {
-    bool ok;
-    void *at;
-};
 static long left = -1; /* how many growths are still let through; -1: all */
 static long blocks;    /* how many are held */
 static char nothing[16];
 static int seen[NP_ANSWER_LOST + 1]; /* how often each number was answered */
 
-static struct tried tried(void *at) {
-    struct tried got = {at != NULL, at ? at : nothing};
+static np_tried tried(void *at) {
+    np_tried got = {at != NULL, at ? at : nothing};
     return got;
 }
 
 static bool refused(void) { return left >= 0 && left-- == 0; }
 
-struct tried rattle_alloc(size_t length, size_t align) {
+np_tried rattle_alloc(size_t length, size_t align) {
     void *at = refused() ? NULL : malloc(length ? length : align);
     blocks += at != NULL;
     return tried(at);
 }
 
-struct tried rattle_realloc(void *at, size_t kept, size_t length, size_t align) {
+np_tried rattle_realloc(void *at, size_t kept, size_t length, size_t align) {
     (void)kept;
     return tried(refused() ? NULL : realloc(at, length ? length : align));
 }

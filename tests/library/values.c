@@ -18,7 +18,7 @@ static int wrong;
         }                                                                                          \
     } while (0)
 
-#define TEXT(words) (const uint8_t *)(words), strlen(words)
+#define TEXT NP_TEXT
 
 static bool is_set(const np_nodes *nodes, uint64_t a, uint64_t b, uint64_t c, uint64_t d) {
     return nodes->words[0] == a && nodes->words[1] == b && nodes->words[2] == c &&
