@@ -3,15 +3,17 @@
 from __future__ import annotations
 
 from ctypes import byref, c_size_t, c_uint8, c_uint64
+from itertools import islice
 from typing import TYPE_CHECKING, Iterable, Iterator, Mapping, NamedTuple, Sequence
 
 from ._calls import STILL, encoded, members, node_set, written
+from ._causes import Refused
 from ._core_reports import CoreReports, predicting
 from ._judged import Nodes, Numbers, free_pages, list_of, u8, u16, u32, u64
 from ._library import Limits, PlacedPage, Span, StandingPolicy, ToldExplanation
 from ._machines import description, options_of, read_hardware
 from ._owners import counted
-from ._pictured import Pictured
+from ._pictured import MOST, Pictured, on_a_line, table
 from ._plans import Plan
 
 if TYPE_CHECKING:
@@ -119,10 +121,9 @@ class Core(CoreReports):
         super().__init__()
         limits = Limits(u32("max_ranges", max_ranges), u32("max_tasks", max_tasks),
                         u32("max_commands", max_commands))
-        machine = description(frames, distances, memory)
+        self._machine, machine = description(frames, distances, memory)
         self._call("core_open_by", *machine, byref(limits), u32("workers", workers),
                    byref(options_of(rules, orders, cpus)))
-        self._nodes = len(machine[2])
 
     @classmethod
     def from_hardware(cls, text: str, frames: "Numbers | None" = None, *, workers: int = 1,
@@ -149,14 +150,31 @@ class Core(CoreReports):
         with self._alone():
             self._call("core_ranges", byref(count))
             version = self.versions[0]
-        return f"{counted(self._nodes, 'node')}, version {version}, {counted(count.value, 'range')}"
+        return f"{self._nodes_shown()}, version {version}, {counted(count.value, 'range')}"
+
+    def _repr_html_(self) -> "str | None":
+        """The machine and the ranges, for a notebook; None where it is closed."""
+        count = c_size_t()
+        try:
+            with self._alone():
+                self._call("core_ranges", byref(count))
+                shown, ranges = self._shown(), list(islice(self._ranges(0, 2**64), MOST))
+        except Refused:
+            return None
+        frames, memory, rows = self._machine
+        machine: "list[list[object]]" = [
+            [node, *pair] for node, pair in enumerate(zip(frames, map(on_a_line, rows)))]
+        return table(f"{shown}; memory on nodes {memory}", ["node", "frames", "distances"], machine,
+                     len(rows)) + table("ranges", ["start", "pages", "offset", "policy"], [
+                         [f"{one.start:#x}", one.length // 4096, one.offset, one.policy or ""]
+                         for one in ranges], count.value)
 
     def copy(self) -> Core:
         """A core that stands as this one does, to be asked "what if": what is done to one of the
         two doesn't change the other."""
         other = Core.__new__(Core)
         self._call("core_copy", other._at)
-        other._nodes = self._nodes
+        other._machine = self._machine
         return other
 
     __copy__ = copy

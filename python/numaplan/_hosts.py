@@ -47,9 +47,8 @@ class Host(Owner):
         super().__init__()
         limits = Limits(u32("max_ranges", max_ranges), u32("max_tasks", max_tasks),
                         u32("max_commands", max_commands))
-        machine = description(frames, distances, memory)
+        self._machine, machine = description(frames, distances, memory)
         self._call("host_open", *machine, byref(limits), byref(options_of(rules, orders, cpus)))
-        self._nodes = len(machine[2])
 
     @classmethod
     def from_hardware(cls, text: str, *, rules: "str | None" = None, kernel_orders: bool = False,
@@ -65,14 +64,14 @@ class Host(Owner):
     def _shown(self) -> str:
         with self._alone():
             version, count = self.version, len(self)
-        return f"{counted(self._nodes, 'node')}, version {version}, {counted(count, 'process', 'es')}"
+        return f"{self._nodes_shown()}, version {version}, {counted(count, 'process', 'es')}"
 
     def copy(self) -> Host:
         """A host that stands as this one does, to be asked "what if": what is done to one of the
         two doesn't change the other."""
         other = Host.__new__(Host)
         self._call("host_copy", other._at)
-        other._nodes = self._nodes
+        other._machine = self._machine
         return other
 
     __copy__ = copy

@@ -17,10 +17,22 @@ from ._values import nodes
 HERE = os.path.dirname(os.path.abspath(__file__))
 
 
+class Machine(NamedTuple):
+    """A machine as it was described: frames of each node, the nodes with memory as a list, and rows of
+    distances."""
+
+    frames: list[int]
+    memory: str
+    distances: list[bytes]
+
+
+NONE = Machine([], "", [])
+
+
 def description(frames: Numbers, distances: Iterable[Numbers],
-                 memory: "Nodes | None") -> tuple[Any, ...]:
-    """The arguments that describe a machine. Unless told, the nodes with memory have frames; where none
-    has, all are nodes with memory."""
+                memory: "Nodes | None") -> tuple[Machine, tuple[Any, ...]]:
+    """A machine, and the arguments that describe it. Unless told, the nodes with memory have frames;
+    where none has, all are nodes with memory."""
     counts = u32s("frames", frames)
     if memory is None:
         memory = [node for node, count in enumerate(counts) if count or not any(counts)]
@@ -30,7 +42,8 @@ def description(frames: Numbers, distances: Iterable[Numbers],
     if any(len(row) != len(counts) for row in rows):
         raise BadNodeCount  # (rows of other lengths could be as many numbers in all)
     table, each = b"".join(rows), (c_uint32 * len(counts))(*counts)
-    return text, len(text), each, len(counts), table, len(table)
+    return (Machine(counts, text.decode(), rows),
+            (text, len(text), each, len(counts), table, len(table)))
 
 
 def options_of(rules: str, orders: str, cpus: "Nodes | None") -> Options:

@@ -12,6 +12,7 @@ from typing import Any, ContextManager, NoReturn, SupportsIndex, TypeVar
 from ._calls import call
 from ._causes import Closed, Refused
 from ._library import LIBRARY, Handle
+from ._machines import NONE
 
 _Itself = TypeVar("_Itself", bound="Owner")
 # How many forks lie between the process that imported this module and this one; and the lock by
@@ -34,7 +35,7 @@ class Owner:
     _kind = ""
     _at: Any  # (byref of its struct)
     _is_closed: bool
-    _nodes = 0  # (of its machine)
+    _machine = NONE
     _lock: RLock  # (that a handler of signals takes again, in the middle of a call)
     _forks: int
 
@@ -92,6 +93,10 @@ class Owner:
             if self._is_closed:
                 raise Closed
         return ""
+
+    def _nodes_shown(self) -> str:
+        """How many nodes its machine has."""
+        return counted(len(self._machine.frames), "node")
 
     def __repr__(self) -> str:
         try:

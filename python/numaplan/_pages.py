@@ -67,19 +67,19 @@ class Pages(Owner):
         ensure("core", core, Core, "Core")
         with core._alone():
             self._call("pages_open", core._at)
-        self._nodes = core._nodes
+        self._machine = core._machine
 
     def _shown(self) -> str:
         with self._alone():
             version, count = self.version, sum(self.counts().values())
-        return f"{counted(self._nodes, 'node')}, version {version}, {counted(count, 'page')}"
+        return f"{self._nodes_shown()}, version {version}, {counted(count, 'page')}"
 
     def copy(self) -> Pages:
         """The same once more, to be asked "what if": what is done to one of the two doesn't change
         the other."""
         other = Pages.__new__(Pages)
         self._call("pages_copy", other._at)
-        other._nodes = self._nodes
+        other._machine = self._machine
         return other
 
     __copy__ = copy
@@ -88,7 +88,7 @@ class Pages(Owner):
         """A copy of the core, for plans, ranges, reports and all else that a core is asked."""
         core = Core.__new__(Core)
         self._call("pages_core", core._at)
-        core._nodes = self._nodes
+        core._machine = self._machine
         return core
 
     @property

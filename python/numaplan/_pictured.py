@@ -1,8 +1,9 @@
-"""What a notebook shows of a report or a prediction: the library's own picture or page. Not proved."""
+"""What a notebook shows: of a report or a prediction the library's own picture or page, of a core or a
+plan tables. Not proved."""
 
 from __future__ import annotations
 
-from typing import TYPE_CHECKING, Any, Callable
+from typing import TYPE_CHECKING, Any, Callable, Iterable
 
 from ._causes import Refused
 from ._judged import format_number
@@ -13,6 +14,26 @@ if TYPE_CHECKING:
 # (a page has styles and a script of its own, which are to touch nothing else of a notebook)
 FRAME = ('<iframe srcdoc="{}" sandbox="allow-scripts" title="numaplan"'
          ' style="width:100%;height:30em;border:0"></iframe>')
+
+MOST = 40  # rows of a table
+
+
+def table(caption: str, names: Iterable[object], rows: "list[list[object]]", count: int) -> str:
+    """A table of the first `MOST` of so many rows."""
+    from html import escape
+
+    def row(tag: str, cells: Iterable[object]) -> str:
+        return f"<tr>{''.join(f'<{tag}>{escape(str(cell))}</{tag}>' for cell in cells)}</tr>"
+
+    shown = "".join(row("td", each) for each in rows[:MOST])
+    more = f"<p>and {count - MOST:,} more</p>" if count > MOST else ""
+    return (f"<table><caption>{escape(caption)}</caption><thead>{row('th', names)}</thead>"
+            f"<tbody>{shown}</tbody></table>{more}")
+
+
+def on_a_line(numbers: bytes) -> str:
+    """Numbers in a cell of a table, as far as it takes them."""
+    return " ".join(map(str, numbers[:MOST])) + " .." * (len(numbers) > MOST)
 
 
 class Pictured:

@@ -6,10 +6,11 @@ from ctypes import byref, c_size_t, c_uint8, c_uint64, memmove
 from typing import TYPE_CHECKING, Any, NamedTuple, overload
 
 from ._calls import call
-from ._causes import NoRoom, Unmapped
+from ._causes import NoRoom, Refused, Unmapped
 from ._judged import Numbers, bytes_to_write, places_for, u8, u32, u64, u64s_to_read
 from ._library import LIBRARY, Handle, PagesInTurns
 from ._owners import Owner
+from ._pictured import MOST, on_a_line, table
 
 if TYPE_CHECKING:
     from ._buffers import AnyBuffer, Buffer
@@ -57,6 +58,18 @@ class Plan(Owner):
 
     def _shown(self) -> str:
         return f"version {self.version}"
+
+    def _repr_html_(self) -> "str | None":
+        """The runs of pages of task 0 on node 0, for a notebook; None where it is closed."""
+        try:
+            found, version = self._found_runs(0), self.version
+            rows: "list[list[object]]" = [
+                [run.first, run.pages, on_a_line(self._firsts((0, 0), run.first, run.cycle))]
+                for run in found[:MOST]]
+        except Refused:
+            return None
+        return table(f"version {version}; pages of task 0 on a CPU of node 0 (others: plan.runs)",
+                     ["first page", "pages", "nodes, in turns"], rows, len(found))
 
     @property
     def version(self) -> int:
@@ -131,16 +144,19 @@ class Plan(Owner):
         a CPU of node `cpu`; pages between them aren't mapped. Raises BadCpu."""
         who = u32("task", task), u32("cpu", cpu)
         self.counts(*who, 0, 0)  # (judges the node, also where there are no runs)
+        return [PlanRun(run.first, run.pages, self._firsts(who, run.first, run.cycle))
+                for run in self._found_runs(who[0])]
+
+    def _found_runs(self, task: int) -> list[PagesInTurns]:
         count, room = c_size_t(), 64
         while True:
             found = (PagesInTurns * room)()
             try:
-                self._call("plan_runs", who[0], found, room, byref(count))
-                break
+                self._call("plan_runs", task, found, room, byref(count))
             except NoRoom:
                 room = count.value
-        return [PlanRun(run.first, run.pages, self._firsts(who, run.first, run.cycle))
-                for run in found[:count.value]]
+                continue
+            return found[:count.value]
 
     def _firsts(self, who: "tuple[int, int]", first: int, pages: int) -> bytes:
         nodes = (c_uint8 * pages)()
@@ -154,4 +170,3 @@ class Plan(Owner):
         self._call("plan_counts", u32("task", task), u32("cpu", cpu), u64("first", first),
               u64("pages", pages), byref(counts))
         return {node: count for node, count in enumerate(counts) if count}
-

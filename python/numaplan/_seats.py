@@ -8,7 +8,7 @@ from typing import Iterable, NamedTuple, NoReturn
 from ._judged import Nodes, Numbers, ensure, u8, u8s, u16
 from ._library import TakenFrame
 from ._machines import description
-from ._owners import Owner, counted, in_order
+from ._owners import Owner, in_order
 
 
 class Frame(NamedTuple):
@@ -30,19 +30,18 @@ class Seat(Owner):
         """The first seat at new pools of a machine's frames, described as for a core."""
         super().__init__()
         self._pools = object()
-        machine = description(frames, distances, memory)
+        self._machine, machine = description(frames, distances, memory)
         self._call("seat_open", *machine)
-        self._nodes = len(machine[2])
 
     def _shown(self) -> str:
-        return super()._shown() + counted(self._nodes, "node")
+        return super()._shown() + self._nodes_shown()
 
     def split(self) -> Seat:
         """A seat at the same pools, for another thread; it holds nothing."""
         other = Seat.__new__(Seat)
         other._pools = self._pools
         self._call("seat_split", other._at)
-        other._nodes = self._nodes
+        other._machine = self._machine
         return other
 
     def __copy__(self) -> NoReturn:

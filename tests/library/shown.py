@@ -7,6 +7,7 @@ import os
 import pickle
 import sys
 from concurrent.futures import ThreadPoolExecutor
+from html.parser import HTMLParser
 
 import numaplan
 from numaplan import Core, Host, Pages, Plan, Question, Script, Seat
@@ -31,6 +32,36 @@ def raised(call):
     except Exception as fault:
         return f"{type(fault).__name__}: {fault}"
     return "nothing"
+
+
+class Tables(HTMLParser):
+    """The tables of a page: of each its caption, and rows of cells; and each text beside them."""
+
+    def __init__(self, page):
+        super().__init__()
+        self.found, self.beside, self._open = [], [], []
+        self.feed(page)
+        self.close()
+
+    def handle_starttag(self, tag, attrs):
+        self._open.append(tag)
+        if tag == "table":
+            self.found.append([])
+        elif tag == "tr":
+            self.found[-1].append([])
+        elif tag in ("td", "th"):
+            self.found[-1][-1].append("")
+
+    def handle_endtag(self, tag):
+        want(self._open.pop(), tag, "the element that ends")
+
+    def handle_data(self, data):
+        if self._open[-1] == "caption":
+            self.found[-1].append(data)
+        elif self._open[-1] == "p":
+            self.beside.append(data)
+        else:
+            self.found[-1][-1][-1] += data
 
 
 def rows(columns, *names):
@@ -167,9 +198,30 @@ for one, shown in SHOWN:
 for one, of in ((core.copy(), core), (pages.copy(), pages), (pages.core(), core), (host.copy(), host),
                 (seat.split(), seat)):
     want(repr(one), repr(of), "a copy, as a text")
+
+# a notebook shows tables of machine and ranges, and of a plan for one task
+want(Tables(core._repr_html_()).found,
+     [["3 nodes, version 2, 3 ranges; memory on nodes 0,1", ["node", "frames", "distances"],
+       ["0", "8", "10 20 20"], ["1", "8", "20 10 20"], ["2", "0", "20 20 10"]],
+      ["ranges", ["start", "pages", "offset", "policy"], ["0x10000", "1", "16", ""],
+       ["0x11000", "1", "17", "bind:1"], ["0x12000", "2", "18", ""]]], "a core in a notebook")
+want(pages.core()._repr_html_(), core._repr_html_(), "that of its copy")
+head = ["version 2; pages of task 0 on a CPU of node 0 (others: plan.runs)",
+        ["first page", "pages", "nodes, in turns"]]
+want(Tables(plan._repr_html_()).found, [[*head, ["16", "1", "0"], ["17", "1", "1"], ["18", "2", "0"]]],
+     "a plan in a notebook")
+large = Core([0] * 50, [[10 + 10 * (one != other) for other in range(50)] for one in range(50)])
+for place in range(50):
+    large.map(place * 0x2000, 0x1000)
+large.set_task(0, "interleave:0-49")
+page, runs = Tables(large._repr_html_()), Tables(large.compile()._repr_html_())
+want([len(each) for each in page.found + runs.found], [42, 42, 42], "as many rows as are shown")
+want(page.beside + runs.beside, ["and 10 more"] * 3, "how many more there are")
+want(page.found[0][2][2].split(" ")[-2:], ["20", ".."], "distances that go on")
 for one, _ in SHOWN:
     one.close()
     want(repr(one), f"<numaplan.{type(one).__name__}, closed>", "a closed one")
+want((core._repr_html_(), plan._repr_html_()), (None, None), "closed ones in a notebook")
 want([repr(Plan()), repr(Core.__new__(Core))], ["<numaplan.Plan, closed>", "<numaplan.Core, closed>"],
      "what keeps nothing")
 
