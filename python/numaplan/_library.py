@@ -292,8 +292,11 @@ def _find() -> ctypes.CDLL:
     try:
         return ctypes.CDLL(path)
     except OSError as fault:
-        raise ImportError(f"{fault}; './numaplan library PREFIX' makes {NAME} in PREFIX/lib, and "
-                          "NUMAPLAN_LIBRARY names it where it is elsewhere") from fault
+        what = (f"'./numaplan library PREFIX' makes {NAME} in PREFIX/lib, and NUMAPLAN_LIBRARY names"
+                " it where it is elsewhere")
+        if "CPU ISA level" in str(fault):
+            what = "it needs x86-64-v2, as processors since 2009 have it (SSE4.2 and POPCNT)"
+        raise ImportError(f"{fault}; {what}") from fault
 
 
 def _load() -> ctypes.CDLL:
