@@ -379,7 +379,7 @@ uint32_t np_core_try(np_core *core, uint32_t worker, uint8_t node, uint16_t fram
 /* A worker gives one of its frames back. NP_CLOSED, NP_NO_SUCH_WORKER, NP_BUSY, NP_NOT_OWNED. */
 uint32_t np_core_give(np_core *core, uint32_t worker, uint8_t node, uint16_t frame);
 
-/* ---- plans */
+/* ---- plans. Questions about one need no memory: its version, lists, nodes, counts and runs. */
 
 /* Compiles all accepted commands of the core, published or not, into a plan: the first time from
  * nothing; later plans cost what the commands since have touched. NP_OPEN where `plan` keeps one,

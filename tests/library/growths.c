@@ -123,19 +123,26 @@ static bool fills(const np_plan *plan) {
     static const uint8_t wanted[2][8] = {{0, 1, 1, 1, 0, 0, 0, 0}, {0, 1, 1, 1, 1, 1, 1, 1}};
     static const uint8_t marked[9] = {0, 1, 1, 1, 0, 0, 0, 0, 255}, asked[4] = {255, 1, 0, 1};
     static const uint64_t pages[4] = {24, 19, 16, 17};
-    uint8_t nodes[2][8], others[9], each[4];
+    uint8_t nodes[2][8], others[9], each[4], list[2];
     np_plan_run runs[2];
-    size_t count;
+    np_counts counts;
+    uint64_t version;
+    size_t count, length;
     left = 0;
     uint32_t first = np_plan_fill(plan, 1, 0, 16, nodes[0], 8);
     uint32_t second = np_plan_fill(plan, 5, 0, 16, nodes[1], 8);
     uint32_t third = np_plan_fill_marked(plan, 1, 0, 16, others, 9, 255);
     uint32_t fourth = np_plan_nodes(plan, 1, 0, pages, 4, each, 4, 255);
     uint32_t fifth = np_plan_runs(plan, 5, runs, 2, &count);
+    uint32_t sixth = np_plan_choice(plan, 5, 16, 1, list, 2, &length);
+    uint32_t seventh = np_plan_counts(plan, 1, 0, 16, 8, &counts);
+    uint32_t eighth = np_plan_version(plan, &version);
     left = -1;
     return first == NP_OK && second == NP_OK && memcmp(nodes, wanted, sizeof nodes) == 0 &&
            third == NP_OK && memcmp(others, marked, 9) == 0 && fourth == NP_OK &&
-           memcmp(each, asked, 4) == 0 && fifth == NP_OK && runs[0].cycle == 4;
+           memcmp(each, asked, 4) == 0 && fifth == NP_OK && runs[0].cycle == 4 && sixth == NP_OK &&
+           length == 2 && list[0] == 0 && list[1] == 1 && seventh == NP_OK &&
+           counts.pages[0] == 5 && counts.pages[1] == 3 && eighth == NP_OK && version == 4;
 }
 
 /* Whether a worker of a core gets frame 0 of node 0 for page 16. */
