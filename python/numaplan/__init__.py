@@ -38,6 +38,7 @@ from ._core_reports import Move, Route
 from ._cores import Core, Explanation, Placement, Policy, Prediction, Range
 from ._hosts import Group, Host, Process
 from ._library import LIBRARY
+from ._machines import machine_lines
 from ._pages import Arrived, Bound, Moved, PageRun, Pages
 from ._plans import Plan, PlanRun
 from ._scripts import Script
@@ -49,8 +50,8 @@ __all__ = [
     "Answer", "Arrived", "Bound", "Core", "Explanation", "Frame", "Group", "Host", "Move", "Moved",
     "PageRun", "Pages", "Placement", "Plan", "PlanRun", "Policy", "Prediction", "Process",
     "Question", "Range", "Report", "Route", "Script", "Seat",
-    "check", "columns", "diff", "effective", "explain", "moves", "nodes", "nodes_text",
-    "policy_text", "predict", "progress", "rebind", "replay", "sweep", "write_table",
+    "check", "columns", "diff", "effective", "explain", "machine_lines", "moves", "nodes",
+    "nodes_text", "policy_text", "predict", "progress", "rebind", "replay", "sweep", "write_table",
     "AllTaken", "AnswerLost", "Astray", "BadAccess", "BadCpu", "BadDistance", "BadFormat",
     "BadLimits",
     "BadNodeCount", "BadOffset",

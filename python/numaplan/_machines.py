@@ -70,18 +70,18 @@ class Hardware(NamedTuple):
     weights: dict[int, int]
 
 
+def machine_lines(text: str, *, kernel_orders: bool = False, memory_added: bool = False) -> bytes:
+    """The lines of a script that describe the machine of a text, in any form that Core.from_hardware
+    takes: with other lines behind them a script for `predict`, `sweep` and the like, as
+    `machine_lines("live") + b"map 0x10000 0x4000 16"`. A text of another form, and a machine that
+    numaplan can't hold, is a ValueError."""
+    return _told(text, kernel_orders, memory_added).encode()
+
+
 def read_hardware(text: str, kernel_orders: bool, memory_added: bool) -> Hardware:
-    """The machine of a text, as tools/machine-line reads it; ValueError with its words."""
-    import subprocess  # (which imports much, for this alone)
-    utf8("text", text)
-    options = ["--kernel-orders"] * kernel_orders + ["--memory-added"] * memory_added
-    options += ["live"] * (text == "live")
-    ran = subprocess.run([sys.executable, _machine_line(), *options], input=text, text=True,
-                         encoding="utf-8", stdout=subprocess.PIPE, stderr=subprocess.PIPE)
-    if ran.returncode != 0:
-        raise ValueError(ran.stderr.strip().replace("machine-line: ", ""))
+    """The machine of a text, as a core or a host is opened by it."""
     lines: dict[str, list[list[str]]] = {}
-    for line in ran.stdout.splitlines():
+    for line in _told(text, kernel_orders, memory_added).splitlines():
         word, *rest = line.split(" ")
         lines.setdefault(word, []).append(rest)
     last = {word: rows[-1] for word, rows in lines.items()}
@@ -92,6 +92,19 @@ def read_hardware(text: str, kernel_orders: bool, memory_added: bool) -> Hardwar
         "kernel" if is_kernel else "nearest", last["cpus"][0] if "cpus" in last and is_kernel else None,
         last["rules"][0] if "rules" in last else None,
         {int(node, 0): int(weight, 0) for node, weight in lines.get("weight", [])})
+
+
+def _told(text: str, kernel_orders: bool, memory_added: bool) -> str:
+    """What tools/machine-line makes of it; ValueError with its words."""
+    import subprocess  # (which imports much, for this alone)
+    utf8("text", text)
+    options = ["--kernel-orders"] * kernel_orders + ["--memory-added"] * memory_added
+    options += ["live"] * (text == "live")
+    ran = subprocess.run([sys.executable, _machine_line(), *options], input=text, text=True,
+                         encoding="utf-8", stdout=subprocess.PIPE, stderr=subprocess.PIPE)
+    if ran.returncode != 0:
+        raise ValueError(ran.stderr.strip().replace("machine-line: ", ""))
+    return ran.stdout
 
 
 def frames_of(count: int, memory: str, each: str) -> list[int]:

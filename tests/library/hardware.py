@@ -1,12 +1,12 @@
 #!/usr/bin/env python3
-"""Core.from_hardware: machines as numactl and lstopo print them (those of tests/tools, and of kernels that
-tests/beside-kernel recorded), scripts, synthetic texts, and this one. Prints what is wrong; not proved."""
+"""Core.from_hardware and machine_lines: machines as numactl and lstopo print them (those of tests/tools, and of
+kernels that tests/beside-kernel recorded), scripts, synthetic texts, and this one. Prints what is wrong; not proved."""
 
 import os
 import shutil
 import sys
 
-from numaplan import Core, Host
+from numaplan import Core, Host, machine_lines, predict
 
 SAMPLES = os.path.join(os.path.dirname(os.path.abspath(__file__)), "../tools/samples")
 # node 3 has no CPUs and less memory than the workers take; memory came to it after the boot. The orders
@@ -85,6 +85,13 @@ with Host.from_hardware("machine 2 0-1 0 flat\nweight 1 2") as host:
 if shutil.which("lstopo-no-graphics"):
     with Core.from_hardware("numa:3 pu:2") as core:
         want(orders(core)[1], [1, 0, 2], "one of hwloc's synthetic text")
+PAGES = b"map 0x10000 0x4000 16\nmems 0,2\n"
+for text, options, nodes in ((sample("four.numactl"), {}, {2: 4}), (sample("cxl.xml"), {}, {2: 4}),
+                             (ADDED, {"kernel_orders": True, "memory_added": True}, {2: 4}), (SCRIPT, {}, {2: 4})):
+    told = predict(machine_lines(text, **options) + PAGES, node=2)
+    found = {one["node"]: one["pages"] for one in told.json["total"]["nodes"]}
+    want((found, told.messages), (nodes, []), f"a script on a machine of the text {text[:20]}")
+want(machine_lines("live").split()[0], b"machine", "the lines of this machine")
 for text, why in (("no machine", "this is neither a script with a line `machine` nor what `numactl "
                    "--hardware` or `lstopo --of xml` prints"), ("<topology/>", "this XML isn't hwloc 2's: print it with lstopo of version 2 "
                    "or later")):

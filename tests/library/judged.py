@@ -123,6 +123,7 @@ TYPES = [
     (Script.run, "text", "it has to be a text"),
     (Script().line, "text", "it has to be a text"),
     (Core.from_hardware, "text", "it has to be a text"),
+    (numaplan.machine_lines, "text", "it has to be a text"),
     (Script, "rules", "it has to be 'document' or 'linux'"),
     (lambda one: core.predict_text(format=one), "format", f"it has to be one of {numaplan._judged.FORMATS}"),
     (core.set_mems, "nodes", "it has to be nodes, as '0-1' or [0, 1]"),

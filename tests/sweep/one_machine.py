@@ -107,6 +107,9 @@ for script, trace in ((RANGE, TRACE), (open(RANGE, "rb").read(), open(TRACE, "rb
 # (all on node 0: 58 accesses from there, one from node 1 at 12, 1200 from node 3 at 20)
 answer = one(RANGE, TRACE, ["mems 0"])
 check("a replay behind added lines", answer.distances, {10: 58, 12: 1, 20: 1200})
+with open(os.path.join(TOP, "tests", "tools", "samples", "cxl.numactl"), encoding="utf-8") as file:
+    machine = numaplan.machine_lines(file.read())
+check("on a machine as numactl prints it", one(machine + b"map 0 0x4000 0\ntask 1 interleave:0,2\n").nodes, {0: 2, 2: 2})
 moves = b"machine 2 0-1 0 flat\nmap 0 0x1000 0\ntask 1 prefer:1\nmems 0\nmems 0-1\n"
 check("by both rules", [one(moves, rules=rules).nodes for rules in ("document", "linux")],
       [{0: 1}, {1: 1}])
