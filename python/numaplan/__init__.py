@@ -36,13 +36,10 @@ from ._causes import Overlap, PlacedTwice, Refused, TooManyFrames, TooManyRanges
 from ._causes import Unaligned, Unknown, UnknownMode, Unmapped
 from ._core_reports import Move, Route
 from ._cores import Core, Explanation, Placement, Policy, Prediction, Range
-from ._hosts import Group, Host, Process
 from ._library import LIBRARY
 from ._machines import machine_lines
-from ._pages import Arrived, Bound, Moved, PageRun, Pages
 from ._plans import Plan, PlanRun
 from ._scripts import Script
-from ._seats import Frame, Seat
 from ._values import effective, nodes, nodes_text, policy_text, rebind
 
 __version__ = "0.10.0"
@@ -70,22 +67,27 @@ __all__ = [
     "Unknown", "UnknownMode", "Unmapped",
 ]
 # (as users name them, also where they are pickled)
-for _one in (Arrived, Bound, Core, Explanation, Frame, Group, Host, Move, Moved, PageRun, Pages,
-             Placement, Plan, PlanRun, Policy, Prediction, Process, Range, Route, Script, Seat):
+for _one in (Core, Explanation, Move, Placement, Plan, PlanRun, Policy, Prediction, Range, Route, Script):
     _one.__module__ = __name__
 
 if TYPE_CHECKING:
+    from ._hosts import Group, Host, Process
+    from ._pages import Arrived, Bound, Moved, PageRun, Pages
     from ._progress import progress
     from ._questions import Answer, Question
     from ._reports import Report, check, diff, explain, moves, predict, replay
+    from ._seats import Frame, Seat
     from ._sweeps import sweep
     from ._tables import columns, write_table
 else:
     # what a program that asks a core doesn't need, by module: imported where it is first named
     _LATER = {name: module for module, names in {
+        "_hosts": ["Group", "Host", "Process"],
+        "_pages": ["Arrived", "Bound", "Moved", "PageRun", "Pages"],
         "_progress": ["progress"],
         "_questions": ["Answer", "Question"],
         "_reports": ["Report", "check", "diff", "explain", "moves", "predict", "replay"],
+        "_seats": ["Frame", "Seat"],
         "_sweeps": ["sweep"],
         "_tables": ["columns", "write_table"],
     }.items() for name in names}

@@ -237,3 +237,7 @@ class Host(Owner):
         self._call("host_task_policy", u32("process", process), u32("task", task),
              byref(policy))
         return policy_of(policy)
+
+
+for _one in (Group, Host, Process):
+    _one.__module__ = "numaplan"  # (as users name them, also where they are pickled)

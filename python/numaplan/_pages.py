@@ -253,3 +253,7 @@ def _moved(told: ToldMoves) -> Moved:
     """A move as the library gives it."""
     flows = {(node, told.to[node]): pages for node, pages in enumerate(told.went) if pages}
     return Moved(told.moved, told.left, flows)
+
+
+for _one in (Arrived, Bound, Moved, PageRun, Pages):
+    _one.__module__ = "numaplan"  # (as users name them, also where they are pickled)

@@ -77,3 +77,7 @@ class Seat(Owner):
         with first._alone(), second._alone():
             self._call("seat_join", other._at)
             other._is_closed = True
+
+
+for _one in (Frame, Seat):
+    _one.__module__ = "numaplan"  # (as users name them, also where they are pickled)

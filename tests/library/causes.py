@@ -122,8 +122,8 @@ ran = subprocess.run(
      "print(hasattr(numaplan, 'sweeps'))"], capture_output=True, text=True, check=True)
 want(ran.stdout.splitlines(), [
     "numaplan._accesses numaplan._calls numaplan._causes numaplan._core_reports numaplan._cores"
-    " numaplan._hosts numaplan._judged numaplan._library numaplan._machines numaplan._owners"
-    " numaplan._pages numaplan._pictured numaplan._plans numaplan._scripts numaplan._seats numaplan._values",
+    " numaplan._judged numaplan._library numaplan._machines numaplan._owners"
+    " numaplan._pictured numaplan._plans numaplan._scripts numaplan._values",
     "True numaplan._sweeps numaplan", "False"], "modules")
 
 # what a checker and `import *` see

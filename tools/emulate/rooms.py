@@ -10,13 +10,23 @@ from .words import Unfit
 # What a folder is called, before the number of the process. (./numaplan removes old folders numaplan-*-*.)
 NAME = "numaplan.emulate-"
 A_MINUTE = 60  # seconds
+IN_MEMORY = "/dev/shm"  # where files are made and removed in a third of the time
+MOST_BYTES, MOST_FILES = 1 << 27, 1 << 15  # that are made up, as for 1,024 CPUs
 
 
 def place_of_rooms():
-    for place in (os.environ.get("TMPDIR"), "/tmp", "/var/tmp"):
-        if place and os.path.isdir(place) and os.access(place, os.W_OK | os.X_OK):
+    for place in (os.environ.get("TMPDIR"), IN_MEMORY, "/tmp", "/var/tmp"):
+        if place and os.path.isdir(place) and os.access(place, os.W_OK | os.X_OK) and (
+                place != IN_MEMORY or has_space(place)):
             return os.path.abspath(place)
     raise Unfit("no folder for files is writable: /tmp, /var/tmp, or that of TMPDIR")
+
+
+def has_space(place):
+    """Whether all that is made up finds room there. (A container's /dev/shm can be small.)"""
+    told = os.statvfs(place)
+    has_files = told.f_favail >= MOST_FILES or not told.f_files  # (0: as many as one likes)
+    return told.f_bavail * told.f_frsize >= MOST_BYTES and has_files
 
 
 def make_room():
@@ -39,12 +49,20 @@ def make_room():
 def remove_room(room):
     """With all that is in it. (Nobody else may write there.)"""
     try:
-        if os.path.isdir(room) and not os.path.islink(room):
-            for name in os.listdir(room):
-                remove_room(f"{room}/{name}")
-            os.rmdir(room)
+        found = list(os.scandir(room))
+    except OSError:
+        return
+    for entry in found:
+        if entry.is_dir(follow_symlinks=False):
+            remove_room(entry.path)
         else:
-            os.unlink(room)
+            remove(os.unlink, entry.path)
+    remove(os.rmdir, room)
+
+
+def remove(by, path):
+    try:
+        by(path)
     except OSError:
         pass
 
