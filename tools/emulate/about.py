@@ -62,8 +62,8 @@ def nodes_of(machine):
                         ("CPUs", [row for row in rows if row["cpus"] != ""]),
                         ("Allowed", [row for row in rows if row["allowed"]])):
         yield f"{name}: nodes {list_text([row['node'] for row in found])}"
-    others = [far for a, row in enumerate(machine["distances"]) for b, far in enumerate(row) if a != b]
-    yield f"Distances: {min(others)} to {max(others)}"
+    others = {far for a, row in enumerate(machine["distances"]) for b, far in enumerate(row) if a != b}
+    yield f"Distances: {min(others)}" + f" to {max(others)}" * (len(others) > 1)
 
 
 def memory_text(row):
