@@ -16,7 +16,6 @@ declare -A about=(
 declare -A overrides=(
     [numaplan]='unstripped-binary-or-object [usr/bin/numaplan]'
     [libnumaplan0]='unstripped-binary-or-object [usr/lib/*]'
-    [libnumaplan-dev]='unstripped-static-library'
 )
 
 # The newest libc that files ask for.
@@ -70,9 +69,9 @@ document() {
         gzip -9nc >"$documents/changelog.Debian.gz" &&
         printf '%s\n' 'No licence has been granted yet; that is for the owners of the' \
             'repository of numaplan to decide.' >"$documents/copyright" || return
+    [ "$package" = python3-numaplan ] || divide_record "$package" "$documents" || return
     [ -n "${overrides[$package]:-}" ] || return 0
-    divide_record "$package" "$documents" &&
-        mkdir -p "$debian/$package/usr/share/lintian/overrides" &&
+    mkdir -p "$debian/$package/usr/share/lintian/overrides" &&
         printf '%s\n' '# (what was proved is packed as it was built: PROOF has its sum)' \
             "$package: ${overrides[$package]}" \
             >"$debian/$package/usr/share/lintian/overrides/$package"
