@@ -146,6 +146,8 @@ is_imported() {
     done
 }
 
+lintian_passes() { answer=$(lintian --fail-on error --tag-display-limit 0 $(debs) 2>&1); }
+
 try_debs() {
     local version root=$top/root
     version=$(<"$top/VERSION")
@@ -163,6 +165,7 @@ try_debs() {
     check 'the Python package is imported from both of its places' is_imported "$version"
     ! command -v pkg-config >/dev/null || check 'pkg-config finds the library' are_found
     ! command -v cmake >/dev/null || check 'and CMake' are_found_by_cmake
+    ! command -v lintian >/dev/null || check 'lintian finds no error in them' lintian_passes
 }
 
 try_packages() {
