@@ -146,7 +146,11 @@ is_imported() {
     done
 }
 
-lintian_passes() { answer=$(lintian --fail-on error --tag-display-limit 0 $(debs) 2>&1); }
+# (lintian leaves files in TMPDIR.)
+lintian_passes() {
+    mkdir "$top/lintian" &&
+        answer=$(TMPDIR=$top/lintian lintian --fail-on error --tag-display-limit 0 $(debs) 2>&1)
+}
 
 try_debs() {
     local version root=$top/root

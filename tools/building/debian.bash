@@ -104,6 +104,11 @@ write_relations() {
     esac
 }
 
+# The KiB of a folder's files, each rounded up, and one for all else, whatever a file system takes for it.
+installed_size() {
+    find "$1" -printf '%y %s\n' | awk '{ n += $1 == "f" ? int(($2 + 1023) / 1024) : 1 } END { print n }'
+}
+
 write_control() {
     local package=$1
     printf '%s\n' "Package: $package"
@@ -112,7 +117,7 @@ write_control() {
     [[ $package != lib* ]] || echo 'Multi-Arch: same'
     printf '%s\n' "Section: ${section[$package]:-utils}" 'Priority: optional' \
         "Maintainer: $maintainer" \
-        "Installed-Size: $(du -sk --apparent-size "$debian/$package/usr" | cut -f 1)"
+        "Installed-Size: $(installed_size "$debian/$package/usr")"
     write_relations "$package"
     printf '%s\n' \
         "Description: says where Linux would place memory under NUMA policies${about[$package]:+ (${about[$package]})}" \
