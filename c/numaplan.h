@@ -231,7 +231,9 @@ typedef struct np_counts {
     uint64_t pages[256];
 } np_counts;
 
-/* A range of pages: its address and length in bytes, and the index of its first page, in pages. */
+/* A range of pages: its address and length in bytes, and the index of its first page, in pages of
+ * 4 KiB; pages of 2 MiB have NP_HUGE added to theirs. */
+#define NP_HUGE ((uint64_t)1 << 36)
 typedef struct np_range {
     uint64_t start, length, offset;
 } np_range;
@@ -285,6 +287,11 @@ uint32_t np_core_versions(np_core *core, uint64_t *accepted, uint64_t *published
 
 /* Maps `length` bytes of unmapped pages from `start` on; the first page has the index `offset`. */
 uint32_t np_core_map(np_core *core, uint64_t start, uint64_t length, uint64_t offset);
+
+/* The same as pages of 2 MiB, as many as the length takes (MAP_HUGETLB of mmap(2)), from a start
+ * and an offset, in pages of 4 KiB, that are such a page's. Each takes one turn. NP_UNALIGNED comes
+ * also where another call would change a part of one alone. */
+uint32_t np_core_map_huge(np_core *core, uint64_t start, uint64_t length, uint64_t offset);
 
 /* Unmaps the pages of a span, those among them that are mapped. */
 uint32_t np_core_unmap(np_core *core, uint64_t start, uint64_t length);

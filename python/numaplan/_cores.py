@@ -179,12 +179,15 @@ class Core(CoreReports):
 
     __copy__ = copy
 
-    def map(self, start: int, length: int, offset: "int | None" = None) -> None:
+    def map(self, start: int, length: int, offset: "int | None" = None, *, huge: bool = False) -> None:
         """Maps `length` bytes of unmapped pages from address `start` on. The first page has the
-        index `offset`, in pages; without one start / 4096, as private anonymous memory has."""
+        index `offset`, in pages; without one start / 4096, as private anonymous memory has. With
+        `huge` they are pages of 2 MiB (MAP_HUGETLB), whose offset without one is 0."""
         start = u64("start", start)
-        offset = start // 4096 if offset is None else u64("offset", offset)
-        self._call("core_map", start, u64("length", length), offset)
+        if offset is None:
+            offset = 0 if huge else start // 4096
+        call = "core_map_huge" if huge else "core_map"
+        self._call(call, start, u64("length", length), u64("offset", offset))
 
     def unmap(self, start: int, length: int) -> None:
         """Unmaps the pages of `length` bytes from address `start` on, those that are mapped."""

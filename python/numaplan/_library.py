@@ -166,6 +166,7 @@ _SIGNATURES = {
     "core_task_policy": [_HANDLE, _U32, POINTER(StandingPolicy)],
     "core_maps": [_HANDLE, _U32, POINTER(PlacedPage), c_size_t, *_ROOM],
     "core_map": [_HANDLE, _U64, _U64, _U64],
+    "core_map_huge": [_HANDLE, _U64, _U64, _U64],
     "core_unmap": [_HANDLE, _U64, _U64],
     "core_mbind": [_HANDLE, _U64, _U64, _TEXT, c_size_t],
     "core_mbind_by": [_HANDLE, _U64, _U64, _U32, POINTER(NodeSet)],

@@ -2,7 +2,7 @@
 #![tactic(auto)]
 
 use numa_compile::compile_commands;
-use numa_machine::Machine;
+use numa_machine::{Machine, PageSize};
 use numa_mask::read_list;
 use numa_mode::PolicySpec;
 use numa_plan::Plan;
@@ -26,6 +26,7 @@ fn plan_of_four_pages(alloc: Global) -> Option<Plan> {
             start,
             length,
             offset,
+            size: PageSize::Small,
         },
         Command::SetTask { task: 1, spec },
     ];

@@ -3,7 +3,7 @@
 ghost use Rattle.std.specs.Prelude.{◌<◌, ◌^◌};
 
 use numa_examples::flat_machine;
-use numa_machine::Machine;
+use numa_machine::{Machine, PageSize};
 use numa_mask::{NodeId, NodeMask};
 use numa_mode::PolicySpec;
 use numa_plan::{Plan, Steps};
@@ -65,6 +65,7 @@ pub fn map(number: u64) -> Command {
         start,
         length: RANGE,
         offset: start / 4_096,
+        size: PageSize::Small,
     }
 }
 

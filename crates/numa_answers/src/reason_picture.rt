@@ -7,7 +7,7 @@
 use crate::about::put_wrapped;
 use crate::about_forms::{height_of_rows, put_rows};
 use crate::reason_table::{distance_of, put_table};
-use numa_machine::Machine;
+use numa_machine::{Machine, turn_at};
 use numa_mask::{NodeMask, Parts};
 use numa_requests::PAGE_BYTES;
 use numa_rules::{Explanation, OrderRule};
@@ -228,8 +228,8 @@ fn put_turns(text: &mut Written, space: &Space, said: &Explanation, top: u64) ->
         </text>\n",
         &[
             top.saturating_add(16),
-            said.index,
-            said.index,
+            turn_at(said.index),
+            turn_at(said.index),
             turns.total,
             turns.place,
         ],

@@ -1,6 +1,6 @@
 //! By which rules the pages of a span go, stretch by stretch.
 use crate::reasons::put_fields;
-use numa_machine::PlaceRefusal;
+use numa_machine::{PlaceRefusal, turn_at};
 use numa_reports::Largest;
 use numa_requests::PAGE_BYTES;
 use numa_rules::{Explanation, ReasonError, explain, say_stretch, say_unmapped};
@@ -48,7 +48,7 @@ fn short_object(alloc: Global, said: &Explanation, text: &[u8]) -> Object {
     lines.push_lines(text);
     let mut object = Object::new(alloc);
     object.put_number("start", said.page.saturating_mul(PAGE_BYTES));
-    object.put_number("index", said.index);
+    object.put_number("index", turn_at(said.index));
     object.put_items("words", lines);
     object
 }

@@ -139,10 +139,11 @@ change-of space plan change lacks =
 
     of_command : (place : ℕ) (command : Command) → (behind : IsBehind space command plan)
         → ComesOf (change_at place behind.before command) space plan
-    of_command place (Map start bytes offset) behind = record {
+    of_command place (Map start bytes offset size) behind = record {
       start = start;
       bytes = bytes;
       offset = offset;
+      size = size;
       behind = behind;
       begins = refl;
       ends = refl;

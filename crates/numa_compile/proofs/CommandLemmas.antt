@@ -3,6 +3,8 @@ use Rattle.std.proofs.Common.{◌≡◌, ℕ, ◌+◌, ◌-◌, ◌<◌, ◌≤�
 use Rattle.std.proofs.Common.{get_or, refl, sym, ap, subst, ◌∙◌, arith, inl, inr}
 use Rattle.std.proofs.lemmas.Bool.{cases_lt}
 use Rattle.std.proofs.lemmas.List.{get_or_default}
+use Rattle.numa_machine.specs.Sizes.{whole}
+use Rattle.numa_machine.specs.declared.page_size.PageSize.{PageSize}
 use Rattle.numa_mode.specs.Policy.{PolicyRecord, Specification}
 use Rattle.numa_ranges.specs.Runs.{AreApart, AreMaximal}
 use Rattle.numa_ranges.specs.Windows.{begins_in, to_now, IsWindow, Moves}
@@ -67,24 +69,27 @@ module _ (space : SpaceState) (plan : PlanData) (window : Window) (start bytes :
       (omega (arith, within)) (begins (get_or space.ranges k d) ∙ inside) ∙ sym set
 
   -- where pages were mapped, a range that begins has no policy of its own
-  pub map-inside : (offset : ℕ) → IsBehind space (Map start bytes offset) plan → (later : Window)
+  pub map-inside : (extent offset : ℕ) (size : PageSize) → whole size extent ≡ bytes
+      → IsBehind space (Map start extent offset size) plan → (later : Window)
       → later.first ≡ window.first → later.end ≡ window.end → later.to_now ≡ window.to_now
       → NumbersInside space plan later None
-  map-inside offset behind later first' end' to' k d low high inside =
+  map-inside extent offset size all behind later first' end' to' k d low high inside =
       let run : Run (Option PolicyRecord) = get_or space.ranges k d in
-      let same : begins_in (page_of start) (page_of start + page_count bytes) run ≡ true =
-      begins run ∙ (λ i. begins_in (sym first' i) (sym end' i) run) ∙ inside in
-      let value = map-value behind.before space start bytes offset behind.step rising maximal k d
+      let same : begins_in (page_of start) (page_of start + page_count (whole size extent)) run
+      ≡ true = ap (λ (n : ℕ). begins_in (page_of start) (page_of start + page_count n) run) all
+      ∙ begins run ∙ (λ i. begins_in (sym first' i) (sym end' i) run) ∙ inside in
+      let value = map-value behind.before space start extent offset size behind.step rising maximal
+      k d
       (omega (arith, within, to')) same in
       subst (λ (p : Option PolicyRecord). IsNumber (policy_in plan.slots) (where_live p) None)
       (sym value) refl
 
 -- ---- the window of pages that were mapped
 
-module _ (space : SpaceState) (plan : PlanData) (window : Window) (start bytes offset : ℕ)
-    (behind : IsBehind space (Map start bytes offset) plan) (rising : AreApart 0 space.ranges)
+module _ (space : SpaceState) (plan : PlanData) (window : Window) (start extent offset : ℕ)
+    (size : PageSize) (behind : IsBehind space (Map start extent offset size) plan) (rising : AreApart 0 space.ranges)
     (maximal : AreMaximal space.ranges)
-    (first : window.first ≡ page_of start) (end : window.end ≡ page_of start + page_count bytes)
+    (first : window.first ≡ page_of start) (end : window.end ≡ page_of start + page_count (whole size extent))
     (place : window.to_now ≡ length space.ranges - (length plan.runs - window.to))
     (is : IsWindow plan.runs window.first window.end window.from window.to) where
   as_many : length plan.runs ≡ length behind.before.ranges
@@ -94,11 +99,11 @@ module _ (space : SpaceState) (plan : PlanData) (window : Window) (start bytes o
   places : window.to_now ≡ to_now behind.before.ranges space.ranges window.to
   places = place ∙ ap (λ (n : ℕ). length space.ranges - (n - window.to)) as_many
 
-  own : IsWindow behind.before.ranges (page_of start) (page_of start + page_count bytes) window.from
+  own : IsWindow behind.before.ranges (page_of start) (page_of start + page_count (whole size extent)) window.from
       window.to
   own =
       copies-window (policy_in plan.slots) behind.before.ranges plan.runs (page_of start)
-      (page_of start + page_count bytes) window.from window.to behind.follows.copies
+      (page_of start + page_count (whole size extent)) window.from window.to behind.follows.copies
       (subst (λ (n : ℕ). IsWindow plan.runs (page_of start) n window.from window.to) end
       (subst (λ (n : ℕ). IsWindow plan.runs n window.end window.from window.to) first is))
 
@@ -108,11 +113,11 @@ module _ (space : SpaceState) (plan : PlanData) (window : Window) (start bytes o
       → later.to_now ≡ window.to_now → IsOpen space plan later × (later.to_now - later.from ≤ 2)
   map-rest beside later first' end' from' to' now' =
       let d = any-run space.ranges (omega (arith, beside.0, within-now)) in
-      let moved = map-beside behind.before space start bytes offset behind.step rising maximal
+      let moved = map-beside behind.before space start extent offset size behind.step rising maximal
       window.from window.to own d (omega (arith, beside.0, places))
       (omega (arith, beside.1 d, first)) in (
         record {
-          command = Map start bytes offset;
+          command = Map start extent offset size;
           behind = behind;
           of_span = tt;
           begins = sym (first' ∙ first);
@@ -141,7 +146,7 @@ module _ (space : SpaceState) (plan : PlanData) (window : Window) (start bytes o
             omega (
               arith,
               places,
-              map-few behind.before space start bytes offset behind.step rising
+              map-few behind.before space start extent offset size behind.step rising
                   maximal window.from window.to own d (omega (arith, inside some d, first)),
             )
       ]

@@ -8,6 +8,7 @@ use Rattle.std.proofs.lemmas.List.Elements.{All-get_or}
 use Rattle.numa_mask.specs.NodeSet.{has, both, members, weight_of}
 use Rattle.numa_mask.proofs.Images.{weight-some}
 use Rattle.numa_machine.specs.Machine.{fallback_order}
+use Rattle.numa_machine.specs.Sizes.{turn_at}
 use Rattle.numa_space.specs.Lists.{Setting, within, near}
 use Rattle.numa_space.specs.Standing.{SpaceState, setting_in}
 use Rattle.numa_space.proofs.ListSizes.{filter-short, split-short, order-short}
@@ -130,7 +131,7 @@ pub turns-gives : (space : SpaceState) (set width : ℕ) (cycle : List ℕ) → 
           rows_from (setting_in space) (Only space.allowed) (members set);
     })
     (λ cpu index.
-    near (setting_in space) (slice_index (members set) (slice_index cycle (index % length cycle))))
+    near (setting_in space) (slice_index (members set) (slice_index cycle (turn_at index % length cycle))))
 turns-gives space set width cycle ready some inside turns below is cpu index lt =
     let whole : both space.allowed space.allowed ≡ space.allowed =
     within-both space.allowed space.allowed (λ node member. member) in
@@ -152,13 +153,13 @@ turns-gives space set width cycle ready some inside turns below is cpu index lt 
       row-width space (Only space.allowed) 0 ready whole,
       is,
     ) in
-    let turn : get_or cycle (index % length cycle) 0 < length (members set) =
-    All-get_or (λ place. place < weight_of set) cycle (index % length cycle) 0
-    (mod-lt index turns) below in (
+    let turn : get_or cycle (turn_at index % length cycle) 0 < length (members set) =
+    All-get_or (λ place. place < weight_of set) cycle (turn_at index % length cycle) 0
+    (mod-lt (turn_at index) turns) below in (
       has_row-joined (row_from (setting_in space) (Only space.allowed)) width (members set)
           (InTurns cycle) (rows_from (setting_in space) (Only space.allowed) (members set)) refl
-          even filled few (get_or cycle (index % length cycle) 0) turn,
+          even filled few (get_or cycle (turn_at index % length cycle) 0) turn,
       row_at-joined (row_from (setting_in space) (Only space.allowed)) width (members set)
           (InTurns cycle) (rows_from (setting_in space) (Only space.allowed) (members set)) refl
-          even (get_or cycle (index % length cycle) 0) 0 turn,
+          even (get_or cycle (turn_at index % length cycle) 0) 0 turn,
     )

@@ -44,7 +44,7 @@ pub record KeepsRest (old new : SpaceState) : Type 0 where
 
 pub span-rest : (old new : SpaceState) (command : Command) → IsOfSpan command
     → IsNext old command new → KeepsRest old new
-span-rest old new (Map start bytes offset) of_span next =
+span-rest old new (Map start bytes offset size) of_span next =
     record {
       machine = next.machine;
       allowed = next.allowed;
@@ -82,7 +82,7 @@ span-rest old new (SetWeight node weight) of_span next = absurd of_span
 span-rest old new (SetMems mask) of_span next = absurd of_span
 
 pub span-stays : (command : Command) → IsOfSpan command → StaysInSpan command
-span-stays (Map start bytes offset) of_span = tt
+span-stays (Map start bytes offset size) of_span = tt
 span-stays (Unmap start bytes) of_span = tt
 span-stays (Mbind start bytes spec) of_span = tt
 span-stays (SetTask task spec) of_span = absurd of_span
@@ -92,7 +92,7 @@ span-stays (SetWeight node weight) of_span = absurd of_span
 span-stays (SetMems mask) of_span = absurd of_span
 
 pub edits-of_span : (command : Command) → EditsSpan command → IsOfSpan command
-edits-of_span (Map start bytes offset) edits = absurd edits
+edits-of_span (Map start bytes offset size) edits = absurd edits
 edits-of_span (Unmap start bytes) edits = tt
 edits-of_span (Mbind start bytes spec) edits = tt
 edits-of_span (SetTask task spec) edits = absurd edits

@@ -43,7 +43,7 @@ pub record KeepsAllBut (task : ℕ) (old new : SpaceState) : Type 0 where
 
 pub given : (task : ℕ) (old new : SpaceState) (command : Command) → GivesTask task command
     → IsNext old command new → KeepsAllBut task old new
-given task old new (Map start bytes offset) gives next = absurd gives
+given task old new (Map start bytes offset size) gives next = absurd gives
 given task old new (Unmap start bytes) gives next = absurd gives
 given task old new (Mbind start bytes spec) gives next = absurd gives
 given task old new (SetTask other spec) gives next = record {

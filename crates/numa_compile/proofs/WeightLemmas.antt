@@ -6,6 +6,7 @@ use Rattle.numa_mode.specs.declared.modes.Mode.{Mode}
 use Rattle.numa_mode.specs.declared.modes.Mode.TheVariants.{Default, Preferred, Bind, Interleave}
 use Rattle.numa_mode.specs.declared.modes.Mode.TheVariants.{Local, PreferredMany}
 use Rattle.numa_mode.specs.declared.modes.Mode.TheVariants.{WeightedInterleave}
+use Rattle.numa_machine.specs.Sizes.{turn_at}
 use Rattle.numa_machine.specs.Weights.{weight_at}
 use Rattle.numa_space.specs.Lists.{list_by_mode, list_for}
 use Rattle.numa_space.specs.Standing.{SpaceState, IsInForce}
@@ -33,7 +34,7 @@ pub list-unweighted : (machine : Hardware) (allowed : ℕ) (old new : ℕ → �
     → list_for (record { machine = machine; allowed = allowed; weight = old }) (Some r) cpu index
     ≡ list_for (record { machine = machine; allowed = allowed; weight = new }) (Some r) cpu index
 list-unweighted machine allowed old new r cpu index other = by_mode-unweighted machine allowed old
-    new r.spec.mode r.effective _ index other
+    new r.spec.mode r.effective _ (turn_at index) other
 
 -- and their rules serve on
 pub serving-unweighted : (old new : SpaceState) (kept : Kept) → new.machine ≡ old.machine

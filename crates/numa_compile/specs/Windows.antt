@@ -2,6 +2,8 @@
 use Rattle.std.specs.Prelude.{◌≡◌, ℕ, ◌+◌, ◌<◌, ◌≤◌, true, false, Option, Some, List, []}
 use Rattle.std.specs.Prelude.{◌∷◌, length, get_or}
 use Rattle.std.specs.Option.{option_map}
+use Rattle.numa_machine.specs.Sizes.{whole}
+use Rattle.numa_machine.specs.declared.page_size.PageSize.{PageSize}
 use Rattle.numa_mode.specs.Policy.{PolicyRecord}
 use Rattle.numa_ranges.specs.Runs.{end_of, page_at}
 use Rattle.numa_ranges.specs.Windows.{begins_in, to_now, Moves}
@@ -24,7 +26,7 @@ use Rattle.numa_compile.specs.declared.recompiler.window.Window.{Window}
 
 -- whether a command changes pages of its span, and nothing else
 abbrev pub IsOfSpan : Command → Type 0
-IsOfSpan (Map start bytes offset) = Unit {0}
+IsOfSpan (Map start bytes offset size) = Unit {0}
 IsOfSpan (Unmap start bytes) = Unit {0}
 IsOfSpan (Mbind start bytes spec) = Unit {0}
 IsOfSpan (SetTask task spec) = ⊥
@@ -67,9 +69,10 @@ pub record IsBehindMap (space : SpaceState) (plan : PlanData) (pages : ChangedPa
   pub start : ℕ
   pub bytes : ℕ
   pub offset : ℕ
-  pub behind : IsBehind space (Map start bytes offset) plan
+  pub size : PageSize
+  pub behind : IsBehind space (Map start bytes offset size) plan
   pub begins : page_of start ≡ pages.first
-  pub ends : page_of start + page_count bytes ≡ pages.end
+  pub ends : page_of start + page_count (whole size bytes) ≡ pages.end
 
 -- a run of the plan has the range's first page, and the number of the range's policy
 pub record IsNumbered (plan : PlanData) (range : Run (Option PolicyRecord)) : Type 0 where

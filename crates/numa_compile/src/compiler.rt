@@ -290,6 +290,7 @@ pub fn compile(alloc: Global, space: &Space) -> Result<Plan, NoMemory>
 ///         start,
 ///         length,
 ///         offset,
+///         size: PageSize::Small,
 ///     },
 ///     Command::SetTask { task: 1, spec },
 /// ];

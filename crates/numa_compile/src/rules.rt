@@ -3,6 +3,7 @@ ghost use Rattle.std.specs.Prelude.{◌≡◌, ◌≢◌, ℕ, ◌<◌, ◌≤�
 ghost use Rattle.std.specs.Prelude.{length, slice_index, unwrap_or};
 ghost use Rattle.std.specs.Option.{ForSome};
 ghost use Rattle.numa_mask.specs.NodeSet.{both, has, members, weight_of};
+ghost use Rattle.numa_machine.specs.Sizes.{turn_at};
 ghost use Rattle.numa_machine.specs.Weights.{interleave_node, weight_at, weighted_node};
 ghost use Rattle.numa_mode.specs.Policy.{is_live};
 ghost use Rattle.numa_space.specs.Lists.{before_others, near};
@@ -91,7 +92,7 @@ fn turns_rule(
     requires places { All (λ place. place < weight_of set.now) cycle.items }
     ensures { IfOk result (λ rule. GivesRows space.now.machine.nodes rule (λ cpu index.
         near (setting_in space.now) (slice_index (members set.now)
-        (slice_index cycle.items (index % length cycle.items))))) }
+        (slice_index cycle.items (turn_at index % length cycle.items))))) }
 {
     let rows = rows_by_member(alloc, space, set)?;
     let rule = Rule::turns(alloc, space.allowed().weight(), rows, cycle)?;
@@ -104,7 +105,7 @@ fn interleave_rule(alloc: Global, space: &Space, set: &NodeMask) -> Result<Rule,
     requires some { set.now ≢ 0 }
     requires allowed { both set.now space.now.allowed ≡ set.now }
     ensures { IfOk result (λ rule. GivesRows space.now.machine.nodes rule
-        (λ cpu index. near (setting_in space.now) (interleave_node set.now index))) }
+        (λ cpu index. near (setting_in space.now) (interleave_node set.now (turn_at index)))) }
 {
     let cycle = equal_turns(alloc, set.weight())?;
     turns_rule(alloc, space, set, cycle)
@@ -117,7 +118,7 @@ fn weighted_rule(alloc: Global, space: &Space, set: &NodeMask) -> Result<Rule, N
     requires allowed { both set.now space.now.allowed ≡ set.now }
     ensures { IfOk result (λ rule. GivesRows space.now.machine.nodes rule
         (λ cpu index. near (setting_in space.now)
-        (weighted_node (weight_at space.now.weights) set.now index))) }
+        (weighted_node (weight_at space.now.weights) set.now (turn_at index)))) }
 {
     let cycle = weighted_turns(alloc, space.weights(), set)?;
     turns_rule(alloc, space, set, cycle)

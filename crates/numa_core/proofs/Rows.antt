@@ -12,6 +12,7 @@ use Rattle.numa_space.specs.Policies.{mems_of}
 use Rattle.numa_space.specs.Refusals.{lacks_mems}
 use Rattle.numa_space.proofs.Rows.{flat, asked, mems}
 use Rattle.numa_machine.specs.declared.frame.Frame.{Frame}
+use Rattle.numa_machine.specs.declared.page_size.PageSize.TheVariants.{Small}
 use Rattle.numa_requests.specs.declared.request.Request.{Request}
 use Rattle.numa_requests.specs.declared.event.Event.{Event}
 use Rattle.numa_requests.specs.declared.event.Event.TheVariants.{Accept, Publish, Begin, Look, Try}
@@ -81,7 +82,7 @@ won version task page node number rank =
 -- ---- versions: nothing is mapped in version 0, and publishing twice publishes once
 
 versions : List Command
-versions = SetTask 1 (asked Preferred Plain (1 ∷ [])) ∷ Map 0x10000 0x1000 0 ∷ []
+versions = SetTask 1 (asked Preferred Plain (1 ∷ [])) ∷ Map 0x10000 0x1000 0 Small ∷ []
 
 versions-row : answers (four_on (with_frames (1 ∷ 1 ∷ []))) (accepted versions) (
     (Begin 0 (fault 1 0x10), 0)
@@ -101,7 +102,7 @@ versions-row = refl
 
 -- a worker may take a published version that isn't the newest: version 1 has no policy for the
 -- task, and version 2 binds it to node 1
-older-row : answers (four_on (with_frames (1 ∷ 1 ∷ []))) (accepted (Map 0x10000 0x1000 0 ∷ [])) (
+older-row : answers (four_on (with_frames (1 ∷ 1 ∷ []))) (accepted (Map 0x10000 0x1000 0 Small ∷ [])) (
     (Publish, 0)
     ∷ (Accept (SetTask 1 (asked Bind Plain (1 ∷ []))), 0)
     ∷ (Accept (mems (5 ∷ [])), 0)
@@ -128,7 +129,7 @@ older-row = refl
 -- a page with a policy of its own, a fault on node 1, and a frame search that later commands and
 -- publications leave as it is
 pages : List Command
-pages = Mbind 0x11000 0x1000 (asked Bind Plain (1 ∷ [])) ∷ Map 0x10000 0x2000 0 ∷ []
+pages = Mbind 0x11000 0x1000 (asked Bind Plain (1 ∷ [])) ∷ Map 0x10000 0x2000 0 Small ∷ []
 
 pages-row : answers (four_on (with_frames (2 ∷ 2 ∷ []))) (accepted pages) ((Publish, 0) ∷ taking 2 (
     Begin 0 (record { task = 1; page = 0x10; cpu = 1 })
@@ -161,7 +162,7 @@ pages-row = refl
 
 exhausted : List Command
 exhausted = SetTask 2 (asked PreferredMany Plain (0 ∷ [])) ∷ SetTask 1 (asked Bind Plain (0 ∷ []))
-    ∷ Map 0x10000 0x3000 0 ∷ []
+    ∷ Map 0x10000 0x3000 0 Small ∷ []
 
 exhausted-row : answers (four_on (with_frames (1 ∷ 1 ∷ []))) (accepted exhausted)
     ((Publish, 0) ∷ taking 3 (
@@ -194,7 +195,7 @@ exhausted-row = refl
 -- ---- two workers that look at one frame: one wins it, and the other finds that out by its own try
 
 two_workers-row : answers (four_on (with_frames (1 ∷ 1 ∷ [])))
-    (accepted (Map 0x10000 0x2000 0 ∷ [])) ((Publish, 0) ∷ taking 1 (
+    (accepted (Map 0x10000 0x2000 0 Small ∷ [])) ((Publish, 0) ∷ taking 1 (
     Begin 0 (fault 1 0x10)
     ∷ Begin 1 (fault 1 0x11)
     ∷ Look 0 0
@@ -227,7 +228,7 @@ two_workers-row = refl
 
 -- ---- 65 frames are two words, 0 and 1
 
-borders-row : answers (four_on (with_frames (65 ∷ []))) (accepted (Map 0x10000 0x1000 0 ∷ []))
+borders-row : answers (four_on (with_frames (65 ∷ []))) (accepted (Map 0x10000 0x1000 0 Small ∷ []))
     ((Publish, 0) ∷ taking 1 (
     Begin 0 (fault 1 0x10)
     ∷ Look 0 2
@@ -254,7 +255,7 @@ unfolding members fallback_order list_at mems_of lacks_mems
 borders-row = refl
 
 -- a node of 64 frames has word 0 alone, and a worker's own frames count as met by its Look too
-one_word-row : answers (four_on (with_frames (64 ∷ []))) (accepted (Map 0x10000 0x2000 0 ∷ []))
+one_word-row : answers (four_on (with_frames (64 ∷ []))) (accepted (Map 0x10000 0x2000 0 Small ∷ []))
     ((Publish, 0) ∷ taking 1 (
     Begin 0 (fault 1 0x10)
     ∷ Look 0 1
@@ -279,7 +280,7 @@ one_word-row = refl
 -- ---- nodes without frames are passed over, and their places in the list count
 
 no_frames-row : answers (four_on (with_frames (0 ∷ 0 ∷ 1 ∷ [])))
-    (accepted (SetTask 2 (asked Bind Plain (0 ∷ 1 ∷ [])) ∷ Map 0x10000 0x1000 0 ∷ []))
+    (accepted (SetTask 2 (asked Bind Plain (0 ∷ 1 ∷ [])) ∷ Map 0x10000 0x1000 0 Small ∷ []))
     ((Publish, 0) ∷ taking 2 (
     Begin 0 (fault 1 0x10)
     ∷ Try 0 (frame 0 0)

@@ -3,7 +3,9 @@
 use Rattle.std.proofs.Common.{◌≡◌, ℕ, Result, Ok, Err, List, [], ◌∷◌, length, refl}
 use Rattle.numa_mask.specs.NodeSet.{members}
 use Rattle.numa_machine.specs.Machine.{fallback_order}
+use Rattle.numa_machine.specs.Sizes.{is_part, turn_at}
 use Rattle.numa_machine.specs.Weights.{interleave_node}
+use Rattle.numa_machine.specs.declared.page_size.PageSize.TheVariants.{Small}
 use Rattle.numa_mode.specs.declared.modes.Mode.TheVariants.{Bind, PreferredMany, Interleave}
 use Rattle.numa_mode.specs.declared.modes.NodeFlag.TheVariants.{Plain}
 use Rattle.numa_requests.specs.declared.command.Command.{Command}
@@ -33,7 +35,7 @@ answers s world w (request ∷ requests) = (result_of_touch s world w request).a
 
 exhausted : List Command
 exhausted = SetTask 2 (asked PreferredMany Plain (0 ∷ [])) ∷ SetTask 1 (asked Bind Plain (0 ∷ []))
-    ∷ Map 0x10000 0x3000 0 ∷ []
+    ∷ Map 0x10000 0x3000 0 Small ∷ []
 
 exhausted-row : answers (four_on (with_frames (1 ∷ 1 ∷ []))) (published exhausted) 0 (
     fault 1 0x10
@@ -53,7 +55,7 @@ exhausted-row = refl
 
 maps : List Command
 maps = Mbind 0x13000 0x3000 (asked Bind Plain (2 ∷ []))
-    ∷ SetTask 1 (asked Interleave Plain (0 ∷ 1 ∷ 2 ∷ 3 ∷ [])) ∷ Map 0x10000 0xa000 0 ∷ []
+    ∷ SetTask 1 (asked Interleave Plain (0 ∷ 1 ∷ 2 ∷ 3 ∷ [])) ∷ Map 0x10000 0xa000 0 Small ∷ []
 
 maps-row : answers (four_on (with_frames (8 ∷ 8 ∷ 8 ∷ 8 ∷ []))) (published maps) 0 (
     fault 1 0x10
@@ -66,14 +68,14 @@ maps-row : answers (four_on (with_frames (8 ∷ 8 ∷ 8 ∷ 8 ∷ []))) (publish
     ∷ won 3 1 0x14 2 0 0
     ∷ won 3 1 0x15 2 1 0
     ∷ [])
-unfolding members fallback_order interleave_node list_at result_of_touch maps
+unfolding members fallback_order interleave_node turn_at is_part list_at result_of_touch maps
 maps-row = refl
 
 -- ---- what is refused, and nodes without frames: they are passed over, and their places in the
 -- list count
 
 refused-row : answers (four_on (with_frames (0 ∷ 0 ∷ 1 ∷ [])))
-    (published (Map 0x10000 0x1000 0 ∷ [])) 3 (
+    (published (Map 0x10000 0x1000 0 Small ∷ [])) 3 (
     fault 1 0x11
     ∷ record { task = 1; page = 0x10; cpu = 3 }
     ∷ fault 1 0x10
@@ -87,7 +89,7 @@ refused-row : answers (four_on (with_frames (0 ∷ 0 ∷ 1 ∷ [])))
 unfolding members fallback_order list_at result_of_touch
 refused-row = refl
 
-no_worker-row : answers (four_on (with_frames (1 ∷ []))) (published (Map 0x10000 0x1000 0 ∷ [])) 4
+no_worker-row : answers (four_on (with_frames (1 ∷ []))) (published (Map 0x10000 0x1000 0 Small ∷ [])) 4
     (fault 1 0x10 ∷ []) ≡ (Err NoSuchWorker ∷ [])
 unfolding members fallback_order list_at result_of_touch
 no_worker-row = refl

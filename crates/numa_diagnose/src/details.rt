@@ -2,7 +2,7 @@
 use crate::bad_words::plain_words;
 use crate::finding::Detail;
 use crate::pages::{first_mapped, first_unmapped, first_without_home, is_mapped};
-use numa_machine::Machine;
+use numa_machine::{Machine, PageSize};
 use numa_mask::ListFault;
 use numa_mask::parts::first_place;
 use numa_requests::{Command, CoreRefusal, Event, MoveRefusal, PlacedRefusal, Refusal};
@@ -12,6 +12,10 @@ use numa_space::Space;
 
 /// The size of a page in bytes.
 const PAGE: u64 = 4096;
+
+/// That of a page of 2 MiB, and how many pages of 4 KiB it is.
+const HUGE: u64 = 2_097_152;
+const PARTS: u64 = 512;
 
 /// A span of pages: the first, and the one after the last.
 #[derive(Clone, Copy)]
@@ -37,11 +41,24 @@ fn page_count(length: u64) -> u64 {
     length / PAGE + 1
 }
 
+/// The number of pages, of 4 KiB, that `length` bytes of pages of this size need.
+fn sized_count(size: PageSize, length: u64) -> u64 {
+    match size {
+        PageSize::Small => page_count(length),
+        PageSize::Huge => length / HUGE * PARTS + if length % HUGE == 0 { 0 } else { PARTS },
+    }
+}
+
 /// The span of a command that has one.
 fn span_of(command: &Command) -> Option<LinePages> {
     match *command {
-        Command::Map { start, length, .. }
-        | Command::Unmap { start, length }
+        Command::Map {
+            start,
+            length,
+            size,
+            ..
+        } => Some(pages_from(start, sized_count(size, length))),
+        Command::Unmap { start, length }
         | Command::Mbind { start, length, .. }
         | Command::SetHome { start, length, .. } => Some(pages_from(start, page_count(length))),
         _ => None,

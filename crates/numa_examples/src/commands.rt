@@ -2,6 +2,7 @@
 //! set_mempolicy(2): 0 is DEFAULT, 1 PREFERRED, 2 BIND, 3 INTERLEAVE, 4 LOCAL, 5 PREFERRED_MANY, 6
 //! WEIGHTED_INTERLEAVE, and one of these with 0x8000 has STATIC_NODES, with 0x4000 RELATIVE_NODES.
 use crate::sets::set_of;
+use numa_machine::PageSize;
 use numa_mode::PolicySpec;
 use numa_requests::Command;
 use std::alloc::Global;
@@ -39,6 +40,7 @@ pub fn command_of(asked: &ShortCommand) -> Option<Command> {
             start,
             length,
             offset,
+            size: PageSize::Small,
         },
         Unmap(start, length) => Command::Unmap { start, length },
         Mbind(start, length, word, nodes) => Command::Mbind {

@@ -141,7 +141,7 @@ group_mems-refused host process place command room sound at not_its = record {
 -- a command that a process may give leaves the allowed nodes
 pub allowed-same : (machine : Hardware) (allowed : ℕ) (command : Command)
     → is_the_host_s command ≡ false → allowed_next machine allowed command ≡ allowed
-allowed-same machine allowed (own.Map start bytes offset) its = refl
+allowed-same machine allowed (own.Map start bytes offset size) its = refl
 allowed-same machine allowed (own.Unmap start bytes) its = refl
 allowed-same machine allowed (own.Mbind start bytes spec) its = refl
 allowed-same machine allowed (own.SetTask task spec) its = refl

@@ -30,7 +30,7 @@ use Rattle.numa_host_script.specs.Standing.{Replies, RunsAs, hosting_with}
 
 -- a command of a process that may need room does so by the definition
 room-needed : (said : Command) → MayNeedRoom said → needs_room said ≡ true
-room-needed (own.Map start bytes offset) room = refl
+room-needed (own.Map start bytes offset size) room = refl
 room-needed (own.Unmap start bytes) room = ap not (ne_eqb bytes 0 room)
 room-needed (own.Mbind start bytes spec) room = ap not (ne_eqb bytes 0 room)
 room-needed (own.SetHome start bytes node) room = ap not (ne_eqb bytes 0 room)

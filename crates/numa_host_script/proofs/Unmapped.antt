@@ -343,7 +343,7 @@ pub obeyed-plain : (old new : RunningHost) (answer : Reply) (process : ℕ) (sai
     → Replies old answer new (λ lack at. obeyed lack.lacked at process said)
 obeyed-plain old new answer process (own.Unmap start bytes) other serves =
     absurd (other start bytes refl)
-obeyed-plain old new answer process (own.Map start bytes offset) other serves = serves
+obeyed-plain old new answer process (own.Map start bytes offset size) other serves = serves
 obeyed-plain old new answer process (own.Mbind start bytes spec) other serves = serves
 obeyed-plain old new answer process (own.SetTask task spec) other serves = serves
 obeyed-plain old new answer process (own.Inherit task from) other serves = serves

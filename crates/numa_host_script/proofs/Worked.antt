@@ -4,6 +4,7 @@ use Rattle.numa_mask.specs.Lists.{item_of, ends_of, digit_of, numeral_of as node
 use Rattle.numa_machine.specs.Machine.{Hardware}
 use Rattle.numa_machine.specs.declared.fallback.Fallback.TheVariants.{Nearest}
 use Rattle.numa_machine.specs.declared.rules.Rules.TheVariants.{Document}
+use Rattle.numa_machine.specs.declared.page_size.PageSize.TheVariants.{Small}
 use Rattle.numa_requests.specs.declared.command.Command.TheVariants as own
 use Rattle.numa_requests.specs.declared.host_command.HostCommand.TheVariants as command
 use Rattle.numa_script.specs.Lines.{keyword_of, line_of}
@@ -37,7 +38,7 @@ abbrev run : Hosting
 run = record {
   machine = four;
   bounds = usual_bounds;
-  history = command.In 1 (own.Map 65536 4096 0) ∷ command.NewProcess 1 5
+  history = command.In 1 (own.Map 65536 4096 0 Small) ∷ command.NewProcess 1 5
       ∷ command.SetGroupMems 5 (Some 6) ∷ command.NewGroup 5 0 ∷ [];
   lying = record {
     room = None;

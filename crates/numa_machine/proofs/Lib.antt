@@ -9,3 +9,4 @@ pub mod Loads
 pub mod Begins
 pub mod KernelRows
 pub mod Turns
+pub mod Sizes

@@ -3,6 +3,7 @@ use Rattle.std.proofs.Common.{◌≡◌, ℕ, Option, None, List, [], ◌∷◌,
 use Rattle.std.specs.Fmt.{digits}
 use Rattle.numa_requests.specs.declared.placement.Placement.{Placement}
 use Rattle.numa_mask.specs.NodeSet.{members}
+use Rattle.numa_machine.specs.declared.page_size.PageSize.TheVariants.{Small}
 use Rattle.numa_mode.specs.Policy.{PolicyRecord}
 use Rattle.numa_mode.specs.declared.modes.Mode.TheVariants.{Bind, Interleave, Local, Preferred}
 use Rattle.numa_mode.specs.declared.modes.Mode.TheVariants.{PreferredMany, WeightedInterleave}
@@ -37,7 +38,7 @@ on page node = (
 
 bound_run : List Command
 bound_run = Mbind 0x13000 0x3000 (asked Bind Plain (2 ∷ []))
-    ∷ SetTask 1 (asked Interleave Plain (0 ∷ 1 ∷ 2 ∷ 3 ∷ [])) ∷ Map 0x10000 0xa000 0 ∷ []
+    ∷ SetTask 1 (asked Interleave Plain (0 ∷ 1 ∷ 2 ∷ 3 ∷ [])) ∷ Map 0x10000 0xa000 0 Small ∷ []
 
 three_ranges : List (Run (Option PolicyRecord))
 three_ranges = range 0x10 3 0 ∷ range 0x13 3 3 ∷ range 0x16 4 6 ∷ []
@@ -68,7 +69,7 @@ other-pages = refl
 policy_run : List Command
 policy_run = SetTask 4 (asked Preferred Plain (0 ∷ 1 ∷ [])) ∷ SetTask 3 (asked Local Plain [])
     ∷ SetTask 2 (asked PreferredMany Static (0 ∷ []))
-    ∷ SetTask 1 (asked WeightedInterleave Plain (0 ∷ 1 ∷ [])) ∷ Map 0x7ffffffff000 0x1000 0 ∷ []
+    ∷ SetTask 1 (asked WeightedInterleave Plain (0 ∷ 1 ∷ [])) ∷ Map 0x7ffffffff000 0x1000 0 Small ∷ []
 
 -- the listing of one page, for a task
 line_for : ℕ → List ℕ

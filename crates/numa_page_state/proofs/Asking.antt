@@ -12,6 +12,7 @@ use Rattle.numa_ranges.specs.Runs.{page_at}
 use Rattle.numa_space.specs.History.{page_of, page_count}
 use Rattle.numa_space.specs.Limited.{Bounds}
 use Rattle.numa_space.specs.Lists.{node_list}
+use Rattle.numa_machine.specs.declared.page_size.PageSize.TheVariants.{Small}
 use Rattle.numa_space.specs.Refusals.{bad_policy_span, cause_in, ends_above, refusal_of, scene_of}
 use Rattle.numa_space.specs.Refusals.{first_of as first_refusal, unaligned}
 use Rattle.numa_space.specs.Standing.{SpaceState, StandsFor, list_in, place_refusal_in}
@@ -68,7 +69,7 @@ second-none (Some cause) other is =
 
 -- what neither rules refuse begins at a page
 aligned-start : (start : ℕ) (other : Option Refusal)
-    → first_refusal (unaligned start) other ≡ None → (start % 4096 == 0) ≡ true
+    → first_refusal (unaligned Small start) other ≡ None → (start % 4096 == 0) ≡ true
 aligned-start start other is =
     elim (cases_Bool (start % 4096 == 0)) [
       | inl t ↦ t

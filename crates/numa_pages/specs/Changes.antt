@@ -83,7 +83,7 @@ may_fill state = is_some state.rooms
 abbrev pub lying_after : Command → Lying → Lying
 lying_after (Unmap start bytes) at = if has_stated at.spots start bytes
     then with_spots (forgotten start bytes at.spots) at else at
-lying_after (Map start bytes offset) at = at
+lying_after (Map start bytes offset size) at = at
 lying_after (Mbind start bytes spec) at = at
 lying_after (SetTask task spec) at = at
 lying_after (Inherit task from) at = at
@@ -93,7 +93,7 @@ lying_after (SetMems mask) at = at
 
 abbrev pub unmaps : Command → Bool
 unmaps (Unmap start bytes) = true
-unmaps (Map start bytes offset) = false
+unmaps (Map start bytes offset size) = false
 unmaps (Mbind start bytes spec) = false
 unmaps (SetTask task spec) = false
 unmaps (Inherit task from) = false
@@ -106,7 +106,7 @@ unmaps (SetMems mask) = false
 abbrev pub cause_of_pages : Lack → Command → Lying → Option PlacedRefusal
 cause_of_pages lack (Unmap start bytes) at = if has_stated at.spots start bytes
     then lack_of lack (forgotten start bytes at.spots) else None
-cause_of_pages lack (Map start bytes offset) at = None
+cause_of_pages lack (Map start bytes offset size) at = None
 cause_of_pages lack (Mbind start bytes spec) at = None
 cause_of_pages lack (SetTask task spec) at = None
 cause_of_pages lack (Inherit task from) at = None

@@ -35,7 +35,8 @@ pub nodes-repeat : (space : SpaceState) (task cpu first pages index period : ℕ
     (value : Option PolicyRecord)
     → ((page : ℕ) → first ≤ page → page < first + pages
     → page_at space.ranges page ≡ Some (index + (page - first), value))
-    → IsPeriod (setting_in space) (policy_that_counts value (record_of space.tasks task)) period
+    → IsPeriod (setting_in space) (policy_that_counts value (record_of space.tasks task)) index pages
+    period
     → Repeats (nodes_in space task cpu) first pages period
 unfolding nodes_by
 nodes-repeat space task cpu first pages index period value held periodic page low high =
@@ -45,7 +46,7 @@ nodes-repeat space task cpu first pages index period value held periodic page lo
     ap (nodes_by space task cpu) (held (page + period) (omega (arith, low)) high)
     ∙ ap (λ (n : ℕ). nodes_by space task cpu (Some (n, value))) later
     ∙ ap (λ (l : List ℕ). list_unless (place_refusal_in space.machine.nodes true cpu) l)
-    (periodic cpu (index + (page - first)))
+    (periodic cpu (page - first) (omega (arith, low, high)))
     ∙ sym (ap (nodes_by space task cpu) (held page low (omega (arith, high))))
 
 -- so do those of some pages of a range
@@ -54,7 +55,7 @@ pub part-repeats : (space : SpaceState) (task cpu page n period : ℕ)
     → ((p : ℕ) → range.first ≤ p → p < end_of range
     → page_at space.ranges p ≡ Some (range.index + (p - range.first), range.value))
     → page + n ≤ end_of range → page < end_of range → policy ≡ policy_in space task page
-    → IsPeriod (setting_in space) policy period
+    → IsPeriod (setting_in space) policy (range.index + (page - range.first)) n period
     → Repeats (nodes_in space task cpu) page n period
 part-repeats space task cpu page n period range policy low held within inside is periodic =
     let counts : policy ≡ policy_that_counts range.value (record_of space.tasks task) = is
@@ -63,7 +64,8 @@ part-repeats space task cpu page n period range policy low held within inside is
     nodes-repeat space task cpu page n (range.index + (page - range.first)) period range.value
     (λ p from to. held p (omega (arith, low, from)) (omega (arith, within, to))
     ∙ ap (λ (k : ℕ). Some (k, range.value)) (shifted p from))
-    (subst (λ (r : Option PolicyRecord). IsPeriod (setting_in space) r period) counts periodic)
+    (subst (λ (r : Option PolicyRecord). IsPeriod (setting_in space) r
+    (range.index + (page - range.first)) n period) counts periodic)
   where
     shifted : (p : ℕ) → page ≤ p → range.index + (p - range.first)
         ≡ range.index + (page - range.first) + (p - page)

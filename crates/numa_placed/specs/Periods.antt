@@ -9,10 +9,11 @@ abbrev pub Repeats : (ℕ → List ℕ) → ℕ → ℕ → ℕ → Type 0
 Repeats nodes first pages period = (page : ℕ) → first ≤ page → page + period < first + pages
     → nodes (page + period) ≡ nodes page
 
--- the lists of a policy repeat after this many indexes
-abbrev pub IsPeriod : Setting → Option PolicyRecord → ℕ → Type 0
-IsPeriod setting policy period = (cpu index : ℕ)
-    → list_for setting policy cpu (index + period) ≡ list_for setting policy cpu index
+-- the lists of a policy repeat after this many pages, of so many pages with the indexes from one
+-- on
+abbrev pub IsPeriod : Setting → Option PolicyRecord → ℕ → ℕ → ℕ → Type 0
+IsPeriod setting policy index pages period = (cpu k : ℕ) → k + period < pages
+    → list_for setting policy cpu (index + k + period) ≡ list_for setting policy cpu (index + k)
 
 -- the first page from one on that has this place in a cycle of so many nodes
 abbrev pub page_with : ℕ → ℕ → ℕ → ℕ

@@ -6,7 +6,7 @@ ghost use Rattle.numa_space.specs.Standing.{StandsFor, setting_in};
 ghost use Rattle.numa_requests.specs.declared.command.Command.{Command};
 ghost use Rattle.numa_placed.specs.Periods.{IsPeriod};
 
-use numa_machine::Weights;
+use numa_machine::{Weights, round_of};
 use numa_mask::NodeMask;
 use numa_mode::{Mode, Record};
 use numa_space::Space;
@@ -22,18 +22,19 @@ fn total_weight(weights: &Weights, set: &NodeMask) -> u64
     total
 }
 
-/// The number of pages after which a policy's lists repeat with these weights: the number of nodes
-/// for INTERLEAVE, their total weight for WEIGHTED_INTERLEAVE, 1 for other modes; 0 for a set
+/// The number of pages after which a policy's lists repeat with these weights, for `pages` pages
+/// with the indexes from `index` on: the number of nodes for INTERLEAVE, their total weight for
+/// WEIGHTED_INTERLEAVE, 512 times as many for pages of 2 MiB, and 1 for other modes; 0 for a set
 /// without nodes.
-fn period_of(weights: &Weights, policy: &Record) -> u64
+fn period_of(weights: &Weights, policy: &Record, index: u64, pages: u64) -> u64
     ensures { (setting : Setting)
         → ((node : ℕ) → weight_at weights.now node ≡ setting.weight node)
-        → IsPeriod setting (Some policy.now) result }
+        → IsPeriod setting (Some policy.now) index pages result }
 {
     let set = policy.effective();
     match policy.spec().mode() {
-        Mode::Interleave => u64::from(set.weight()),
-        Mode::WeightedInterleave => total_weight(weights, &set),
+        Mode::Interleave => round_of(u64::from(set.weight()), index, pages),
+        Mode::WeightedInterleave => round_of(total_weight(weights, &set), index, pages),
         Mode::Default => 1,
         Mode::Preferred => 1,
         Mode::Bind => 1,
@@ -42,15 +43,15 @@ fn period_of(weights: &Weights, policy: &Record) -> u64
     }
 }
 
-/// The number of pages after which the lists of a policy of the space repeat; `None` is local
-/// allocation.
-pub fn period_in(space: &Space, policy: &Option<Record>) -> u64
-    ensures now { IsPeriod (setting_in space.now) policy.now result }
+/// The number of pages after which the lists of a policy of the space repeat, for `pages` pages
+/// with the indexes from `index` on; `None` is local allocation.
+pub fn period_in(space: &Space, policy: &Option<Record>, index: u64, pages: u64) -> u64
+    ensures now { IsPeriod (setting_in space.now) policy.now index pages result }
     ensures meaning { (history : List Command) → StandsFor space.now history
-        → IsPeriod (setting_of space.now.machine history) policy.now result }
+        → IsPeriod (setting_of space.now.machine history) policy.now index pages result }
 {
     match policy {
-        Some(policy) => period_of(space.weights(), policy),
+        Some(policy) => period_of(space.weights(), policy, index, pages),
         None => 1,
     }
 }

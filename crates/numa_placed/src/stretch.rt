@@ -17,7 +17,8 @@ use numa_mode::{Mode, Record};
 use numa_ranges::Run;
 use numa_space::{RangeRecord, Space};
 
-/// The most nodes of a cycle: 256 with a weight of 255 each.
+/// The most nodes of a cycle: 256 with a weight of 255 each, or 127 pages of 2 MiB, each of whose
+/// parts has one.
 const MOST_TURNS: u64 = 65_280;
 
 /// Whether a mode takes its nodes in turn, page by page.
@@ -50,6 +51,7 @@ fn range_of(space: &Space, page: u64) -> Option<Run<RangeRecord>>
     ensures low { IfSome result (λ range. range.first ≤ page) }
     ensures high { IfSome result (λ range. page < end_of range) }
     ensures end { IfSome result (λ range. end_of range ≤ 2 ^ 35) }
+    ensures last { IfSome result (λ range. range.index + range.pages ≤ 2 ^ 37) }
     ensures pages { IfSome result (λ range. (p : ℕ) → range.first ≤ p → p < end_of range
         → page_at space.now.ranges p ≡ Some (range.index + (p - range.first), range.value)) }
 {
@@ -170,9 +172,13 @@ pub(crate) fn turn_end(
     if !turns(policy) {
         return None;
     }
-    let count = period_in(space, &policy);
     let end = frame_from(resident, &range, page, to.min(range.first + range.pages));
-    if count == 0 || count > MOST_TURNS || end < page || (end - page) / 2 < count {
+    if end < page {
+        return None;
+    }
+    let index = range.index + (page - range.first);
+    let count = period_in(space, &policy, index, end - page);
+    if count == 0 || count > MOST_TURNS || (end - page) / 2 < count {
         return None;
     }
     if !keeps_none(resident, &range, page, end - page) {

@@ -116,7 +116,7 @@ round p n s again =
     omega (arith, one, two, turn, moved)
 
 -- whole rounds by multiplication
-rounds : (p : ℕ → Bool) (n q s : ℕ) → ((k : ℕ) → p (n + k) ≡ p k)
+pub rounds : (p : ℕ → Bool) (n q s : ℕ) → ((k : ℕ) → p (n + k) ≡ p k)
     → count_pages p s (n * q) ≡ q * count_pages p 0 n
 rounds p n zero s again =
     let e : n * 0 ≡ 0 = omega arith in
@@ -137,7 +137,7 @@ module _ (cycle : List ℕ) (node : ℕ) where
   abbrev pub turn_is : ℕ → Bool
   turn_is turn = eqb (get_or cycle (turn % length cycle) 0) node
 
-  again : (k : ℕ) → turn_is (length cycle + k) ≡ turn_is k
+  pub again : (k : ℕ) → turn_is (length cycle + k) ≡ turn_is k
   again k = ap (λ (m : ℕ). eqb (get_or cycle m 0) node) (add-mod_left (length cycle) k)
 
   -- a span whose pages take turns

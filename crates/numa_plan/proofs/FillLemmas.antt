@@ -37,6 +37,22 @@ get_or-put_mid_mid a n xs ys i d le ge lt =
     get_or-append_right (take a xs) (ys ++ drop n (drop a xs)) a i d (length-take-le a xs le) ge
     ∙ get_or_append_left ys (drop n (drop a xs)) d (i - a) (omega arith)
 
+-- a part more of what is written place by place
+pub fill-more : (f : ℕ → ℕ) (done count : ℕ) (out ys : List ℕ) → done + count ≤ length out
+    → length ys ≡ count → ((k : ℕ) → k < done → get_or out k 0 ≡ f k)
+    → ((k : ℕ) → k < count → get_or ys k 0 ≡ f (done + k)) → (k : ℕ) → k < done + count
+    → get_or (put_mid done (done + count - done) out ys) k 0 ≡ f k
+fill-more f done count out ys within long before here k lt =
+    elim (cases_lt k done) [
+      | inl early ↦
+          get_or-put_mid_below done (done + count - done) out ys k 0 early (omega arith)
+          ∙ before k early
+      | inr late ↦
+          let place : done + (k - done) ≡ k = omega arith in
+          get_or-put_mid_mid done (done + count - done) out ys k 0 (omega arith) late (omega arith)
+          ∙ here (k - done) (omega arith) ∙ ap f place
+    ]
+
 -- the first node of a page with this index, whose run has this rule
 first-here : (plan : PlanData) (task cpu page index : ℕ) (number : Option ℕ) (rule : RuleData)
     → page_at plan.runs page ≡ Some (index, number) → rule ≡ rule_for plan task number

@@ -1,5 +1,6 @@
 pub mod BuildLemmas
 pub mod CountLemmas
+pub mod PartLemmas
 pub mod EditLemmas
 pub mod FillLemmas
 pub mod ListSteps

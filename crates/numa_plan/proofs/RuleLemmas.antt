@@ -6,11 +6,13 @@ use Rattle.std.proofs.Math.Nat.{mod-lt}
 use Rattle.std.proofs.lemmas.Bool.Decides.{eqb_tells}
 use Rattle.std.proofs.lemmas.List.{get_or-map, length-map, get_or-take, get_or-drop}
 use Rattle.std.proofs.lemmas.List.{get_or-set_same, get_or-set_other}
+use Rattle.numa_machine.specs.Sizes.{turn_at}
 use Rattle.numa_ranges.specs.Counts.{count_pages}
 use Rattle.numa_ranges.proofs.Counted.{count-none}
 use Rattle.numa_plan.specs.Rules.{first_nodes}
 use Rattle.numa_plan.specs.Rows.{RuleData, InTurns, HasRow, row_number, first_of}
-use Rattle.numa_plan.proofs.CountLemmas.{turn_is, shift}
+use Rattle.numa_plan.proofs.CountLemmas.{shift}
+use Rattle.numa_plan.proofs.PartLemmas.{part_is}
 
 -- the first node of a row that is there
 first-there : (rows : List ℕ) (start width : ℕ) → 0 < width
@@ -25,25 +27,25 @@ first-turn : (width : ℕ) (rows cycle : List ℕ) (cpu k : ℕ) → 0 < length 
     → HasRow (record { key = InTurns cycle; width = width; rows = rows })
     (row_number (record { key = InTurns cycle; width = width; rows = rows }) cpu k)
     → first_of (record { key = InTurns cycle; width = width; rows = rows }) cpu k
-    ≡ get_or (map (λ number. get_or rows (number * width) 0) cycle) (k % length cycle) 0
+    ≡ get_or (map (λ number. get_or rows (number * width) 0) cycle) (turn_at k % length cycle) 0
 first-turn width rows cycle cpu k some has =
-    first-there rows (get_or cycle (k % length cycle) 0 * width) width has.some
-    ∙ sym (get_or-map (λ number. get_or rows (number * width) 0) cycle (k % length cycle) 0 0
-    (mod-lt k some))
+    first-there rows (get_or cycle (turn_at k % length cycle) 0 * width) width has.some
+    ∙ sym (get_or-map (λ number. get_or rows (number * width) 0) cycle (turn_at k % length cycle) 0 0
+    (mod-lt (turn_at k) some))
 
 -- the same by the first nodes that are kept in the order of the cycle
 pub first-kept : (rule : RuleData) (width : ℕ) (rows cycle firsts : List ℕ) (cpu k : ℕ)
     → rule ≡ record { key = InTurns cycle; width = width; rows = rows } → 0 < length cycle
     → firsts ≡ first_nodes rows width cycle → HasRow rule (row_number rule cpu k)
-    → first_of rule cpu k ≡ get_or firsts (k % length firsts) 0
+    → first_of rule cpu k ≡ get_or firsts (turn_at k % length firsts) 0
 first-kept rule width rows cycle firsts cpu k is some kept has =
     let size : length cycle ≡ length firsts =
     sym (ap length kept ∙ length-map cycle (λ number. get_or rows (number * width) 0)) in
     ap (λ (r : RuleData). first_of r cpu k) is
     ∙ first-turn width rows cycle cpu k some
     (subst (λ (r : RuleData). HasRow r (row_number r cpu k)) is has)
-    ∙ ap (λ (nodes : List ℕ). get_or nodes (k % length cycle) 0) (sym kept)
-    ∙ ap (λ (n : ℕ). get_or firsts (k % n) 0) size
+    ∙ ap (λ (nodes : List ℕ). get_or nodes (turn_at k % length cycle) 0) (sym kept)
+    ∙ ap (λ (n : ℕ). get_or firsts (turn_at k % n) 0) size
 
 -- the pages of a rule in turns, counted over the first nodes of its rows
 pub count-in_turns : (rule : RuleData) (width : ℕ) (rows cycle firsts : List ℕ)
@@ -51,9 +53,9 @@ pub count-in_turns : (rule : RuleData) (width : ℕ) (rows cycle firsts : List �
     → 0 < length cycle → firsts ≡ first_nodes rows width cycle
     → ((k : ℕ) → HasRow rule (row_number rule cpu k))
     → count_pages (λ k. eqb (first_of rule cpu k) node) index pages
-    ≡ count_pages (turn_is firsts node) index pages
+    ≡ count_pages (part_is firsts node) index pages
 count-in_turns rule width rows cycle firsts cpu node index pages is some kept has =
-    shift (λ k. eqb (first_of rule cpu k) node) (turn_is firsts node) index index pages (λ k lt.
+    shift (λ k. eqb (first_of rule cpu k) node) (part_is firsts node) index index pages (λ k lt.
     ap (λ (m : ℕ). eqb m node)
     (first-kept rule width rows cycle firsts cpu (index + k) is some kept (has (index + k))))
 

@@ -1,10 +1,11 @@
 -- Lists that come again after the turns of a cycle.
-use Rattle.std.proofs.Common.{◌≡◌, ℕ, ◌+◌, ◌-◌, ◌%◌, ◌<◌, ◌≤◌, Option, Some, List, length, get_or}
-use Rattle.std.proofs.Common.{refl, sym, ap, ◌∙◌, arith, inl, inr, slice_get}
+use Rattle.std.proofs.Common.{◌≡◌, ℕ, ◌+◌, ◌-◌, ◌*◌, ◌/◌, ◌%◌, ◌<◌, ◌≤◌, Option, Some, List, length, get_or}
+use Rattle.std.proofs.Common.{refl, sym, ap, ◌∙◌, arith, slice_get}
 use Rattle.std.specs.Prelude.{min}
 use Rattle.std.specs.Option.{option_map}
-use Rattle.std.proofs.Math.Nat.{mod-add-mod, mod-eq_of_lt, mod-le, min-eq_left, min-eq_right}
-use Rattle.std.proofs.lemmas.Bool.{cases_lt}
+use Rattle.std.proofs.Math.Nat.{add-mul-mod_self_right, mod-add-div', mod-le, min-eq_left}
+use Rattle.numa_machine.specs.Sizes.{round_of, turn_at}
+use Rattle.numa_machine.proofs.Sizes.{round-within, rounds-later}
 use Rattle.std.proofs.lemmas.Option.{get_or_from_slice_get, slice_get_within}
 use Rattle.numa_ranges.specs.Runs.{AreApart, page_at}
 use Rattle.numa_ranges.specs.declared.run.Run.{Run}
@@ -14,32 +15,38 @@ use Rattle.numa_plan.specs.Rows.{Key, Faulting, Fixed, InTurns, RuleData}
 use Rattle.numa_plan.specs.Rows.{number_by, row_at, row_of}
 use Rattle.numa_plan.specs.Turns.{cycle_by, cycle_of}
 
-number-again : (key : Key) (cpu index k : ℕ)
-    → number_by key cpu (index + k) ≡ number_by key cpu (index + k % cycle_by key)
-number-again Faulting cpu index k = refl
-number-again Fixed cpu index k = refl
-number-again (InTurns cycle) cpu index k =
-    let here : index + k ≡ k + index = omega arith in
-    let there : k % length cycle + index ≡ index + k % length cycle = omega arith in
+-- the entry of a page's turn is that of the page so many rounds before it
+entry-again : (cycle : List ℕ) (index pages k : ℕ) → k < pages
+    → get_or cycle (turn_at (index + k) % length cycle) 0 ≡ get_or cycle
+    (turn_at (index + k % min (round_of (length cycle) index pages) pages) % length cycle) 0
+entry-again cycle index pages k lt =
+    let size : ℕ = length cycle in
+    let round : ℕ = round_of size index pages in
+    let whole : min round pages ≡ round = min-eq_left (round-within size index pages) in
+    let parts : k % round + k / round * round ≡ k = mod-add-div' k round in
+    let later : turn_at (index + (k % round + k / round * round))
+    ≡ turn_at (index + k % round) + k / round * size =
+    rounds-later size index pages (k % round) (k / round) (omega (arith, parts, lt)) in
     ap (λ (n : ℕ). get_or cycle n 0)
-    (ap (λ (n : ℕ). n % length cycle) here
-    ∙ sym (mod-add-mod k (length cycle) index)
-    ∙ ap (λ (n : ℕ). n % length cycle) there)
+    (ap (λ (n : ℕ). turn_at (index + n) % size) (sym parts)
+    ∙ ap (λ (n : ℕ). n % size) later
+    ∙ add-mul-mod_self_right (turn_at (index + k % round)) (k / round) size
+    ∙ ap (λ (n : ℕ). turn_at (index + k % n) % size) (sym whole))
 
--- the row of a page is that of the page so many turns before it
-row-again : (rule : RuleData) (cpu index k pages cycle : ℕ) → cycle ≡ min (cycle_of rule) pages
+number-again : (key : Key) (cpu index pages k : ℕ) → k < pages
+    → number_by key cpu (turn_at (index + k))
+    ≡ number_by key cpu (turn_at (index + k % min (cycle_by key index pages) pages))
+number-again Faulting cpu index pages k lt = refl
+number-again Fixed cpu index pages k lt = refl
+number-again (InTurns cycle) cpu index pages k lt = entry-again cycle index pages k lt
+
+-- the row of a page is that of the page so many rounds before it
+row-again : (rule : RuleData) (cpu index k pages cycle : ℕ)
+    → cycle ≡ min (cycle_of rule index pages) pages
     → k < pages → row_of rule cpu (index + k) ≡ row_of rule cpu (index + k % cycle)
 row-again rule cpu index k pages cycle is lt =
-    elim (cases_lt pages (cycle_of rule)) [
-      | inl short ↦
-          let few : cycle ≡ pages = is ∙ min-eq_right (omega arith) in
-          let same : k % cycle ≡ k = ap (λ (n : ℕ). k % n) few ∙ mod-eq_of_lt lt in
-          ap (λ (n : ℕ). row_of rule cpu (index + n)) (sym same)
-      | inr long ↦
-          let all : cycle ≡ cycle_of rule = is ∙ min-eq_left long in
-          ap (λ (n : ℕ). row_at rule n) (number-again rule.key cpu index k)
-          ∙ ap (λ (n : ℕ). row_of rule cpu (index + k % n)) (sym all)
-    ]
+    ap (λ (n : ℕ). row_at rule n) (number-again rule.key cpu index pages k lt)
+    ∙ ap (λ (n : ℕ). row_of rule cpu (index + k % n)) (sym is)
 
 -- the list of a page of a run
 list-inside : (plan : PlanData) (task cpu place k : ℕ) (run : Run (Option ℕ))
@@ -59,7 +66,7 @@ list-inside plan task cpu place k run apart is lt =
 
 pub list-again : (plan : PlanData) (task cpu place k cycle : ℕ) (run : Run (Option ℕ))
     → AreApart 0 plan.runs → slice_get plan.runs place ≡ Some run
-    → cycle ≡ min (cycle_of (rule_for plan task run.value)) run.pages → k < run.pages
+    → cycle ≡ min (cycle_of (rule_for plan task run.value) run.index run.pages) run.pages → k < run.pages
     → planned_list plan task (run.first + k) cpu ≡ planned_list plan task (run.first + k % cycle) cpu
 list-again plan task cpu place k cycle run apart is short lt =
     let before : k % cycle ≤ k = mod-le k cycle in

@@ -1,9 +1,10 @@
 -- A rule: rows of nodes, and which of them serves a page; and the policy that it is for.
 use Rattle.std.specs.Prelude.{ℕ, ◌+◌, ◌*◌, ◌%◌, ◌<◌, ◌≤◌, List, length, slice_index, slice_range}
+use Rattle.numa_machine.specs.Sizes.{turn_at}
 use Rattle.numa_mode.specs.Policy.{PolicyRecord}
 
 -- which row serves: that of the faulting node, the only one, or the one whose number stands in the
--- cycle at the page's index modulo the cycle's length
+-- cycle at the page's turn modulo the cycle's length
 pub data Key : Type 0 where
   Faulting : Key
   Fixed : Key
@@ -21,13 +22,13 @@ pub record Kept : Type 0 where
   pub rule : RuleData
 
 abbrev pub number_by : Key → ℕ → ℕ → ℕ
-number_by Faulting cpu index = cpu
-number_by Fixed cpu index = 0
-number_by (InTurns cycle) cpu index = slice_index cycle (index % length cycle)
+number_by Faulting cpu turn = cpu
+number_by Fixed cpu turn = 0
+number_by (InTurns cycle) cpu turn = slice_index cycle (turn % length cycle)
 
 -- the number of the row that serves, for a faulting node and a page's index
 abbrev pub row_number : RuleData → ℕ → ℕ → ℕ
-row_number rule cpu index = number_by rule.key cpu index
+row_number rule cpu index = number_by rule.key cpu (turn_at index)
 
 -- a row, by its number
 abbrev pub row_at : RuleData → ℕ → List ℕ

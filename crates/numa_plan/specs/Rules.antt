@@ -1,5 +1,6 @@
 -- How a rule is kept.
 use Rattle.std.specs.Prelude.{◌≡◌, ℕ, ◌*◌, ◌%◌, ◌<◌, ◌==◌, List, length, map, slice_index}
+use Rattle.numa_machine.specs.Sizes.{turn_at}
 use Rattle.numa_ranges.specs.Counts.{count_pages}
 use Rattle.numa_plan.specs.Rows.{RuleData, Faulting, Fixed, InTurns}
 use Rattle.numa_plan.specs.declared.rule.Body.{Body}
@@ -22,6 +23,11 @@ IsRule (kept.Faulting width rows) = Unit {0}
 IsRule (kept.Fixed rows) = Unit {0}
 IsRule (kept.Turns width rows cycle firsts) = (0 < length cycle.items)
     × (firsts ≡ first_nodes rows.items width cycle.items)
+
+-- how many of so many pages, with the indexes from one on, have a turn of the node
+abbrev pub pages_on : List ℕ → ℕ → ℕ → ℕ → ℕ
+pages_on nodes first pages node =
+    count_pages (λ index. slice_index nodes (turn_at index % length nodes) == node) first pages
 
 -- how many of so many turns, from one on, have the node, in a cycle that begins again after its
 -- last entry

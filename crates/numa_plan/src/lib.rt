@@ -18,6 +18,7 @@
 mod guess;
 mod looks;
 mod numbers;
+mod parts;
 mod plan;
 mod rows;
 mod rule;

@@ -7,10 +7,11 @@ ghost use Rattle.numa_plan.specs.Rows.{row_number, row_of, first_of, HasRow};
 ghost use Rattle.numa_plan.specs.Rows.{Faulting, Fixed, InTurns};
 ghost use Rattle.numa_plan.specs.Turns.{cycle_of};
 
+use crate::parts::{count_turns, fill_turns, node_at};
 use crate::rows::{first_cycle, row_at};
-use crate::tally::{Tally, add_turns};
-use numa_lanes::{Cycle, fill_cycle, fill_one};
-use numa_machine::NoMemory;
+use crate::tally::Tally;
+use numa_lanes::{Cycle, fill_one};
+use numa_machine::{NoMemory, round_of, turn_at};
 use std::alloc::Global;
 use std::marker::Model;
 
@@ -26,7 +27,7 @@ enum Body {
     Fixed {
         rows: Vec<u8>,
     },
-    /// The row whose number is in the cycle at the page's index modulo the cycle's length. `firsts`
+    /// The row whose number is in the cycle at the page's turn modulo the cycle's length. `firsts`
     /// has the first node of the row at each place of the cycle.
     Turns {
         width: u32,
@@ -74,8 +75,8 @@ impl Rule {
         }
     }
 
-    /// A rule whose rows apply in turns: a page with index i gets the row whose number is entry i
-    /// modulo the length of `cycle`. `rows` is the concatenation of the rows, `width` nodes each.
+    /// A rule whose rows apply in turns: a page that has turn i gets the row whose number is entry
+    /// i modulo the length of `cycle`. `rows` is the concatenation of the rows, `width` nodes each.
     ///
     /// # Errors
     /// `NoMemory`: there is no memory for the first nodes of the rows, which are kept in the order
@@ -137,18 +138,19 @@ impl Rule {
                 cycle,
                 ..
             } => {
-                let turn = (index % cycle.len() as u64) as usize;
+                let turn = (turn_at(index) % cycle.len() as u64) as usize;
                 row_at(rows, *width, usize::from(cycle[turn]))
             }
         }
     }
 
-    /// The number of indexes after which the rows come again: the length of the cycle, or 1.
-    pub(crate) fn cycle_len(&self) -> u64
-        ensures { result ≡ cycle_of self.now }
+    /// The number of pages after which the rows come again, for `pages` pages with the indexes from
+    /// `index` on: of pages of 4 KiB the length of the cycle, or 1.
+    pub(crate) fn cycle_len(&self, index: u64, pages: u64) -> u64
+        ensures { result ≡ cycle_of self.now index pages }
     {
         match &self.body {
-            Body::Turns { cycle, .. } => cycle.len() as u64,
+            Body::Turns { cycle, .. } => round_of(cycle.len() as u64, index, pages),
             Body::Faulting { .. } => 1,
             Body::Fixed { .. } => 1,
         }
@@ -161,7 +163,7 @@ impl Rule {
         ensures { result ≡ first_of self.now cpu index }
     {
         match &self.body {
-            Body::Turns { firsts, .. } => firsts.turns(index, 1)[0],
+            Body::Turns { firsts, .. } => node_at(firsts, index),
             Body::Faulting { .. } => self.row(cpu, index)[0],
             Body::Fixed { .. } => self.row(cpu, index)[0],
         }
@@ -170,12 +172,12 @@ impl Rule {
     /// Writes the first node of the row for each of the indexes from this one on.
     pub(crate) fn fill(&self, cpu: u32, index: u64, out: &mut [u8])
         requires rows { (k : ℕ) → HasRow self.now (row_number self.now cpu k) }
-        requires index { index < 2 ^ 36 }
+        requires index { index < 2 ^ 37 }
         ensures { EachIndex out.new (λ k.
             slice_index out.new k ≡ first_of self.now cpu (index + k)) }
     {
         match &self.body {
-            Body::Turns { firsts, .. } => fill_cycle(firsts, index, out),
+            Body::Turns { firsts, .. } => fill_turns(firsts, index, out),
             Body::Faulting { .. } => fill_one(self.row(cpu, index)[0], out),
             Body::Fixed { .. } => fill_one(self.row(cpu, index)[0], out),
         }
@@ -185,12 +187,13 @@ impl Rule {
     /// the indexes from `index` on.
     pub(crate) fn count(&self, cpu: u32, index: u64, pages: u64, counts: &mut Tally)
         requires rows { (k : ℕ) → HasRow self.now (row_number self.now cpu k) }
+        requires last { index + pages ≤ 2 ^ 37 }
         requires room { HasRoom counts.old (λ _. pages) }
         ensures { Adds counts.old counts.new (λ node.
             count_pages (λ k. first_of self.now cpu k == node) index pages) }
     {
         match &self.body {
-            Body::Turns { firsts, .. } => add_turns(firsts, index, pages, counts),
+            Body::Turns { firsts, .. } => count_turns(firsts, index, pages, counts),
             Body::Faulting { .. } => counts[usize::from(self.row(cpu, index)[0])] += pages,
             Body::Fixed { .. } => counts[usize::from(self.row(cpu, index)[0])] += pages,
         }

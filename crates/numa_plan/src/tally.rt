@@ -60,7 +60,7 @@ fn add_rest(nodes: &[u8], start: usize, pages: usize, counts: &mut Tally)
 }
 
 /// Adds `pages` pages to the count of each of these nodes.
-fn add_places(nodes: &[u8], pages: u64, counts: &mut Tally)
+pub(crate) fn add_places(nodes: &[u8], pages: u64, counts: &mut Tally)
     requires { HasRoom counts.old (λ node. pages * node_count node nodes.now) }
     ensures { Adds counts.old counts.new (λ node. pages * node_count node nodes.now) }
 {

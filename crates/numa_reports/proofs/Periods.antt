@@ -64,7 +64,7 @@ pub range-repeats : (space : SpaceState) (plan : PlanData) (history : List Comma
     (task cpu period : ℕ) (range : Run (Option PolicyRecord)) (policy : Option PolicyRecord)
     → StandsFor space history → PlanStandsFor space.machine plan history → cpu < space.machine.nodes
     → HasPages space.ranges range → policy ≡ resolved_policy space.machine history task range.first
-    → IsPeriod (setting_of space.machine history) policy period
+    → IsPeriod (setting_of space.machine history) policy range.index range.pages period
     → Repeats (planned_nodes plan task cpu) range.first range.pages period
 range-repeats space plan history task cpu period range policy stands planned lt pages serves
     periodic page low high =
@@ -73,6 +73,6 @@ range-repeats space plan history task cpu period range policy stands planned lt 
     range-list space plan history task cpu (page + period) range policy stands planned lt pages
     serves (omega (arith, low)) high
     ∙ ap (λ (n : ℕ). list_for (setting_of space.machine history) policy cpu n) index
-    ∙ periodic cpu (range.index + (page - range.first))
+    ∙ periodic cpu (page - range.first) (omega (arith, low, high))
     ∙ sym (range-list space plan history task cpu page range policy stands planned lt pages serves
     low (omega (arith, high)))

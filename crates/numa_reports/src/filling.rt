@@ -244,7 +244,7 @@ fn fill_next<T: TakeRange>(
 {
     let before = *free;
     let policy = policy_of(asked.space, asked.touch.task, range);
-    let period = period_in(asked.space, &policy);
+    let period = period_in(asked.space, &policy, range.index, range.pages);
     fill_there(asked, range.first, range.pages, period, free)?;
     let said = RangePrediction {
         policy,

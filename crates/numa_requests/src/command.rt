@@ -1,19 +1,22 @@
 //! The commands to a space.
+use numa_machine::PageSize;
 use numa_mask::NodeMask;
 use numa_mode::PolicySpec;
 
-/// The size of a page in bytes.
+/// The size of a page in bytes, in which pages are numbered.
 pub const PAGE_BYTES: u64 = 4096;
 
 /// A command to a space. Starts and lengths are in bytes; a span is the pages of 4,096 bytes from
 /// page `start / 4096` on, as many as the length rounded up to whole pages. Offsets are in pages.
 #[derive(Clone, Copy, Debug, PartialEq, Eq)]
 pub enum Command {
-    /// Maps a span of unmapped pages; the first has index `offset` (mmap(2)).
+    /// Maps a span of unmapped pages, as pages of this size; the first has the index
+    /// `size.index(offset)` (mmap(2)). The length is rounded up to whole pages of that size.
     Map {
         start: u64,
         length: u64,
         offset: u64,
+        size: PageSize,
     },
     /// Unmaps the mapped pages of a span (munmap(2)).
     Unmap {

@@ -7,7 +7,8 @@ ghost use Rattle.numa_requests.specs.Errors.{errno_of};
 pub enum Refusal {
     /// The limit of accepted commands is reached.
     CommandsSpent,
-    /// The start isn't a multiple of 4,096.
+    /// The start isn't a multiple of 4,096; of a map of pages of 2 MiB, the start or the offset
+    /// isn't one of 2 MiB. Or an unmap, mbind or home would change a part of such a page alone.
     Unaligned,
     /// The span ends above address 2^47; by the kernel's rules a map alone, above 2^47 - 4096.
     OutOfSpace,

@@ -11,6 +11,7 @@ use Rattle.std.proofs.lemmas.Bool.{cases_Bool, eq-eqb, lt-ltb, ltb-true}
 use Rattle.numa_mask.specs.NodeSet.{both, members}
 use Rattle.numa_machine.specs.Rules.{is_linux}
 use Rattle.numa_machine.specs.declared.rules.Rules.TheVariants.{Document, Linux}
+use Rattle.numa_machine.specs.Sizes.{bytes_of, whole}
 use Rattle.numa_mode.specs.Policy.{is_default, is_local, effect_when_set}
 use Rattle.numa_ranges.specs.Maps.{any_page}
 use Rattle.numa_ranges.specs.Runs.{page_at}
@@ -181,10 +182,11 @@ module _ (space : SpaceState) (after : PageMap) where
       → cause_in (scene_by Document space after) asked
       ≡ cause_in (scene_by Linux space after) asked
   unfolding bad_map_span bad_unmap_span bad_policy_span lacks_policy lacks_mems
-  causes (command.Map start bytes offset) alike =
-      map-alike (not (start % 4096 == 0)) (bytes == 0) (ends_above (2 ^ 47 - 4096) start bytes)
-      (ends_above (2 ^ 47) start bytes) _
-      (above-lower (2 ^ 47) (2 ^ 47 - 4096) start bytes (omega arith)) alike
+  causes (command.Map start bytes offset size) alike =
+      let all = whole size bytes in
+      map-alike (not (start % bytes_of size == 0)) (all == 0)
+      (ends_above (2 ^ 47 - 4096) start all) (ends_above (2 ^ 47) start all) _
+      (above-lower (2 ^ 47) (2 ^ 47 - 4096) start all (omega arith)) alike
   causes (command.Unmap start bytes) alike =
       unmap-alike (not (start % 4096 == 0)) (ends_above (2 ^ 47 - 4096) start bytes)
       (ends_above (2 ^ 47) start bytes) (bytes == 0) _

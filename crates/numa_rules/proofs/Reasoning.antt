@@ -5,6 +5,7 @@ use Rattle.std.specs.Option.{option_map}
 use Rattle.std.specs.Prelude.{nat_le, if◌then◌else◌}
 use Rattle.std.proofs.lemmas.Bool.{cases_Bool}
 use Rattle.numa_machine.specs.Machine.{Hardware}
+use Rattle.numa_machine.specs.Sizes.{turn_at}
 use Rattle.numa_mode.specs.Policy.{PolicyRecord}
 use Rattle.numa_mode.specs.declared.modes.Mode.{Mode}
 use Rattle.numa_mode.specs.declared.modes.Mode.TheVariants as mode
@@ -60,7 +61,8 @@ pub ordered-policy : (setting : Setting) (policy : Option PolicyRecord) (cpu ind
     → ordered_by setting (set_for policy) (rule_for setting.weight policy cpu index)
     ≡ list_for setting policy cpu index
 ordered-policy setting None cpu index = refl
-ordered-policy setting (Some r) cpu index = ordered-mode setting r.spec.mode r.effective _ index
+ordered-policy setting (Some r) cpu index =
+    ordered-mode setting r.spec.mode r.effective _ (turn_at index)
 
 -- ---- the explanation of a page that is shown
 

@@ -8,6 +8,9 @@ use Rattle.std.specs.List.{list_any}
 use Rattle.std.specs.Option.{option_map}
 use Rattle.numa_mask.specs.NodeSet.{both, members}
 use Rattle.numa_machine.specs.Rules.{is_linux}
+use Rattle.numa_machine.specs.Sizes.{whole}
+use Rattle.numa_machine.specs.declared.page_size.PageSize.{PageSize}
+use Rattle.numa_machine.specs.declared.page_size.PageSize.TheVariants.{Small}
 use Rattle.numa_machine.specs.declared.rules.Rules.TheVariants.{Document, Linux}
 use Rattle.numa_mode.specs.Policy.{PolicyRecord, Specification, is_default, record_after}
 use Rattle.numa_ranges.specs.Maps.{any_page}
@@ -81,19 +84,20 @@ parted_in space new = first_of (parted_ranges space.allowed new space.ranges)
 
 -- ---- commands
 
--- map: the kernel keeps the last page below address 2^47 free; and it judges a length of 0 first,
--- and the end before the start
-abbrev pub with_map : ℕ → ℕ → Option Otherwise
-with_map start bytes =
-    if bytes == 0 then (if is_some (bad_span start bytes) then Some JudgesLengthFirst else None)
+-- map, of so many bytes up to the end of the last page: the kernel keeps the last page below
+-- address 2^47 free; and it judges a length of 0 first, and the end before the start
+abbrev pub with_map : PageSize → ℕ → ℕ → Option Otherwise
+with_map size start bytes =
+    if bytes == 0
+    then (if is_some (bad_span size start bytes) then Some JudgesLengthFirst else None)
     else if not (ends_above (2 ^ 47 - 4096) start bytes) then None
-    else if is_some (unaligned start) then Some JudgesEndFirst
+    else if is_some (unaligned size start) then Some JudgesEndFirst
     else if ends_above (2 ^ 47) start bytes then None else Some KeepsLastPage
 
 -- unmap: the kernel leaves that page alone, and wants a byte
 abbrev pub with_unmap : ℕ → ℕ → Option Otherwise
 with_unmap start bytes =
-    if is_some (unaligned start) then None
+    if is_some (unaligned Small start) then None
     else if ends_above (2 ^ 47 - 4096) start bytes then Some LeavesLastPage
     else if bytes == 0 then Some WantsLength else None
 
@@ -123,7 +127,7 @@ home_past_end space start bytes node =
 -- are others; of another policy over a hole it answers first that its nodes aren't allowed
 abbrev pub with_bind : SpaceState → ℕ → ℕ → Specification → Option Otherwise
 with_bind space start bytes spec =
-    if is_some (unaligned start) then None
+    if is_some (unaligned Small start) then None
     else if ends_above (2 ^ 47) start bytes
     then Some (LooksPastEnd (bind_past_end space start bytes spec))
     else if bytes == 0 then None
@@ -141,7 +145,7 @@ with_bind space start bytes spec =
 -- home: the kernel wants a page with a policy of its own; one that takes no home is refused by both
 abbrev pub with_home : SpaceState → ℕ → ℕ → ℕ → Option Otherwise
 with_home space start bytes node =
-    if is_some (unaligned start) then None
+    if is_some (unaligned Small start) then None
     else if ends_above (2 ^ 47) start bytes
     then Some (LooksPastEnd (home_past_end space start bytes node))
     else if nat_le space.machine.nodes node || bytes == 0 then None
@@ -165,7 +169,7 @@ with_mems space mask =
     else option_map LeavesNodes (parted_in space (both mask space.machine.memory))
 
 abbrev pub with_command : SpaceState → Command → Option Otherwise
-with_command space (command.Map start bytes offset) = with_map start bytes
+with_command space (command.Map start bytes offset size) = with_map size start (whole size bytes)
 with_command space (command.Unmap start bytes) = with_unmap start bytes
 with_command space (command.Mbind start bytes spec) = with_bind space start bytes spec
 with_command space (command.SetTask task spec) = None
@@ -184,4 +188,4 @@ otherwise_of space command =
 abbrev pub otherwise_of_empty_bind : SpaceState → ℕ → Option Otherwise
 otherwise_of_empty_bind space start =
     if is_linux space.machine.rules then None
-    else if is_some (unaligned start) then None else Some OverlooksPolicy
+    else if is_some (unaligned Small start) then None else Some OverlooksPolicy

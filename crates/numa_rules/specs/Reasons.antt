@@ -4,6 +4,7 @@ use Rattle.std.specs.Prelude.{ℕ, ◌%◌, Bool, false, Option, Some, None, Lis
 use Rattle.std.specs.Prelude.{not, filter, slice_index, unwrap_or, if◌then◌else◌}
 use Rattle.numa_mask.specs.NodeSet.{both, has, members, weight_of}
 use Rattle.numa_machine.specs.Machine.{fallback_order}
+use Rattle.numa_machine.specs.Sizes.{turn_at}
 use Rattle.numa_machine.specs.Weights.{interleave_node, total_weight, weight_below, weighted_node}
 use Rattle.numa_mode.specs.Policy.{PolicyRecord, is_live}
 use Rattle.numa_mode.specs.declared.modes.Mode.{Mode}
@@ -41,43 +42,43 @@ scope_of range task = if has_live range then scope.Range
 
 -- ---- the rule
 
--- interleave: the place of an index among the members of a set, and the member there
+-- interleave: the place of a turn among the members of a set, and the member there
 abbrev pub turn_of : ℕ → ℕ → Turn
-turn_of set index = record {
-  place = index % weight_of set;
+turn_of set turn = record {
+  place = turn % weight_of set;
   members = weight_of set;
-  node = interleave_node set index;
+  node = interleave_node set turn;
 }
 
--- weighted interleave: the place of an index in a round of all weights, the member that has it, and
+-- weighted interleave: the place of a turn in a round of all weights, the member that has it, and
 -- that member's places
 abbrev pub block_of : (ℕ → ℕ) → ℕ → ℕ → WeightedTurn
-block_of weight set index = record {
-  place = index % total_weight weight set;
+block_of weight set turn = record {
+  place = turn % total_weight weight set;
   total = total_weight weight set;
-  node = weighted_node weight set index;
-  before = weight_below weight set (weighted_node weight set index);
-  weight = weight (weighted_node weight set index);
+  node = weighted_node weight set turn;
+  before = weight_below weight set (weighted_node weight set turn);
+  weight = weight (weighted_node weight set turn);
 }
 
--- the rule of a policy with this effective set, for a fault on the node `from`, at a page of this
--- index
+-- the rule of a policy with this effective set, for a fault on the node `from`, at a page that has
+-- this turn
 abbrev pub rule_by_mode : (ℕ → ℕ) → Mode → ℕ → ℕ → ℕ → OrderRule
-rule_by_mode weight mode.Default set from index = Local from
-rule_by_mode weight mode.Local set from index = Local from
-rule_by_mode weight mode.Preferred set from index = Preferred (slice_index (members set) 0)
-rule_by_mode weight mode.Bind set from index = Bind from
-rule_by_mode weight mode.PreferredMany set from index = PreferredMany from
-rule_by_mode weight mode.Interleave set from index = Interleave (turn_of set index)
-rule_by_mode weight mode.WeightedInterleave set from index =
-    WeightedInterleave (block_of weight set index)
+rule_by_mode weight mode.Default set from turn = Local from
+rule_by_mode weight mode.Local set from turn = Local from
+rule_by_mode weight mode.Preferred set from turn = Preferred (slice_index (members set) 0)
+rule_by_mode weight mode.Bind set from turn = Bind from
+rule_by_mode weight mode.PreferredMany set from turn = PreferredMany from
+rule_by_mode weight mode.Interleave set from turn = Interleave (turn_of set turn)
+rule_by_mode weight mode.WeightedInterleave set from turn =
+    WeightedInterleave (block_of weight set turn)
 
 -- the rule of a policy: its home, where it has one, stands in for the faulting node; without a
--- policy it is local
+-- policy it is local. A page takes the turn of its index
 abbrev pub rule_for : (ℕ → ℕ) → Option PolicyRecord → ℕ → ℕ → OrderRule
 rule_for weight None cpu index = Local cpu
 rule_for weight (Some r) cpu index =
-    rule_by_mode weight r.spec.mode r.effective (unwrap_or r.home cpu) index
+    rule_by_mode weight r.spec.mode r.effective (unwrap_or r.home cpu) (turn_at index)
 
 -- the effective set of a policy, if there is one
 abbrev pub set_for : Option PolicyRecord → ℕ

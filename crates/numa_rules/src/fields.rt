@@ -3,6 +3,7 @@ use crate::explanation::Explanation;
 use crate::reason_text::asked_of;
 use crate::rule::OrderRule;
 use crate::scope::Scope;
+use numa_machine::turn_at;
 use numa_mask::list_text;
 use numa_mode::Record;
 use numa_requests::PAGE_BYTES;
@@ -78,11 +79,11 @@ pub fn give_fields<T: TakeField>(taker: &mut T, said: &Explanation) {
     taker.take_number("task", said.task as u64);
     taker.take_number("address", said.page.saturating_mul(PAGE_BYTES));
     taker.take_number("cpu", said.cpu as u64);
-    taker.take_number("index", said.index);
+    taker.take_number("index", turn_at(said.index));
     taker.take_nodes("nodes", said.nodes.as_slice());
     taker.take_number("range_start", range.first.saturating_mul(PAGE_BYTES));
     taker.take_number("range_end", end.saturating_mul(PAGE_BYTES));
-    taker.take_number("range_index", range.index);
+    taker.take_number("range_index", turn_at(range.index));
     give_policies(taker, said);
     give_rule(taker, said.rule);
 }

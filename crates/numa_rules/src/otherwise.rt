@@ -2,6 +2,7 @@
 ghost use Rattle.std.specs.Prelude.{◌≡◌, ◌≢◌, true, false, Option, None};
 ghost use Rattle.std.specs.List.{list_any};
 ghost use Rattle.std.specs.Prelude.{nat_le};
+ghost use Rattle.numa_machine.specs.Sizes.{whole};
 ghost use Rattle.numa_mask.specs.NodeSet.{members};
 ghost use Rattle.numa_mode.specs.Policy.{is_default};
 ghost use Rattle.numa_space.specs.Refusals.{has_no_node};
@@ -10,7 +11,9 @@ ghost use Rattle.numa_rules.specs.Otherwise.{otherwise_of, otherwise_of_empty_bi
 ghost use Rattle.numa_rules.specs.Otherwise.{bind_past_end, home_past_end, with_command};
 
 use crate::parted::{Parted, parted_in};
-use crate::span::{SPACE_END, SpanTest, ends_above, has_page, pages_of, span_of};
+use crate::span::{SPACE_END, SpanTest, ends_above, has_page, is_empty, is_unaligned, pages_of};
+use crate::span::span_of;
+use numa_machine::PageSize;
 use numa_mask::NodeMask;
 use numa_mode::{Mode, PolicySpec, Record};
 use numa_requests::{Command, PAGE_BYTES, Refusal};
@@ -53,22 +56,22 @@ pub enum Otherwise {
 }
 
 /// What a kernel does differently with a map.
-fn with_map(start: u64, length: u64) -> Option<Otherwise>
-    ensures { result ≡ with_map start length }
+fn with_map(size: PageSize, start: u64, length: u64) -> Option<Otherwise>
+    ensures { result ≡ with_map size start (whole size length) }
 {
-    if length == 0 {
-        return match span_of(start, length) {
+    if is_empty(size, length) {
+        return match span_of(size, start, length) {
             Some(_) => None,
             None => Some(Otherwise::JudgesLengthFirst),
         };
     }
-    if !ends_above(SPACE_END - PAGE_BYTES, start, length) {
+    if !ends_above(SPACE_END - PAGE_BYTES, size, start, length) {
         return None;
     }
-    if start % PAGE_BYTES != 0 {
+    if is_unaligned(size, start) {
         return Some(Otherwise::JudgesEndFirst);
     }
-    if ends_above(SPACE_END, start, length) {
+    if ends_above(SPACE_END, size, start, length) {
         return None;
     }
     Some(Otherwise::KeepsLastPage)
@@ -81,7 +84,7 @@ fn with_unmap(start: u64, length: u64) -> Option<Otherwise>
     if start % PAGE_BYTES != 0 {
         return None;
     }
-    if ends_above(SPACE_END - PAGE_BYTES, start, length) {
+    if ends_above(SPACE_END - PAGE_BYTES, PageSize::Small, start, length) {
         return Some(Otherwise::LeavesLastPage);
     }
     if length == 0 {
@@ -109,7 +112,7 @@ fn with_bind(space: &Space, start: u64, length: u64, spec: PolicySpec) -> Option
     if start % PAGE_BYTES != 0 {
         return None;
     }
-    let Some((first, pages)) = span_of(start, length) else {
+    let Some((first, pages)) = span_of(PageSize::Small, start, length) else {
         let cause = bind_past_end(space, start, length, spec);
         return Some(Otherwise::LooksPastEnd(cause));
     };
@@ -132,13 +135,13 @@ fn with_bind(space: &Space, start: u64, length: u64, spec: PolicySpec) -> Option
 fn bind_past_end(space: &Space, start: u64, length: u64, spec: PolicySpec) -> Option<Refusal>
     ensures { result ≡ bind_past_end space.now start length spec }
 {
-    if ends_above(u64::MAX, start, length) {
+    if ends_above(u64::MAX, PageSize::Small, start, length) {
         return Some(Refusal::BadSpan);
     }
     if length == 0 {
         return None;
     }
-    let (first, pages) = pages_of(start, length);
+    let (first, pages) = pages_of(PageSize::Small, start, length);
     if spec.mode() == Mode::Default {
         if has_page(space, SpanTest::IsMapped, first, pages) {
             return None;
@@ -158,7 +161,7 @@ fn with_home(space: &Space, start: u64, length: u64, node: u32) -> Option<Otherw
     if start % PAGE_BYTES != 0 {
         return None;
     }
-    let Some((first, pages)) = span_of(start, length) else {
+    let Some((first, pages)) = span_of(PageSize::Small, start, length) else {
         return Some(Otherwise::LooksPastEnd(home_past_end(space, start, length, node)));
     };
     if node >= space.machine().nodes() || length == 0 {
@@ -174,7 +177,7 @@ fn with_home(space: &Space, start: u64, length: u64, node: u32) -> Option<Otherw
 fn home_past_end(space: &Space, start: u64, length: u64, node: u32) -> Option<Refusal>
     ensures { result ≡ home_past_end space.now start length node }
 {
-    if ends_above(u64::MAX, start, length) {
+    if ends_above(u64::MAX, PageSize::Small, start, length) {
         return Some(Refusal::BadSpan);
     }
     if node >= space.machine().nodes() {
@@ -183,7 +186,7 @@ fn home_past_end(space: &Space, start: u64, length: u64, node: u32) -> Option<Re
     if length == 0 {
         return None;
     }
-    let (first, pages) = pages_of(start, length);
+    let (first, pages) = pages_of(PageSize::Small, start, length);
     if has_page(space, SpanTest::TakesNoHome, first, pages) {
         return Some(Refusal::NotSupported);
     }
@@ -235,7 +238,12 @@ fn with_command(space: &Space, command: &Command) -> Option<Otherwise>
     ensures { result ≡ with_command space.now command.now }
 {
     match *command {
-        Command::Map { start, length, .. } => with_map(start, length),
+        Command::Map {
+            start,
+            length,
+            size,
+            ..
+        } => with_map(size, start, length),
         Command::Unmap { start, length } => with_unmap(start, length),
         Command::Mbind {
             start,

@@ -3,7 +3,7 @@ use crate::explanation::Explanation;
 use crate::rule::{OrderRule, WeightedTurn};
 use crate::scope::Scope;
 use crate::text::Text;
-use numa_machine::{Fallback, Machine};
+use numa_machine::{Fallback, Machine, turn_at};
 use numa_mask::{NodeMask, list_text};
 use numa_mode::Record;
 use numa_requests::PAGE_BYTES;
@@ -20,7 +20,7 @@ fn put_question(text: &mut Text, said: &Explanation) {
     }
 }
 
-/// The line of the range.
+/// The line of the range. The indexes of pages of 2 MiB are counted in such pages.
 fn put_range(text: &mut Text, said: &Explanation) {
     let range = &said.range;
     let start = range.first.saturating_mul(PAGE_BYTES);
@@ -32,7 +32,8 @@ fn put_range(text: &mut Text, said: &Explanation) {
     let form = ": its pages have the indexes $ to $, and this one has index $";
     text.put_hex("\nrange ", start);
     text.put_hex("-", end);
-    text.put_form(form, &[range.index, last, said.index]);
+    let turns = [turn_at(range.index), turn_at(last), turn_at(said.index)];
+    text.put_form(form, &turns);
 }
 
 /// Writes the owner of a policy, the policy, and a remark.
@@ -187,12 +188,13 @@ fn put_first(text: &mut Text, machine: &Machine, said: &Explanation) -> u32 {
             node as u32
         }
         OrderRule::Interleave(turn) => {
-            let numbers = [said.index, turn.members, turn.place, turn.node as u64];
+            let index = turn_at(said.index);
+            let numbers = [index, turn.members, turn.place, turn.node as u64];
             text.put_form("\nfirst: index $ mod $ = $, so node $", &numbers);
             turn.node as u32
         }
         OrderRule::WeightedInterleave(block) => {
-            put_block(text, said.index, block);
+            put_block(text, turn_at(said.index), block);
             block.node as u32
         }
     }

@@ -5,7 +5,7 @@ ghost use Rattle.numa_machine.specs.Weights.{weight_at, weight_below};
 ghost use Rattle.numa_mode.specs.Policy.{is_live};
 ghost use Rattle.numa_rules.specs.Reasons.{block_of, rule_by_mode, rule_for, turn_of};
 
-use numa_machine::Weights;
+use numa_machine::{Weights, turn_at};
 use numa_mask::NodeMask;
 use numa_mode::{Mode, Record};
 use std::alloc::{AllocError, Global};
@@ -14,7 +14,7 @@ use std::alloc::{AllocError, Global};
 /// each round.
 #[derive(Clone, Copy)]
 pub struct Turn {
-    /// The page's index modulo the number of members.
+    /// The page's turn modulo the number of members.
     pub place: u64,
     /// The number of members.
     pub members: u64,
@@ -26,7 +26,7 @@ pub struct Turn {
 /// places as their weights.
 #[derive(Clone, Copy)]
 pub struct WeightedTurn {
-    /// The page's index modulo the total weight.
+    /// The page's turn modulo the total weight.
     pub place: u64,
     /// The total weight of the members.
     pub total: u64,
@@ -57,13 +57,13 @@ pub enum OrderRule {
     WeightedInterleave(WeightedTurn),
 }
 
-/// The turn of an index among the members of a set.
-fn turn_of(set: &NodeMask, index: u64) -> Turn
+/// The place of a turn among the members of a set.
+fn turn_of(set: &NodeMask, turn: u64) -> Turn
     requires { set.now ≢ 0 }
-    ensures { result ≡ turn_of set.now index }
+    ensures { result ≡ turn_of set.now turn }
 {
     let members = u64::from(set.weight());
-    let place = index % members;
+    let place = turn % members;
     let Some(node) = set.nth(place as u32) else {
         unreachable!()
     };
@@ -88,23 +88,23 @@ fn weight_below(weights: &Weights, set: &NodeMask, node: u8) -> u64
     sum
 }
 
-/// The turn of an index among the members of a set by their weights.
+/// The place of a turn among the members of a set by their weights.
 fn block_of(
     alloc: Global,
     weights: &Weights,
     set: &NodeMask,
-    index: u64,
+    turn: u64,
 ) -> Result<WeightedTurn, AllocError>
     requires { set.now ≢ 0 }
     ensures { IfOk result (λ block. block
-        ≡ block_of (weight_at weights.now) set.now index) }
+        ≡ block_of (weight_at weights.now) set.now turn) }
 {
     let turns = match weights.cycle_of(alloc, set) {
         Ok(turns) => turns,
         Err(fault) => return Err(fault),
     };
     let total = turns.len() as u64;
-    let place = index % total;
+    let place = turn % total;
     let node = turns[place as usize];
     let before = weight_below(weights, set, node);
     let weight = u64::from(weights.get(u32::from(node)));
@@ -128,19 +128,19 @@ fn lowest(set: &NodeMask) -> u8
     node.number()
 }
 
-/// The rule of a live policy, for a fault that counts as one on the node `from`, at a page of this
-/// index.
+/// The rule of a live policy, for a fault that counts as one on the node `from`, at a page that has
+/// this turn.
 fn rule_by_mode(
     alloc: Global,
     weights: &Weights,
     policy: &Record,
     from: u32,
-    index: u64,
+    turn: u64,
 ) -> Result<OrderRule, AllocError>
     requires { is_live policy.now ≡ true }
     ensures { IfOk result (λ rule. rule
         ≡ rule_by_mode (weight_at weights.now) policy.now.spec.mode policy.now.effective from
-        index) }
+        turn) }
 {
     let set = policy.effective();
     match policy.spec().mode() {
@@ -148,9 +148,9 @@ fn rule_by_mode(
         Mode::Preferred => Ok(OrderRule::Preferred(lowest(&set))),
         Mode::Bind => Ok(OrderRule::Bind(from)),
         Mode::PreferredMany => Ok(OrderRule::PreferredMany(from)),
-        Mode::Interleave => Ok(OrderRule::Interleave(turn_of(&set, index))),
+        Mode::Interleave => Ok(OrderRule::Interleave(turn_of(&set, turn))),
         Mode::WeightedInterleave => {
-            match block_of(alloc, weights, &set, index) {
+            match block_of(alloc, weights, &set, turn) {
                 Ok(block) => Ok(OrderRule::WeightedInterleave(block)),
                 Err(fault) => Err(fault),
             }
@@ -175,7 +175,7 @@ pub(crate) fn rule_for(
         return Ok(OrderRule::Local(cpu));
     };
     match policy.home() {
-        Some(home) => rule_by_mode(alloc, weights, policy, u32::from(home), index),
-        None => rule_by_mode(alloc, weights, policy, cpu, index),
+        Some(home) => rule_by_mode(alloc, weights, policy, u32::from(home), turn_at(index)),
+        None => rule_by_mode(alloc, weights, policy, cpu, turn_at(index)),
     }
 }

@@ -1,12 +1,14 @@
 //! Tests of the pages of a span.
 ghost use Rattle.std.specs.Prelude.{◌≡◌, ◌+◌, ◌<◌, ◌≤◌, ◌^◌, Some, None, MatchOption};
-ghost use Rattle.std.specs.Prelude.{is_some, true};
+ghost use Rattle.std.specs.Prelude.{◌==◌, is_some, true};
+ghost use Rattle.numa_machine.specs.Sizes.{whole};
 ghost use Rattle.numa_ranges.specs.Maps.{any_page};
 ghost use Rattle.numa_ranges.specs.Runs.{page_at};
 ghost use Rattle.numa_space.specs.History.{page_count, page_of};
-ghost use Rattle.numa_space.specs.Refusals.{bad_span, ends_above, takes_no_home};
+ghost use Rattle.numa_space.specs.Refusals.{bad_span, ends_above, takes_no_home, unaligned};
 ghost use Rattle.numa_rules.specs.Pages.{passes, reaches};
 
+use numa_machine::PageSize;
 use numa_ranges::Run;
 use numa_requests::PAGE_BYTES;
 use numa_space::{RangeRecord, Space};
@@ -25,38 +27,72 @@ pub(crate) enum SpanTest {
 /// The end of the addresses of a space.
 pub(crate) const SPACE_END: u64 = 1 << 47;
 
-/// The first page of a span, and the number of its pages.
-pub(crate) fn pages_of(start: u64, length: u64) -> (u64, u64)
+/// The bytes of a page of 2 MiB, and the number of its parts.
+const HUGE_BYTES: u64 = 2_097_152;
+const HUGE_PARTS: u64 = HUGE_BYTES / PAGE_BYTES;
+
+/// The first page of a span, and the number of its pages; its length is rounded up to whole pages
+/// of this size.
+pub(crate) fn pages_of(size: PageSize, start: u64, length: u64) -> (u64, u64)
     ensures first { result.0 ≡ page_of start }
-    ensures count { result.1 ≡ page_count length }
+    ensures count { result.1 ≡ page_count (whole size length) }
 {
-    let pages = length / PAGE_BYTES + u64::from(length % PAGE_BYTES != 0);
-    (start / PAGE_BYTES, pages)
+    let first = start / PAGE_BYTES;
+    match size {
+        PageSize::Small => (
+            first,
+            length / PAGE_BYTES + u64::from(length % PAGE_BYTES != 0),
+        ),
+        PageSize::Huge => (
+            first,
+            (length / HUGE_BYTES + u64::from(length % HUGE_BYTES != 0)) * HUGE_PARTS,
+        ),
+    }
+}
+
+/// Whether no page of this size begins at an address.
+pub(crate) fn is_unaligned(size: PageSize, start: u64) -> bool
+    ensures { result ≡ is_some (unaligned size start) }
+{
+    match size {
+        PageSize::Small => start % PAGE_BYTES != 0,
+        PageSize::Huge => start % HUGE_BYTES != 0,
+    }
+}
+
+/// Whether a length in bytes is 0.
+pub(crate) fn is_empty(size: PageSize, length: u64) -> bool
+    ensures { result ≡ (whole size length == 0) }
+{
+    match size {
+        PageSize::Small => length == 0,
+        PageSize::Huge => length == 0,
+    }
 }
 
 /// Whether a span ends above an address.
-pub(crate) fn ends_above(address: u64, start: u64, length: u64) -> bool
-    ensures { result ≡ ends_above address start length }
+pub(crate) fn ends_above(address: u64, size: PageSize, start: u64, length: u64) -> bool
+    ensures { result ≡ ends_above address start (whole size length) }
 {
-    let (_, pages) = pages_of(start, length);
+    let (_, pages) = pages_of(size, start, length);
     start > address || pages > (address - start) / PAGE_BYTES
 }
 
 /// The first page of a span, and the number of its pages; `None` if the span is invalid by the
 /// documents' rules.
-pub(crate) fn span_of(start: u64, length: u64) -> Option<(u64, u64)>
-    ensures span { MatchOption result (is_some (bad_span start length) ≡ true)
-        (λ span. (bad_span start length ≡ None) × (span.0 ≡ page_of start)
-        × (span.1 ≡ page_count length)) }
+pub(crate) fn span_of(size: PageSize, start: u64, length: u64) -> Option<(u64, u64)>
+    ensures span { MatchOption result (is_some (bad_span size start (whole size length)) ≡ true)
+        (λ span. (bad_span size start (whole size length) ≡ None) × (span.0 ≡ page_of start)
+        × (span.1 ≡ page_count (whole size length))) }
     ensures within { MatchOption result (Unit {0}) (λ span. span.0 + span.1 ≤ 2 ^ 35) }
 {
-    if start % PAGE_BYTES != 0 {
+    if is_unaligned(size, start) {
         return None;
     }
-    if ends_above(SPACE_END, start, length) {
+    if ends_above(SPACE_END, size, start, length) {
         return None;
     }
-    Some(pages_of(start, length))
+    Some(pages_of(size, start, length))
 }
 
 /// Whether a range has an own policy that takes no home node.

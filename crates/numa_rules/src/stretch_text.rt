@@ -3,7 +3,7 @@ use crate::explanation::Explanation;
 use crate::reason_text::{is_kernel_order, put_policy, put_sets};
 use crate::rule::OrderRule;
 use crate::text::Text;
-use numa_machine::Machine;
+use numa_machine::{Machine, turn_at};
 use numa_requests::PAGE_BYTES;
 use std::alloc::AllocError;
 
@@ -20,7 +20,7 @@ fn put_pages(text: &mut Text, said: &Explanation, pages: u64) {
     put_addresses(text, said.page, pages);
     text.put_form(
         ": $ pages with the indexes $ to $",
-        &[pages, said.index, last],
+        &[pages, turn_at(said.index), turn_at(last)],
     );
 }
 

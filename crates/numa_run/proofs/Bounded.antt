@@ -78,7 +78,7 @@ module _ (lack : Lack) (machine : Hardware) (state : State) where
       (allowed_nodes machine state.world.history)
       (allowed_nodes machine (SetMems mask ∷ state.world.history)) state.resident state.lying)
   obeyed-keeps (Unmap start bytes) = unmap-keeps start bytes
-  obeyed-keeps (Map start bytes offset) = refl
+  obeyed-keeps (Map start bytes offset size) = refl
   obeyed-keeps (Mbind start bytes spec) = refl
   obeyed-keeps (SetTask task spec) = refl
   obeyed-keeps (Inherit task from) = refl

@@ -9,6 +9,7 @@ use Rattle.numa_mask.specs.NodeSet.{members}
 use Rattle.numa_machine.specs.Machine.{Hardware, fallback_order}
 use Rattle.numa_machine.specs.Faults.{machine_fault, has_bad_memory, has_bad_distance}
 use Rattle.numa_machine.specs.Faults.{has_bad_frames}
+use Rattle.numa_machine.specs.declared.page_size.PageSize.TheVariants.{Small}
 use Rattle.numa_mode.specs.declared.modes.Mode.TheVariants.{Bind}
 use Rattle.numa_mode.specs.declared.modes.NodeFlag.TheVariants.{Plain}
 use Rattle.numa_ranges.specs.Counts.{count_pages}
@@ -159,7 +160,7 @@ two_nodes = record {
 unfoldable pub world : World
 world = record {
   history = Mbind 0x10000 0x1000 (record { mode = Bind; flag = Plain; mask = 2 })
-      ∷ Map 0x10000 0x2000 0 ∷ [];
+      ∷ Map 0x10000 0x2000 0 Small ∷ [];
   published = opening.published;
   worker = opening.worker;
   owner =

@@ -23,7 +23,7 @@ use Rattle.numa_run.specs.Work.{event_answer, needs_room, unless_wanting}
 
 -- a command that may need room does so by the definition
 room-needed : (command : Command) → MayNeedRoom command → needs_room command ≡ true
-room-needed (Map start bytes offset) room = refl
+room-needed (Map start bytes offset size) room = refl
 room-needed (Unmap start bytes) room = ap not (ne_eqb bytes 0 room)
 room-needed (Mbind start bytes spec) room = ap not (ne_eqb bytes 0 room)
 room-needed (SetHome start bytes node) room = ap not (ne_eqb bytes 0 room)

@@ -228,7 +228,7 @@ obeyed-is : (command : Command) → ((mask : ℕ) → command ≢ SetMems mask)
 obeyed-is (SetMems mask) no_mems no_unmap lack machine state = absurd (no_mems mask refl)
 obeyed-is (Unmap start bytes) no_mems no_unmap lack machine state =
     absurd (no_unmap start bytes refl)
-obeyed-is (Map start bytes offset) no_mems no_unmap lack machine state = refl
+obeyed-is (Map start bytes offset size) no_mems no_unmap lack machine state = refl
 obeyed-is (Mbind start bytes spec) no_mems no_unmap lack machine state = refl
 obeyed-is (SetTask task spec) no_mems no_unmap lack machine state = refl
 obeyed-is (Inherit task from) no_mems no_unmap lack machine state = refl

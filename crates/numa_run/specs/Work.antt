@@ -54,7 +54,7 @@ won_by (Err cause) = None
 
 -- a command that may need room for a range or for a task's policy
 abbrev pub needs_room : Command → Bool
-needs_room (Map start bytes offset) = true
+needs_room (Map start bytes offset size) = true
 needs_room (Unmap start bytes) = not (bytes == 0)
 needs_room (Mbind start bytes spec) = not (bytes == 0)
 needs_room (SetHome start bytes node) = not (bytes == 0)

@@ -4,6 +4,7 @@ use Rattle.std.specs.Prelude.{codes}
 use Rattle.std.specs.Option.{option_map}
 use Rattle.std.proofs.Common.{sym, ◌∙◌, ap, arith}
 use Rattle.numa_mask.specs.Lists.{list_of}
+use Rattle.numa_machine.specs.declared.page_size.PageSize.TheVariants.{Small}
 use Rattle.numa_script.specs.Causes.{fault_behind}
 use Rattle.numa_script.specs.Lines.{bound_line, limits_line, rules_line, cpus_line, machine_line}
 use Rattle.numa_script.specs.Lines.{map_line, unmap_line, mbind_line, home_line, task_line}
@@ -89,7 +90,7 @@ says_map c (a ∷ []) = too_few keyword.Map c (a ∷ []) (omega arith)
 says_map c (a ∷ b ∷ []) = too_few keyword.Map c (a ∷ b ∷ []) (omega arith)
 says_map c (a ∷ b ∷ d ∷ []) =
     enough keyword.Map c (a ∷ b ∷ d ∷ []) refl
-    ∙ triple (λ v. line.Command (Ok (command.Map v.0 v.1 v.2))) _ _ _ (number_of a) (number_of b)
+    ∙ triple (λ v. line.Command (Ok (command.Map v.0 v.1 v.2 Small))) _ _ _ (number_of a) (number_of b)
     (number_of d) (λ v. refl)
     (any_number a) (any_number b) (any_number d)
 says_map c (a ∷ b ∷ d ∷ e ∷ words) = too_many keyword.Map c (a ∷ b ∷ d ∷ e ∷ words) (omega arith)

@@ -3,6 +3,7 @@ use Rattle.std.specs.Prelude.{◌≡◌, true, false, [], ◌∷◌, codes, None
 use Rattle.numa_mask.specs.Lists.{item_of, ends_of, digit_of, numeral_of as node_numeral_of}
 use Rattle.numa_mask.specs.declared.list.ListFault.TheVariants.{BackRange}
 use Rattle.numa_machine.specs.declared.rules.Rules.TheVariants.{Document, Linux}
+use Rattle.numa_machine.specs.declared.page_size.PageSize.TheVariants.{Small}
 use Rattle.numa_requests.specs.declared.event.Event.TheVariants as event
 use Rattle.numa_requests.specs.declared.command.Command.TheVariants as command
 use Rattle.numa_requests.specs.declared.host_command.HostCommand.TheVariants as host
@@ -141,7 +142,7 @@ orders_of_a_kernel-by_a_table = refl
 -- ---- commands
 
 mapping : line_of (codes "map 0x10000 0x2000 0")
-    ≡ alone (line.Command (Ok (command.Map 65536 8192 0)))
+    ≡ alone (line.Command (Ok (command.Map 65536 8192 0 Small)))
 unfolding line_of keyword_of number_of numeral_of in_64_bits
 mapping = refl
 

@@ -7,6 +7,7 @@ use Rattle.std.specs.Option.{option_map}
 use Rattle.std.specs.Str.{bytes_eq}
 use Rattle.numa_mask.specs.Lists.{list_of}
 use Rattle.numa_mask.specs.declared.list.ListFault.{ListFault}
+use Rattle.numa_machine.specs.declared.page_size.PageSize.TheVariants.{Small}
 use Rattle.numa_mode.specs.Policy.{Specification}
 use Rattle.numa_mode.specs.declared.modes.Mode.TheVariants as mode
 use Rattle.numa_mode.specs.declared.modes.NodeFlag.TheVariants as flag
@@ -157,7 +158,7 @@ machine_line words =
 -- map START LENGTH OFFSET
 abbrev pub map_line : List (List ℕ) → Option Line
 map_line words =
-    option_map (λ v. line.Command (Ok (command.Map v.0 v.1 v.2)))
+    option_map (λ v. line.Command (Ok (command.Map v.0 v.1 v.2 Small)))
     (three_of number_of number_of number_of words)
 
 -- unmap START LENGTH

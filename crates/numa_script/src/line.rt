@@ -25,7 +25,7 @@ use crate::reading::{four, four_words, three, two};
 use crate::rules::read_rules;
 use crate::words::Words;
 use crate::work::{Work, begin, give, look, publish, release, touch, try_frame};
-use numa_machine::Rules;
+use numa_machine::{PageSize, Rules};
 use numa_mask::{ListFault, NodeMask, read_list};
 use numa_mode::PolicySpec;
 use numa_requests::Command::{Inherit, Map, SetHome, SetWeight, Unmap};
@@ -290,6 +290,7 @@ fn rare_line(keyword: Keyword, words: Words) -> Option<Line>
             start,
             length,
             offset,
+            size: PageSize::Small,
         })),
         Keyword::Unmap => command_line(two(words).map(|(start, length)| Unmap { start, length })),
         Keyword::Home => command_line(three(words).map(|(start, length, node)| SetHome {

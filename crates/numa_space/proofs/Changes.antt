@@ -1,31 +1,39 @@
 -- What the changes of a space's parts make of the space.
-use Rattle.std.proofs.Common.{sym, ◌≡◌, ◌<◌, ◌+◌, ◌-◌, ℕ, Bool, true, false, not, ◌&&◌, Option}
+use Rattle.std.proofs.Common.{sym, ◌≡◌, ◌<◌, ◌+◌, ◌-◌, ◌%◌, ◌^◌, ℕ, Bool, true, false, not, ◌&&◌, Option}
 use Rattle.std.proofs.Common.{Some, None, is_some, Result, Ok, Err, List, [], ◌∷◌, length, refl, ap}
 use Rattle.std.proofs.Common.{◌∙◌, subst, arith}
 use Rattle.std.specs.Prelude.{if◌then◌else◌, nat_le, ◌==◌}
 use Rattle.std.proofs.lemmas.Bool.{lt-leb}
+use Rattle.numa_machine.specs.Sizes.{index_in, whole}
+use Rattle.numa_machine.specs.declared.page_size.PageSize.{PageSize}
+use Rattle.numa_machine.specs.declared.page_size.PageSize.TheVariants.{Small, Huge}
 use Rattle.numa_machine.specs.declared.rules.Rules.{Rules}
 use Rattle.numa_machine.specs.declared.rules.Rules.TheVariants.{Document, Linux}
 use Rattle.numa_mode.specs.Policy.{Specification, PolicyRecord, is_default, record_when_set}
 use Rattle.numa_ranges.specs.Runs.{page_at}
-use Rattle.numa_ranges.specs.Maps.{any_page, changed_span, without_span}
+use Rattle.numa_ranges.specs.Maps.{any_page, changed_span, with_span, without_span}
 use Rattle.numa_ranges.specs.declared.run.Run.{Run}
 use Rattle.numa_space.specs.declared.change.Change.{Change}
 use Rattle.numa_requests.specs.declared.command.Command.{Command}
 use Rattle.numa_requests.specs.declared.command.Command.TheVariants.{Mbind, SetTask, Inherit}
-use Rattle.numa_requests.specs.declared.command.Command.TheVariants.{Unmap, SetHome}
+use Rattle.numa_requests.specs.declared.command.Command.TheVariants.{Map, Unmap, SetHome}
 use Rattle.numa_requests.specs.declared.refusal.Refusal.{Refusal}
 use Rattle.numa_requests.specs.declared.refusal.Refusal.TheVariants.{Hole, NodesNotAllowed}
 use Rattle.numa_requests.specs.declared.refusal.Refusal.TheVariants.{NoMemory, TooManyTasks}
-use Rattle.numa_space.specs.Edits.{PageRanges, IsEdit, hole_cause, too_many}
+use Rattle.numa_requests.specs.declared.refusal.Refusal.TheVariants.{Overlap, Unaligned}
+use Rattle.numa_space.specs.Edits.{PageRanges, IsEdit, hole_cause, overlap_cause, too_many}
 use Rattle.numa_space.specs.History.{page_of, page_count}
 use Rattle.numa_machine.specs.Rules.{is_linux}
 use Rattle.numa_space.specs.Refusals.{PageMap, bad_policy_span, bad_unmap_span, first_of}
 use Rattle.numa_space.specs.Refusals.{has_no_node, passes_holes}
 use Rattle.numa_space.specs.Refusals.{bind_cause, refusal_in, lacks_policy, takes_no_home}
+use Rattle.numa_space.specs.Refusals.{bad_map_span, keeps_home, lacks_pages, parts_pages}
+use Rattle.numa_space.specs.Refusals.{unaligned_offset, when}
+use Rattle.numa_space.specs.Same.{same_record}
 use Rattle.numa_space.specs.Standing.{SpaceState, lacks_place, record_of}
 use Rattle.numa_space.specs.Steps.{IsAnswer, IsGiven, IsNext, scene_in, record_now}
 use Rattle.numa_space.specs.Steps.{policy_with_home}
+use Rattle.numa_space.proofs.Parting.{by_rules, lacks-first, parts_bound}
 
 -- ---- pages that were edited
 
@@ -50,11 +58,12 @@ module _ (old : SpaceState) (start bytes first count limit : ℕ) (new : PageRan
   unmapped a b = without_span a b (page_at old.ranges)
 
   pub unmap-answer : bad_unmap_span old.machine.rules start bytes ≡ None
+      → parts_pages (λ policy. false) (page_at old.ranges) first count ≡ false
       → IsEdit (too_many limit (unmapped first count)) (unmapped first count)
       (record { runs = old.ranges; limit = limit }) (Ok (tt {0})) new
       → IsAnswer old (Unmap start bytes) (Ok (tt {0}))
       (record old { ranges = new.runs; version = old.version + 1 })
-  unmap-answer span edit =
+  unmap-answer span whole edit =
       edited-answer old (Unmap start bytes) (unmapped first count) limit new
       (too_many limit (unmapped first count))
       (cause ∙ (λ i. too_many (sym is_limit i) (unmapped (sym is_first i) (sym is_count i))))
@@ -69,9 +78,14 @@ module _ (old : SpaceState) (start bytes first count limit : ℕ) (new : PageRan
         weights = λ n. refl;
       }) edit
     where
+      parts : parts_pages (λ policy. false) (page_at old.ranges) (page_of start)
+          (page_count bytes) ≡ false
+      parts = (λ i. parts_pages (λ policy. false) (page_at old.ranges) (sym is_first i)
+          (sym is_count i)) ∙ whole
+
       cause : refusal_in (scene_in old (Unmap start bytes)) (Unmap start bytes)
           ≡ too_many old.bounds.max_ranges (unmapped (page_of start) (page_count bytes))
-      cause = rw (lt-leb old.bounds.max_commands old.version room, span, some) refl
+      cause = rw (lt-leb old.bounds.max_commands old.version room, span, some, parts) refl
 
   abbrev homed : ℕ → ℕ → ℕ → PageMap
   homed node a b = changed_span a b (policy_with_home node) (page_at old.ranges)
@@ -80,11 +94,12 @@ module _ (old : SpaceState) (start bytes first count limit : ℕ) (new : PageRan
       → (node : ℕ) → node < old.machine.nodes
       → any_page (λ page. takes_no_home (page_at old.ranges page)) first count ≡ false
       → lacks_policy old.machine.rules (page_at old.ranges) first count ≡ false
+      → parts_pages (keeps_home node) (page_at old.ranges) first count ≡ false
       → IsEdit (too_many limit (homed node first count)) (homed node first count)
       (record { runs = old.ranges; limit = limit }) (Ok (tt {0})) new
       → IsAnswer old (SetHome start bytes node) (Ok (tt {0}))
       (record old { ranges = new.runs; version = old.version + 1 })
-  home-answer span node there homes policies edit =
+  home-answer span node there homes policies whole edit =
       edited-answer old (SetHome start bytes node) (homed node first count) limit new
       (too_many limit (homed node first count))
       (cause ∙ (λ i. too_many (sym is_limit i) (homed node (sym is_first i) (sym is_count i))))
@@ -109,6 +124,11 @@ module _ (old : SpaceState) (start bytes first count limit : ℕ) (new : PageRan
       lacks = (λ i. lacks_policy old.machine.rules (page_at old.ranges) (sym is_first i)
           (sym is_count i)) ∙ policies
 
+      parts : parts_pages (keeps_home node) (page_at old.ranges) (page_of start)
+          (page_count bytes) ≡ false
+      parts = (λ i. parts_pages (keeps_home node) (page_at old.ranges) (sym is_first i)
+          (sym is_count i)) ∙ whole
+
       cause : refusal_in (scene_in old (SetHome start bytes node)) (SetHome start bytes node)
           ≡ too_many old.bounds.max_ranges (homed node (page_of start) (page_count bytes))
       cause = rw (
@@ -118,6 +138,7 @@ module _ (old : SpaceState) (start bytes first count limit : ℕ) (new : PageRan
         some,
         takes,
         lacks,
+        parts,
       ) refl
 
 -- ---- an Mbind
@@ -125,7 +146,8 @@ module _ (old : SpaceState) (start bytes first count limit : ℕ) (new : PageRan
 module _ (old : SpaceState) (start bytes : ℕ) (spec : Specification)
     (room : old.version < old.bounds.max_commands)
     (span : bad_policy_span old.machine.rules start bytes ≡ None)
-    (some : (bytes == 0) ≡ false) (node : has_no_node old.allowed spec ≡ false) where
+    (some : (bytes == 0) ≡ false) (node : has_no_node old.allowed spec ≡ false)
+    (whole : parts_bound old spec (page_of start) (page_count bytes) ≡ false) where
   abbrev pub bound : ℕ → ℕ → Option PolicyRecord → PageMap
   bound first count policy = changed_span first count (λ r. policy) (page_at old.ranges)
 
@@ -135,19 +157,16 @@ module _ (old : SpaceState) (start bytes : ℕ) (spec : Specification)
       (too_many old.bounds.max_ranges
       (bound (page_of start) (page_count bytes) (record_now old.allowed spec)))
   bind-cause = rw (lt-leb old.bounds.max_commands old.version room, span, some, node)
-      (by_rules old.machine.rules)
-    where
-      by_rules : (r : Rules)
-          → bind_cause r None (hole_cause (passes_holes old.machine.rules spec) (page_at old.ranges)
-          (page_of start) (page_count bytes))
-          (too_many old.bounds.max_ranges
-          (bound (page_of start) (page_count bytes) (record_now old.allowed spec)))
-          ≡ first_of (hole_cause (passes_holes old.machine.rules spec) (page_at old.ranges)
-          (page_of start) (page_count bytes))
-          (too_many old.bounds.max_ranges
-          (bound (page_of start) (page_count bytes) (record_now old.allowed spec)))
-      by_rules Document = refl
-      by_rules Linux = refl
+      (by_rules old.machine.rules
+      (hole_cause (passes_holes old.machine.rules spec) (page_at old.ranges) (page_of start)
+      (page_count bytes)) _
+      ∙ lacks-first
+      (lacks_pages (passes_holes old.machine.rules spec) (page_at old.ranges) (page_of start)
+      (page_count bytes))
+      (parts_pages (same_record (record_now old.allowed spec)) (page_at old.ranges)
+      (page_of start) (page_count bytes))
+      (too_many old.bounds.max_ranges
+      (bound (page_of start) (page_count bytes) (record_now old.allowed spec))) whole)
 
   bind-next : (runs : List (Run (Option PolicyRecord)))
       → ((page : ℕ) → page_at runs page ≡ bound (page_of start) (page_count bytes)

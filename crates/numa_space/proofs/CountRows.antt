@@ -3,7 +3,9 @@
 use Rattle.std.proofs.Common.{◌≡◌, ℕ, ◌+◌, ◌-◌, ◌<◌, ◌≤◌, true, false, not, ltb, List, [], ◌∷◌}
 use Rattle.std.proofs.Common.{length, Option, Some, None, is_some, refl, sym, ap, ◌∙◌, arith}
 use Rattle.numa_mask.specs.NodeSet.{members}
+use Rattle.numa_machine.specs.Sizes.{is_inside, is_part}
 use Rattle.numa_machine.specs.Machine.{Hardware}
+use Rattle.numa_machine.specs.declared.page_size.PageSize.TheVariants.{Small}
 use Rattle.numa_mode.specs.Policy.{Specification, PolicyRecord}
 use Rattle.numa_mode.specs.declared.modes.Mode.TheVariants.{Default, Bind, Interleave}
 use Rattle.numa_mode.specs.declared.modes.NodeFlag.TheVariants.{Plain}
@@ -19,6 +21,7 @@ use Rattle.numa_space.specs.History.{page_of, page_count}
 use Rattle.numa_space.specs.Policies.{allowed_nodes}
 use Rattle.numa_space.specs.Pages.{page_in}
 use Rattle.numa_space.specs.Same.{same_record}
+use Rattle.numa_space.specs.Refusals.{parts_pages}
 use Rattle.numa_space.specs.Refusals.{bad_map_span, bad_policy_span, bad_unmap_span, when}
 use Rattle.numa_space.specs.Refusals.{refusal_of, range_count_of}
 use Rattle.numa_space.specs.Steps.{record_now, policy_with_home}
@@ -52,13 +55,13 @@ counted machine history runs shows = count-joined same_record same_record-exact 
 -- a first map
 shows-first : (machine : Hardware) (start bytes offset : ℕ)
     → AreApart 0 (plain (page_of start) (page_count bytes) offset ∷ [])
-    → Shows machine (Map start bytes offset ∷ []) (plain (page_of start) (page_count bytes) offset
+    → Shows machine (Map start bytes offset Small ∷ []) (plain (page_of start) (page_count bytes) offset
     ∷ [])
 shows-first machine start bytes offset apart =
     record {
       apart = apart;
       pages =
-          λ page. sym (pages-next machine [] (Map start bytes offset) page);
+          λ page. sym (pages-next machine [] (Map start bytes offset Small) page);
     }
 
 shows-edited : (machine : Hardware) (history : List Command) (command : Command) (first pages : ℕ)
@@ -128,11 +131,11 @@ bind_two : Specification
 bind_two = asked Bind Plain (2 ∷ [])
 
 whole_run : List Command
-whole_run = SetTask 1 (asked Interleave Plain (0 ∷ 1 ∷ 2 ∷ 3 ∷ [])) ∷ Map 0x10000 0xa000 0 ∷ []
+whole_run = SetTask 1 (asked Interleave Plain (0 ∷ 1 ∷ 2 ∷ 3 ∷ [])) ∷ Map 0x10000 0xa000 0 Small ∷ []
 
 shows-whole : Shows (flat 4) whole_run (plain 16 10 0 ∷ [])
 unfolding whole_run
-shows-whole = shows-task (flat 4) (Map 0x10000 0xa000 0 ∷ []) 1
+shows-whole = shows-task (flat 4) (Map 0x10000 0xa000 0 Small ∷ []) 1
     (asked Interleave Plain (0 ∷ 1 ∷ 2 ∷ 3 ∷ [])) _
     (shows-first (flat 4) 0x10000 0xa000 0 (omega arith, omega arith, omega arith, omega arith))
 
@@ -165,7 +168,7 @@ spread = asked Interleave Plain (0 ∷ 1 ∷ 2 ∷ [])
 
 home_run : List Command
 home_run = SetHome 0x11000 0x1000 2 ∷ Mbind 0x12000 0x1000 spread ∷ Mbind 0x10000 0x2000 bind_low
-    ∷ Map 0x10000 0x4000 0 ∷ []
+    ∷ Map 0x10000 0x4000 0 Small ∷ []
 
 home_runs : Runs
 home_runs = edit_of 17 18 (λ old. Some (policy_with_home 2 old))
@@ -176,10 +179,10 @@ shows-home_run : Shows in_a_row home_run home_runs
 unfolding members any_page home_run home_runs spread bind_low
 shows-home_run =
     shows-homed in_a_row (Mbind 0x12000 0x1000 spread ∷ Mbind 0x10000 0x2000 bind_low
-    ∷ Map 0x10000 0x4000 0 ∷ []) 0x11000 0x1000 2 _
-    (shows-bound in_a_row (Mbind 0x10000 0x2000 bind_low ∷ Map 0x10000 0x4000 0 ∷ []) 0x12000 0x1000
+    ∷ Map 0x10000 0x4000 0 Small ∷ []) 0x11000 0x1000 2 _
+    (shows-bound in_a_row (Mbind 0x10000 0x2000 bind_low ∷ Map 0x10000 0x4000 0 Small ∷ []) 0x12000 0x1000
     spread _
-    (shows-bound in_a_row (Map 0x10000 0x4000 0 ∷ []) 0x10000 0x2000 bind_low _
+    (shows-bound in_a_row (Map 0x10000 0x4000 0 Small ∷ []) 0x10000 0x2000 bind_low _
     (shows-first in_a_row 0x10000 0x4000 0 (omega arith, omega arith, omega arith, omega arith))
     refl) refl)
 
@@ -198,7 +201,7 @@ narrow : Bounds
 narrow = record { max_ranges = 2; max_tasks = 1; max_commands = 4 }
 
 three_pages : List Command
-three_pages = Map 0x10000 0x3000 0 ∷ []
+three_pages = Map 0x10000 0x3000 0 Small ∷ []
 
 shows-three : (nodes : ℕ) → Shows (flat nodes) three_pages (plain 16 3 0 ∷ [])
 unfolding three_pages
@@ -221,7 +224,7 @@ bind-in_the_middle = counted (flat 2) (Mbind 0x11000 0x1000 bind_one ∷ three_p
 
 bind-splits_too_far : refusal_of (flat 2) narrow three_pages (Mbind 0x11000 0x1000 bind_one)
     ≡ Some TooManyRanges
-unfolding members any_page bad_policy_span narrow three_pages bind_one
+unfolding members any_page bad_policy_span parts_pages is_inside is_part narrow three_pages bind_one
 bind-splits_too_far =
     refused-by_count (range_count_of (flat 2) (Mbind 0x11000 0x1000 bind_one ∷ three_pages)) 2 3
     bind-in_the_middle refl
@@ -236,7 +239,7 @@ unmap-in_the_middle = counted (flat 1) (Unmap 0x11000 0x1000 ∷ three_pages) _
 
 unmap-splits_too_far : refusal_of (flat 1) single three_pages (Unmap 0x11000 0x1000)
     ≡ Some TooManyRanges
-unfolding members any_page bad_unmap_span single three_pages
+unfolding members any_page bad_unmap_span parts_pages is_inside is_part single three_pages
 unmap-splits_too_far =
     refused-by_count (range_count_of (flat 1) (Unmap 0x11000 0x1000 ∷ three_pages)) 1 2
     unmap-in_the_middle refl
@@ -254,7 +257,7 @@ shows-appended : (machine : Hardware) (history : List Command) (run : Run (Optio
     (start bytes offset : ℕ) → Shows machine history (run ∷ []) → 0 < run.pages
     → run.first + run.pages ≤ page_of start
     → AreApart 0 (run ∷ plain (page_of start) (page_count bytes) offset ∷ [])
-    → Shows machine (Map start bytes offset ∷ history)
+    → Shows machine (Map start bytes offset Small ∷ history)
     (run ∷ plain (page_of start) (page_count bytes) offset ∷ [])
 shows-appended machine history run start bytes offset shows some behind apart =
     let whole : page_at (run ∷ []) ≡ page_in machine history = λ i page. shows.pages page i in
@@ -271,12 +274,12 @@ shows-appended machine history run start bytes offset shows some behind apart =
       apart = apart;
       pages = λ page. page_at-placed (run ∷ []) 1 (plain (page_of start) (page_count bytes) offset)
           room page ∙ ap (λ at. with_span (page_of start) (page_count bytes) offset None at page)
-          whole ∙ sym (pages-next machine history (Map start bytes offset) page);
+          whole ∙ sym (pages-next machine history (Map start bytes offset Small) page);
     }
 
-map-goes_on : range_count_of (flat 1) (Map 0x12000 0x1000 2 ∷ two_pages) ≡ 1
+map-goes_on : range_count_of (flat 1) (Map 0x12000 0x1000 2 Small ∷ two_pages) ≡ 1
 unfolding two_pages three_pages
-map-goes_on = counted (flat 1) (Map 0x12000 0x1000 2 ∷ two_pages) _
+map-goes_on = counted (flat 1) (Map 0x12000 0x1000 2 Small ∷ two_pages) _
     (shows-appended (flat 1) two_pages (plain 16 2 0) 0x12000 0x1000 2 shows-two (omega arith)
     (omega arith) (
       omega arith,
@@ -285,9 +288,9 @@ map-goes_on = counted (flat 1) (Map 0x12000 0x1000 2 ∷ two_pages) _
       (omega arith, omega arith, omega arith, omega arith),
     ))
 
-map-with_a_gap : range_count_of (flat 1) (Map 0x12000 0x1000 9 ∷ two_pages) ≡ 2
+map-with_a_gap : range_count_of (flat 1) (Map 0x12000 0x1000 9 Small ∷ two_pages) ≡ 2
 unfolding two_pages three_pages
-map-with_a_gap = counted (flat 1) (Map 0x12000 0x1000 9 ∷ two_pages) _
+map-with_a_gap = counted (flat 1) (Map 0x12000 0x1000 9 Small ∷ two_pages) _
     (shows-appended (flat 1) two_pages (plain 16 2 0) 0x12000 0x1000 9 shows-two (omega arith)
     (omega arith) (
       omega arith,
@@ -296,8 +299,8 @@ map-with_a_gap = counted (flat 1) (Map 0x12000 0x1000 9 ∷ two_pages) _
       (omega arith, omega arith, omega arith, omega arith),
     ))
 
-map-splits_too_far : refusal_of (flat 1) single two_pages (Map 0x12000 0x1000 9)
+map-splits_too_far : refusal_of (flat 1) single two_pages (Map 0x12000 0x1000 9 Small)
     ≡ Some TooManyRanges
 unfolding members any_page bad_map_span single two_pages three_pages
-map-splits_too_far = refused-by_count (range_count_of (flat 1) (Map 0x12000 0x1000 9 ∷ two_pages)) 1
+map-splits_too_far = refused-by_count (range_count_of (flat 1) (Map 0x12000 0x1000 9 Small ∷ two_pages)) 1
     2 map-with_a_gap refl

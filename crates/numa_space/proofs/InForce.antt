@@ -11,6 +11,7 @@ use Rattle.std.proofs.lemmas.Nat.{and_le_r}
 use Rattle.numa_machine.specs.Machine.{Hardware}
 use Rattle.numa_machine.specs.declared.rules.Rules.{Rules}
 use Rattle.numa_machine.specs.declared.rules.Rules.TheVariants.{Document, Linux}
+use Rattle.numa_machine.specs.Sizes.{index_in, whole}
 use Rattle.numa_mode.specs.Policy.{Specification, PolicyRecord, is_default, takes_home, with_home}
 use Rattle.numa_mode.specs.Policy.{record_when_set, record_after, effect_when_set, stays}
 use Rattle.numa_mode.specs.Policy.{never_empty, effect_after}
@@ -256,7 +257,7 @@ module _ (scene : Scene) (small : scene.machine.memory < 2 ^ 256)
 
   some-next : (command : Command) → refusal_in scene command ≡ None
       → allowed_next scene.machine scene.allowed command ≢ 0
-  some-next (Map start bytes offset) none = force.some
+  some-next (Map start bytes offset size) none = force.some
   some-next (Unmap start bytes) none = force.some
   some-next (Mbind start bytes spec) none = force.some
   some-next (SetTask task spec) none = force.some
@@ -267,7 +268,7 @@ module _ (scene : Scene) (small : scene.machine.memory < 2 ^ 256)
 
   memory-next : (command : Command) → both (allowed_next scene.machine scene.allowed command)
       scene.machine.memory ≡ allowed_next scene.machine scene.allowed command
-  memory-next (Map start bytes offset) = force.memory
+  memory-next (Map start bytes offset size) = force.memory
   memory-next (Unmap start bytes) = force.memory
   memory-next (Mbind start bytes spec) = force.memory
   memory-next (SetTask task spec) = force.memory
@@ -286,9 +287,9 @@ module _ (scene : Scene) (small : scene.machine.memory < 2 ^ 256)
   page-next : (command : Command) (page : ℕ) → refusal_in scene command ≡ None
       → PageHolds scene.machine (allowed_next scene.machine scene.allowed command)
       (pages_next scene.machine scene.allowed scene.pages command page)
-  page-next (Map start bytes offset) page none =
-      cond_both (in_pages (page_of start) (page_count bytes) page)
-      (Some (offset + (page - page_of start), None)) (scene.pages page)
+  page-next (Map start bytes offset size) page none =
+      cond_both (in_pages (page_of start) (page_count (whole size bytes)) page)
+      (Some (index_in size offset + (page - page_of start), None)) (scene.pages page)
       (PageHolds scene.machine scene.allowed) (λ e. tt) (λ e. force.at_pages page)
   page-next (Unmap start bytes) page none =
       cond_both (in_pages (page_of start) (page_count bytes) page) None (scene.pages page)
@@ -323,7 +324,7 @@ module _ (scene : Scene) (small : scene.machine.memory < 2 ^ 256)
   held-next : (command : Command) (task : ℕ) → refusal_in scene command ≡ None
       → Holds scene.machine (allowed_next scene.machine scene.allowed command)
       (task_next scene.machine scene.allowed scene.task command task)
-  held-next (Map start bytes offset) task none = force.at_tasks task
+  held-next (Map start bytes offset size) task none = force.at_tasks task
   held-next (Unmap start bytes) task none = force.at_tasks task
   held-next (Mbind start bytes spec) task none = force.at_tasks task
   held-next (SetTask set spec) task none = cond_both (eqb set task) (record_now scene.allowed spec)
@@ -379,7 +380,7 @@ module _ (old : SpaceState) (sound : IsSound old) (small : old.machine.memory < 
 
   task_limit-next : (command : Command) → refusal_in (scene_in old command) command ≡ None
       → task_count_next (record_of old.tasks) (length old.tasks) command ≤ old.bounds.max_tasks
-  task_limit-next (Map start bytes offset) none = sound.task_limit
+  task_limit-next (Map start bytes offset size) none = sound.task_limit
   task_limit-next (Unmap start bytes) none = sound.task_limit
   task_limit-next (Mbind start bytes spec) none = sound.task_limit
   task_limit-next (SetTask task spec) none =

@@ -1,5 +1,5 @@
 -- What holds of every space stays.
-use Rattle.std.proofs.Common.{◌≡◌, ◌<◌, Result, sym, ap, ◌∙◌, subst, arith, All}
+use Rattle.std.proofs.Common.{◌≡◌, ◌<◌, false, Result, sym, ap, ◌∙◌, subst, arith, All}
 use Rattle.numa_mask.specs.NodeSet.{members}
 use Rattle.numa_machine.specs.Machine.{Hardware}
 use Rattle.numa_space.specs.Inside.{shown_of, IsKept}
@@ -15,6 +15,7 @@ use Rattle.numa_space.specs.Refusals.{refusal_in, refusal_of}
 use Rattle.numa_space.proofs.Refused.{refusal-same}
 use Rattle.numa_space.proofs.Answers.{answer-kept, AnswersBy, stands-next}
 use Rattle.numa_space.proofs.InForce.{sound-answer}
+use Rattle.numa_space.proofs.Small.{maps_huge, small-answer}
 
 -- a space that has a history has one after an answer too
 pub history-answer : {A : Type 0} (old new : SpaceState) (command : Command) (result : Result A Refusal)
@@ -42,8 +43,9 @@ history-answer {A} old new command result had answer = go (refusal_in (scene_in 
 
 pub kept-answer : {A : Type 0} (old new : Inside) (command : Command) (result : Result A Refusal)
     → IsKept old → new.pages.limit ≡ old.pages.limit → new.weights.nodes ≡ old.weights.nodes
+    → (new.has_huge ≡ false → (old.has_huge ≡ false) × (maps_huge command ≡ false))
     → IsAnswer (shown_of old) command result (shown_of new) → IsKept new
-kept-answer {A} old new command result kept limit nodes answer =
+kept-answer {A} old new command result kept limit nodes sizes answer =
     let same = answer-kept (shown_of old) (shown_of new) command result answer in
     record {
       sound = sound-answer (shown_of old) (shown_of new) command result kept.sound kept.memory
@@ -51,6 +53,8 @@ kept-answer {A} old new command result kept limit nodes answer =
       history = history-answer (shown_of old) (shown_of new) command result kept.history answer;
       limit = limit ∙ kept.limit ∙ sym (ap (λ (b : Bounds). b.max_ranges) same.1);
       nodes = nodes ∙ kept.nodes ∙ sym (ap (λ (m : Hardware). m.nodes) same.0);
+      sizes = λ none. small-answer (shown_of old) (shown_of new) command result (sizes none).1
+          (kept.sizes (sizes none).0) answer;
       memory = omega (arith, kept.memory, ap (λ (m : Hardware). m.memory) same.0);
       of_the_machine = let P : Hardware → Type 0 =
           λ m. All (λ node. node < m.nodes) (members m.memory) in

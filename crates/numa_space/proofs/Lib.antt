@@ -5,6 +5,7 @@ pub mod SameTest
 pub mod Homes
 pub mod Rows
 pub mod RefusalRows
+pub mod SizeRows
 pub mod Places
 pub mod Pages
 pub mod Tasks
@@ -16,9 +17,11 @@ pub mod Lists
 pub mod Accepted
 pub mod NodeLists
 pub mod InForce
+pub mod Small
 pub mod Kept
 pub mod Chosen
 pub mod Looked
+pub mod Parting
 pub mod Changes
 pub mod CountRows
 pub mod ListSizes

@@ -5,6 +5,8 @@ use Rattle.std.proofs.Common.{Option, Some, None, length, get_or, refl, sym, ap,
 use Rattle.std.proofs.Common.{inr}
 use Rattle.std.specs.Prelude.{unwrap_or, ◌==◌, nat_le}
 use Rattle.std.proofs.lemmas.Bool.{cases_Bool, eqb-false}
+use Rattle.numa_machine.specs.Sizes.{index_in, whole}
+use Rattle.numa_machine.specs.declared.page_size.PageSize.{PageSize}
 use Rattle.numa_mode.specs.Policy.{PolicyRecord, Specification}
 use Rattle.numa_machine.specs.Machine.{Hardware}
 use Rattle.numa_ranges.specs.Runs.{in_pages, end_of, page_at, AreApart, AreMaximal}
@@ -28,7 +30,7 @@ use Rattle.numa_requests.specs.declared.refusal.Refusal.TheVariants.{CommandsSpe
 use Rattle.numa_requests.specs.declared.refusal.Refusal.TheVariants.{BadOffset, Overlap}
 use Rattle.numa_space.specs.History.{page_of, page_count}
 use Rattle.numa_space.specs.Refusals.{PageMap, cause_in, first_of, too_many_ranges, when}
-use Rattle.numa_space.specs.Refusals.{bad_map_span, bad_span}
+use Rattle.numa_space.specs.Refusals.{bad_map_span, bad_span, unaligned_offset}
 use Rattle.numa_machine.specs.declared.rules.Rules.{Rules}
 use Rattle.numa_machine.specs.declared.rules.Rules.TheVariants.{Document, Linux}
 use Rattle.numa_space.specs.Same.{same_record}
@@ -44,8 +46,9 @@ use Rattle.numa_space.proofs.Same.{same_record-exact, same_record-refl}
 next-outside : (machine : Hardware) (allowed : ℕ) (pages : PageMap) (command : Command) (page : ℕ)
     → StaysInSpan command → in_pages (span_first command) (span_pages command) page ≡ false
     → pages_next machine allowed pages command page ≡ pages page
-next-outside machine allowed pages (Map start bytes offset) page stays out =
-    ap (λ (b : Bool). cond b (Some (offset + (page - page_of start), None)) (pages page)) out
+next-outside machine allowed pages (Map start bytes offset size) page stays out =
+    ap (λ (b : Bool). cond b (Some (index_in size offset + (page - page_of start), None))
+    (pages page)) out
 next-outside machine allowed pages (Unmap start bytes) page stays out =
     ap (λ (b : Bool). cond b None (pages page)) out
 next-outside machine allowed pages (Mbind start bytes spec) page stays out =
@@ -72,7 +75,7 @@ next-edited : (machine : Hardware) (allowed : ℕ) (pages : PageMap) (command : 
     → EditsSpan command → in_pages (span_first command) (span_pages command) page ≡ true
     → pages_next machine allowed pages command page ≡ edited_page (span_edit allowed command)
     (pages page)
-next-edited machine allowed pages (Map start bytes offset) page edits in_span = absurd edits
+next-edited machine allowed pages (Map start bytes offset size) page edits in_span = absurd edits
 next-edited machine allowed pages (Unmap start bytes) page edits in_span =
     ap (λ (b : Bool). cond b None (pages page)) in_span ∙ edit-none (pages page)
 next-edited machine allowed pages (Mbind start bytes spec) page edits in_span =
@@ -87,7 +90,7 @@ next-edited machine allowed pages (SetWeight node weight) page edits in_span = a
 next-edited machine allowed pages (SetMems mask) page edits in_span = absurd edits
 
 edits-stays : (command : Command) → EditsSpan command → StaysInSpan command
-edits-stays (Map start bytes offset) edits = absurd edits
+edits-stays (Map start bytes offset size) edits = absurd edits
 edits-stays (Unmap start bytes) edits = tt
 edits-stays (Mbind start bytes spec) edits = tt
 edits-stays (SetTask task spec) edits = absurd edits
@@ -286,34 +289,38 @@ module _ (old new : SpaceState) (start bytes node : ℕ)
 -- ---- Map
 
 -- a map that isn't refused has a byte
-map-length : (rules : Rules) (start bytes : ℕ) → bad_map_span rules start bytes ≡ None
-    → (bytes == 0) ≡ false
+map-length : (rules : Rules) (size : PageSize) (start bytes : ℕ)
+    → bad_map_span rules size start bytes ≡ None → (bytes == 0) ≡ false
 unfolding bad_map_span
-map-length Document start bytes none = when-none (bytes == 0) EmptyLength
-    (first_of-none (bad_span start bytes) (when (bytes == 0) EmptyLength) none).1
-map-length Linux start bytes none = when-none (bytes == 0) EmptyLength
+map-length Document size start bytes none = when-none (bytes == 0) EmptyLength
+    (first_of-none (bad_span size start bytes) (when (bytes == 0) EmptyLength) none).1
+map-length Linux size start bytes none = when-none (bytes == 0) EmptyLength
     (first_of-none (when (bytes == 0) EmptyLength) _ none).0
 
-module _ (old new : SpaceState) (start bytes offset : ℕ)
-    (step : IsStep old (Map start bytes offset) new) where
+module _ (old new : SpaceState) (start extent offset : ℕ) (size : PageSize)
+    (step : IsStep old (Map start extent offset size) new) where
+  -- the bytes up to the end of the last page
+  abbrev pub bytes : ℕ
+  bytes = whole size extent
+
   -- the command has a page, and none of its span was mapped
   map-causes : ((bytes == 0) ≡ false)
       × (any_page (λ page. is_some (page_at old.ranges page)) (page_of start) (page_count bytes)
       ≡ false)
   map-causes =
-      let scene = scene_in old (Map start bytes offset) in
+      let scene = scene_in old (Map start extent offset size) in
       let room = first_of-none (when (nat_le old.bounds.max_commands old.version) CommandsSpent)
-      (cause_in scene (Map start bytes offset)) step.accepted in
+      (cause_in scene (Map start extent offset size)) step.accepted in
       let overlap =
       when (any_page (λ page. is_some (page_at old.ranges page)) (page_of start)
       (page_count bytes)) Overlap in
-      let offsets = first_of (when (nat_le (2 ^ 35) offset) BadOffset)
-      (first_of overlap (too_many_ranges scene)) in
-      let span = first_of-none (bad_map_span old.machine.rules start bytes) offsets room.1 in
+      let others = first_of (unaligned_offset size offset) (too_many_ranges scene) in
+      let offsets = first_of (when (nat_le (2 ^ 35) offset) BadOffset) (first_of overlap others) in
+      let span = first_of-none (bad_map_span old.machine.rules size start bytes) offsets room.1 in
       let index = first_of-none (when (nat_le (2 ^ 35) offset) BadOffset)
-      (first_of overlap (too_many_ranges scene)) span.1 in
-      let free = first_of-none overlap (too_many_ranges scene) index.1 in (
-        map-length old.machine.rules start bytes span.0,
+      (first_of overlap others) span.1 in
+      let free = first_of-none overlap others index.1 in (
+        map-length old.machine.rules size start bytes span.0,
         when-none (any_page (λ page. is_some (page_at old.ranges page)) (page_of start)
             (page_count bytes)) Overlap free.0,
       )
@@ -334,10 +341,10 @@ module _ (old new : SpaceState) (start bytes offset : ℕ)
   map-some = omega (arith, eqb-false bytes 0 map-causes.0)
 
   pub map-page : (page : ℕ) → page_of start ≤ page → page < page_of start + page_count bytes
-      → page_at new.ranges page ≡ Some (offset + (page - page_of start), None)
+      → page_at new.ranges page ≡ Some (index_in size offset + (page - page_of start), None)
   map-page page low high =
       step.next.pages page
-      ∙ ap (λ (b : Bool). cond b (Some (offset + (page - page_of start), None))
+      ∙ ap (λ (b : Bool). cond b (Some (index_in size offset + (page - page_of start), None))
       (page_at old.ranges page))
       (in_pages-true (page_of start) (page_count bytes) page low high)
 
@@ -355,7 +362,7 @@ module _ (old new : SpaceState) (start bytes offset : ℕ)
     map-value k d l in_span =
         let run : Run (Option PolicyRecord) = get_or new.ranges k d in
         let bounds = begins-split (page_of start) (page_of start + page_count bytes) run in_span in
-        let is : Some (run.index, run.value) ≡ Some (offset + (run.first - page_of start), None) =
+        let is : Some (run.index, run.value) ≡ Some (index_in size offset + (run.first - page_of start), None) =
         sym (run-page 0 new.ranges k d apart l) ∙ map-page run.first bounds.0 bounds.1 in
         ap (λ (q : Option (ℕ × Option PolicyRecord)). (unwrap_or q (run.index, run.value)).1) is
 
@@ -364,11 +371,11 @@ module _ (old new : SpaceState) (start bytes offset : ℕ)
         (d : Run (Option PolicyRecord)) where
       now : IsWindow new.ranges (page_of start) (page_of start + page_count bytes) from
           (to_now old.ranges new.ranges to)
-      now = span-window old new (Map start bytes offset) step tt apart maximal from to window
+      now = span-window old new (Map start extent offset size) step tt apart maximal from to window
 
       one : met (page_of start) (page_of start + page_count bytes) new.ranges ≤ 1
       one = met-mapped same_record same_record-exact same_record-refl (page_of start)
-          (page_of start + page_count bytes) new.ranges apart maximal offset None
+          (page_of start + page_count bytes) new.ranges apart maximal (index_in size offset) None
           (omega (arith, map-some)) map-page
 
       -- where the first range of the new window ends at the span's first page, it stayed, and the
@@ -377,13 +384,13 @@ module _ (old new : SpaceState) (start bytes offset : ℕ)
           ≤ page_of start → (from < to) × Moves old.ranges new.ranges (from + 1) to
           × (to_now old.ranges new.ranges to - (from + 1) ≤ 2)
       map-beside some short =
-          let left = span-left old new (Map start bytes offset) step tt apart maximal in
+          let left = span-left old new (Map start extent offset size) step tt apart maximal in
           let stayed = left-same same_record same_record-exact same_record-refl (page_of start)
           (page_of start + page_count bytes) old.ranges new.ranges left from to window d
           (map-free (page_of start) (omega arith) (omega (arith, map-some))) some short in (
             stayed.0,
             moves-next old.ranges new.ranges from to d
-                (span-moves old new (Map start bytes offset) step tt apart maximal from to window)
+                (span-moves old new (Map start extent offset size) step tt apart maximal from to window)
                 stayed.0 window.within some stayed.1,
             omega (
               arith,

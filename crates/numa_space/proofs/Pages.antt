@@ -5,6 +5,7 @@ use Rattle.std.proofs.lemmas.Bool.{cases_Bool}
 use Rattle.std.specs.Option.{option_map, option_map_or}
 use Rattle.std.specs.Prelude.{if◌then◌else◌, option_and_then}
 use Rattle.numa_machine.specs.Machine.{Hardware}
+use Rattle.numa_machine.specs.Sizes.{whole}
 use Rattle.numa_mode.specs.Policy.{Specification, PolicyRecord, is_default, takes_home}
 use Rattle.numa_mode.specs.Policy.{mode_takes_home, effect_after}
 use Rattle.numa_ranges.specs.Maps.{changed_page}
@@ -49,7 +50,7 @@ gives_home _ = false
 -- the home that a command more gives
 last_home-other : (page : ℕ) (command : Command) (after : List Command) → gives_home command ≡ false
     → last_home page (command ∷ after) ≡ last_home page after
-last_home-other page (Map start bytes offset) after other = refl
+last_home-other page (Map start bytes offset size) after other = refl
 last_home-other page (Unmap start bytes) after other = refl
 last_home-other page (Mbind start bytes spec) after other = refl
 last_home-other page (SetTask task spec) after other = refl
@@ -73,7 +74,7 @@ later-record machine page command change (Some place) none h = go place.command 
   where
     go : (c : Command) → place.command ≡ c → bound_by machine page c (one_later command place)
         ≡ change (bound_by machine page c place)
-    go (Map start bytes offset) e = sym none
+    go (Map start bytes offset size) e = sym none
     go (Unmap start bytes) e = sym none
     go (Mbind start bytes spec) e = h place start bytes spec refl e
     go (SetTask task spec) e = sym none
@@ -220,12 +221,12 @@ changed-either change false index r = refl
 pub pages-next : (machine : Hardware) (history : List Command) (command : Command) (page : ℕ)
     → page_in machine (command ∷ history) page ≡ pages_next machine (allowed_nodes machine history)
     (page_in machine history) command page
-pages-next machine history (Map start bytes offset) page =
-    elim (cases_Bool (in_span start bytes page)) [
+pages-next machine history (Map start bytes offset size) page =
+    elim (cases_Bool (in_span start (whole size bytes) page)) [
       | inl e ↦ rw e refl
-      | inr e ↦ kept machine history page (Map start bytes offset) e e e
+      | inr e ↦ kept machine history page (Map start bytes offset size) e e e
           ∙ ap (with_record machine history page)
-          (record-other machine history page (Map start bytes offset) refl refl) ∙ rw e refl
+          (record-other machine history page (Map start bytes offset size) refl refl) ∙ rw e refl
     ]
 pages-next machine history (Unmap start bytes) page =
     elim (cases_Bool (in_span start bytes page)) [

@@ -23,7 +23,7 @@ use Rattle.numa_requests.specs.declared.command.Command.TheVariants.{SetMems}
 pub allowed-next : (machine : Hardware) (history : List Command) (command : Command)
     → allowed_nodes machine (command ∷ history) ≡ allowed_next machine
     (allowed_nodes machine history) command
-allowed-next machine history (Map start bytes offset) = refl
+allowed-next machine history (Map start bytes offset size) = refl
 allowed-next machine history (Unmap start bytes) = refl
 allowed-next machine history (Mbind start bytes spec) = refl
 allowed-next machine history (SetTask task spec) = refl
@@ -63,7 +63,7 @@ last_where-place test (command ∷ history) =
 pub allowed-left_out : (machine : Hardware) (before after : List Command) (command : Command)
     → changes_allowed command ≡ false → allowed_nodes machine (after ++ command ∷ before)
     ≡ allowed_nodes machine (after ++ before)
-allowed-left_out machine before [] (Map start bytes offset) other = refl
+allowed-left_out machine before [] (Map start bytes offset size) other = refl
 allowed-left_out machine before [] (Unmap start bytes) other = refl
 allowed-left_out machine before [] (Mbind start bytes spec) other = refl
 allowed-left_out machine before [] (SetTask task spec) other = refl
@@ -71,7 +71,7 @@ allowed-left_out machine before [] (Inherit heir from) other = refl
 allowed-left_out machine before [] (SetHome start bytes node) other = refl
 allowed-left_out machine before [] (SetWeight node weight) other = refl
 allowed-left_out machine before [] (SetMems mask) other = absurd (cc)
-allowed-left_out machine before (Map start bytes offset ∷ after) command other =
+allowed-left_out machine before (Map start bytes offset size ∷ after) command other =
     allowed-left_out machine before after command other
 allowed-left_out machine before (Unmap start bytes ∷ after) command other =
     allowed-left_out machine before after command other
@@ -126,7 +126,7 @@ documented-other : (machine : Hardware) (before after : List Command) (spec : Sp
     (command : Command) → changes_allowed command ≡ false
     → documented_set machine before (command ∷ after) spec ≡ documented_set machine before after
     spec
-documented-other machine before after spec (Map start bytes offset) other = refl
+documented-other machine before after spec (Map start bytes offset size) other = refl
 documented-other machine before after spec (Unmap start bytes) other = refl
 documented-other machine before after spec (Mbind start bytes s) other = refl
 documented-other machine before after spec (SetTask task s) other = refl
@@ -140,7 +140,7 @@ documented-other machine before after spec (SetMems mask) other = absurd (cc)
 rebound-other : (machine : Hardware) (before after : List Command) (spec : Specification)
     (command : Command) → changes_allowed command ≡ false
     → rebound_set machine before (command ∷ after) spec ≡ rebound_set machine before after spec
-rebound-other machine before after spec (Map start bytes offset) other = refl
+rebound-other machine before after spec (Map start bytes offset size) other = refl
 rebound-other machine before after spec (Unmap start bytes) other = refl
 rebound-other machine before after spec (Mbind start bytes s) other = refl
 rebound-other machine before after spec (SetTask task s) other = refl

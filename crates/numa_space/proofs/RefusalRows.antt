@@ -1,6 +1,7 @@
 -- Worked examples: what is refused, and for which cause.
 use Rattle.std.proofs.Common.{◌≡◌, true, false, List, [], ◌∷◌, Some, None, Ok, Err, refl}
 use Rattle.numa_mask.specs.NodeSet.{set_of, members}
+use Rattle.numa_machine.specs.Sizes.{is_inside, is_part}
 use Rattle.numa_machine.specs.Machine.{Hardware, fallback_order}
 use Rattle.numa_machine.specs.declared.rules.Rules.TheVariants.{Linux}
 use Rattle.numa_mode.specs.Policy.{specification_of}
@@ -12,6 +13,7 @@ use Rattle.numa_mode.specs.declared.specification.SpecError.TheVariants.{FlagsFo
 use Rattle.numa_mode.specs.declared.specification.SpecError.TheVariants.{NodesMissing}
 use Rattle.numa_ranges.specs.Maps.{any_page}
 use Rattle.numa_space.specs.Policies.{mems_of}
+use Rattle.numa_space.specs.Refusals.{parts_pages}
 use Rattle.numa_space.specs.Refusals.{lacks_mems}
 use Rattle.numa_space.specs.Limited.{Bounds}
 use Rattle.numa_space.specs.Lists.{node_list}
@@ -31,25 +33,26 @@ use Rattle.numa_requests.specs.declared.refusal.Refusal.TheVariants.{NodesNotAll
 use Rattle.numa_requests.specs.declared.refusal.Refusal.TheVariants.{NoPolicy, TooManyTasks}
 use Rattle.numa_requests.specs.declared.refusal.Refusal.TheVariants.{BadSpan, NoNodes}
 use Rattle.numa_machine.specs.declared.refusal.PlaceRefusal.TheVariants.{BadCpu, Unmapped}
+use Rattle.numa_machine.specs.declared.page_size.PageSize.TheVariants.{Small}
 use Rattle.numa_space.proofs.Rows.{flat, in_a_row, asked, mems}
 
-wide : Bounds
+pub wide : Bounds
 wide = record { max_ranges = 64; max_tasks = 64; max_commands = 64 }
 
 -- ---- holes
 
 two_maps : List Command
-two_maps = Map 0x12000 0x1000 2 ∷ Map 0x10000 0x1000 0 ∷ []
+two_maps = Map 0x12000 0x1000 2 Small ∷ Map 0x10000 0x1000 0 Small ∷ []
 
 bind-over_a_hole : refusal_of (flat 2) wide two_maps
     (Mbind 0x10000 0x3000 (asked Bind Plain (1 ∷ []))) ≡ Some Hole
-unfolding any_page bad_policy_span bad_unmap_span bad_map_span lacks_policy two_maps wide mems_of
+unfolding any_page bad_policy_span bad_unmap_span bad_map_span lacks_policy parts_pages is_inside is_part two_maps wide mems_of
     lacks_mems
 bind-over_a_hole = refl
 
 default-over_a_hole : refusal_of (flat 2) wide two_maps
     (Mbind 0x10000 0x3000 (asked Default Plain [])) ≡ Some Hole
-unfolding any_page bad_policy_span bad_unmap_span bad_map_span lacks_policy two_maps wide mems_of
+unfolding any_page bad_policy_span bad_unmap_span bad_map_span lacks_policy parts_pages is_inside is_part two_maps wide mems_of
     lacks_mems
 default-over_a_hole = refl
 
@@ -68,65 +71,65 @@ node-comes_before_page = refl
 -- ---- ends
 
 last_page : List Command
-last_page = Map 0x7ffffffff000 0x1000 0 ∷ []
+last_page = Map 0x7ffffffff000 0x1000 0 Small ∷ []
 
 -- up to address 2^47 only the number of ranges can stand against a map
-map-up_to_the_end : refusal_of (flat 2) wide [] (Map 0x7ffffffff000 0x1000 0) ≡ too_many_ranges
-    (scene_of (flat 2) wide [] (Map 0x7ffffffff000 0x1000 0))
-unfolding any_page bad_policy_span bad_unmap_span bad_map_span lacks_policy wide mems_of lacks_mems
+map-up_to_the_end : refusal_of (flat 2) wide [] (Map 0x7ffffffff000 0x1000 0 Small) ≡ too_many_ranges
+    (scene_of (flat 2) wide [] (Map 0x7ffffffff000 0x1000 0 Small))
+unfolding any_page bad_policy_span bad_unmap_span bad_map_span lacks_policy parts_pages is_inside is_part wide mems_of lacks_mems
 map-up_to_the_end = refl
 
-map-past_the_end : refusal_of (flat 2) wide last_page (Map 0x7ffffffff000 0x1001 0)
+map-past_the_end : refusal_of (flat 2) wide last_page (Map 0x7ffffffff000 0x1001 0 Small)
     ≡ Some OutOfSpace
-unfolding any_page bad_policy_span bad_unmap_span bad_map_span lacks_policy last_page wide mems_of
+unfolding any_page bad_policy_span bad_unmap_span bad_map_span lacks_policy parts_pages is_inside is_part last_page wide mems_of
     lacks_mems
 map-past_the_end = refl
 
 -- a sum above every u64 is no small number
-map-far_past_the_end : refusal_of (flat 2) wide [] (Map 0xfffffffffffff000 0x2000 0)
+map-far_past_the_end : refusal_of (flat 2) wide [] (Map 0xfffffffffffff000 0x2000 0 Small)
     ≡ Some OutOfSpace
-unfolding any_page bad_policy_span bad_unmap_span bad_map_span lacks_policy wide mems_of lacks_mems
+unfolding any_page bad_policy_span bad_unmap_span bad_map_span lacks_policy parts_pages is_inside is_part wide mems_of lacks_mems
 map-far_past_the_end = refl
 
-map-of_the_greatest_length : refusal_of (flat 2) wide [] (Map 0x10000 0xffffffffffffffff 0)
+map-of_the_greatest_length : refusal_of (flat 2) wide [] (Map 0x10000 0xffffffffffffffff 0 Small)
     ≡ Some OutOfSpace
-unfolding any_page bad_policy_span bad_unmap_span bad_map_span lacks_policy wide mems_of lacks_mems
+unfolding any_page bad_policy_span bad_unmap_span bad_map_span lacks_policy parts_pages is_inside is_part wide mems_of lacks_mems
 map-of_the_greatest_length = refl
 
-map-of_nothing : refusal_of (flat 2) wide last_page (Map 0x10000 0 0) ≡ Some EmptyLength
-unfolding any_page bad_policy_span bad_unmap_span bad_map_span lacks_policy last_page wide mems_of
+map-of_nothing : refusal_of (flat 2) wide last_page (Map 0x10000 0 0 Small) ≡ Some EmptyLength
+unfolding any_page bad_policy_span bad_unmap_span bad_map_span lacks_policy parts_pages is_inside is_part last_page wide mems_of
     lacks_mems
 map-of_nothing = refl
 
 bind-of_nothing : refusal_of (flat 2) wide last_page (Mbind 0x20000 0 (asked Bind Plain (1 ∷ [])))
     ≡ None
-unfolding any_page bad_policy_span bad_unmap_span bad_map_span lacks_policy last_page wide mems_of
+unfolding any_page bad_policy_span bad_unmap_span bad_map_span lacks_policy parts_pages is_inside is_part last_page wide mems_of
     lacks_mems
 bind-of_nothing = refl
 
 unmap-of_nothing : refusal_of (flat 2) wide last_page (Unmap 0x20000 0) ≡ None
-unfolding any_page bad_policy_span bad_unmap_span bad_map_span lacks_policy last_page wide mems_of
+unfolding any_page bad_policy_span bad_unmap_span bad_map_span lacks_policy parts_pages is_inside is_part last_page wide mems_of
     lacks_mems
 unmap-of_nothing = refl
 
-map-between_pages : refusal_of (flat 2) wide last_page (Map 0x10001 1 0) ≡ Some Unaligned
-unfolding any_page bad_policy_span bad_unmap_span bad_map_span lacks_policy last_page wide mems_of
+map-between_pages : refusal_of (flat 2) wide last_page (Map 0x10001 1 0 Small) ≡ Some Unaligned
+unfolding any_page bad_policy_span bad_unmap_span bad_map_span lacks_policy parts_pages is_inside is_part last_page wide mems_of
     lacks_mems
 map-between_pages = refl
 
-map-offset_too_large : refusal_of (flat 2) wide last_page (Map 0x30000 1 34359738368)
+map-offset_too_large : refusal_of (flat 2) wide last_page (Map 0x30000 1 34359738368 Small)
     ≡ Some BadOffset
-unfolding any_page bad_policy_span bad_unmap_span bad_map_span lacks_policy last_page wide mems_of
+unfolding any_page bad_policy_span bad_unmap_span bad_map_span lacks_policy parts_pages is_inside is_part last_page wide mems_of
     lacks_mems
 map-offset_too_large = refl
 
-map-over_a_map : refusal_of (flat 2) wide (Map 0x10000 1 0 ∷ last_page) (Map 0x10000 0x2000 5)
+map-over_a_map : refusal_of (flat 2) wide (Map 0x10000 1 0 Small ∷ last_page) (Map 0x10000 0x2000 5 Small)
     ≡ Some Overlap
-unfolding any_page bad_policy_span bad_unmap_span bad_map_span lacks_policy last_page wide mems_of
+unfolding any_page bad_policy_span bad_unmap_span bad_map_span lacks_policy parts_pages is_inside is_part last_page wide mems_of
     lacks_mems
 map-over_a_map = refl
 
-part_of_a_page-is_mapped : node_list (flat 2) (Map 0x10000 1 0 ∷ last_page) 1 0x10 0 ≡ 0 ∷ 1 ∷ []
+part_of_a_page-is_mapped : node_list (flat 2) (Map 0x10000 1 0 Small ∷ last_page) 1 0x10 0 ≡ 0 ∷ 1 ∷ []
 unfolding members fallback_order last_page mems_of lacks_mems
 part_of_a_page-is_mapped = refl
 
@@ -137,7 +140,7 @@ narrow = record { max_ranges = 2; max_tasks = 1; max_commands = 4 }
 
 limited_run : List Command
 limited_run = SetTask 1 (asked Local Plain []) ∷ Mbind 0x10000 0x1000 (asked Bind Plain (1 ∷ []))
-    ∷ Map 0x10000 0x3000 0 ∷ []
+    ∷ Map 0x10000 0x3000 0 Small ∷ []
 
 second_task-too_many : refusal_of (flat 2) narrow limited_run (SetTask 2 (asked Local Plain []))
     ≡ Some TooManyTasks
@@ -165,7 +168,7 @@ gap_machine : Hardware
 gap_machine = record (flat 3) { memory = set_of (0 ∷ 2 ∷ []) }
 
 one_page : List Command
-one_page = Map 0x10000 0x1000 0 ∷ []
+one_page = Map 0x10000 0x1000 0 Small ∷ []
 
 no_such-faulting_node : place_refusal_of gap_machine one_page 0x10 3 ≡ Some BadCpu
 unfolding gap_machine one_page mems_of lacks_mems
@@ -213,39 +216,39 @@ weight-no_such_node = refl
 
 bound_run : List Command
 bound_run = Mbind 0x12000 0x1000 (asked Interleave Plain (0 ∷ 1 ∷ 2 ∷ []))
-    ∷ Mbind 0x10000 0x2000 (asked Bind Plain (0 ∷ 1 ∷ [])) ∷ Map 0x10000 0x4000 0 ∷ []
+    ∷ Mbind 0x10000 0x2000 (asked Bind Plain (0 ∷ 1 ∷ [])) ∷ Map 0x10000 0x4000 0 Small ∷ []
 
 home-over_interleave : refusal_of in_a_row wide bound_run (SetHome 0x10000 0x3000 2)
     ≡ Some NotSupported
-unfolding any_page bad_policy_span bad_unmap_span bad_map_span lacks_policy bound_run wide mems_of
+unfolding any_page bad_policy_span bad_unmap_span bad_map_span lacks_policy parts_pages is_inside is_part bound_run wide mems_of
     lacks_mems
 home-over_interleave = refl
 
 home-no_such_node : refusal_of in_a_row wide bound_run (SetHome 0x10000 0x1000 3) ≡ Some NoSuchNode
-unfolding any_page bad_policy_span bad_unmap_span bad_map_span lacks_policy bound_run wide mems_of
+unfolding any_page bad_policy_span bad_unmap_span bad_map_span lacks_policy parts_pages is_inside is_part bound_run wide mems_of
     lacks_mems
 home-no_such_node = refl
 
 home-of_bound_pages : refusal_of in_a_row wide bound_run (SetHome 0x11000 0x1000 2)
     ≡ too_many_ranges (scene_of in_a_row wide bound_run (SetHome 0x11000 0x1000 2))
-unfolding any_page bad_policy_span bad_unmap_span bad_map_span lacks_policy bound_run wide mems_of
+unfolding any_page bad_policy_span bad_unmap_span bad_map_span lacks_policy parts_pages is_inside is_part bound_run wide mems_of
     lacks_mems
 home-of_bound_pages = refl
 
 home-over_unmapped_pages : refusal_of in_a_row wide bound_run (SetHome 0x13000 0x2000 2)
     ≡ too_many_ranges (scene_of in_a_row wide bound_run (SetHome 0x13000 0x2000 2))
-unfolding any_page bad_policy_span bad_unmap_span bad_map_span lacks_policy bound_run wide mems_of
+unfolding any_page bad_policy_span bad_unmap_span bad_map_span lacks_policy parts_pages is_inside is_part bound_run wide mems_of
     lacks_mems
 home-over_unmapped_pages = refl
 
 home-of_nothing : refusal_of in_a_row wide bound_run (SetHome 0x20000 0 2) ≡ None
-unfolding any_page bad_policy_span bad_unmap_span bad_map_span lacks_policy bound_run wide mems_of
+unfolding any_page bad_policy_span bad_unmap_span bad_map_span lacks_policy parts_pages is_inside is_part bound_run wide mems_of
     lacks_mems
 home-of_nothing = refl
 
 home-of_nothing_at_no_such_node : refusal_of in_a_row wide bound_run (SetHome 0x20000 0 3)
     ≡ Some NoSuchNode
-unfolding any_page bad_policy_span bad_unmap_span bad_map_span lacks_policy bound_run wide mems_of
+unfolding any_page bad_policy_span bad_unmap_span bad_map_span lacks_policy parts_pages is_inside is_part bound_run wide mems_of
     lacks_mems
 home-of_nothing_at_no_such_node = refl
 
@@ -308,7 +311,7 @@ linux-nodes_before_holes : refusal_of linux wide two_maps
 unfolding members any_page bad_policy_span bad_unmap_span two_maps wide linux mems_of lacks_mems
 linux-nodes_before_holes = refl
 
-linux-map_of_the_last_page : refusal_of linux wide [] (Map 0x7ffffffff000 0x1000 0)
+linux-map_of_the_last_page : refusal_of linux wide [] (Map 0x7ffffffff000 0x1000 0 Small)
     ≡ Some OutOfSpace
 unfolding any_page bad_policy_span bad_unmap_span bad_map_span wide linux mems_of lacks_mems
 linux-map_of_the_last_page = refl
@@ -323,18 +326,18 @@ linux-weight_zero = refl
 
 linux-home_without_policy : refusal_of linux wide one_page (SetHome 0x10000 0x1000 1)
     ≡ Some NoPolicy
-unfolding any_page bad_policy_span bad_unmap_span lacks_policy one_page wide linux mems_of
+unfolding any_page bad_policy_span bad_unmap_span lacks_policy parts_pages is_inside is_part one_page wide linux mems_of
     lacks_mems
 linux-home_without_policy = refl
 
 -- ---- at the end of the addresses
 
-linux-map_of_nothing_there : refusal_of linux wide [] (Map 0x7ffffffff000 0 0) ≡ Some EmptyLength
+linux-map_of_nothing_there : refusal_of linux wide [] (Map 0x7ffffffff000 0 0 Small) ≡ Some EmptyLength
 unfolding any_page bad_map_span wide linux mems_of lacks_mems
 linux-map_of_nothing_there = refl
 
 -- the end before the start, which is no page's
-linux-map_between_pages_there : refusal_of linux wide [] (Map 0x7fffffffe001 1 0) ≡ Some OutOfSpace
+linux-map_between_pages_there : refusal_of linux wide [] (Map 0x7fffffffe001 1 0 Small) ≡ Some OutOfSpace
 unfolding any_page bad_map_span wide linux mems_of lacks_mems
 linux-map_between_pages_there = refl
 
@@ -374,12 +377,12 @@ bind-past_the_end = refl
 
 linux-home_past_the_end : refusal_of linux wide one_page (SetHome 0x800000000000 0x1000 1)
     ≡ Some NoPolicy
-unfolding any_page bad_policy_span lacks_policy one_page wide linux mems_of lacks_mems
+unfolding any_page bad_policy_span lacks_policy parts_pages is_inside is_part one_page wide linux mems_of lacks_mems
 linux-home_past_the_end = refl
 
 linux-home_of_nothing_past_the_end : refusal_of linux wide one_page (SetHome 0x800000000000 0 1)
     ≡ None
-unfolding any_page bad_policy_span lacks_policy one_page wide linux mems_of lacks_mems
+unfolding any_page bad_policy_span lacks_policy parts_pages is_inside is_part one_page wide linux mems_of lacks_mems
 linux-home_of_nothing_past_the_end = refl
 
 -- ---- no nodes

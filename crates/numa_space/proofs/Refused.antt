@@ -5,6 +5,9 @@ use Rattle.std.specs.Prelude.{if◌then◌else◌}
 use Rattle.numa_machine.specs.Machine.{Hardware}
 use Rattle.numa_machine.specs.declared.rules.Rules.{Rules}
 use Rattle.numa_machine.specs.declared.rules.Rules.TheVariants.{Document, Linux}
+use Rattle.numa_machine.specs.Sizes.{whole}
+use Rattle.numa_machine.specs.declared.page_size.PageSize.{PageSize}
+use Rattle.numa_machine.specs.declared.page_size.PageSize.TheVariants.{Small, Huge}
 use Rattle.numa_mode.specs.Policy.{PolicyRecord}
 use Rattle.numa_ranges.specs.Runs.{page_at}
 use Rattle.numa_space.specs.Limited.{Bounds}
@@ -12,6 +15,7 @@ use Rattle.numa_space.specs.Policies.{allowed_nodes, task_record}
 use Rattle.numa_space.specs.Pages.{is_mapped, index_of, range_record, page_in}
 use Rattle.numa_space.specs.Refusals.{Scene, first_of, when, bad_span, bad_map_span, bind_cause}
 use Rattle.numa_space.specs.Refusals.{bad_policy_span, bad_unmap_span, mems_cause}
+use Rattle.numa_space.specs.Refusals.{unaligned_offset}
 use Rattle.numa_space.specs.Refusals.{too_many_ranges, cause_in, refusal_in, scene_of, refusal_of}
 use Rattle.numa_space.specs.Standing.{SpaceState, StandsFor, record_of}
 use Rattle.numa_space.specs.Steps.{pages_next, scene_in}
@@ -129,16 +133,17 @@ choice-not_memory : (b : Bool) (a other : Option Refusal) → (a ≡ Some NoMemo
 choice-not_memory true a other h k e = h e
 choice-not_memory false a other h k e = k e
 
-bad_span-not_memory : (start bytes : ℕ) → bad_span start bytes ≡ Some NoMemory → ⊥
-bad_span-not_memory start bytes = first_of-not_memory _ _ (when-not_memory _ Unaligned (λ e. cc))
+bad_span-not_memory : (size : PageSize) (start bytes : ℕ)
+    → bad_span size start bytes ≡ Some NoMemory → ⊥
+bad_span-not_memory size start bytes = first_of-not_memory _ _ (when-not_memory _ Unaligned (λ e. cc))
     (when-not_memory _ OutOfSpace (λ e. cc))
 
-bad_map_span-not_memory : (rules : Rules) (start bytes : ℕ) → bad_map_span rules start bytes
-    ≡ Some NoMemory → ⊥
+bad_map_span-not_memory : (rules : Rules) (size : PageSize) (start bytes : ℕ)
+    → bad_map_span rules size start bytes ≡ Some NoMemory → ⊥
 unfolding bad_map_span
-bad_map_span-not_memory Document start bytes = first_of-not_memory (bad_span start bytes) _
-    (bad_span-not_memory start bytes) (when-not_memory _ EmptyLength (λ e. cc))
-bad_map_span-not_memory Linux start bytes =
+bad_map_span-not_memory Document size start bytes = first_of-not_memory (bad_span size start bytes) _
+    (bad_span-not_memory size start bytes) (when-not_memory _ EmptyLength (λ e. cc))
+bad_map_span-not_memory Linux size start bytes =
     first_of-not_memory _ _ (when-not_memory _ EmptyLength (λ e. cc))
     (first_of-not_memory _ _ (when-not_memory _ OutOfSpace (λ e. cc))
     (when-not_memory _ Unaligned (λ e. cc)))
@@ -146,7 +151,7 @@ bad_map_span-not_memory Linux start bytes =
 pub bad_unmap_span-not_memory : (rules : Rules) (start bytes : ℕ) → bad_unmap_span rules start bytes
     ≡ Some NoMemory → ⊥
 unfolding bad_unmap_span
-bad_unmap_span-not_memory Document start bytes = bad_span-not_memory start bytes
+bad_unmap_span-not_memory Document start bytes = bad_span-not_memory Small start bytes
 bad_unmap_span-not_memory Linux start bytes =
     first_of-not_memory _ _ (when-not_memory _ Unaligned (λ e. cc))
     (first_of-not_memory _ _ (when-not_memory _ BadSpan (λ e. cc))
@@ -155,7 +160,7 @@ bad_unmap_span-not_memory Linux start bytes =
 pub bad_policy_span-not_memory : (rules : Rules) (start bytes : ℕ)
     → bad_policy_span rules start bytes ≡ Some NoMemory → ⊥
 unfolding bad_policy_span
-bad_policy_span-not_memory Document start bytes = bad_span-not_memory start bytes
+bad_policy_span-not_memory Document start bytes = bad_span-not_memory Small start bytes
 bad_policy_span-not_memory Linux start bytes =
     first_of-not_memory _ _ (when-not_memory _ Unaligned (λ e. cc))
     (when-not_memory _ BadSpan (λ e. cc))
@@ -175,23 +180,36 @@ bind_cause-not_memory Document nodes hole others n h o =
 bind_cause-not_memory Linux nodes hole others n h o =
     first_of-not_memory nodes _ n (first_of-not_memory hole _ h o)
 
+unaligned_offset-not_memory : (size : PageSize) (offset : ℕ)
+    → unaligned_offset size offset ≡ Some NoMemory → ⊥
+unaligned_offset-not_memory Small offset e = cc
+unaligned_offset-not_memory Huge offset e = when-not_memory _ Unaligned (λ e. cc) e
+
+-- no page is parted, or else too many ranges
+parts-not_memory : (scene : Scene) (parts : Bool)
+    → first_of (when parts Unaligned) (too_many_ranges scene) ≡ Some NoMemory → ⊥
+parts-not_memory scene parts = first_of-not_memory _ _ (when-not_memory parts Unaligned (λ e. cc))
+    (too_many-not_memory scene)
+
 cause-not_memory : (scene : Scene) (command : Command) → cause_in scene command ≡ Some NoMemory → ⊥
-cause-not_memory scene (Map start bytes offset) =
-    first_of-not_memory (bad_map_span scene.machine.rules start bytes) _
-    (bad_map_span-not_memory scene.machine.rules start bytes)
+cause-not_memory scene (Map start bytes offset size) =
+    first_of-not_memory (bad_map_span scene.machine.rules size start (whole size bytes)) _
+    (bad_map_span-not_memory scene.machine.rules size start (whole size bytes))
     (first_of-not_memory _ _ (when-not_memory _ BadOffset (λ e. cc))
-    (first_of-not_memory _ _ (when-not_memory _ Overlap (λ e. cc)) (too_many-not_memory scene)))
+    (first_of-not_memory _ _ (when-not_memory _ Overlap (λ e. cc))
+    (first_of-not_memory (unaligned_offset size offset) _
+    (unaligned_offset-not_memory size offset) (too_many-not_memory scene))))
 cause-not_memory scene (Unmap start bytes) =
     first_of-not_memory (bad_unmap_span scene.machine.rules start bytes) _
     (bad_unmap_span-not_memory scene.machine.rules start bytes)
-    (choice-not_memory _ None _ (λ e. cc) (too_many-not_memory scene))
+    (choice-not_memory _ None _ (λ e. cc) (parts-not_memory scene _))
 cause-not_memory scene (Mbind start bytes spec) =
     first_of-not_memory (bad_policy_span scene.machine.rules start bytes) _
     (bad_policy_span-not_memory scene.machine.rules start bytes)
     (choice-not_memory _ None _ (λ e. cc)
     (bind_cause-not_memory scene.machine.rules _ _ _
     (when-not_memory _ NodesNotAllowed (λ e. cc)) (when-not_memory _ Hole (λ e. cc))
-    (too_many-not_memory scene)))
+    (parts-not_memory scene _)))
 cause-not_memory scene (SetTask task spec) =
     first_of-not_memory _ _ (when-not_memory _ NodesNotAllowed (λ e. cc))
     (when-not_memory _ TooManyTasks (λ e. cc))
@@ -203,7 +221,7 @@ cause-not_memory scene (SetHome start bytes node) =
     (choice-not_memory _ None _ (λ e. cc)
     (first_of-not_memory _ _ (when-not_memory _ NotSupported (λ e. cc))
     (first_of-not_memory _ _ (when-not_memory _ NoPolicy (λ e. cc))
-    (too_many-not_memory scene)))))
+    (parts-not_memory scene _)))))
 cause-not_memory scene (SetWeight node weight) =
     first_of-not_memory _ _ (when-not_memory _ NoSuchNode (λ e. cc))
     (when-not_memory _ BadWeight (λ e. cc))

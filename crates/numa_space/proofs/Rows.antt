@@ -6,7 +6,9 @@ use Rattle.numa_mask.specs.NodeSet.{set_of, members}
 use Rattle.numa_machine.specs.declared.fallback.Fallback.TheVariants.{Nearest, Kernel}
 use Rattle.numa_machine.specs.declared.rules.Rules.TheVariants.{Document, Linux}
 use Rattle.numa_machine.specs.Machine.{Hardware, fallback_order, loads_before}
+use Rattle.numa_machine.specs.Sizes.{is_part, turn_at}
 use Rattle.numa_machine.specs.Weights.{interleave_node, weighted_node, total_weight}
+use Rattle.numa_machine.specs.declared.page_size.PageSize.TheVariants.{Small}
 use Rattle.numa_mode.specs.Policy.{Specification}
 use Rattle.numa_mode.specs.declared.modes.Mode.{Mode}
 use Rattle.numa_mode.specs.declared.modes.Mode.TheVariants.{Default, Preferred, Bind, Interleave}
@@ -64,7 +66,7 @@ firsts machine history task first pages =
 -- ---- a bound page and one without a policy
 
 first_run : List Command
-first_run = Mbind 0x10000 0x1000 (asked Bind Plain (1 ∷ [])) ∷ Map 0x10000 0x2000 0 ∷ []
+first_run = Mbind 0x10000 0x1000 (asked Bind Plain (1 ∷ [])) ∷ Map 0x10000 0x2000 0 Small ∷ []
 
 bound-page : node_list (flat 2) first_run 1 0x10 0 ≡ 1 ∷ []
 unfolding members fallback_order first_run mems_of
@@ -82,34 +84,34 @@ interleaved_run =
     ∷ SetTask 2 (asked Interleave Static (1 ∷ 2 ∷ 3 ∷ []))
     ∷ SetTask 1 (asked Interleave Plain (1 ∷ 2 ∷ 3 ∷ []))
     ∷ mems (1 ∷ 2 ∷ 3 ∷ [])
-    ∷ Map 0x10000 0x6000 0
+    ∷ Map 0x10000 0x6000 0 Small
     ∷ []
 
 plain-set_moves : firsts (flat 6) interleaved_run 1 0x10 6 ≡ 3 ∷ 4 ∷ 5 ∷ 3 ∷ 4 ∷ 5 ∷ []
-unfolding members fallback_order interleave_node firsts interleaved_run mems_of
+unfolding members fallback_order interleave_node turn_at is_part firsts interleaved_run mems_of
 plain-set_moves = refl
 
 static-set_stays : firsts (flat 6) interleaved_run 2 0x10 6 ≡ 3 ∷ 3 ∷ 3 ∷ 3 ∷ 3 ∷ 3 ∷ []
-unfolding members fallback_order interleave_node firsts interleaved_run mems_of
+unfolding members fallback_order interleave_node turn_at is_part firsts interleaved_run mems_of
 static-set_stays = refl
 
 relative_run : List Command
 relative_run = SetTask 1 (asked Interleave Relative (2 ∷ 3 ∷ 4 ∷ 5 ∷ []))
-    ∷ mems (2 ∷ 3 ∷ 4 ∷ 5 ∷ []) ∷ Map 0x10000 0x4000 0 ∷ []
+    ∷ mems (2 ∷ 3 ∷ 4 ∷ 5 ∷ []) ∷ Map 0x10000 0x4000 0 Small ∷ []
 
 relative-as_set : firsts (flat 8) relative_run 1 0x10 4 ≡ 2 ∷ 3 ∷ 4 ∷ 5 ∷ []
-unfolding members fallback_order interleave_node firsts relative_run mems_of
+unfolding members fallback_order interleave_node turn_at is_part firsts relative_run mems_of
 relative-as_set = refl
 
 relative-more_nodes : firsts (flat 8) (mems (3 ∷ 4 ∷ 5 ∷ 6 ∷ 7 ∷ []) ∷ relative_run) 1 0x10 4 ≡ 3
     ∷ 5 ∷ 6 ∷ 7 ∷ []
-unfolding members fallback_order interleave_node firsts relative_run mems_of
+unfolding members fallback_order interleave_node turn_at is_part firsts relative_run mems_of
 relative-more_nodes = refl
 
 relative-scattered_nodes :
     firsts (flat 8) (mems (0 ∷ 2 ∷ 3 ∷ 5 ∷ []) ∷ mems (3 ∷ 4 ∷ 5 ∷ 6 ∷ 7 ∷ []) ∷ relative_run) 1
     0x10 4 ≡ 0 ∷ 2 ∷ 3 ∷ 5 ∷ []
-unfolding members fallback_order interleave_node firsts relative_run mems_of
+unfolding members fallback_order interleave_node turn_at is_part firsts relative_run mems_of
 relative-scattered_nodes = refl
 
 -- a mask's numbers wrap where they pass the last place: 5 is place 1 of four nodes
@@ -117,31 +119,31 @@ wrapped_machine : Hardware
 wrapped_machine = record (flat 5) { memory = set_of (1 ∷ 2 ∷ 3 ∷ 4 ∷ []) }
 
 relative-mask_wraps : node_list wrapped_machine (SetTask 1 (asked Bind Relative (5 ∷ []))
-    ∷ Map 0x10000 0x1000 0 ∷ []) 1 0x10 0 ≡ 2 ∷ []
+    ∷ Map 0x10000 0x1000 0 Small ∷ []) 1 0x10 0 ≡ 2 ∷ []
 unfolding members fallback_order wrapped_machine mems_of
 relative-mask_wraps = refl
 
 plain_run : List Command
 plain_run = SetTask 1 (asked Interleave Plain (1 ∷ 3 ∷ 5 ∷ [])) ∷ mems (1 ∷ 2 ∷ 3 ∷ 4 ∷ 5 ∷ [])
-    ∷ Map 0x10000 0x3000 0 ∷ []
+    ∷ Map 0x10000 0x3000 0 Small ∷ []
 
 plain-as_set : firsts (flat 10) plain_run 1 0x10 3 ≡ 1 ∷ 3 ∷ 5 ∷ []
-unfolding members fallback_order interleave_node firsts plain_run mems_of
+unfolding members fallback_order interleave_node turn_at is_part firsts plain_run mems_of
 plain-as_set = refl
 
 plain-moved : firsts (flat 10) (mems (7 ∷ 8 ∷ 9 ∷ []) ∷ plain_run) 1 0x10 3 ≡ 7 ∷ 8 ∷ 9 ∷ []
-unfolding members fallback_order interleave_node firsts plain_run mems_of
+unfolding members fallback_order interleave_node turn_at is_part firsts plain_run mems_of
 plain-moved = refl
 
 plain-not_restored : firsts (flat 10) (mems (1 ∷ 2 ∷ 3 ∷ 4 ∷ 5 ∷ []) ∷ mems (7 ∷ 8 ∷ 9 ∷ [])
     ∷ plain_run) 1 0x10 3 ≡ 1 ∷ 2 ∷ 3 ∷ []
-unfolding members fallback_order interleave_node firsts plain_run mems_of
+unfolding members fallback_order interleave_node turn_at is_part firsts plain_run mems_of
 plain-not_restored = refl
 
 -- so does a plain BIND
 plain_bind_run : List Command
 plain_bind_run = mems (7 ∷ 8 ∷ 9 ∷ []) ∷ SetTask 1 (asked Bind Plain (1 ∷ 3 ∷ 5 ∷ []))
-    ∷ mems (1 ∷ 2 ∷ 3 ∷ 4 ∷ 5 ∷ []) ∷ Map 0x10000 0x1000 0 ∷ []
+    ∷ mems (1 ∷ 2 ∷ 3 ∷ 4 ∷ 5 ∷ []) ∷ Map 0x10000 0x1000 0 Small ∷ []
 
 plain_bind-moved : node_list (flat 10) plain_bind_run 1 0x10 0 ≡ 7 ∷ 8 ∷ 9 ∷ []
 unfolding members fallback_order plain_bind_run mems_of
@@ -186,7 +188,7 @@ relative-many_nodes = refl
 -- a static policy that overlaps no allowed node makes way for the task's
 static_run : List Command
 static_run = Mbind 0x10000 0x1000 (asked Bind Static (1 ∷ []))
-    ∷ SetTask 1 (asked Preferred Plain (3 ∷ [])) ∷ Map 0x10000 0x1000 0 ∷ []
+    ∷ SetTask 1 (asked Preferred Plain (3 ∷ [])) ∷ Map 0x10000 0x1000 0 Small ∷ []
 
 static-overlaps : node_list (flat 4) static_run 1 0x10 0 ≡ 1 ∷ []
 unfolding members fallback_order static_run mems_of
@@ -204,7 +206,7 @@ static-restored = refl
 -- a task's plain set follows each change, and is not restored
 task_run : List Command
 task_run = mems (2 ∷ 3 ∷ []) ∷ Mbind 0x10000 0x1000 (asked Bind Static (1 ∷ []))
-    ∷ SetTask 1 (asked Bind Plain (2 ∷ [])) ∷ Map 0x10000 0x1000 0 ∷ []
+    ∷ SetTask 1 (asked Bind Plain (2 ∷ [])) ∷ Map 0x10000 0x1000 0 Small ∷ []
 
 task_run_after : List Command
 task_run_after = mems (0 ∷ 1 ∷ 2 ∷ 3 ∷ []) ∷ task_run
@@ -225,49 +227,49 @@ task-not_restored = refl
 -- ---- weights
 
 weighted_run : List Command
-weighted_run = SetTask 1 (asked WeightedInterleave Plain (0 ∷ 1 ∷ [])) ∷ Map 0x10000 0x6000 3
+weighted_run = SetTask 1 (asked WeightedInterleave Plain (0 ∷ 1 ∷ [])) ∷ Map 0x10000 0x6000 3 Small
     ∷ SetWeight 1 2 ∷ SetWeight 0 5 ∷ []
 
 weighted-blocks : firsts (flat 2) weighted_run 1 0x10 6 ≡ 0 ∷ 0 ∷ 1 ∷ 1 ∷ 0 ∷ 0 ∷ []
-unfolding members fallback_order weighted_node total_weight firsts weighted_run mems_of
+unfolding members fallback_order weighted_node turn_at is_part total_weight firsts weighted_run mems_of
 weighted-blocks = refl
 
 weighted-list : node_list (flat 2) weighted_run 1 0x12 0 ≡ 1 ∷ 0 ∷ []
-unfolding members fallback_order weighted_node total_weight weighted_run mems_of
+unfolding members fallback_order weighted_node turn_at is_part total_weight weighted_run mems_of
 weighted-list = refl
 
 preferred_many-list : node_list (flat 2) (SetTask 2 (asked PreferredMany Plain (1 ∷ []))
     ∷ weighted_run) 2 0x10 0 ≡ 1 ∷ 0 ∷ []
-unfolding members fallback_order weighted_node total_weight weighted_run mems_of
+unfolding members fallback_order weighted_node turn_at is_part total_weight weighted_run mems_of
 preferred_many-list = refl
 
 -- ---- a policy in the middle of a range, and its removal
 
 split_run : List Command
 split_run = Mbind 0x13000 0x3000 (asked Bind Plain (2 ∷ []))
-    ∷ SetTask 1 (asked Interleave Plain (0 ∷ 1 ∷ 2 ∷ 3 ∷ [])) ∷ Map 0x10000 0xa000 0 ∷ []
+    ∷ SetTask 1 (asked Interleave Plain (0 ∷ 1 ∷ 2 ∷ 3 ∷ [])) ∷ Map 0x10000 0xa000 0 Small ∷ []
 
 split-keeps_indexes : firsts (flat 4) split_run 1 0x10 10 ≡ 0 ∷ 1 ∷ 2 ∷ 2 ∷ 2 ∷ 2 ∷ 2 ∷ 3 ∷ 0 ∷ 1
     ∷ []
-unfolding members fallback_order interleave_node firsts split_run mems_of
+unfolding members fallback_order interleave_node turn_at is_part firsts split_run mems_of
 split-keeps_indexes = refl
 
 default-joins_again : firsts (flat 4) (Mbind 0x13000 0x3000 (asked Default Plain []) ∷ split_run) 1
     0x10 10 ≡ 0 ∷ 1 ∷ 2 ∷ 3 ∷ 0 ∷ 1 ∷ 2 ∷ 3 ∷ 0 ∷ 1 ∷ []
-unfolding members fallback_order interleave_node firsts split_run mems_of
+unfolding members fallback_order interleave_node turn_at is_part firsts split_run mems_of
 default-joins_again = refl
 
 -- maps side by side keep their own indexes, and so does what is left of them
 beside_run : List Command
-beside_run = SetTask 1 (asked Interleave Plain (0 ∷ 1 ∷ 2 ∷ 3 ∷ [])) ∷ Map 0x12000 0x1000 7
-    ∷ Map 0x11000 0x1000 6 ∷ Map 0x10000 0x1000 0 ∷ []
+beside_run = SetTask 1 (asked Interleave Plain (0 ∷ 1 ∷ 2 ∷ 3 ∷ [])) ∷ Map 0x12000 0x1000 7 Small
+    ∷ Map 0x11000 0x1000 6 Small ∷ Map 0x10000 0x1000 0 Small ∷ []
 
 beside-own_indexes : firsts (flat 4) beside_run 1 0x10 3 ≡ 0 ∷ 2 ∷ 3 ∷ []
-unfolding members fallback_order interleave_node firsts beside_run mems_of
+unfolding members fallback_order interleave_node turn_at is_part firsts beside_run mems_of
 beside-own_indexes = refl
 
 unmapped-keeps_indexes : firsts (flat 4) (Unmap 0xf000 0x3000 ∷ beside_run) 1 0x12 1 ≡ 3 ∷ []
-unfolding members fallback_order interleave_node firsts beside_run mems_of
+unfolding members fallback_order interleave_node turn_at is_part firsts beside_run mems_of
 unmapped-keeps_indexes = refl
 
 -- ---- nodes without memory
@@ -285,7 +287,7 @@ gap_machine = record {
 }
 
 one_page : List Command
-one_page = Map 0x10000 0x1000 0 ∷ []
+one_page = Map 0x10000 0x1000 0 Small ∷ []
 
 no_memory-from_it : node_list gap_machine one_page 1 0x10 1 ≡ 0 ∷ 2 ∷ []
 unfolding members fallback_order gap_machine one_page mems_of
@@ -306,7 +308,7 @@ local_run =
     Mbind 0x12000 0x1000 (asked Local Plain [])
     ∷ Mbind 0x11000 0x1000 (asked Bind Plain (1 ∷ 2 ∷ []))
     ∷ SetTask 1 (asked Bind Plain (0 ∷ 1 ∷ []))
-    ∷ Map 0x10000 0x3000 0
+    ∷ Map 0x10000 0x3000 0 Small
     ∷ []
 
 task-counts : node_list in_a_row local_run 1 0x10 2 ≡ 1 ∷ 0 ∷ []
@@ -356,7 +358,7 @@ default-twice = refl
 
 bound_run : List Command
 bound_run = Mbind 0x12000 0x1000 (asked Interleave Plain (0 ∷ 1 ∷ 2 ∷ []))
-    ∷ Mbind 0x10000 0x2000 (asked Bind Plain (0 ∷ 1 ∷ [])) ∷ Map 0x10000 0x4000 0 ∷ []
+    ∷ Mbind 0x10000 0x2000 (asked Bind Plain (0 ∷ 1 ∷ [])) ∷ Map 0x10000 0x4000 0 Small ∷ []
 
 home_run : List Command
 home_run = SetHome 0x11000 0x1000 2 ∷ bound_run
@@ -393,13 +395,13 @@ linux = record (flat 4) { rules = Linux }
 
 -- PREFERRED keeps its node, from which the allowed ones are looked for
 preferred-stays : node_list linux (mems (2 ∷ 3 ∷ []) ∷ SetTask 1 (asked Preferred Plain (1 ∷ []))
-    ∷ Map 0x10000 0x1000 0 ∷ []) 1 0x10 0 ≡ 2 ∷ 3 ∷ []
+    ∷ Map 0x10000 0x1000 0 Small ∷ []) 1 0x10 0 ≡ 2 ∷ 3 ∷ []
 unfolding members fallback_order linux mems_of
 preferred-stays = refl
 
 -- so does PREFERRED_MANY: what of its set is allowed comes first
 many-stays : node_list linux (mems (0 ∷ 2 ∷ []) ∷ SetTask 1 (asked PreferredMany Plain (1 ∷ 2 ∷ []))
-    ∷ Map 0x10000 0x1000 0 ∷ []) 1 0x10 0 ≡ 2 ∷ 0 ∷ []
+    ∷ Map 0x10000 0x1000 0 Small ∷ []) 1 0x10 0 ≡ 2 ∷ 0 ∷ []
 unfolding members fallback_order linux mems_of
 many-stays = refl
 
@@ -410,7 +412,7 @@ static-has_all = refl
 
 -- weight 0 puts back 1
 weight-put_back : firsts linux (SetWeight 0 0 ∷ weighted_run) 1 0x10 3 ≡ 0 ∷ 1 ∷ 1 ∷ []
-unfolding members fallback_order weighted_node total_weight firsts weighted_run linux mems_of
+unfolding members fallback_order weighted_node turn_at is_part total_weight firsts weighted_run linux mems_of
 weight-put_back = refl
 
 -- ---- by the orders of a kernel, where all nodes have CPUs
@@ -419,11 +421,11 @@ turning : Hardware
 turning = record (flat 4) { fallback = Kernel 15 }
 
 turning-preferred : node_list turning (SetTask 1 (asked Preferred Plain (2 ∷ []))
-    ∷ Map 0x10000 0x1000 0 ∷ []) 1 0x10 0 ≡ 2 ∷ 3 ∷ 0 ∷ 1 ∷ []
+    ∷ Map 0x10000 0x1000 0 Small ∷ []) 1 0x10 0 ≡ 2 ∷ 3 ∷ 0 ∷ 1 ∷ []
 unfolding members fallback_order loads_before turning mems_of
 turning-preferred = refl
 
 turning-bound : node_list turning (Mbind 0x10000 0x1000 (asked Bind Plain (0 ∷ 1 ∷ 3 ∷ []))
-    ∷ Map 0x10000 0x1000 0 ∷ []) 1 0x10 1 ≡ 1 ∷ 3 ∷ 0 ∷ []
+    ∷ Map 0x10000 0x1000 0 Small ∷ []) 1 0x10 1 ≡ 1 ∷ 3 ∷ 0 ∷ []
 unfolding members fallback_order loads_before turning mems_of
 turning-bound = refl

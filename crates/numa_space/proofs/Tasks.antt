@@ -26,7 +26,7 @@ use Rattle.numa_space.proofs.Places.{effective-mems, effective-other}
 
 pub weight-next : (history : List Command) (command : Command) (node : ℕ)
     → node_weight (command ∷ history) node ≡ weight_next (node_weight history) command node
-weight-next history (Map start bytes offset) node = refl
+weight-next history (Map start bytes offset size) node = refl
 weight-next history (Unmap start bytes) node = refl
 weight-next history (Mbind start bytes spec) node = refl
 weight-next history (SetTask task spec) node = refl
@@ -69,7 +69,7 @@ later-record machine command change (Some place) none h = go place.command refl
   where
     go : (c : Command) → place.command ≡ c → set_by_task machine c (one_later command place)
         ≡ change (set_by_task machine c place)
-    go (Map start bytes offset) e = sym none
+    go (Map start bytes offset size) e = sym none
     go (Unmap start bytes) e = sym none
     go (Mbind start bytes spec) e = sym none
     go (SetTask task spec) e = h place task spec refl e
@@ -134,8 +134,8 @@ set-now machine history command spec =
 pub task-next : (machine : Hardware) (history : List Command) (command : Command) (task : ℕ)
     → task_record machine (command ∷ history) task ≡ task_next machine
     (allowed_nodes machine history) (task_record machine history) command task
-task-next machine history (Map start bytes offset) task =
-    record-other machine history task (Map start bytes offset) refl
+task-next machine history (Map start bytes offset size) task =
+    record-other machine history task (Map start bytes offset size) refl
 task-next machine history (Unmap start bytes) task =
     record-other machine history task (Unmap start bytes) refl
 task-next machine history (Mbind start bytes spec) task =
@@ -229,8 +229,8 @@ among false task (x ∷ xs) h = elim (cases_Bool (eqb x task)) [
 pub tasks-once : (machine : Hardware) (history : List Command) (task : ℕ)
     → times task (tasks_of history) ≡ one_if_some (task_record machine history task)
 tasks-once machine [] task = refl
-tasks-once machine (Map start bytes offset ∷ history) task = tasks-once machine history task
-    ∙ ap one_if_some (sym (task-next machine history (Map start bytes offset) task))
+tasks-once machine (Map start bytes offset size ∷ history) task = tasks-once machine history task
+    ∙ ap one_if_some (sym (task-next machine history (Map start bytes offset size) task))
 tasks-once machine (Unmap start bytes ∷ history) task = tasks-once machine history task
     ∙ ap one_if_some (sym (task-next machine history (Unmap start bytes) task))
 tasks-once machine (Mbind start bytes spec ∷ history) task = tasks-once machine history task
@@ -290,7 +290,7 @@ tasks-once machine (SetMems mask ∷ history) task = tasks-once machine history 
 pub task_count-next : (machine : Hardware) (history : List Command) (command : Command)
     → length (tasks_of (command ∷ history)) ≡ task_count_next (task_record machine history)
     (length (tasks_of history)) command
-task_count-next machine history (Map start bytes offset) = refl
+task_count-next machine history (Map start bytes offset size) = refl
 task_count-next machine history (Unmap start bytes) = refl
 task_count-next machine history (Mbind start bytes spec) = refl
 task_count-next machine history (SetTask task spec) =

@@ -1,5 +1,7 @@
 -- What an accepted command is told to have changed.
 use Rattle.std.proofs.Common.{◌≡◌, ℕ, ◌+◌, ◌==◌, Bool, false, cond, Option, sym, ap, ◌∙◌}
+use Rattle.numa_machine.specs.Sizes.{whole}
+use Rattle.numa_machine.specs.declared.page_size.PageSize.{PageSize}
 use Rattle.numa_mode.specs.Policy.{PolicyRecord, Specification}
 use Rattle.numa_space.specs.Changed.{IsChange, pages_at}
 use Rattle.numa_space.specs.declared.change.Change.{Change}
@@ -21,8 +23,12 @@ module _ (old : SpaceState) (start bytes first count : ℕ) (pages : ChangedPage
     place = pages.place;
   }
 
-  pub told-map : (offset : ℕ) → IsChange old (Map start bytes offset) (Mapped pages)
-  told-map offset = (pages.place, ap Mapped same)
+  pub told-map : (extent offset : ℕ) (size : PageSize) → bytes ≡ whole size extent
+      → IsChange old (Map start extent offset size) (Mapped pages)
+  told-map extent offset size is = (
+    pages.place,
+    ap Mapped (same ∙ ap (pages_at pages.place start) is),
+  )
 
   module _ (some : (bytes == 0) ≡ false) where
     unless : (told : Change) → told ≡ cond (bytes == 0) Nothing told

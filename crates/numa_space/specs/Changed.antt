@@ -8,6 +8,7 @@ use Rattle.numa_requests.specs.declared.command.Command.{Command}
 use Rattle.numa_requests.specs.declared.command.Command.TheVariants.{Map, Unmap, Mbind, SetTask}
 use Rattle.numa_requests.specs.declared.command.Command.TheVariants.{Inherit}
 use Rattle.numa_requests.specs.declared.command.Command.TheVariants.{SetHome, SetWeight, SetMems}
+use Rattle.numa_machine.specs.Sizes.{whole}
 use Rattle.numa_space.specs.History.{page_of, page_count}
 use Rattle.numa_space.specs.Policies.{mems_of, weight_given}
 use Rattle.numa_space.specs.Standing.{SpaceState, record_of}
@@ -23,7 +24,8 @@ pages_at place start bytes = record {
 
 -- the change, with this guess: a span without bytes has no page, and changes nothing
 abbrev pub change_at : ℕ → SpaceState → Command → Change
-change_at place old (Map start bytes offset) = Mapped (pages_at place start bytes)
+change_at place old (Map start bytes offset size) =
+    Mapped (pages_at place start (whole size bytes))
 change_at place old (Unmap start bytes) =
     if bytes == 0 then Nothing else Unmapped (pages_at place start bytes)
 change_at place old (Mbind start bytes spec) =

@@ -4,6 +4,7 @@ use Rattle.std.specs.Prelude.{ℕ, ◌&&◌, not, Option, Some, None, List, ◌+
 use Rattle.std.specs.Prelude.{unwrap_or}
 use Rattle.numa_mask.specs.NodeSet.{has, members, both}
 use Rattle.numa_machine.specs.Machine.{Hardware, fallback_order}
+use Rattle.numa_machine.specs.Sizes.{turn_at}
 use Rattle.numa_machine.specs.Weights.{interleave_node, weighted_node}
 use Rattle.numa_mode.specs.Policy.{PolicyRecord}
 use Rattle.numa_mode.specs.declared.modes.Mode.{Mode}
@@ -36,25 +37,25 @@ before_others setting set from =
     ++ filter (λ node. has setting.allowed node && not (has set node))
     (fallback_order setting.machine from)
 
--- the list of a policy with this effective set, for a fault on the node `from`, at a page of this
--- index
+-- the list of a policy with this effective set, for a fault on the node `from`, at a page that has
+-- this turn
 abbrev pub list_by_mode : Setting → Mode → ℕ → ℕ → ℕ → List ℕ
-list_by_mode setting Default set from index = near setting from
-list_by_mode setting Local set from index = near setting from
-list_by_mode setting Preferred set from index = near setting (slice_index (members set) 0)
-list_by_mode setting Bind set from index = within set (fallback_order setting.machine from)
-list_by_mode setting PreferredMany set from index =
+list_by_mode setting Default set from turn = near setting from
+list_by_mode setting Local set from turn = near setting from
+list_by_mode setting Preferred set from turn = near setting (slice_index (members set) 0)
+list_by_mode setting Bind set from turn = within set (fallback_order setting.machine from)
+list_by_mode setting PreferredMany set from turn =
     before_others setting (both set setting.allowed) from
-list_by_mode setting Interleave set from index = near setting (interleave_node set index)
-list_by_mode setting WeightedInterleave set from index =
-    near setting (weighted_node setting.weight set index)
+list_by_mode setting Interleave set from turn = near setting (interleave_node set turn)
+list_by_mode setting WeightedInterleave set from turn =
+    near setting (weighted_node setting.weight set turn)
 
 -- the list of a policy: its home, if it has one, replaces the faulting node; without a policy it is
--- local
+-- local. A page takes the turn of its index
 abbrev pub list_for : Setting → Option PolicyRecord → ℕ → ℕ → List ℕ
 list_for setting None cpu index = near setting cpu
 list_for setting (Some r) cpu index = list_by_mode setting r.spec.mode r.effective
-    (unwrap_or r.home cpu) index
+    (unwrap_or r.home cpu) (turn_at index)
 
 abbrev pub setting_of : Hardware → List Command → Setting
 setting_of machine history = record {

@@ -4,6 +4,7 @@ use Rattle.std.specs.Prelude.{ℕ, ◌+◌, ◌-◌, Bool, true, false, not, Opt
 use Rattle.std.specs.Prelude.{◌∷◌, option_and_then, if◌then◌else◌}
 use Rattle.std.specs.Option.{option_map, option_map_or}
 use Rattle.numa_machine.specs.Machine.{Hardware}
+use Rattle.numa_machine.specs.Sizes.{index_in, whole}
 use Rattle.numa_mode.specs.Policy.{PolicyRecord, takes_home}
 use Rattle.numa_requests.specs.declared.command.Command.{Command}
 use Rattle.numa_requests.specs.declared.command.Command.TheVariants.{Map, Unmap, Mbind, SetHome}
@@ -13,7 +14,7 @@ use Rattle.numa_space.specs.Policies.{record_set, policy_that_counts, task_recor
 -- ---- the cover of a page
 
 abbrev pub covers : ℕ → Command → Bool
-covers page (Map start bytes offset) = in_span start bytes page
+covers page (Map start bytes offset size) = in_span start (whole size bytes) page
 covers page (Unmap start bytes) = in_span start bytes page
 covers page (Mbind start bytes spec) = in_span start bytes page
 covers page _ = false
@@ -27,7 +28,7 @@ is_unmap (Unmap start bytes) = true
 is_unmap _ = false
 
 abbrev pub maps_or_unmaps : ℕ → Command → Bool
-maps_or_unmaps page (Map start bytes offset) = in_span start bytes page
+maps_or_unmaps page (Map start bytes offset size) = in_span start (whole size bytes) page
 maps_or_unmaps page (Unmap start bytes) = in_span start bytes page
 maps_or_unmaps page _ = false
 
@@ -39,14 +40,15 @@ is_mapped history page = option_map_or (λ place. not (is_unmap place.command))
 -- ---- its index
 
 abbrev pub maps : ℕ → Command → Bool
-maps page (Map start bytes offset) = in_span start bytes page
+maps page (Map start bytes offset size) = in_span start (whole size bytes) page
 maps page _ = false
 
 abbrev pub index_by : ℕ → Command → ℕ
-index_by page (Map start bytes offset) = offset + (page - page_of start)
+index_by page (Map start bytes offset size) = index_in size offset + (page - page_of start)
 index_by page _ = 0
 
--- the offset of the last command that maps the page, and the page's place in its span
+-- by the last command that maps the page: its offset, as an index of its size, and the page's place
+-- in its span
 abbrev pub index_of : List Command → ℕ → ℕ
 index_of history page = option_map_or (λ place. index_by page place.command)
     (last_where (maps page) history) 0

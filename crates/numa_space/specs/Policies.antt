@@ -7,7 +7,8 @@ use Rattle.numa_machine.specs.Machine.{Hardware}
 use Rattle.numa_machine.specs.declared.rules.Rules.{Rules}
 use Rattle.numa_machine.specs.declared.rules.Rules.TheVariants.{Document, Linux}
 use Rattle.numa_mode.specs.Policy.{Specification, PolicyRecord, is_default, effect_when_set}
-use Rattle.numa_mode.specs.Policy.{is_live, effect_after, never_empty}
+use Rattle.numa_mode.specs.Policy.{is_live, effect_after, never_empty, record_when_set, takes_home}
+use Rattle.numa_mode.specs.Policy.{with_home}
 use Rattle.numa_mode.specs.declared.modes.NodeFlag.{NodeFlag}
 use Rattle.numa_mode.specs.declared.modes.NodeFlag.TheVariants.{Plain, Static, Relative}
 use Rattle.numa_requests.specs.declared.command.Command.{Command}
@@ -78,6 +79,14 @@ record_set machine spec place =
       effective = effective_set machine place.before place.after spec;
       home = None;
     })
+
+-- the record of a policy that is set now; DEFAULT has none
+abbrev pub record_now : ℕ → Specification → Option PolicyRecord
+record_now allowed spec = if is_default spec then None else Some (record_when_set spec allowed)
+
+-- a record with a home, for the modes that have one
+abbrev pub policy_with_home : ℕ → Option PolicyRecord → Option PolicyRecord
+policy_with_home node = option_map (λ r. if takes_home r then with_home r node else r)
 
 -- ---- tasks
 

@@ -4,9 +4,13 @@ use Rattle.std.specs.Prelude.{Bool}
 use Rattle.std.specs.Prelude.{true, false, Option, Some, None, is_some, List, ◌∷◌, length}
 use Rattle.std.specs.Prelude.{if◌then◌else◌}
 use Rattle.std.specs.List.{list_any}
+use Rattle.std.specs.Option.{option_map_or}
 use Rattle.numa_mask.specs.NodeSet.{both, members}
 use Rattle.numa_machine.specs.Machine.{Hardware}
 use Rattle.numa_machine.specs.Rules.{is_linux}
+use Rattle.numa_machine.specs.Sizes.{bytes_of, is_inside, whole}
+use Rattle.numa_machine.specs.declared.page_size.PageSize.{PageSize}
+use Rattle.numa_machine.specs.declared.page_size.PageSize.TheVariants.{Small, Huge}
 use Rattle.numa_machine.specs.declared.rules.Rules.{Rules}
 use Rattle.numa_machine.specs.declared.rules.Rules.TheVariants.{Document, Linux}
 use Rattle.numa_mode.specs.Policy.{Specification, PolicyRecord, is_default, is_local}
@@ -28,7 +32,8 @@ use Rattle.numa_requests.specs.declared.refusal.Refusal.TheVariants.{NodesNotAll
 use Rattle.numa_requests.specs.declared.refusal.Refusal.TheVariants.{TooManyTasks, TooManyRanges}
 use Rattle.numa_requests.specs.declared.refusal.Refusal.TheVariants.{NoPolicy}
 use Rattle.numa_space.specs.History.{page_of, page_count}
-use Rattle.numa_space.specs.Policies.{allowed_nodes, task_record, tasks_of}
+use Rattle.numa_space.specs.Policies.{allowed_nodes, policy_with_home, record_now, task_record}
+use Rattle.numa_space.specs.Policies.{tasks_of}
 use Rattle.numa_space.specs.Pages.{page_in}
 use Rattle.numa_space.specs.Same.{same_record}
 
@@ -59,17 +64,17 @@ when false cause = None
 
 -- ---- causes that several commands share
 
--- a start that is no page's
-abbrev pub unaligned : ℕ → Option Refusal
-unaligned start = when (not (start % 4096 == 0)) Unaligned
+-- a start that is no page's of this size
+abbrev pub unaligned : PageSize → ℕ → Option Refusal
+unaligned size start = when (not (start % bytes_of size == 0)) Unaligned
 
 -- whether a span ends above an address
 abbrev pub ends_above : ℕ → ℕ → ℕ → Bool
 ends_above address start bytes = nat_lt address (start + page_count bytes * 4096)
 
--- a span begins at a page, and ends at address 2^47 at the latest
-abbrev pub bad_span : ℕ → ℕ → Option Refusal
-bad_span start bytes = first_of (unaligned start)
+-- a span begins at a page of this size, and ends at address 2^47 at the latest
+abbrev pub bad_span : PageSize → ℕ → ℕ → Option Refusal
+bad_span size start bytes = first_of (unaligned size start)
     (when (ends_above (2 ^ 47) start bytes) OutOfSpace)
 
 -- a policy other than DEFAULT and LOCAL that has no node when it is set
@@ -89,26 +94,27 @@ takes_no_home (Some (index, Some r)) = not (takes_home r)
 
 -- ---- where the kernel judges otherwise than the documents
 
--- map: the kernel judges the start last, and keeps the last page below address 2^47 free
-unfoldable pub bad_map_span : Rules → ℕ → ℕ → Option Refusal
-bad_map_span Document start bytes =
-    first_of (bad_span start bytes) (when (bytes == 0) EmptyLength)
-bad_map_span Linux start bytes = first_of (when (bytes == 0) EmptyLength)
-    (first_of (when (ends_above (2 ^ 47 - 4096) start bytes) OutOfSpace) (unaligned start))
+-- map, of so many bytes up to the end of the last page: the kernel judges the start last, and
+-- keeps the last page below address 2^47 free
+unfoldable pub bad_map_span : Rules → PageSize → ℕ → ℕ → Option Refusal
+bad_map_span Document size start bytes =
+    first_of (bad_span size start bytes) (when (bytes == 0) EmptyLength)
+bad_map_span Linux size start bytes = first_of (when (bytes == 0) EmptyLength)
+    (first_of (when (ends_above (2 ^ 47 - 4096) start bytes) OutOfSpace) (unaligned size start))
 
 -- unmap: the kernel leaves that page alone, and wants a byte
 unfoldable pub bad_unmap_span : Rules → ℕ → ℕ → Option Refusal
-bad_unmap_span Document start bytes = bad_span start bytes
-bad_unmap_span Linux start bytes = first_of (unaligned start)
+bad_unmap_span Document start bytes = bad_span Small start bytes
+bad_unmap_span Linux start bytes = first_of (unaligned Small start)
     (first_of (when (ends_above (2 ^ 47 - 4096) start bytes) BadSpan)
     (when (bytes == 0) EmptyLength))
 
 -- mbind and home: the kernel takes every span below address 2^64, though none of its pages from
 -- that page on is mapped
 unfoldable pub bad_policy_span : Rules → ℕ → ℕ → Option Refusal
-bad_policy_span Document start bytes = bad_span start bytes
+bad_policy_span Document start bytes = bad_span Small start bytes
 bad_policy_span Linux start bytes =
-    first_of (unaligned start) (when (ends_above (2 ^ 64 - 1) start bytes) BadSpan)
+    first_of (unaligned Small start) (when (ends_above (2 ^ 64 - 1) start bytes) BadSpan)
 
 -- the kernel passes over holes where an Mbind of DEFAULT takes policies away
 abbrev pub passes_holes : Rules → Specification → Bool
@@ -149,25 +155,53 @@ abbrev pub mems_cause : Rules → Refusal
 mems_cause Document = NodesNotAllowed
 mems_cause Linux = NoNodes
 
+-- ---- pages of 2 MiB
+
+-- an offset in pages of 4 KiB at which no page of this size begins
+abbrev pub unaligned_offset : PageSize → ℕ → Option Refusal
+unaligned_offset Small offset = None
+unaligned_offset Huge offset = when (not (offset % 512 == 0)) Unaligned
+
+-- the record of the page of 2 MiB inside which the border before a page lies, if it lies inside one
+abbrev pub inside_of : Option (ℕ × Option PolicyRecord) → Option (Option PolicyRecord)
+inside_of None = None
+inside_of (Some (index, policy)) = if is_inside index then Some policy else None
+
+-- whether a home leaves a record as it is
+abbrev pub keeps_home : ℕ → Option PolicyRecord → Bool
+keeps_home node policy = same_record policy (policy_with_home node policy)
+
+-- whether an end of a span parts a page of 2 MiB: it lies inside one, whose record wouldn't stay
+unfoldable pub parts_pages : (Option PolicyRecord → Bool) → PageMap → ℕ → ℕ → Bool
+parts_pages stays pages first count =
+    option_map_or (λ policy. not (stays policy)) (inside_of (pages first)) false
+    || option_map_or (λ policy. not (stays policy)) (inside_of (pages (first + count))) false
+
 -- ---- the causes of each command, in order
 
 abbrev pub cause_in : Scene → Command → Option Refusal
-cause_in scene (Map start bytes offset) =
-    first_of (bad_map_span scene.machine.rules start bytes)
+cause_in scene (Map start bytes offset size) =
+    first_of (bad_map_span scene.machine.rules size start (whole size bytes))
     (first_of (when (nat_le (2 ^ 35) offset) BadOffset)
     (first_of (when (any_page (λ page. is_some (scene.pages page)) (page_of start)
-    (page_count bytes)) Overlap)
-    (too_many_ranges scene)))
+    (page_count (whole size bytes))) Overlap)
+    (first_of (unaligned_offset size offset)
+    (too_many_ranges scene))))
 cause_in scene (Unmap start bytes) =
     first_of (bad_unmap_span scene.machine.rules start bytes)
-    (if bytes == 0 then None else too_many_ranges scene)
+    (if bytes == 0 then None
+    else first_of (when (parts_pages (λ policy. false) scene.pages (page_of start)
+    (page_count bytes)) Unaligned)
+    (too_many_ranges scene))
 cause_in scene (Mbind start bytes spec) =
     first_of (bad_policy_span scene.machine.rules start bytes)
     (if bytes == 0 then None
     else bind_cause scene.machine.rules (when (has_no_node scene.allowed spec) NodesNotAllowed)
     (when (lacks_pages (passes_holes scene.machine.rules spec) scene.pages (page_of start)
     (page_count bytes)) Hole)
-    (too_many_ranges scene))
+    (first_of (when (parts_pages (same_record (record_now scene.allowed spec)) scene.pages
+    (page_of start) (page_count bytes)) Unaligned)
+    (too_many_ranges scene)))
 cause_in scene (SetTask task spec) =
     first_of (when (has_no_node scene.allowed spec) NodesNotAllowed)
     (when (not (is_default spec) && (not (is_some (scene.task task))
@@ -183,7 +217,9 @@ cause_in scene (SetHome start bytes node) =
     (page_count bytes)) NotSupported)
     (first_of (when (lacks_policy scene.machine.rules scene.pages (page_of start)
     (page_count bytes)) NoPolicy)
-    (too_many_ranges scene))))
+    (first_of (when (parts_pages (keeps_home node) scene.pages (page_of start)
+    (page_count bytes)) Unaligned)
+    (too_many_ranges scene)))))
 cause_in scene (SetWeight node weight) =
     first_of (when (nat_le scene.machine.nodes node) NoSuchNode)
     (when (is_bad_weight scene.machine.rules weight) BadWeight)

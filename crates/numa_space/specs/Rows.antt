@@ -42,16 +42,16 @@ pub record IsRowAround (setting : Setting) (P : ℕ → Type 0) (row : List ℕ)
   pub chosen : P node
   pub is_row : IsNearRow setting node row
 
--- the list of a mode with this effective set, for a fault on the node `from`, at a page of this
--- index
+-- the list of a mode with this effective set, for a fault on the node `from`, at a page that has
+-- this turn
 abbrev pub IsModeRow : Setting → Mode → ℕ → ℕ → ℕ → List ℕ → Type 0
-IsModeRow setting Default set from index row = IsNearRow setting from row
-IsModeRow setting Local set from index row = IsNearRow setting from row
-IsModeRow setting Preferred set from index row = IsRowAround setting (IsLowest set) row
-IsModeRow setting Bind set from index row = IsRow setting.machine from (has set) row
-IsModeRow setting PreferredMany set from index row =
+IsModeRow setting Default set from turn row = IsNearRow setting from row
+IsModeRow setting Local set from turn row = IsNearRow setting from row
+IsModeRow setting Preferred set from turn row = IsRowAround setting (IsLowest set) row
+IsModeRow setting Bind set from turn row = IsRow setting.machine from (has set) row
+IsModeRow setting PreferredMany set from turn row =
     IsRowAndOthers setting (both set setting.allowed) from row
-IsModeRow setting Interleave set from index row =
-    IsRowAround setting (IsInterleaveNode set index) row
-IsModeRow setting WeightedInterleave set from index row =
-    IsRowAround setting (IsWeightedNode setting.weight set index) row
+IsModeRow setting Interleave set from turn row =
+    IsRowAround setting (IsInterleaveNode set turn) row
+IsModeRow setting WeightedInterleave set from turn row =
+    IsRowAround setting (IsWeightedNode setting.weight set turn) row

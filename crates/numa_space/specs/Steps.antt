@@ -5,9 +5,9 @@ use Rattle.std.specs.Prelude.{if◌then◌else◌, ◌≤◌, ◌∷◌, OnOk, O
 use Rattle.std.specs.Option.{option_map}
 use Rattle.numa_machine.specs.Machine.{Hardware}
 use Rattle.numa_machine.specs.declared.rules.Rules.{Rules}
+use Rattle.numa_machine.specs.Sizes.{index_in, whole}
 use Rattle.numa_machine.specs.Weights.{weight_at}
-use Rattle.numa_mode.specs.Policy.{Specification, PolicyRecord, is_default, takes_home, with_home}
-use Rattle.numa_mode.specs.Policy.{record_when_set, record_after}
+use Rattle.numa_mode.specs.Policy.{PolicyRecord, is_default, record_after}
 use Rattle.numa_ranges.specs.Runs.{page_at, AreApart, AreMaximal}
 use Rattle.numa_ranges.specs.Maps.{with_span, without_span, changed_page, changed_span}
 use Rattle.numa_space.specs.Limited.{Bounds}
@@ -19,16 +19,9 @@ use Rattle.numa_requests.specs.declared.refusal.Refusal.{Refusal}
 use Rattle.numa_requests.specs.declared.refusal.Refusal.TheVariants.{NoMemory}
 use Rattle.numa_space.specs.History.{page_of, page_count}
 use Rattle.numa_space.specs.Policies.{mems_of, weight_given}
+pub use Rattle.numa_space.specs.Policies.{record_now, policy_with_home}
 use Rattle.numa_space.specs.Refusals.{Scene, PageMap, refusal_in, refusal_of}
 use Rattle.numa_space.specs.Standing.{SpaceState, StandsFor, accepted_of, record_of}
-
--- the record of a policy that is set now; DEFAULT has none
-abbrev pub record_now : ℕ → Specification → Option PolicyRecord
-record_now allowed spec = if is_default spec then None else Some (record_when_set spec allowed)
-
--- a record with a home, for the modes that have one
-abbrev pub policy_with_home : ℕ → Option PolicyRecord → Option PolicyRecord
-policy_with_home node = option_map (λ r. if takes_home r then with_home r node else r)
 
 -- a record, once the allowed nodes changed
 abbrev pub policy_after : Rules → ℕ → ℕ → Option PolicyRecord → Option PolicyRecord
@@ -39,8 +32,8 @@ allowed_next machine allowed (SetMems mask) = mems_of machine mask
 allowed_next machine allowed _ = allowed
 
 abbrev pub pages_next : Hardware → ℕ → PageMap → Command → PageMap
-pages_next machine allowed pages (Map start bytes offset) page =
-    with_span (page_of start) (page_count bytes) offset None pages page
+pages_next machine allowed pages (Map start bytes offset size) page =
+    with_span (page_of start) (page_count (whole size bytes)) (index_in size offset) None pages page
 pages_next machine allowed pages (Unmap start bytes) page =
     without_span (page_of start) (page_count bytes) pages page
 pages_next machine allowed pages (Mbind start bytes spec) page =
@@ -110,7 +103,7 @@ scene_in space command = record {
 
 -- the command may need room for a range or for a task's policy; the others never want memory
 abbrev pub MayNeedRoom : Command → Type 0
-MayNeedRoom (Map start bytes offset) = Unit {0}
+MayNeedRoom (Map start bytes offset size) = Unit {0}
 MayNeedRoom (Unmap start bytes) = bytes ≢ 0
 MayNeedRoom (Mbind start bytes spec) = bytes ≢ 0
 MayNeedRoom (SetHome start bytes node) = bytes ≢ 0

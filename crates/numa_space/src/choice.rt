@@ -1,4 +1,4 @@
-//! Choosing a node by an index, and restricting an order to a set.
+//! Choosing a node by its turn, and restricting an order to a set.
 ghost use Rattle.std.specs.Prelude.{◌≡◌, ◌≢◌, ◌<◌, ◌≤◌, ◌+◌, ◌++◌, ◌&&◌, not, true, length, filter};
 ghost use Rattle.std.specs.Prelude.{slice_index};
 ghost use Rattle.numa_mask.specs.NodeSet.{has, members};
@@ -50,14 +50,14 @@ pub(crate) fn first_node(set: &NodeMask) -> u8
     set.first().map_or(0, |node| node.number())
 }
 
-/// The node of a set that interleave chooses for an index.
-pub(crate) fn interleave_node(set: &NodeMask, index: u64) -> u8
+/// The node of a set that interleave chooses for a turn.
+pub(crate) fn interleave_node(set: &NodeMask, turn: u64) -> u8
     requires { set.now ≢ 0 }
-    ensures node { result ≡ interleave_node set.now index }
+    ensures node { result ≡ interleave_node set.now turn }
     ensures member { has set.now result ≡ true }
 {
-    let turn = index % u64::from(set.weight());
-    let Some(node) = set.nth(turn as u32) else {
+    let place = turn % u64::from(set.weight());
+    let Some(node) = set.nth(place as u32) else {
         return 0;
     };
     node.number()
@@ -76,13 +76,13 @@ fn total_weight(weights: &Weights, set: &NodeMask) -> u64
     total
 }
 
-/// The node of a set that weighted interleave chooses for an index.
-pub(crate) fn weighted_node(weights: &Weights, set: &NodeMask, index: u64) -> u8
+/// The node of a set that weighted interleave chooses for a turn.
+pub(crate) fn weighted_node(weights: &Weights, set: &NodeMask, turn: u64) -> u8
     requires { set.now ≢ 0 }
-    ensures node { result ≡ weighted_node (weight_at weights.now) set.now index }
+    ensures node { result ≡ weighted_node (weight_at weights.now) set.now turn }
     ensures member { has set.now result ≡ true }
 {
-    let mut place = index % total_weight(weights, set);
+    let mut place = turn % total_weight(weights, set);
     for node in set.iter() {
         let weight = u64::from(weights.get(u32::from(node.number())));
         if place < weight {

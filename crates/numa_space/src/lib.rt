@@ -14,6 +14,11 @@
 //! page keeps its index when adjacent pages are unmapped or bound. Where nodes take turns, the
 //! index chooses the node, not the address.
 //!
+//! **Sizes.** A mapping has pages of 4 KiB or, from a pool (hugetlb), of 2 MiB. Spans, pages and
+//! indexes are counted in 4 KiB either way; a page of 2 MiB is 512 parts in a row, whose indexes
+//! begin at 2^36. A page takes one turn: all its parts go to one node, and the next page to the
+//! next. No command changes a part alone.
+//!
 //! **Allowed nodes.** Memory comes from allowed nodes only: the nodes with memory of the last
 //! change of the allowed nodes, or all nodes with memory before any change. (cpusets(7),
 //! `cpuset.mems`)

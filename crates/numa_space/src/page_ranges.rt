@@ -12,14 +12,14 @@ ghost use Rattle.numa_ranges.specs.Numbered.{AreRowsOf};
 ghost use Rattle.numa_ranges.specs.Maps.{with_span, without_span, changed_span, changed_page};
 ghost use Rattle.numa_space.specs.Edits.{IsEdit, too_many, overlap_cause, hole_cause, refusal_from};
 ghost use Rattle.numa_space.specs.Edits.{AreMappable, passes, reaches};
-ghost use Rattle.numa_space.specs.Refusals.{first_of};
+ghost use Rattle.numa_space.specs.Refusals.{first_of, inside_of, lacks_pages};
 ghost use Rattle.numa_space.specs.Same.{same_record};
 ghost use Rattle.numa_space.specs.Steps.{policy_with_home, policy_after};
 
 use crate::change::ChangedPages;
 use crate::range_record::RangeRecord;
 use crate::range_rows::RangeRows;
-use numa_machine::Rules;
+use numa_machine::{Rules, is_inside};
 use numa_mask::NodeMask;
 use numa_mode::Record;
 use numa_ranges::{RangeError, RangeIter, RangeMap, Run};
@@ -129,10 +129,19 @@ impl Pages {
         Some((index, value.policy()))
     }
 
+    /// The own policy of the page of 2 MiB inside which the border before a page lies, if it lies
+    /// inside one.
+    pub(crate) fn inside_of(&self, page: u64) -> Option<RangeRecord>
+        ensures { result ≡ inside_of (page_at self.now.runs page) }
+    {
+        let (index, value) = self.map.at(page)?;
+        if is_inside(index) { Some(value) } else { None }
+    }
+
     /// Maps a span without an own policy.
     pub(crate) fn map_span(&mut self, first: u64, pages: u64, index: u64) -> Result<(), Refusal>
         requires span { IsSpan first pages }
-        requires index { index < 2 ^ 35 }
+        requires index { index < 2 ^ 36 + 2 ^ 35 }
         ensures edit { IsEdit (first_of (overlap_cause (page_at self.old.runs) first pages)
             (too_many self.old.limit (with_span first pages index None (page_at self.old.runs))))
             (with_span first pages index None (page_at self.old.runs)) self.old result self.new }
@@ -234,6 +243,23 @@ impl Pages {
             pages }
     {
         self.map.has_hole(first, pages)
+    }
+
+    /// Whether a page of a span that has to be mapped isn't: with `passes_holes`, if none is.
+    pub(crate) fn lacks_pages(&self, passes_holes: bool, first: u64, pages: u64) -> bool
+        requires some { 0 < pages }
+        requires fits { first + pages < 2 ^ 64 }
+        ensures { result ≡ lacks_pages passes_holes (page_at self.now.runs) first pages }
+    {
+        if passes_holes {
+            return !self.has_page(PageTest::IsMapped, first, pages);
+        }
+        if first + pages > PAGES_END {
+            // Tells the proof that no page is mapped there.
+            let _ = self.map.iter();
+            return true;
+        }
+        self.has_hole(first, pages)
     }
 
     /// Sets the home node of the policies of a span's pages, where they have one.

@@ -34,6 +34,7 @@ use std::alloc::Global;
 use std::marker::Model;
 
 mod changes;
+mod parts;
 mod place;
 mod spans;
 
@@ -47,6 +48,8 @@ pub struct Space {
     pages: Pages,
     tasks: Tasks,
     weights: Weights,
+    // Whether pages of 2 MiB may be mapped; where none are, nothing looks for them.
+    has_huge: bool,
 }
 
 // (By hand, so that it is proved here alone: a derived one is proved in each crate that drops.)
@@ -60,6 +63,7 @@ impl Drop for Space {
             pages,
             tasks,
             weights,
+            has_huge: _,
         } = self;
         drop(machine);
         drop(pages);
@@ -100,6 +104,7 @@ impl Space {
             pages: Pages::new(alloc, limits.max_ranges()),
             tasks: Tasks::new(alloc),
             weights,
+            has_huge: false,
         }
     }
 
@@ -124,6 +129,7 @@ impl Space {
             pages,
             tasks,
             weights: self.weights,
+            has_huge: self.has_huge,
         })
     }
 

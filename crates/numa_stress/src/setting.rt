@@ -2,7 +2,7 @@
 ghost use Rattle.std.specs.Prelude.{◌≡◌};
 
 use bitflags::Flags;
-use numa_machine::Machine;
+use numa_machine::{Machine, PageSize};
 use numa_mask::{NodeId, NodeMask};
 use numa_mode::{Mode, PolicyFlags, PolicySpec};
 use numa_requests::{Command, Limits, Request};
@@ -55,6 +55,7 @@ pub fn command(place: u32) -> Option<Command> {
             start: FIRST_PAGE * 4_096,
             length: PAGES * 4_096,
             offset: 0,
+            size: PageSize::Small,
         });
     }
     let (mode, set) = if place % 2 == 1 {

@@ -1,5 +1,6 @@
 -- What an exported call that explains where a page goes answers.
 use Rattle.std.specs.Prelude.{◌≡◌, ℕ, Result, Ok, Err}
+use Rattle.numa_machine.specs.Sizes.{turn_at}
 use Rattle.numa_rules.specs.declared.explanation.Explanation.{Explanation}
 use Rattle.numa_rules.specs.declared.fault.ReasonError.{ReasonError}
 use Rattle.numa_rules.specs.declared.fault.ReasonError.TheVariants as fault
@@ -46,7 +47,7 @@ turn_in (rule.WeightedInterleave turn) = (turn.place, turn.total)
 -- the struct of an explanation
 pub record TellsExplanation (said : Explanation) (told : NpExplanation) : Type 0 where
   pub policy : TellsPolicy said.policy told.policy
-  pub index : told.index ≡ said.index
+  pub index : told.index ≡ turn_at said.index
   pub turn : (told.place ≡ (turn_in said.rule).0) × (told.places ≡ (turn_in said.rule).1)
   pub scope : told.scope ≡ scope_number said.scope
   pub rule : told.rule ≡ rule_number said.rule

@@ -5,6 +5,7 @@ ghost use Rattle.numa_mask.specs.Words.{number_of};
 ghost use Rattle.numa_mode.specs.Policy.{raw_specification};
 ghost use Rattle.numa_script.specs.Policies.{policy_of};
 ghost use Rattle.numa_requests.specs.declared.event.Event.{Event};
+ghost use Rattle.numa_machine.specs.declared.page_size.PageSize.{PageSize};
 ghost use Rattle.numa_requests.specs.declared.command.Command.{Command};
 ghost use Rattle.numaplan_c.specs.Border.{Answers, AnswersRead, Places, Touched, Tried};
 ghost use Rattle.numaplan_c.specs.Codes.{answer_code, list_code, spec_code, word_code};
@@ -13,7 +14,7 @@ ghost use Rattle.numaplan_handles.specs.Handles.{core_in};
 use crate::codes::{Code, answer_code, list_code, spec_code, word_code};
 use crate::keeping::{if_open, or_return};
 use crate::nodes::NpNodes;
-use numa_machine::Frame;
+use numa_machine::{Frame, PageSize};
 use numa_mask::{NodeMask, read_list};
 use numa_mode::PolicySpec;
 use numa_requests::{Command, CoreRefusal, CoreReply, Event, Request};
@@ -44,10 +45,27 @@ pub extern "C" fn np_core_map(
     length: u64,
     offset: u64,
 ) -> u32
-    ensures { Answers (core_in core.old) (Event.Accept (Command.Map start length offset)) result
-        (core_in core.new) }
+    ensures { Answers (core_in core.old)
+        (Event.Accept (Command.Map start length offset PageSize.Small)) result (core_in core.new) }
 {
-    accept!(alloc, core => Map { start, length, offset })
+    let size = PageSize::Small;
+    accept!(alloc, core => Map { start, length, offset, size })
+}
+
+/// Maps a span as pages of 2 MiB.
+#[unsafe(no_mangle)]
+pub extern "C" fn np_core_map_huge(
+    alloc: Global,
+    core: &mut CoreHandle,
+    start: u64,
+    length: u64,
+    offset: u64,
+) -> u32
+    ensures { Answers (core_in core.old)
+        (Event.Accept (Command.Map start length offset PageSize.Huge)) result (core_in core.new) }
+{
+    let size = PageSize::Huge;
+    accept!(alloc, core => Map { start, length, offset, size })
 }
 
 /// Unmaps the pages of a span.

@@ -11,6 +11,7 @@ ghost use Rattle.numaplan_reports.specs.Asked.{Explains};
 use crate::codes::{Code, place_code};
 use crate::keeping::if_open;
 use crate::standing::{NpPolicy, told};
+use numa_machine::turn_at;
 use numa_rules::{Explanation, OrderRule, ReasonError, Scope};
 use numa_sheets::Touch;
 use numaplan_handles::CoreHandle;
@@ -90,7 +91,7 @@ fn explanation_told(said: &Explanation) -> NpExplanation
     let (place, places) = turn_in(said.rule);
     NpExplanation {
         policy: told(said.policy),
-        index: said.index,
+        index: turn_at(said.index),
         place,
         places,
         scope: scope_number(said.scope),

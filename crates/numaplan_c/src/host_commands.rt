@@ -1,6 +1,7 @@
 //! Commands of hosts: of groups, of processes, and what one process does.
 ghost use Rattle.std.specs.Prelude.{None, Some};
 ghost use Rattle.numa_requests.specs.declared.host_command.HostCommand.{HostCommand};
+ghost use Rattle.numa_machine.specs.declared.page_size.PageSize.{PageSize};
 ghost use Rattle.numa_mask.specs.Lists.{list_of};
 ghost use Rattle.numa_script.specs.Policies.{policy_of};
 ghost use Rattle.numa_requests.specs.declared.command.Command.{Command};
@@ -11,6 +12,7 @@ ghost use Rattle.numaplan_handles.specs.Handles.{host_in};
 use crate::codes::{list_code, word_code};
 use crate::host_codes::host_code;
 use crate::keeping::{if_open, or_return};
+use numa_machine::PageSize;
 use numa_mask::read_list;
 use numa_requests::{Command, HostCommand};
 use numa_script::policy::read_policy;
@@ -159,9 +161,11 @@ pub extern "C" fn np_host_map(
     offset: u64,
 ) -> u32
     ensures { HostAnswers (host_in host.old)
-        (HostCommand.In process (Command.Map start length offset)) result (host_in host.new) }
+        (HostCommand.In process (Command.Map start length offset PageSize.Small)) result
+        (host_in host.new) }
 {
-    tell!(alloc, host, process => Map { start, length, offset })
+    let size = PageSize::Small;
+    tell!(alloc, host, process => Map { start, length, offset, size })
 }
 
 /// Unmaps the pages of a process's span.

@@ -1,4 +1,5 @@
 //! Commands of a core with its pages.
+ghost use Rattle.numa_machine.specs.declared.page_size.PageSize.{PageSize};
 ghost use Rattle.numa_mask.specs.Lists.{list_of};
 ghost use Rattle.numa_pages.specs.Changes.{Accepts, BindsStrictly};
 ghost use Rattle.numa_script.specs.Policies.{policy_of};
@@ -10,6 +11,7 @@ use crate::codes::{list_code, word_code};
 use crate::keeping::{if_open, or_return};
 use crate::placed_codes::changed_code;
 use numa_mask::read_list;
+use numa_machine::PageSize;
 use numa_mode::PolicySpec;
 use numa_requests::Command;
 use numa_script::policy::read_policy;
@@ -32,13 +34,14 @@ pub extern "C" fn np_pages_map(
     length: u64,
     offset: u64,
 ) -> u32
-    ensures { PagesAnswer change_code (Accepts (Command.Map start length offset)) pages.old
-        result pages.new }
+    ensures { PagesAnswer change_code (Accepts (Command.Map start length offset PageSize.Small))
+        pages.old result pages.new }
 {
     let command = Command::Map {
         start,
         length,
         offset,
+        size: PageSize::Small,
     };
     accept(alloc, pages, command)
 }

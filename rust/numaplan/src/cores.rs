@@ -147,6 +147,12 @@ impl Core {
         done(unsafe { raw::np_core_map(&mut self.0, start, length, offset) })
     }
 
+    /// Maps a span of unmapped pages as pages of 2 MiB, as many as the length takes; the offset is in
+    /// pages of 4 KiB.
+    pub fn map_huge(&mut self, start: u64, length: u64, offset: u64) -> Result<(), Refused> {
+        done(unsafe { raw::np_core_map_huge(&mut self.0, start, length, offset) })
+    }
+
     /// Unmaps the pages of a span.
     ///
     /// # Errors

@@ -231,6 +231,7 @@ extern "C" {
     pub(crate) fn np_core_copy(core: &mut Handle, copy: &mut Handle) -> u32;
     pub(crate) fn np_core_versions(core: &mut Handle, accepted: &mut u64, published: &mut u64) -> u32;
     pub(crate) fn np_core_map(core: &mut Handle, start: u64, length: u64, offset: u64) -> u32;
+    pub(crate) fn np_core_map_huge(core: &mut Handle, start: u64, length: u64, offset: u64) -> u32;
     pub(crate) fn np_core_unmap(core: &mut Handle, start: u64, length: u64) -> u32;
     pub(crate) fn np_core_mbind(core: &mut Handle, start: u64, length: u64, policy: *const u8, policy_length: usize) -> u32;
     pub(crate) fn np_core_mbind_by(core: &mut Handle, start: u64, length: u64, mode: u32, nodes: &Nodes) -> u32;

@@ -1,6 +1,6 @@
 //! The machine, what its desk has published, and the requests of faults.
 use numa_examples::{flat_machine, spec_of};
-use numa_machine::Machine;
+use numa_machine::{Machine, PageSize};
 use numa_publish::Desk;
 use numa_requests::{Command, Limits, Request};
 use std::alloc::Global;
@@ -23,6 +23,7 @@ fn accept_all(desk: &mut Desk) {
         start: FIRST * 4_096,
         length: PAGES * 4_096,
         offset: 0,
+        size: PageSize::Small,
     });
     if let Some(spec) = spec_of(3, &[0, 1, 2, 3]) {
         let _ = desk.accept(&Command::SetTask { task: 1, spec });

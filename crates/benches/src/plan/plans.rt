@@ -1,6 +1,7 @@
 //! The plans that are asked.
 use crate::many::{RANGES, bind, eight_nodes, map, spec_of_bits};
 use numa_compile::{compile, compile_commands};
+use numa_machine::PageSize;
 use numa_mode::PolicySpec;
 use numa_plan::Plan;
 use numa_requests::{Command, Limits};
@@ -59,6 +60,7 @@ pub fn whole(alloc: Global) -> Option<Plan> {
             start: 0,
             length: 0x8000_0000_0000,
             offset: 0,
+            size: PageSize::Small,
         },
         Command::SetTask {
             task: 1,

@@ -31,7 +31,7 @@ impl Plan {
         Some(PageTurns {
             first: run.first,
             pages: run.pages,
-            cycle: rule.cycle_len().min(run.pages),
+            cycle: rule.cycle_len(run.index, run.pages).min(run.pages),
         })
     }
 }

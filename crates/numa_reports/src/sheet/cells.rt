@@ -46,7 +46,8 @@ fn put_cells(
     match free {
         Some(free) => {
             fill_few(asked, range.first, &mut nodes[..pages as usize], free)?;
-            let period = period_in(asked.space, &asked.space.policy_at(task, range.first));
+            let policy = asked.space.policy_at(task, range.first);
+            let period = period_in(asked.space, &policy, range.index, range.pages);
             let rest = range.pages - pages;
             fill_there(asked, behind, rest, period, free)?;
         }

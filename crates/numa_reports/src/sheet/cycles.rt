@@ -59,7 +59,8 @@ fn push_range(
     range: &Run<RangeRecord>,
     items: &mut Items,
 ) -> Result<(), PlaceRefusal> {
-    let period = period_in(space, &space.policy_at(touch.task, range.first));
+    let policy = space.policy_at(touch.task, range.first);
+    let period = period_in(space, &policy, range.index, range.pages);
     let pages = range.pages.min(period.max(1));
     if pages > PAGES as u64 {
         return Ok(());

@@ -24,8 +24,9 @@ use crate::change::{Change, ChangedPages};
 use crate::page_ranges::PageTest;
 use crate::range_record::RangeRecord;
 use crate::space::Space;
+use crate::space::parts::marked;
 use crate::task_policies::Tasks;
-use numa_machine::{Rules, WeightError};
+use numa_machine::{PageSize, Rules, WeightError};
 use numa_mask::NodeMask;
 use numa_mode::{Mode, PolicySpec, Record};
 use numa_requests::{Command, Refusal};
@@ -132,7 +133,8 @@ impl Space {
                 start,
                 length,
                 offset,
-            } => self.map(*start, *length, *offset),
+                size,
+            } => self.map(*start, *length, *offset, *size),
             Command::Unmap { start, length } => self.unmap(*start, *length),
             Command::Mbind {
                 start,
@@ -167,17 +169,27 @@ impl Space {
         }
     }
 
-    fn map(&mut self, start: u64, length: u64, offset: u64) -> Result<Change, Refusal>
+    fn map(
+        &mut self,
+        start: u64,
+        length: u64,
+        offset: u64,
+        size: PageSize,
+    ) -> Result<Change, Refusal>
         requires { self.old.version < self.old.bounds.max_commands }
-        ensures answer { IsAnswer self.old (Command.Map start length offset) result self.new }
-        ensures change { IfOk result (IsChange self.old (Command.Map start length offset)) }
-        ensures room { IfErr result (LacksRoom (Command.Map start length offset)) }
+        ensures answer { IsAnswer self.old (Command.Map start length offset size) result self.new }
+        ensures change { IfOk result (IsChange self.old (Command.Map start length offset size)) }
+        ensures room { IfErr result (LacksRoom (Command.Map start length offset size)) }
     {
-        let (first, pages) = self.map_span_of(start, length)?;
+        let (first, pages) = self.map_span_of(size, start, length)?;
         if offset >= 1 << 35 {
             return Err(Refusal::BadOffset);
         }
-        self.pages.map_span(first, pages, offset)?;
+        if self.lacks_offset(size, offset, first, pages) {
+            return Err(Refusal::Unaligned);
+        }
+        self.has_huge = marked(self.has_huge, size);
+        self.pages.map_span(first, pages, size.index(offset))?;
         self.version += 1;
         Ok(Change::Mapped {
             pages: self.pages.changed(first, pages),
@@ -194,6 +206,9 @@ impl Space {
         if length == 0 {
             self.version += 1;
             return Ok(Change::Nothing);
+        }
+        if self.parts_mapped(first, pages) {
+            return Err(Refusal::Unaligned);
         }
         self.pages.unmap_span(first, pages)?;
         self.version += 1;
@@ -231,6 +246,9 @@ impl Space {
             return Err(self.hole_or_nodes(first, pages));
         };
         let passes_holes = self.passes_holes(spec);
+        if self.parts_bound(first, pages, &policy, passes_holes) {
+            return Err(Refusal::Unaligned);
+        }
         self.pages.bind_span(first, pages, &policy, passes_holes)?;
         self.version += 1;
         let pages = self.pages.changed(first, pages);
@@ -285,6 +303,9 @@ impl Space {
         }
         if self.lacks_policy(first, pages) {
             return Err(Refusal::NoPolicy);
+        }
+        if self.parts_homed(first, pages, node as u8) {
+            return Err(Refusal::Unaligned);
         }
         self.pages.home_span(first, pages, node as u8)?;
         self.version += 1;

@@ -16,7 +16,7 @@ ghost use Rattle.numa_space.specs.Standing.{setting_in};
 use crate::choice::{first_node, interleave_node, push_others, push_within, weighted_node};
 use crate::space::Space;
 use arrayvec::ArrayVec;
-use numa_machine::PlaceRefusal;
+use numa_machine::{PlaceRefusal, turn_at};
 use numa_mask::NodeMask;
 use numa_mode::{Mode, Record};
 
@@ -124,7 +124,8 @@ impl Space {
         Ok(self.list_of(policy, cpu, index))
     }
 
-    /// The list of a policy in force, for a fault on a node, at a page with this index.
+    /// The list of a policy in force, for a fault on a node, at a page with this index: where nodes
+    /// take turns, that of its turn.
     fn list_of(&self, policy: Option<Record>, cpu: u32, index: u64) -> ArrayVec<u8, 256>
         requires cpu { cpu < self.now.machine.nodes }
         requires in_force { IfSome policy (λ r. IsInForce self.now.machine self.now.allowed r
@@ -135,16 +136,17 @@ impl Space {
             return self.near(cpu);
         };
         let from = policy.home().map_or(cpu, |home| u32::from(home));
-        self.list_by_mode(&policy, from, index)
+        self.list_by_mode(&policy, from, turn_at(index))
     }
 
-    /// The list of a policy in force, for a fault that counts as one on node `from`.
-    fn list_by_mode(&self, policy: &Record, from: u32, index: u64) -> ArrayVec<u8, 256>
+    /// The list of a policy in force, for a fault that counts as one on node `from`, at a page that
+    /// has this turn.
+    fn list_by_mode(&self, policy: &Record, from: u32, turn: u64) -> ArrayVec<u8, 256>
         requires from { from < self.now.machine.nodes }
         requires in_force { IsInForce self.now.machine self.now.allowed policy.now }
         requires live { is_live policy.now ≡ true }
         ensures { result.items ≡ list_by_mode (setting_in self.now) policy.now.spec.mode
-            policy.now.effective from index }
+            policy.now.effective from turn }
     {
         let set = policy.effective();
         match policy.spec().mode() {
@@ -152,9 +154,9 @@ impl Space {
             Mode::Preferred => self.near(u32::from(first_node(&set))),
             Mode::Bind => self.nearest(&set, from),
             Mode::PreferredMany => self.nearest_before_others(&set.and(&self.allowed), from),
-            Mode::Interleave => self.near(u32::from(interleave_node(&set, index))),
+            Mode::Interleave => self.near(u32::from(interleave_node(&set, turn))),
             Mode::WeightedInterleave => {
-                self.near(u32::from(weighted_node(&self.weights, &set, index)))
+                self.near(u32::from(weighted_node(&self.weights, &set, turn)))
             }
         }
     }

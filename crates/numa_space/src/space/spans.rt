@@ -1,6 +1,7 @@
 //! The pages of the spans that commands name.
-ghost use Rattle.std.specs.Prelude.{◌≡◌, ◌+◌, ◌≤◌, ◌^◌, false, MatchResult, IfOk};
+ghost use Rattle.std.specs.Prelude.{◌≡◌, ◌+◌, ◌%◌, ◌==◌, ◌≤◌, ◌^◌, not, false, MatchResult, IfOk};
 ghost use Rattle.numa_machine.specs.Rules.{is_linux};
+ghost use Rattle.numa_machine.specs.Sizes.{bytes_of, whole};
 ghost use Rattle.numa_ranges.specs.Maps.{IsSpan};
 ghost use Rattle.numa_space.specs.Edits.{IsSpanOf};
 ghost use Rattle.numa_space.specs.History.{page_of, page_count};
@@ -8,8 +9,12 @@ ghost use Rattle.numa_space.specs.Refusals.{bad_map_span, bad_policy_span, bad_s
 ghost use Rattle.numa_space.specs.Refusals.{bad_unmap_span, ends_above};
 
 use crate::space::Space;
-use numa_machine::Rules;
+use numa_machine::{PageSize, Rules};
 use numa_requests::{PAGE_BYTES, Refusal};
+
+/// The bytes of a page of 2 MiB, and the number of its parts.
+const HUGE_BYTES: u64 = 2_097_152;
+const HUGE_PARTS: u64 = HUGE_BYTES / PAGE_BYTES;
 
 /// The end of the addresses of a space.
 const SPACE_END: u64 = 1 << 47;
@@ -17,66 +22,99 @@ const SPACE_END: u64 = 1 << 47;
 /// The start of its last page, which the kernel keeps free.
 const KERNEL_END: u64 = SPACE_END - PAGE_BYTES;
 
-/// The first page of a span and the number of its pages.
-fn pages_of(start: u64, length: u64) -> (u64, u64)
+/// The first page of a span and the number of its pages; its length is rounded up to whole pages of
+/// this size.
+fn pages_of(size: PageSize, start: u64, length: u64) -> (u64, u64)
     ensures first { result.0 ≡ page_of start }
-    ensures count { result.1 ≡ page_count length }
+    ensures count { result.1 ≡ page_count (whole size length) }
 {
-    let pages = length / PAGE_BYTES + u64::from(length % PAGE_BYTES != 0);
-    (start / PAGE_BYTES, pages)
+    let first = start / PAGE_BYTES;
+    match size {
+        PageSize::Small => (
+            first,
+            length / PAGE_BYTES + u64::from(length % PAGE_BYTES != 0),
+        ),
+        PageSize::Huge => (
+            first,
+            (length / HUGE_BYTES + u64::from(length % HUGE_BYTES != 0)) * HUGE_PARTS,
+        ),
+    }
+}
+
+/// Whether no page of this size begins at an address.
+fn is_unaligned(size: PageSize, start: u64) -> bool
+    ensures { result ≡ not (start % bytes_of size == 0) }
+{
+    match size {
+        PageSize::Small => start % PAGE_BYTES != 0,
+        PageSize::Huge => start % HUGE_BYTES != 0,
+    }
+}
+
+/// Whether a length in bytes is 0.
+fn is_empty(size: PageSize, length: u64) -> bool
+    ensures { result ≡ (whole size length == 0) }
+{
+    match size {
+        PageSize::Small => length == 0,
+        PageSize::Huge => length == 0,
+    }
 }
 
 /// Whether a span ends above an address.
-fn ends_above(address: u64, start: u64, length: u64) -> bool
-    ensures { result ≡ ends_above address start length }
+fn ends_above(address: u64, size: PageSize, start: u64, length: u64) -> bool
+    ensures { result ≡ ends_above address start (whole size length) }
 {
-    let (_, pages) = pages_of(start, length);
+    let (_, pages) = pages_of(size, start, length);
     start > address || pages > (address - start) / PAGE_BYTES
 }
 
 /// The pages of a span, by the documents' rules.
-fn span_of(start: u64, length: u64) -> Result<(u64, u64), Refusal>
-    ensures span { IsSpanOf (bad_span start length) start length result }
+fn span_of(size: PageSize, start: u64, length: u64) -> Result<(u64, u64), Refusal>
+    ensures span { IsSpanOf (bad_span size start (whole size length)) start (whole size length)
+        result }
     ensures within { IfOk result (λ span. span.0 + span.1 ≤ 2 ^ 35) }
 {
-    if start % PAGE_BYTES != 0 {
+    if is_unaligned(size, start) {
         return Err(Refusal::Unaligned);
     }
-    if ends_above(SPACE_END, start, length) {
+    if ends_above(SPACE_END, size, start, length) {
         return Err(Refusal::OutOfSpace);
     }
-    Ok(pages_of(start, length))
+    Ok(pages_of(size, start, length))
 }
 
 /// The pages of a span that is to be mapped, by the documents' rules.
 #[tactic(auto, unfolding(crate::specs::Refusals::bad_map_span))]
-fn documented_map_span(start: u64, length: u64) -> Result<(u64, u64), Refusal>
-    ensures span { IsSpanOf (bad_map_span Rules.Document start length) start length result }
+fn documented_map_span(size: PageSize, start: u64, length: u64) -> Result<(u64, u64), Refusal>
+    ensures span { IsSpanOf (bad_map_span Rules.Document size start (whole size length)) start
+        (whole size length) result }
     ensures within { IfOk result (λ span. IsSpan span.0 span.1) }
 {
-    match span_of(start, length) {
+    match span_of(size, start, length) {
         Err(refusal) => Err(refusal),
-        Ok(_) if length == 0 => Err(Refusal::EmptyLength),
+        Ok(_) if is_empty(size, length) => Err(Refusal::EmptyLength),
         Ok(span) => Ok(span),
     }
 }
 
 /// The pages of a span that is to be mapped, by the kernel's rules.
 #[tactic(auto, unfolding(crate::specs::Refusals::bad_map_span))]
-fn kernel_map_span(start: u64, length: u64) -> Result<(u64, u64), Refusal>
-    ensures span { IsSpanOf (bad_map_span Rules.Linux start length) start length result }
+fn kernel_map_span(size: PageSize, start: u64, length: u64) -> Result<(u64, u64), Refusal>
+    ensures span { IsSpanOf (bad_map_span Rules.Linux size start (whole size length)) start
+        (whole size length) result }
     ensures within { IfOk result (λ span. IsSpan span.0 span.1) }
 {
-    if length == 0 {
+    if is_empty(size, length) {
         return Err(Refusal::EmptyLength);
     }
-    if ends_above(KERNEL_END, start, length) {
+    if ends_above(KERNEL_END, size, start, length) {
         return Err(Refusal::OutOfSpace);
     }
-    if start % PAGE_BYTES != 0 {
+    if is_unaligned(size, start) {
         return Err(Refusal::Unaligned);
     }
-    Ok(pages_of(start, length))
+    Ok(pages_of(size, start, length))
 }
 
 /// The pages of a span that is to be unmapped, by the kernel's rules.
@@ -85,16 +123,16 @@ fn kernel_unmap_span(start: u64, length: u64) -> Result<(u64, u64), Refusal>
     ensures span { IsSpanOf (bad_unmap_span Rules.Linux start length) start length result }
     ensures within { IfOk result (λ span. span.0 + span.1 ≤ 2 ^ 35) }
 {
-    if start % PAGE_BYTES != 0 {
+    if is_unaligned(PageSize::Small, start) {
         return Err(Refusal::Unaligned);
     }
-    if ends_above(KERNEL_END, start, length) {
+    if ends_above(KERNEL_END, PageSize::Small, start, length) {
         return Err(Refusal::BadSpan);
     }
     if length == 0 {
         return Err(Refusal::EmptyLength);
     }
-    Ok(pages_of(start, length))
+    Ok(pages_of(PageSize::Small, start, length))
 }
 
 /// The pages of a span whose policies are to change, by the kernel's rules.
@@ -102,13 +140,13 @@ fn kernel_unmap_span(start: u64, length: u64) -> Result<(u64, u64), Refusal>
 fn kernel_policy_span(start: u64, length: u64) -> Result<(u64, u64), Refusal>
     ensures span { IsSpanOf (bad_policy_span Rules.Linux start length) start length result }
 {
-    if start % PAGE_BYTES != 0 {
+    if is_unaligned(PageSize::Small, start) {
         return Err(Refusal::Unaligned);
     }
-    if ends_above(u64::MAX, start, length) {
+    if ends_above(u64::MAX, PageSize::Small, start, length) {
         return Err(Refusal::BadSpan);
     }
-    Ok(pages_of(start, length))
+    Ok(pages_of(PageSize::Small, start, length))
 }
 
 impl Space {
@@ -120,20 +158,26 @@ impl Space {
         ensures within { IfOk result (λ span. span.0 + span.1 ≤ 2 ^ 35) }
     {
         match self.machine.rules() {
-            Rules::Document => span_of(start, length),
+            Rules::Document => span_of(PageSize::Small, start, length),
             Rules::Linux => kernel_unmap_span(start, length),
         }
     }
 
-    /// The pages of a span that is to be mapped.
-    pub(super) fn map_span_of(&self, start: u64, length: u64) -> Result<(u64, u64), Refusal>
-        ensures span { IsSpanOf (bad_map_span self.now.machine.rules start length) start length
-            result }
+    /// The pages of a span that is to be mapped as pages of this size.
+    pub(super) fn map_span_of(
+        &self,
+        size: PageSize,
+        start: u64,
+        length: u64,
+    ) -> Result<(u64, u64), Refusal>
+        ensures span { IsSpanOf
+            (bad_map_span self.now.machine.rules size start (whole size length)) start
+            (whole size length) result }
         ensures within { IfOk result (λ span. IsSpan span.0 span.1) }
     {
         match self.machine.rules() {
-            Rules::Document => documented_map_span(start, length),
-            Rules::Linux => kernel_map_span(start, length),
+            Rules::Document => documented_map_span(size, start, length),
+            Rules::Linux => kernel_map_span(size, start, length),
         }
     }
 
@@ -146,7 +190,7 @@ impl Space {
             → IfOk result (λ span. span.0 + span.1 ≤ 2 ^ 35) }
     {
         match self.machine.rules() {
-            Rules::Document => span_of(start, length),
+            Rules::Document => span_of(PageSize::Small, start, length),
             Rules::Linux => kernel_policy_span(start, length),
         }
     }

@@ -2,7 +2,7 @@
 ghost use Rattle.std.specs.Prelude.{◌≡◌, ◌≤◌};
 
 use numa_examples::{flat_machine, spec_of};
-use numa_machine::{Machine, PlaceRefusal};
+use numa_machine::{Machine, PageSize, PlaceRefusal};
 use numa_publish::{Desk, PlanReader, Receipt};
 use numa_requests::{Command, Limits};
 use std::alloc::Global;
@@ -50,6 +50,7 @@ pub fn map_of(pages: u64) -> Command {
         start: 0x10000,
         length: pages.wrapping_mul(4_096),
         offset: 0,
+        size: PageSize::Small,
     }
 }
 

@@ -1,5 +1,6 @@
 use Rattle.std.proofs.Common.{◌≡◌, ◌∙◌, ◌%◌, List, ℕ, length, slice_index, ap}
 use Rattle.numa_mask.specs.NodeSet.{members, weight_of}
+use Rattle.numa_machine.specs.Sizes.{turn_at}
 use Rattle.numa_space.specs.Lists.{near}
 use Rattle.numa_space.specs.Standing.{setting_in}
 use Rattle.numa_plan.specs.Rows.{RuleData, InTurns}
@@ -33,7 +34,7 @@ returns c =
     gives-is c.args.space.now.machine.nodes c.in_ok-rule.rule other
     (λ cpu index. near (setting_in c.args.space.now)
     (slice_index (members c.args.set.now)
-    (slice_index c.args.cycle.items (index % length c.args.cycle.items)))) is
+    (slice_index c.args.cycle.items (turn_at index % length c.args.cycle.items)))) is
     (turns-gives c.args.space.now c.args.set.now c.weight.result c.args.cycle.items c.requires.ready
     c.requires.some c.requires.allowed c.requires.cycle c.requires.places
     (c.weight.ensures.weight ∙ ap weight_of c.allowed.ensures.allowed))

@@ -22,3 +22,13 @@ returns-clause-pages c p low high =
     page_at-inside 0 ranges place p range c.range_at.ensures.rising
     (slice_get_within ranges place range is)
     (sym (get_or_from_slice_get ranges place range range is)) low high
+
+pub returns-clause-last : goal.returns-clause-last
+returns-clause-last c =
+    let ranges = c.args.space.now.ranges in
+    let place = c.saturating_sub-place.result in
+    let range = c.in-Some.range in
+    let is = sym c.range_at.ensures.range ∙ c.in-Some.is in
+    (run-bounds ranges place range c.range_at.ensures.rising
+    (slice_get_within ranges place range is)
+    (sym (get_or_from_slice_get ranges place range range is))).1

@@ -8,12 +8,12 @@ pub returns : goal.returns
 unfolding interleave_node
 returns c =
     let set = c.args.set.now in
-    let turn : ℕ = c.args.index % c.from-members.result in
+    let turn : ℕ = c.args.turn % c.from-members.result in
     let same : c.from-members.result ≡ weight_of set =
     c.from-members.ensures ∙ c.weight.ensures.weight in
     let got : slice_get (members set) turn ≡ Some c.in-Some.node =
     sym c.nth.ensures.nth ∙ c.in-Some.is in
-    let node : c.number.result ≡ interleave_node set c.args.index =
+    let node : c.number.result ≡ interleave_node set c.args.turn =
     c.number.ensures.number ∙ sym (index-got (members set) turn c.in-Some.node got)
-    ∙ ap (λ w. slice_index (members set) (c.args.index % w)) same in
-    λ i. record { place = c.args.index % same i; members = same i; node = node i }
+    ∙ ap (λ w. slice_index (members set) (c.args.turn % w)) same in
+    λ i. record { place = c.args.turn % same i; members = same i; node = node i }

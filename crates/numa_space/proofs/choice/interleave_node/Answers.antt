@@ -7,10 +7,10 @@ use Rattle.numa_space.proofs.choice.interleave_node.Goals as goal
 pub returns-clause-node : goal.returns-clause-node
 unfolding interleave_node
 returns-clause-node c =
-    let turn : ℕ = c.args.index % c.from.result in
+    let turn : ℕ = c.args.turn % c.from.result in
     let same : c.from.result ≡ weight_of c.args.set.now = c.from.ensures
     ∙ c.weight.ensures.weight in
     let got : slice_get (members c.args.set.now) turn ≡ Some c.in-Some.node = sym c.nth.ensures.nth
     ∙ c.in-Some.is in
     c.number.ensures.number ∙ sym (index-got (members c.args.set.now) turn c.in-Some.node got)
-    ∙ ap (λ w. slice_index (members c.args.set.now) (c.args.index % w)) same
+    ∙ ap (λ w. slice_index (members c.args.set.now) (c.args.turn % w)) same

@@ -6,9 +6,9 @@ use Rattle.numa_space.proofs.Chosen.{weighted-has}
 use Rattle.numa_space.proofs.choice.weighted_node.Goals as goal
 
 chosen : (c : goal.In-None)
-    → has c.args.set.now (weighted_node (weight_at c.args.weights.now) c.args.set.now c.args.index)
+    → has c.args.set.now (weighted_node (weight_at c.args.weights.now) c.args.set.now c.args.turn)
     ≡ true
-chosen c = weighted-has (weight_at c.args.weights.now) c.args.set.now c.args.index
+chosen c = weighted-has (weight_at c.args.weights.now) c.args.set.now c.args.turn
     (omega (arith, c.total_weight.ensures.total, c.total_weight.ensures.some))
 
 pub loop-node-init : goal.loop-node-init
@@ -16,7 +16,7 @@ unfolding weighted_node
 loop-node-init c =
     let start : c.into_iter-node-iterator.result ≡ c.args.set.now = cc in
     λ i. node_at (weight_at c.args.weights.now) (members (start i))
-    (c.args.index % c.total_weight.ensures.total i)
+    (c.args.turn % c.total_weight.ensures.total i)
 
 pub returns-then-place-weight-clause-member : goal.returns-then-place-weight-clause-member
 returns-then-place-weight-clause-member c =
@@ -31,17 +31,17 @@ returns-then-place-weight-clause-member c =
     let here : node_at (weight_at c.args.weights.now) (c.in-Some.node ∷ members c.next.new.self)
     c.loop-node.place ≡ c.in-Some.node = rw before refl in
     let is : c.number-then-place-weight.result ≡ weighted_node (weight_at c.args.weights.now)
-    c.args.set.now c.args.index =
+    c.args.set.now c.args.turn =
     c.number-then-place-weight.ensures.number ∙ sym here
     ∙ sym (ap (λ nodes. node_at (weight_at c.args.weights.now) nodes c.loop-node.place) step)
     ∙ c.loop-node.invariant in
     ap (has c.args.set.now) is ∙ weighted-has (weight_at c.args.weights.now) c.args.set.now
-    c.args.index (omega (arith, c.total_weight.ensures.total, c.total_weight.ensures.some))
+    c.args.turn (omega (arith, c.total_weight.ensures.total, c.total_weight.ensures.some))
 
 pub returns-clause-member : goal.returns-clause-member
 returns-clause-member c =
     let done : members c.loop-node.node-iterator ≡ [] = c.in-None.ensures.steps.0 in
-    let is : weighted_node (weight_at c.args.weights.now) c.args.set.now c.args.index ≡ 0 =
+    let is : weighted_node (weight_at c.args.weights.now) c.args.set.now c.args.turn ≡ 0 =
     sym c.loop-node.invariant
     ∙ ap (λ nodes. node_at (weight_at c.args.weights.now) nodes c.loop-node.place) done in
     ap (has c.args.set.now) (sym is) ∙ chosen c

@@ -5,4 +5,4 @@ use Rattle.numa_space.proofs.choice.weighted_node.Given as goal
 
 abbrev pub invariant-loop-node : goal.invariant-loop-node
 invariant-loop-node l = node_at (weight_at l.weights) (members l.node-iterator) l.place
-    ≡ weighted_node (weight_at l.weights) l.set l.fn.index
+    ≡ weighted_node (weight_at l.weights) l.set l.fn.turn

@@ -75,3 +75,6 @@ returns-then-cpu-self-clause-err c =
 
 pub overflow_add-page : goal.overflow_add-page
 overflow_add-page c = omega (arith, c.in-Some.ensures.found.low, c.min-part.ensures)
+
+pub count-requires-clause-last : goal.count-requires-clause-last
+count-requires-clause-last c = omega (arith, c.in-Some.ensures.found.few, c.min-part.ensures)

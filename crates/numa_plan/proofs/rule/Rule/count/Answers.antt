@@ -24,7 +24,7 @@ returns-in-Turns c node small =
     subst IsRule c.in-Turns.is c.self.invariant in
     omega (
       arith,
-      c.add_turns.ensures node small,
+      c.count_turns.ensures node small,
       count-in_turns c.args.self.now c.in-Turns.width
           c.in-Turns.rows.items c.in-Turns.cycle.items c.in-Turns.firsts c.args.cpu node
           c.args.index

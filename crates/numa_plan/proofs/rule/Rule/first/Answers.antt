@@ -1,5 +1,4 @@
-use Rattle.std.proofs.Common.{◌≡◌, ℕ, ◌%◌, length, get_or, ap, sym, subst, ◌∙◌, arith}
-use Rattle.std.proofs.Common.{add-zero}
+use Rattle.std.proofs.Common.{◌≡◌, ap, sym, subst, ◌∙◌}
 use Rattle.numa_plan.specs.Rows.{InTurns}
 use Rattle.numa_plan.specs.Rules.{data_of, IsRule}
 use Rattle.numa_plan.specs.declared.rule.Body.TheVariants.{Turns}
@@ -23,8 +22,6 @@ returns-in-Turns c =
     ∙ ap data_of c.in-Turns.is in
     let whole : IsRule (Turns c.in-Turns.width c.in-Turns.rows c.in-Turns.cycle c.in-Turns.firsts) =
     subst IsRule c.in-Turns.is c.self.invariant in
-    c.turns.ensures.nodes 0 (omega (arith, c.turns.ensures.size))
-    ∙ ap (λ (n : ℕ). get_or c.in-Turns.firsts (n % length c.in-Turns.firsts) 0)
-    (add-zero c.args.index)
+    c.node_at.ensures
     ∙ sym (first-kept c.args.self.now c.in-Turns.width c.in-Turns.rows.items c.in-Turns.cycle.items
     c.in-Turns.firsts c.args.cpu c.args.index is whole.0 whole.1 (c.requires c.args.index))

@@ -13,6 +13,12 @@ use Rattle.std.proofs.Common.{Result}
 use Rattle.numa_space.specs.declared.change.Change.{Change}
 use Rattle.numa_space.proofs.Answers.{answer-done, answer-refused}
 use Rattle.numa_space.proofs.Changes.{bind-answer, bind-after}
+use Rattle.numa_space.proofs.Parting.{bind-parts, parts_bound}
+use Rattle.numa_ranges.specs.Runs.{page_at}
+use Rattle.numa_space.specs.History.{page_of, page_count}
+use Rattle.numa_space.specs.Refusals.{lacks_pages, parts_pages}
+use Rattle.numa_space.specs.Same.{same_record}
+use Rattle.std.proofs.Common.{◌&&◌, not}
 use Rattle.numa_space.proofs.Telling.{told-bind}
 use Rattle.std.proofs.Common.{None, Some, false, sym}
 use Rattle.std.proofs.lemmas.Bool.{ne_eqb}
@@ -34,6 +40,13 @@ invariant_of-self-2 c =
     ≡ passes_holes (shown_of c.self.inside).machine.rules c.args.spec.now =
     c.passes_holes-passes_holes.ensures ∙ ap
     (λ (s : SpaceState). passes_holes s.machine.rules c.args.spec.now) (sym c.self.view_is) in
+    let whole : parts_bound (shown_of c.self.inside) c.args.spec.now (page_of c.args.start)
+    (page_count c.args.length) ≡ false =
+    (λ i. parts_pages (same_record (sym is i)) (page_at (c.self.view_is i).ranges)
+    (sym c.in_ok-first.ensures.span.1 i) (sym c.in_ok-first.ensures.span.2 i)
+    && not (lacks_pages (sym passes i) (page_at (c.self.view_is i).ranges)
+    (sym c.in_ok-first.ensures.span.1 i) (sym c.in_ok-first.ensures.span.2 i)))
+    ∙ sym c.parts_bound.ensures ∙ c.if-parts_bound.false in
     let answer : IsAnswer (shown_of c.self.inside) (Mbind c.args.start c.args.length c.args.spec.now)
     c.bind_span.result (bind-after (shown_of c.self.inside) c.args.start c.args.length
     c.args.spec.now (omega (
@@ -42,7 +55,7 @@ invariant_of-self-2 c =
       ap (λ (s : SpaceState). s.version) c.self.view_is,
       ap (λ (s : SpaceState). s.bounds.max_commands) c.self.view_is,
     )) span
-    (ne_eqb c.args.length 0 c.if-length-eq0.false) node c.bind_span.result
+    (ne_eqb c.args.length 0 c.if-length-eq0.false) node whole c.bind_span.result
     c.bind_span.new.self) =
     bind-answer (shown_of c.self.inside) c.args.start c.args.length c.args.spec.now
     (omega (
@@ -51,7 +64,7 @@ invariant_of-self-2 c =
       ap (λ (s : SpaceState). s.version) c.self.view_is,
       ap (λ (s : SpaceState). s.bounds.max_commands) c.self.view_is,
     )) span
-    (ne_eqb c.args.length 0 c.if-length-eq0.false) node c.in_ok-first.first c.in_ok-first.pages
+    (ne_eqb c.args.length 0 c.if-length-eq0.false) node whole c.in_ok-first.first c.in_ok-first.pages
     c.self.inside.pages.limit c.in-Ok.policy c.passes_holes-passes_holes.result
     c.bind_span.new.self c.bind_span.result
     c.in_ok-first.ensures.span.1 c.in_ok-first.ensures.span.2 c.self.invariant.limit is passes
@@ -65,7 +78,7 @@ invariant_of-self-2 c =
       ap (λ (s : SpaceState). s.version) c.self.view_is,
       ap (λ (s : SpaceState). s.bounds.max_commands) c.self.view_is,
     )) span
-    (ne_eqb c.args.length 0 c.if-length-eq0.false) node r c.bind_span.new.self) in
+    (ne_eqb c.args.length 0 c.if-length-eq0.false) node whole r c.bind_span.new.self) in
     let new : Inside =
     record c.self.inside {
       pages = c.bind_span.new.self;
@@ -75,7 +88,7 @@ invariant_of-self-2 c =
     let done : IsAnswer (shown_of c.self.inside) (Mbind c.args.start c.args.length c.args.spec.now)
     (Ok (tt {0})) (shown_of new) = subst P c.in_ok-bind_span.was answer in
     kept-answer c.self.inside new (Mbind c.args.start c.args.length c.args.spec.now) (Ok (tt {0}))
-    c.self.invariant c.bind_span.ensures.limit refl done
+    c.self.invariant c.bind_span.ensures.limit refl (λ none. (none, refl)) done
 
 pub returns-clause-answer : goal.returns-clause-answer
 returns-clause-answer c =
@@ -92,6 +105,13 @@ returns-clause-answer c =
     ≡ passes_holes (shown_of c.self.inside).machine.rules c.args.spec.now =
     c.passes_holes-passes_holes.ensures ∙ ap
     (λ (s : SpaceState). passes_holes s.machine.rules c.args.spec.now) (sym c.self.view_is) in
+    let whole : parts_bound (shown_of c.self.inside) c.args.spec.now (page_of c.args.start)
+    (page_count c.args.length) ≡ false =
+    (λ i. parts_pages (same_record (sym is i)) (page_at (c.self.view_is i).ranges)
+    (sym c.in_ok-first.ensures.span.1 i) (sym c.in_ok-first.ensures.span.2 i)
+    && not (lacks_pages (sym passes i) (page_at (c.self.view_is i).ranges)
+    (sym c.in_ok-first.ensures.span.1 i) (sym c.in_ok-first.ensures.span.2 i)))
+    ∙ sym c.parts_bound.ensures ∙ c.if-parts_bound.false in
     let answer : IsAnswer (shown_of c.self.inside) (Mbind c.args.start c.args.length c.args.spec.now)
     c.bind_span.result (bind-after (shown_of c.self.inside) c.args.start c.args.length
     c.args.spec.now (omega (
@@ -100,7 +120,7 @@ returns-clause-answer c =
       ap (λ (s : SpaceState). s.version) c.self.view_is,
       ap (λ (s : SpaceState). s.bounds.max_commands) c.self.view_is,
     )) span
-    (ne_eqb c.args.length 0 c.if-length-eq0.false) node c.bind_span.result
+    (ne_eqb c.args.length 0 c.if-length-eq0.false) node whole c.bind_span.result
     c.bind_span.new.self) =
     bind-answer (shown_of c.self.inside) c.args.start c.args.length c.args.spec.now
     (omega (
@@ -109,7 +129,7 @@ returns-clause-answer c =
       ap (λ (s : SpaceState). s.version) c.self.view_is,
       ap (λ (s : SpaceState). s.bounds.max_commands) c.self.view_is,
     )) span
-    (ne_eqb c.args.length 0 c.if-length-eq0.false) node c.in_ok-first.first c.in_ok-first.pages
+    (ne_eqb c.args.length 0 c.if-length-eq0.false) node whole c.in_ok-first.first c.in_ok-first.pages
     c.self.inside.pages.limit c.in-Ok.policy c.passes_holes-passes_holes.result
     c.bind_span.new.self c.bind_span.result
     c.in_ok-first.ensures.span.1 c.in_ok-first.ensures.span.2 c.self.invariant.limit is passes
@@ -123,7 +143,7 @@ returns-clause-answer c =
       ap (λ (s : SpaceState). s.version) c.self.view_is,
       ap (λ (s : SpaceState). s.bounds.max_commands) c.self.view_is,
     )) span
-    (ne_eqb c.args.length 0 c.if-length-eq0.false) node r c.bind_span.new.self) in
+    (ne_eqb c.args.length 0 c.if-length-eq0.false) node whole r c.bind_span.new.self) in
     let new : Inside =
     record c.self.inside {
       pages = c.bind_span.new.self;
@@ -154,6 +174,13 @@ returns-in_err-bind_span-clause-answer c =
     ≡ passes_holes (shown_of c.self.inside).machine.rules c.args.spec.now =
     c.passes_holes-passes_holes.ensures ∙ ap
     (λ (s : SpaceState). passes_holes s.machine.rules c.args.spec.now) (sym c.self.view_is) in
+    let whole : parts_bound (shown_of c.self.inside) c.args.spec.now (page_of c.args.start)
+    (page_count c.args.length) ≡ false =
+    (λ i. parts_pages (same_record (sym is i)) (page_at (c.self.view_is i).ranges)
+    (sym c.in_ok-first.ensures.span.1 i) (sym c.in_ok-first.ensures.span.2 i)
+    && not (lacks_pages (sym passes i) (page_at (c.self.view_is i).ranges)
+    (sym c.in_ok-first.ensures.span.1 i) (sym c.in_ok-first.ensures.span.2 i)))
+    ∙ sym c.parts_bound.ensures ∙ c.if-parts_bound.false in
     let answer : IsAnswer (shown_of c.self.inside) (Mbind c.args.start c.args.length c.args.spec.now)
     c.bind_span.result (bind-after (shown_of c.self.inside) c.args.start c.args.length
     c.args.spec.now (omega (
@@ -162,7 +189,7 @@ returns-in_err-bind_span-clause-answer c =
       ap (λ (s : SpaceState). s.version) c.self.view_is,
       ap (λ (s : SpaceState). s.bounds.max_commands) c.self.view_is,
     )) span
-    (ne_eqb c.args.length 0 c.if-length-eq0.false) node c.bind_span.result
+    (ne_eqb c.args.length 0 c.if-length-eq0.false) node whole c.bind_span.result
     c.bind_span.new.self) =
     bind-answer (shown_of c.self.inside) c.args.start c.args.length c.args.spec.now
     (omega (
@@ -171,7 +198,7 @@ returns-in_err-bind_span-clause-answer c =
       ap (λ (s : SpaceState). s.version) c.self.view_is,
       ap (λ (s : SpaceState). s.bounds.max_commands) c.self.view_is,
     )) span
-    (ne_eqb c.args.length 0 c.if-length-eq0.false) node c.in_ok-first.first c.in_ok-first.pages
+    (ne_eqb c.args.length 0 c.if-length-eq0.false) node whole c.in_ok-first.first c.in_ok-first.pages
     c.self.inside.pages.limit c.in-Ok.policy c.passes_holes-passes_holes.result
     c.bind_span.new.self c.bind_span.result
     c.in_ok-first.ensures.span.1 c.in_ok-first.ensures.span.2 c.self.invariant.limit is passes
@@ -185,7 +212,7 @@ returns-in_err-bind_span-clause-answer c =
       ap (λ (s : SpaceState). s.version) c.self.view_is,
       ap (λ (s : SpaceState). s.bounds.max_commands) c.self.view_is,
     )) span
-    (ne_eqb c.args.length 0 c.if-length-eq0.false) node r c.bind_span.new.self) in
+    (ne_eqb c.args.length 0 c.if-length-eq0.false) node whole r c.bind_span.new.self) in
     let new : Inside = record c.self.inside { pages = c.bind_span.new.self } in
     let done : IsAnswer {A = Unit {0}} (shown_of c.self.inside)
     (Mbind c.args.start c.args.length c.args.spec.now) (Err c.in_err-bind_span.field-0.0)
@@ -215,6 +242,13 @@ invariant_of-self-in_err-bind_span c =
     ≡ passes_holes (shown_of c.self.inside).machine.rules c.args.spec.now =
     c.passes_holes-passes_holes.ensures ∙ ap
     (λ (s : SpaceState). passes_holes s.machine.rules c.args.spec.now) (sym c.self.view_is) in
+    let whole : parts_bound (shown_of c.self.inside) c.args.spec.now (page_of c.args.start)
+    (page_count c.args.length) ≡ false =
+    (λ i. parts_pages (same_record (sym is i)) (page_at (c.self.view_is i).ranges)
+    (sym c.in_ok-first.ensures.span.1 i) (sym c.in_ok-first.ensures.span.2 i)
+    && not (lacks_pages (sym passes i) (page_at (c.self.view_is i).ranges)
+    (sym c.in_ok-first.ensures.span.1 i) (sym c.in_ok-first.ensures.span.2 i)))
+    ∙ sym c.parts_bound.ensures ∙ c.if-parts_bound.false in
     let answer : IsAnswer (shown_of c.self.inside) (Mbind c.args.start c.args.length c.args.spec.now)
     c.bind_span.result (bind-after (shown_of c.self.inside) c.args.start c.args.length
     c.args.spec.now (omega (
@@ -223,7 +257,7 @@ invariant_of-self-in_err-bind_span c =
       ap (λ (s : SpaceState). s.version) c.self.view_is,
       ap (λ (s : SpaceState). s.bounds.max_commands) c.self.view_is,
     )) span
-    (ne_eqb c.args.length 0 c.if-length-eq0.false) node c.bind_span.result
+    (ne_eqb c.args.length 0 c.if-length-eq0.false) node whole c.bind_span.result
     c.bind_span.new.self) =
     bind-answer (shown_of c.self.inside) c.args.start c.args.length c.args.spec.now
     (omega (
@@ -232,7 +266,7 @@ invariant_of-self-in_err-bind_span c =
       ap (λ (s : SpaceState). s.version) c.self.view_is,
       ap (λ (s : SpaceState). s.bounds.max_commands) c.self.view_is,
     )) span
-    (ne_eqb c.args.length 0 c.if-length-eq0.false) node c.in_ok-first.first c.in_ok-first.pages
+    (ne_eqb c.args.length 0 c.if-length-eq0.false) node whole c.in_ok-first.first c.in_ok-first.pages
     c.self.inside.pages.limit c.in-Ok.policy c.passes_holes-passes_holes.result
     c.bind_span.new.self c.bind_span.result
     c.in_ok-first.ensures.span.1 c.in_ok-first.ensures.span.2 c.self.invariant.limit is passes
@@ -246,13 +280,13 @@ invariant_of-self-in_err-bind_span c =
       ap (λ (s : SpaceState). s.version) c.self.view_is,
       ap (λ (s : SpaceState). s.bounds.max_commands) c.self.view_is,
     )) span
-    (ne_eqb c.args.length 0 c.if-length-eq0.false) node r c.bind_span.new.self) in
+    (ne_eqb c.args.length 0 c.if-length-eq0.false) node whole r c.bind_span.new.self) in
     let new : Inside = record c.self.inside { pages = c.bind_span.new.self } in
     let done : IsAnswer {A = Unit {0}} (shown_of c.self.inside)
     (Mbind c.args.start c.args.length c.args.spec.now) (Err c.in_err-bind_span.field-0.0)
     (shown_of new) = subst P c.in_err-bind_span.was answer in
     kept-answer c.self.inside new (Mbind c.args.start c.args.length c.args.spec.now)
-    (Err c.in_err-bind_span.field-0.0) c.self.invariant c.bind_span.ensures.limit refl done
+    (Err c.in_err-bind_span.field-0.0) c.self.invariant c.bind_span.ensures.limit refl (λ none. (none, refl)) done
 
 pub invariant_of-self : goal.invariant_of-self
 invariant_of-self c =
@@ -260,7 +294,7 @@ invariant_of-self c =
     let answer : IsAnswer (shown_of c.self.inside) (Mbind c.args.start c.args.length c.args.spec.now)
     (Ok (tt {0})) (shown_of new) = search rules in
     kept-answer c.self.inside new (Mbind c.args.start c.args.length c.args.spec.now) (Ok (tt {0}))
-    c.self.invariant refl refl answer
+    c.self.invariant refl refl (λ none. (none, refl)) answer
 
 pub returns-clause-change : goal.returns-clause-change
 returns-clause-change c =
@@ -275,3 +309,17 @@ returns-in_err-first-clause-room c =
     let is_err : c.from_residual.result ≡ Err c.in_err-first.field-0.0 = search rules in
     rw is_err (λ memory. absurd (bad_policy_span-not_memory c.args.self.now.machine.rules
     c.args.start c.args.length (c.in_err-first.ensures.span ∙ ap Some memory)))
+
+-- a span that parts a page of 2 MiB
+pub returns-then-parts_bound-clause-answer : goal.returns-then-parts_bound-clause-answer
+returns-then-parts_bound-clause-answer c =
+    let node : has_no_node c.args.self.now.allowed c.args.spec.now ≡ false = c.in-Ok.ensures.0 in
+    bind-parts c.args.self.now c.args.start c.args.length c.args.spec.now c.requires
+    c.in_ok-first.ensures.span.0 (ne_eqb c.args.length 0 c.if-length-eq0.false) node
+    c.in_ok-first.first c.in_ok-first.pages c.in_ok-first.ensures.span.1
+    c.in_ok-first.ensures.span.2
+    ((λ i. parts_pages (same_record (sym c.in-Ok.ensures.1 i)) (page_at c.args.self.now.ranges)
+    c.in_ok-first.first c.in_ok-first.pages
+    && not (lacks_pages (sym c.passes_holes-passes_holes.ensures i)
+    (page_at c.args.self.now.ranges) c.in_ok-first.first c.in_ok-first.pages))
+    ∙ sym c.parts_bound.ensures ∙ c.if-parts_bound.true)

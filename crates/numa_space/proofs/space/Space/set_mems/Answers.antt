@@ -19,4 +19,4 @@ invariant_of-self c =
     let answer : IsAnswer (shown_of c.self.inside) (SetMems c.args.mask.now) (Ok (tt {0})) (shown_of new) =
     search rules in
     kept-answer c.self.inside new (SetMems c.args.mask.now) (Ok (tt {0})) c.self.invariant
-    c.rebind.ensures.limit refl answer
+    c.rebind.ensures.limit refl (λ none. (none, refl)) answer

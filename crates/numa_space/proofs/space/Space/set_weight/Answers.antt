@@ -13,4 +13,4 @@ invariant_of-self-2 c =
     let answer : IsAnswer (shown_of c.self.inside) (SetWeight c.args.node c.args.weight) (Ok (tt {0}))
     (shown_of new) = search rules in
     kept-answer c.self.inside new (SetWeight c.args.node c.args.weight) (Ok (tt {0})) c.self.invariant
-    refl c.set.ensures.nodes answer
+    refl c.set.ensures.nodes (λ none. (none, refl)) answer

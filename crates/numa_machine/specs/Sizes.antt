@@ -1,0 +1,46 @@
+-- The sizes of pages. Pages and their indexes are counted in 4 KiB whatever their size; a page of
+-- 2 MiB has 512 parts of 4 KiB in a row.
+use Rattle.std.specs.Prelude.{ℕ, ◌+◌, ◌-◌, ◌*◌, ◌/◌, ◌%◌, ◌^◌, ◌==◌, ◌&&◌, not, Bool}
+use Rattle.std.specs.Prelude.{true, false, min, nat_le, if◌then◌else◌}
+use Rattle.numa_machine.specs.declared.page_size.PageSize.{PageSize}
+use Rattle.numa_machine.specs.declared.page_size.PageSize.TheVariants.{Small, Huge}
+
+-- whether a size is 2 MiB
+abbrev pub is_huge : PageSize → Bool
+is_huge Small = false
+is_huge Huge = true
+
+-- the bytes of a page
+abbrev pub bytes_of : PageSize → ℕ
+bytes_of Small = 4096
+bytes_of Huge = 2097152
+
+-- a length in bytes, up to the end of its last page; pages of 4 KiB are rounded where they are
+-- counted
+abbrev pub whole : PageSize → ℕ → ℕ
+whole Small bytes = bytes
+whole Huge bytes = (bytes + 2097151) / 2097152 * 2097152
+
+-- the index of what stands so many pages of 4 KiB behind the beginning of what is mapped: the
+-- indexes from 2^36 on are those of parts of pages of 2 MiB
+abbrev pub index_in : PageSize → ℕ → ℕ
+index_in Small place = place
+index_in Huge place = 2 ^ 36 + place
+
+-- whether an index is that of a part of a page of 2 MiB
+unfoldable pub is_part : ℕ → Bool
+is_part index = nat_le (2 ^ 36) index
+
+-- whether the border before the page of an index lies inside a page of 2 MiB
+unfoldable pub is_inside : ℕ → Bool
+is_inside index = is_part index && not (index % 512 == 0)
+
+-- the turn of an index, where nodes take turns: each page has one, and the parts of a page its own
+unfoldable pub turn_at : ℕ → ℕ
+turn_at index = if is_part index then (index - 2 ^ 36) / 512 else index
+
+-- of so many pages with the indexes from one on, after how many their turns come again, where turns
+-- come again after so many; all of them, if not before, as where two sizes were in a row
+unfoldable pub round_of : ℕ → ℕ → ℕ → ℕ
+round_of turns index pages = if is_part index then min (turns * 512) pages
+    else if nat_le (index + pages) (2 ^ 36) then min turns pages else pages

@@ -1,0 +1,116 @@
+//! The sizes of pages, and what the index of a page tells of its size.
+//!
+//! Pages and their indexes are counted in 4 KiB whatever the size of a page. Those of pages of 4
+//! KiB have the indexes below 2^36, from the offset of their mapping on. A page of 2 MiB is 512
+//! parts of 4 KiB in a row, which have the indexes from 2^36 on; so pages of two sizes never have
+//! consecutive indexes.
+ghost use Rattle.std.specs.Prelude.{◌≡◌, ◌+◌, ◌<◌, ◌≤◌, ◌^◌, ℕ};
+ghost use Rattle.numa_machine.specs.Sizes.{bytes_of, index_in, is_huge, is_inside, is_part};
+ghost use Rattle.numa_machine.specs.Sizes.{round_of, turn_at};
+
+/// The index of the first part of the first page of 2 MiB of a mapping whose offset is 0.
+const FIRST_HUGE: u64 = 1 << 36;
+
+/// The number of parts of a page of 2 MiB.
+const PARTS: u64 = 512;
+
+/// A size of pages.
+#[derive(Clone, Copy, Debug, PartialEq, Eq)]
+pub enum PageSize {
+    /// 4 KiB.
+    Small,
+    /// 2 MiB, from a pool (hugetlb).
+    Huge,
+}
+
+impl PageSize {
+    /// Whether it is 2 MiB.
+    pub fn is_huge(self) -> bool
+        ensures { result ≡ is_huge self }
+    {
+        match self {
+            PageSize::Small => false,
+            PageSize::Huge => true,
+        }
+    }
+
+    /// The bytes of a page.
+    pub fn bytes(self) -> u64
+        ensures { result ≡ bytes_of self }
+    {
+        match self {
+            PageSize::Small => 4_096,
+            PageSize::Huge => 2_097_152,
+        }
+    }
+
+    /// The index of what stands `place` pages of 4 KiB behind the beginning of what is mapped.
+    pub fn index(self, place: u64) -> u64
+        requires { place < 2 ^ 36 }
+        ensures { result ≡ index_in self place }
+    {
+        match self {
+            PageSize::Small => place,
+            PageSize::Huge => FIRST_HUGE + place,
+        }
+    }
+}
+
+/// Whether an index is that of a part of a page of 2 MiB.
+#[tactic(auto, unfolding(crate::specs::Sizes::is_part))]
+#[inline(always)]
+pub fn is_part(index: u64) -> bool
+    ensures { result ≡ is_part index }
+{
+    index >= FIRST_HUGE
+}
+
+/// Whether the border before the page with this index lies inside a page of 2 MiB.
+#[tactic(auto, unfolding(crate::specs::Sizes::is_inside))]
+pub fn is_inside(index: u64) -> bool
+    ensures { result ≡ is_inside index }
+{
+    is_part(index) && index % PARTS != 0
+}
+
+/// The turn of an index, where nodes take turns: the index itself, or of a part of a page of 2 MiB
+/// the number of such pages before it, so that all parts of a page have one turn.
+#[tactic(auto, unfolding(crate::specs::Sizes::turn_at))]
+#[inline(always)]
+pub fn turn_at(index: u64) -> u64
+    ensures { result ≡ turn_at index }
+{
+    if is_part(index) {
+        (index - FIRST_HUGE) / PARTS
+    } else {
+        index
+    }
+}
+
+/// Of `pages` pages with the indexes from `index` on, after how many their turns come again, if
+/// turns come again after `turns`; all of them, if not before.
+#[tactic(auto, unfolding(crate::specs::Sizes::round_of))]
+pub fn round_of(turns: u64, index: u64, pages: u64) -> u64
+    ensures { result ≡ round_of turns index pages }
+{
+    if is_part(index) {
+        return turns.saturating_mul(PARTS).min(pages);
+    }
+    if index.saturating_add(pages) <= FIRST_HUGE {
+        return turns.min(pages);
+    }
+    pages
+}
+
+/// How many pages with the indexes from this one on have one turn.
+pub fn parts_left(index: u64) -> u64
+    ensures some { 0 < result }
+    ensures few { result ≤ 512 }
+    ensures same { (q : ℕ) → q < result → turn_at (index + q) ≡ turn_at index }
+{
+    if is_part(index) {
+        PARTS - index % PARTS
+    } else {
+        1
+    }
+}
