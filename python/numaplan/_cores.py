@@ -35,8 +35,9 @@ class Placement(NamedTuple):
 
 
 class Range(NamedTuple):
-    """A range of pages: address and length in bytes, the index of its first page in pages, and the
-    policy of its own as a word, None where it has none."""
+    """A range of pages: address and length in bytes, the index of its first page in pages of 4 KiB
+    (and 2**36 more where its pages have 2 MiB), and the policy of its own as a word, None where it
+    has none."""
 
     start: int
     length: int

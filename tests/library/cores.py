@@ -29,6 +29,15 @@ for frames, memory, wanted in [([0, 0], None, [1, 0]), ([0, 1], None, [1]), ([0,
         core.map(0x10000, 0x1000)
         with core.compile() as plan:
             assert plan.choice(1, 16, 1) == wanted, (frames, memory)
+# pages of 2 MiB take one turn each, and no part of one gets a policy alone
+with Core([0, 0], [[10, 20], [20, 10]]) as core:
+    core.map(0x400000, 0x400000, huge=True)
+    core.set_task(1, "interleave:0-1")
+    assert core.ranges() == [Range(0x400000, 0x400000, 1 << 36, None)]
+    assert is_refused(numaplan.Unaligned, core.mbind, 0x401000, 0x1000, "bind:0")
+    assert is_refused(numaplan.Unaligned, lambda: core.map(0x1000000, 1, 1, huge=True))
+    with core.compile() as plan:
+        assert [plan.choice(1, page, 0)[0] for page in (1024, 1535, 1536, 2047)] == [0, 0, 1, 1]
 with Core([2, 1], [[10, 20], [20, 10]], workers=2) as core:
     core.map(0x10000, 0x4000)
     core.map(0x20000, 0x2000)
