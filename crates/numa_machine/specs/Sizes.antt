@@ -21,6 +21,10 @@ abbrev pub whole : PageSize → ℕ → ℕ
 whole Small bytes = bytes
 whole Huge bytes = (bytes + 2097151) / 2097152 * 2097152
 
+-- how many pages of 4 KiB so many bytes take, up to the end of the last page
+abbrev pub parts_in : PageSize → ℕ → ℕ
+parts_in size bytes = (whole size bytes + 4095) / 4096
+
 -- the index of what stands so many pages of 4 KiB behind the beginning of what is mapped: the
 -- indexes from 2^36 on are those of parts of pages of 2 MiB
 abbrev pub index_in : PageSize → ℕ → ℕ
@@ -38,6 +42,10 @@ is_inside index = is_part index && not (index % 512 == 0)
 -- the turn of an index, where nodes take turns: each page has one, and the parts of a page its own
 unfoldable pub turn_at : ℕ → ℕ
 turn_at index = if is_part index then (index - 2 ^ 36) / 512 else index
+
+-- how many pages with the indexes from one on have one turn: the parts that are left of a page
+unfoldable pub parts_left : ℕ → ℕ
+parts_left index = if is_part index then 512 - index % 512 else 1
 
 -- of so many pages with the indexes from one on, after how many their turns come again, where turns
 -- come again after so many; all of them, if not before, as where two sizes were in a row

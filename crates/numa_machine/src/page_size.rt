@@ -4,15 +4,19 @@
 //! KiB have the indexes below 2^36, from the offset of their mapping on. A page of 2 MiB is 512
 //! parts of 4 KiB in a row, which have the indexes from 2^36 on; so pages of two sizes never have
 //! consecutive indexes.
-ghost use Rattle.std.specs.Prelude.{◌≡◌, ◌+◌, ◌<◌, ◌≤◌, ◌^◌, ℕ};
+ghost use Rattle.std.specs.Prelude.{◌≡◌, ◌+◌, ◌%◌, ◌==◌, ◌<◌, ◌≤◌, ◌^◌, ℕ};
 ghost use Rattle.numa_machine.specs.Sizes.{bytes_of, index_in, is_huge, is_inside, is_part};
-ghost use Rattle.numa_machine.specs.Sizes.{round_of, turn_at};
+ghost use Rattle.numa_machine.specs.Sizes.{parts_in, parts_left, round_of, turn_at, whole};
 
 /// The index of the first part of the first page of 2 MiB of a mapping whose offset is 0.
 const FIRST_HUGE: u64 = 1 << 36;
 
+/// The bytes of a page of each size.
+const SMALL_BYTES: u64 = 4_096;
+const HUGE_BYTES: u64 = 2_097_152;
+
 /// The number of parts of a page of 2 MiB.
-const PARTS: u64 = 512;
+const PARTS: u64 = HUGE_BYTES / SMALL_BYTES;
 
 /// A size of pages.
 #[derive(Clone, Copy, Debug, PartialEq, Eq)]
@@ -39,8 +43,38 @@ impl PageSize {
         ensures { result ≡ bytes_of self }
     {
         match self {
-            PageSize::Small => 4_096,
-            PageSize::Huge => 2_097_152,
+            PageSize::Small => SMALL_BYTES,
+            PageSize::Huge => HUGE_BYTES,
+        }
+    }
+
+    /// Whether a page may begin at an address: whether it is a multiple of the bytes of a page.
+    pub fn begins_at(self, address: u64) -> bool
+        ensures { result ≡ (address % bytes_of self == 0) }
+    {
+        match self {
+            PageSize::Small => address % SMALL_BYTES == 0,
+            PageSize::Huge => address % HUGE_BYTES == 0,
+        }
+    }
+
+    /// How many pages of 4 KiB so many bytes take, up to the end of the last page.
+    pub fn parts_in(self, bytes: u64) -> u64
+        ensures { result ≡ parts_in self bytes }
+    {
+        match self {
+            PageSize::Small => bytes / SMALL_BYTES + u64::from(bytes % SMALL_BYTES != 0),
+            PageSize::Huge => (bytes / HUGE_BYTES + u64::from(bytes % HUGE_BYTES != 0)) * PARTS,
+        }
+    }
+
+    /// Whether so many bytes take no page.
+    pub fn takes_no_page(self, bytes: u64) -> bool
+        ensures { result ≡ (whole self bytes == 0) }
+    {
+        match self {
+            PageSize::Small => bytes == 0,
+            PageSize::Huge => bytes == 0,
         }
     }
 
@@ -102,8 +136,11 @@ pub fn round_of(turns: u64, index: u64, pages: u64) -> u64
     pages
 }
 
-/// How many pages with the indexes from this one on have one turn.
+/// How many pages with the indexes from this one on have one turn: of a page of 2 MiB the parts
+/// that are left.
+#[tactic(auto, unfolding(crate::specs::Sizes::parts_left))]
 pub fn parts_left(index: u64) -> u64
+    ensures count { result ≡ parts_left index }
     ensures some { 0 < result }
     ensures few { result ≤ 512 }
     ensures same { (q : ℕ) → q < result → turn_at (index + q) ≡ turn_at index }

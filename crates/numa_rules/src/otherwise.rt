@@ -11,8 +11,7 @@ ghost use Rattle.numa_rules.specs.Otherwise.{otherwise_of, otherwise_of_empty_bi
 ghost use Rattle.numa_rules.specs.Otherwise.{bind_past_end, home_past_end, with_command};
 
 use crate::parted::{Parted, parted_in};
-use crate::span::{SPACE_END, SpanTest, ends_above, has_page, is_empty, is_unaligned, pages_of};
-use crate::span::span_of;
+use crate::span::{SPACE_END, SpanTest, ends_above, has_page, pages_of, span_of};
 use numa_machine::PageSize;
 use numa_mask::NodeMask;
 use numa_mode::{Mode, PolicySpec, Record};
@@ -59,7 +58,7 @@ pub enum Otherwise {
 fn with_map(size: PageSize, start: u64, length: u64) -> Option<Otherwise>
     ensures { result ≡ with_map size start (whole size length) }
 {
-    if is_empty(size, length) {
+    if size.takes_no_page(length) {
         return match span_of(size, start, length) {
             Some(_) => None,
             None => Some(Otherwise::JudgesLengthFirst),
@@ -68,7 +67,7 @@ fn with_map(size: PageSize, start: u64, length: u64) -> Option<Otherwise>
     if !ends_above(SPACE_END - PAGE_BYTES, size, start, length) {
         return None;
     }
-    if is_unaligned(size, start) {
+    if !size.begins_at(start) {
         return Some(Otherwise::JudgesEndFirst);
     }
     if ends_above(SPACE_END, size, start, length) {

@@ -1,11 +1,11 @@
 //! Tests of the pages of a span.
 ghost use Rattle.std.specs.Prelude.{◌≡◌, ◌+◌, ◌<◌, ◌≤◌, ◌^◌, Some, None, MatchOption};
-ghost use Rattle.std.specs.Prelude.{◌==◌, is_some, true};
+ghost use Rattle.std.specs.Prelude.{is_some, true};
 ghost use Rattle.numa_machine.specs.Sizes.{whole};
 ghost use Rattle.numa_ranges.specs.Maps.{any_page};
 ghost use Rattle.numa_ranges.specs.Runs.{page_at};
 ghost use Rattle.numa_space.specs.History.{page_count, page_of};
-ghost use Rattle.numa_space.specs.Refusals.{bad_span, ends_above, takes_no_home, unaligned};
+ghost use Rattle.numa_space.specs.Refusals.{bad_span, ends_above, takes_no_home};
 ghost use Rattle.numa_rules.specs.Pages.{passes, reaches};
 
 use numa_machine::PageSize;
@@ -27,47 +27,13 @@ pub(crate) enum SpanTest {
 /// The end of the addresses of a space.
 pub(crate) const SPACE_END: u64 = 1 << 47;
 
-/// The bytes of a page of 2 MiB, and the number of its parts.
-const HUGE_BYTES: u64 = 2_097_152;
-const HUGE_PARTS: u64 = HUGE_BYTES / PAGE_BYTES;
-
 /// The first page of a span, and the number of its pages; its length is rounded up to whole pages
 /// of this size.
 pub(crate) fn pages_of(size: PageSize, start: u64, length: u64) -> (u64, u64)
     ensures first { result.0 ≡ page_of start }
     ensures count { result.1 ≡ page_count (whole size length) }
 {
-    let first = start / PAGE_BYTES;
-    match size {
-        PageSize::Small => (
-            first,
-            length / PAGE_BYTES + u64::from(length % PAGE_BYTES != 0),
-        ),
-        PageSize::Huge => (
-            first,
-            (length / HUGE_BYTES + u64::from(length % HUGE_BYTES != 0)) * HUGE_PARTS,
-        ),
-    }
-}
-
-/// Whether no page of this size begins at an address.
-pub(crate) fn is_unaligned(size: PageSize, start: u64) -> bool
-    ensures { result ≡ is_some (unaligned size start) }
-{
-    match size {
-        PageSize::Small => start % PAGE_BYTES != 0,
-        PageSize::Huge => start % HUGE_BYTES != 0,
-    }
-}
-
-/// Whether a length in bytes is 0.
-pub(crate) fn is_empty(size: PageSize, length: u64) -> bool
-    ensures { result ≡ (whole size length == 0) }
-{
-    match size {
-        PageSize::Small => length == 0,
-        PageSize::Huge => length == 0,
-    }
+    (start / PAGE_BYTES, size.parts_in(length))
 }
 
 /// Whether a span ends above an address.
@@ -86,7 +52,7 @@ pub(crate) fn span_of(size: PageSize, start: u64, length: u64) -> Option<(u64, u
         × (span.1 ≡ page_count (whole size length))) }
     ensures within { MatchOption result (Unit {0}) (λ span. span.0 + span.1 ≤ 2 ^ 35) }
 {
-    if is_unaligned(size, start) {
+    if !size.begins_at(start) {
         return None;
     }
     if ends_above(SPACE_END, size, start, length) {

@@ -1,7 +1,7 @@
 //! The pages of the spans that commands name.
-ghost use Rattle.std.specs.Prelude.{◌≡◌, ◌+◌, ◌%◌, ◌==◌, ◌≤◌, ◌^◌, not, false, MatchResult, IfOk};
+ghost use Rattle.std.specs.Prelude.{◌≡◌, ◌+◌, ◌≤◌, ◌^◌, false, MatchResult, IfOk};
 ghost use Rattle.numa_machine.specs.Rules.{is_linux};
-ghost use Rattle.numa_machine.specs.Sizes.{bytes_of, whole};
+ghost use Rattle.numa_machine.specs.Sizes.{whole};
 ghost use Rattle.numa_ranges.specs.Maps.{IsSpan};
 ghost use Rattle.numa_space.specs.Edits.{IsSpanOf};
 ghost use Rattle.numa_space.specs.History.{page_of, page_count};
@@ -11,10 +11,6 @@ ghost use Rattle.numa_space.specs.Refusals.{bad_unmap_span, ends_above};
 use crate::space::Space;
 use numa_machine::{PageSize, Rules};
 use numa_requests::{PAGE_BYTES, Refusal};
-
-/// The bytes of a page of 2 MiB, and the number of its parts.
-const HUGE_BYTES: u64 = 2_097_152;
-const HUGE_PARTS: u64 = HUGE_BYTES / PAGE_BYTES;
 
 /// The end of the addresses of a space.
 const SPACE_END: u64 = 1 << 47;
@@ -28,37 +24,7 @@ fn pages_of(size: PageSize, start: u64, length: u64) -> (u64, u64)
     ensures first { result.0 ≡ page_of start }
     ensures count { result.1 ≡ page_count (whole size length) }
 {
-    let first = start / PAGE_BYTES;
-    match size {
-        PageSize::Small => (
-            first,
-            length / PAGE_BYTES + u64::from(length % PAGE_BYTES != 0),
-        ),
-        PageSize::Huge => (
-            first,
-            (length / HUGE_BYTES + u64::from(length % HUGE_BYTES != 0)) * HUGE_PARTS,
-        ),
-    }
-}
-
-/// Whether no page of this size begins at an address.
-fn is_unaligned(size: PageSize, start: u64) -> bool
-    ensures { result ≡ not (start % bytes_of size == 0) }
-{
-    match size {
-        PageSize::Small => start % PAGE_BYTES != 0,
-        PageSize::Huge => start % HUGE_BYTES != 0,
-    }
-}
-
-/// Whether a length in bytes is 0.
-fn is_empty(size: PageSize, length: u64) -> bool
-    ensures { result ≡ (whole size length == 0) }
-{
-    match size {
-        PageSize::Small => length == 0,
-        PageSize::Huge => length == 0,
-    }
+    (start / PAGE_BYTES, size.parts_in(length))
 }
 
 /// Whether a span ends above an address.
@@ -75,7 +41,7 @@ fn span_of(size: PageSize, start: u64, length: u64) -> Result<(u64, u64), Refusa
         result }
     ensures within { IfOk result (λ span. span.0 + span.1 ≤ 2 ^ 35) }
 {
-    if is_unaligned(size, start) {
+    if !size.begins_at(start) {
         return Err(Refusal::Unaligned);
     }
     if ends_above(SPACE_END, size, start, length) {
@@ -93,7 +59,7 @@ fn documented_map_span(size: PageSize, start: u64, length: u64) -> Result<(u64, 
 {
     match span_of(size, start, length) {
         Err(refusal) => Err(refusal),
-        Ok(_) if is_empty(size, length) => Err(Refusal::EmptyLength),
+        Ok(_) if size.takes_no_page(length) => Err(Refusal::EmptyLength),
         Ok(span) => Ok(span),
     }
 }
@@ -105,13 +71,13 @@ fn kernel_map_span(size: PageSize, start: u64, length: u64) -> Result<(u64, u64)
         (whole size length) result }
     ensures within { IfOk result (λ span. IsSpan span.0 span.1) }
 {
-    if is_empty(size, length) {
+    if size.takes_no_page(length) {
         return Err(Refusal::EmptyLength);
     }
     if ends_above(KERNEL_END, size, start, length) {
         return Err(Refusal::OutOfSpace);
     }
-    if is_unaligned(size, start) {
+    if !size.begins_at(start) {
         return Err(Refusal::Unaligned);
     }
     Ok(pages_of(size, start, length))
@@ -123,7 +89,7 @@ fn kernel_unmap_span(start: u64, length: u64) -> Result<(u64, u64), Refusal>
     ensures span { IsSpanOf (bad_unmap_span Rules.Linux start length) start length result }
     ensures within { IfOk result (λ span. span.0 + span.1 ≤ 2 ^ 35) }
 {
-    if is_unaligned(PageSize::Small, start) {
+    if !PageSize::Small.begins_at(start) {
         return Err(Refusal::Unaligned);
     }
     if ends_above(KERNEL_END, PageSize::Small, start, length) {
@@ -140,7 +106,7 @@ fn kernel_unmap_span(start: u64, length: u64) -> Result<(u64, u64), Refusal>
 fn kernel_policy_span(start: u64, length: u64) -> Result<(u64, u64), Refusal>
     ensures span { IsSpanOf (bad_policy_span Rules.Linux start length) start length result }
 {
-    if is_unaligned(PageSize::Small, start) {
+    if !PageSize::Small.begins_at(start) {
         return Err(Refusal::Unaligned);
     }
     if ends_above(u64::MAX, PageSize::Small, start, length) {
