@@ -14,10 +14,11 @@ use Rattle.numa_requests.specs.declared.command.Command.TheVariants.{SetHome}
 use Rattle.numa_requests.specs.declared.refusal.Refusal.TheVariants.{BadOffset, EmptyLength, Hole}
 use Rattle.numa_requests.specs.declared.refusal.Refusal.TheVariants.{OutOfSpace, Unaligned}
 use Rattle.numa_space.specs.Lists.{node_list}
-use Rattle.numa_space.specs.Pages.{is_mapped}
-use Rattle.numa_space.specs.Policies.{mems_of}
+use Rattle.numa_space.specs.Pages.{is_mapped, page_in}
+use Rattle.numa_space.specs.Policies.{allowed_nodes, mems_of, record_now}
 use Rattle.numa_space.specs.Refusals.{bad_map_span, bad_policy_span, bad_unmap_span, lacks_policy}
-use Rattle.numa_space.specs.Refusals.{parts_pages, refusal_of}
+use Rattle.numa_space.specs.Refusals.{keeps_home, parts_pages, refusal_of}
+use Rattle.numa_space.specs.Same.{same_record}
 use Rattle.numa_space.proofs.Rows.{asked, flat}
 use Rattle.numa_space.proofs.RefusalRows.{wide}
 
@@ -112,3 +113,18 @@ home-of_a_part : refusal_of (flat 2) wide one_page (SetHome 0x40300000 0x100000 
 unfolding members any_page bad_policy_span lacks_policy parts_pages is_inside is_part one_page wide
     mems_of
 home-of_a_part = refl
+
+-- but a part may get what its page has: its policy again, or a home where it has no policy
+same-policy : parts_pages (same_record (record_now (allowed_nodes (flat 2) one_page)
+    (asked Bind Plain (1 ∷ [])))) (page_in (flat 2) one_page) 0x40201 1 ≡ false
+unfolding members parts_pages is_inside is_part one_page mems_of
+same-policy = refl
+
+no-policy : parts_pages (keeps_home 0) (page_in (flat 2) one_page) 0x40001 1 ≡ false
+unfolding members parts_pages is_inside is_part one_page mems_of
+no-policy = refl
+
+-- nor are pages parted by a span that has whole ones
+whole-pages : parts_pages (λ policy. false) (page_in (flat 2) one_page) 0x40200 512 ≡ false
+unfolding members parts_pages is_inside is_part one_page mems_of
+whole-pages = refl
