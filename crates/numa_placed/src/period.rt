@@ -1,10 +1,10 @@
 //! The number of pages after which the fallback lists of a policy repeat.
-ghost use Rattle.std.specs.Prelude.{◌≡◌, ℕ, List};
+ghost use Rattle.std.specs.Prelude.{◌≡◌, List, Some};
 ghost use Rattle.numa_machine.specs.Weights.{total_weight, weight_at};
-ghost use Rattle.numa_space.specs.Lists.{Setting, setting_of};
+ghost use Rattle.numa_space.specs.Lists.{setting_of};
 ghost use Rattle.numa_space.specs.Standing.{StandsFor, setting_in};
 ghost use Rattle.numa_requests.specs.declared.command.Command.{Command};
-ghost use Rattle.numa_placed.specs.Periods.{IsPeriod};
+ghost use Rattle.numa_placed.specs.Periods.{IsPeriod, period_for};
 
 use numa_machine::{Weights, round_of};
 use numa_mask::NodeMask;
@@ -27,9 +27,7 @@ fn total_weight(weights: &Weights, set: &NodeMask) -> u64
 /// WEIGHTED_INTERLEAVE, 512 times as many for pages of 2 MiB, and 1 for other modes; 0 for a set
 /// without nodes.
 fn period_of(weights: &Weights, policy: &Record, index: u64, pages: u64) -> u64
-    ensures { (setting : Setting)
-        → ((node : ℕ) → weight_at weights.now node ≡ setting.weight node)
-        → IsPeriod setting (Some policy.now) index pages result }
+    ensures { result ≡ period_for (weight_at weights.now) (Some policy.now) index pages }
 {
     let set = policy.effective();
     match policy.spec().mode() {
@@ -46,6 +44,7 @@ fn period_of(weights: &Weights, policy: &Record, index: u64, pages: u64) -> u64
 /// The number of pages after which the lists of a policy of the space repeat, for `pages` pages
 /// with the indexes from `index` on; `None` is local allocation.
 pub fn period_in(space: &Space, policy: &Option<Record>, index: u64, pages: u64) -> u64
+    ensures count { result ≡ period_for (weight_at space.now.weights) policy.now index pages }
     ensures now { IsPeriod (setting_in space.now) policy.now index pages result }
     ensures meaning { (history : List Command) → StandsFor space.now history
         → IsPeriod (setting_of space.now.machine history) policy.now index pages result }
