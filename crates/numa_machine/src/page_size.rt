@@ -13,6 +13,7 @@ const FIRST_HUGE: u64 = 1 << 36;
 
 /// The bytes of a page of each size.
 const SMALL_BYTES: u64 = 4_096;
+
 const HUGE_BYTES: u64 = 2_097_152;
 
 /// The number of parts of a page of 2 MiB.

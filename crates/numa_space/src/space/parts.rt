@@ -52,13 +52,7 @@ pub(super) fn marked(had: bool, size: PageSize) -> bool
 
 impl Space {
     /// Whether no page of this size begins at the offset at which a free span is to be mapped.
-    pub(super) fn lacks_offset(
-        &self,
-        size: PageSize,
-        offset: u64,
-        first: u64,
-        pages: u64,
-    ) -> bool
+    pub(super) fn lacks_offset(&self, size: PageSize, offset: u64, first: u64, pages: u64) -> bool
         requires some { 0 < pages }
         requires fits { first + pages < 2 ^ 64 }
         ensures { result ≡ (is_some (unaligned_offset size offset)
