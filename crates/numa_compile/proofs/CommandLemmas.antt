@@ -87,9 +87,11 @@ module _ (space : SpaceState) (plan : PlanData) (window : Window) (start bytes :
 -- ---- the window of pages that were mapped
 
 module _ (space : SpaceState) (plan : PlanData) (window : Window) (start extent offset : ℕ)
-    (size : PageSize) (behind : IsBehind space (Map start extent offset size) plan) (rising : AreApart 0 space.ranges)
+    (size : PageSize) (behind : IsBehind space (Map start extent offset size) plan) (rising :
+    AreApart 0 space.ranges)
     (maximal : AreMaximal space.ranges)
-    (first : window.first ≡ page_of start) (end : window.end ≡ page_of start + page_count (whole size extent))
+    (first : window.first ≡ page_of start) (end : window.end ≡ page_of start + page_count (whole
+    size extent))
     (place : window.to_now ≡ length space.ranges - (length plan.runs - window.to))
     (is : IsWindow plan.runs window.first window.end window.from window.to) where
   as_many : length plan.runs ≡ length behind.before.ranges
@@ -99,7 +101,8 @@ module _ (space : SpaceState) (plan : PlanData) (window : Window) (start extent 
   places : window.to_now ≡ to_now behind.before.ranges space.ranges window.to
   places = place ∙ ap (λ (n : ℕ). length space.ranges - (n - window.to)) as_many
 
-  own : IsWindow behind.before.ranges (page_of start) (page_of start + page_count (whole size extent)) window.from
+  own : IsWindow behind.before.ranges (page_of start) (page_of start + page_count (whole size
+      extent)) window.from
       window.to
   own =
       copies-window (policy_in plan.slots) behind.before.ranges plan.runs (page_of start)

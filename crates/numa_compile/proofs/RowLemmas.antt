@@ -131,7 +131,8 @@ pub turns-gives : (space : SpaceState) (set width : ℕ) (cycle : List ℕ) → 
           rows_from (setting_in space) (Only space.allowed) (members set);
     })
     (λ cpu index.
-    near (setting_in space) (slice_index (members set) (slice_index cycle (turn_at index % length cycle))))
+    near (setting_in space) (slice_index (members set) (slice_index cycle (turn_at index % length
+    cycle))))
 turns-gives space set width cycle ready some inside turns below is cpu index lt =
     let whole : both space.allowed space.allowed ≡ space.allowed =
     within-both space.allowed space.allowed (λ node member. member) in

@@ -102,7 +102,8 @@ versions-row = refl
 
 -- a worker may take a published version that isn't the newest: version 1 has no policy for the
 -- task, and version 2 binds it to node 1
-older-row : answers (four_on (with_frames (1 ∷ 1 ∷ []))) (accepted (Map 0x10000 0x1000 0 Small ∷ [])) (
+older-row : answers (four_on (with_frames (1 ∷ 1 ∷ []))) (accepted (Map 0x10000 0x1000 0 Small ∷
+    [])) (
     (Publish, 0)
     ∷ (Accept (SetTask 1 (asked Bind Plain (1 ∷ []))), 0)
     ∷ (Accept (mems (5 ∷ [])), 0)
@@ -255,7 +256,8 @@ unfolding members fallback_order list_at mems_of lacks_mems
 borders-row = refl
 
 -- a node of 64 frames has word 0 alone, and a worker's own frames count as met by its Look too
-one_word-row : answers (four_on (with_frames (64 ∷ []))) (accepted (Map 0x10000 0x2000 0 Small ∷ []))
+one_word-row : answers (four_on (with_frames (64 ∷ []))) (accepted (Map 0x10000 0x2000 0 Small ∷
+    []))
     ((Publish, 0) ∷ taking 1 (
     Begin 0 (fault 1 0x10)
     ∷ Look 0 1

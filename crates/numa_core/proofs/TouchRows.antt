@@ -89,7 +89,8 @@ refused-row : answers (four_on (with_frames (0 ∷ 0 ∷ 1 ∷ [])))
 unfolding members fallback_order list_at result_of_touch
 refused-row = refl
 
-no_worker-row : answers (four_on (with_frames (1 ∷ []))) (published (Map 0x10000 0x1000 0 Small ∷ [])) 4
+no_worker-row : answers (four_on (with_frames (1 ∷ []))) (published (Map 0x10000 0x1000 0 Small ∷
+    [])) 4
     (fault 1 0x10 ∷ []) ≡ (Err NoSuchWorker ∷ [])
 unfolding members fallback_order list_at result_of_touch
 no_worker-row = refl

@@ -32,7 +32,8 @@ four = record {
 -- a weight, two groups, one below the other, a process in the lower, the upper narrowed to nodes
 -- 1 and 2, a fork
 run : List HostCommand
-run = Fork 1 2 7 9 ∷ SetGroupMems 5 (Some 6) ∷ In 1 (own.Map 0x10000 0x1000 0 Small) ∷ NewProcess 1 8
+run = Fork 1 2 7 9 ∷ SetGroupMems 5 (Some 6) ∷ In 1 (own.Map 0x10000 0x1000 0 Small) ∷ NewProcess 1
+    8
     ∷ NewGroup 8 5 ∷ NewGroup 5 0 ∷ SetWeight 1 5 ∷ []
 
 child-has_all : commands_of four run 2 ≡ own.Inherit 9 7 ∷ own.SetMems 6 ∷ own.Map 0x10000 0x1000

@@ -101,7 +101,8 @@ round-later turns index pages k within =
 
 -- so many rounds further
 pub rounds-later : (turns index pages k times : ℕ) → k + times * round_of turns index pages < pages
-    → turn_at (index + (k + times * round_of turns index pages)) ≡ turn_at (index + k) + times * turns
+    → turn_at (index + (k + times * round_of turns index pages)) ≡ turn_at (index + k) + times *
+    turns
 rounds-later turns index pages k zero within =
     let none : k + 0 * round_of turns index pages ≡ k = omega arith in
     let same : turn_at (index + k) ≡ turn_at (index + k) + 0 * turns = omega arith in

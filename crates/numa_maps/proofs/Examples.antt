@@ -69,7 +69,8 @@ other-pages = refl
 policy_run : List Command
 policy_run = SetTask 4 (asked Preferred Plain (0 ∷ 1 ∷ [])) ∷ SetTask 3 (asked Local Plain [])
     ∷ SetTask 2 (asked PreferredMany Static (0 ∷ []))
-    ∷ SetTask 1 (asked WeightedInterleave Plain (0 ∷ 1 ∷ [])) ∷ Map 0x7ffffffff000 0x1000 0 Small ∷ []
+    ∷ SetTask 1 (asked WeightedInterleave Plain (0 ∷ 1 ∷ [])) ∷ Map 0x7ffffffff000 0x1000 0 Small ∷
+    []
 
 -- the listing of one page, for a task
 line_for : ℕ → List ℕ

@@ -35,7 +35,8 @@ pub nodes-repeat : (space : SpaceState) (task cpu first pages index period : ℕ
     (value : Option PolicyRecord)
     → ((page : ℕ) → first ≤ page → page < first + pages
     → page_at space.ranges page ≡ Some (index + (page - first), value))
-    → IsPeriod (setting_in space) (policy_that_counts value (record_of space.tasks task)) index pages
+    → IsPeriod (setting_in space) (policy_that_counts value (record_of space.tasks task)) index
+    pages
     period
     → Repeats (nodes_in space task cpu) first pages period
 unfolding nodes_by

@@ -16,7 +16,8 @@ abbrev pub Repeats : (ℕ → List ℕ) → ℕ → ℕ → ℕ → Type 0
 Repeats nodes first pages period = (page : ℕ) → first ≤ page → page + period < first + pages
     → nodes (page + period) ≡ nodes page
 
--- after how many pages the lists of a mode come again, of so many pages with the indexes from one on
+-- after how many pages the lists of a mode come again, of so many pages with the indexes from one
+-- on
 abbrev pub period_by : (ℕ → ℕ) → ℕ → ℕ → Mode → ℕ → ℕ
 period_by weight index pages Default set = 1
 period_by weight index pages Preferred set = 1

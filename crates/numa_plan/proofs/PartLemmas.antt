@@ -160,7 +160,8 @@ module _ (cycle : List ℕ) (node : ℕ) where
 -- what goes by indexes goes by turns, as far as pages have 4 KiB
 pub cycled-small : (cycle out : List ℕ) (index : ℕ) → index + length out < 2 ^ 36
     → ((k : ℕ) → k < length out → get_or out k 0 ≡ get_or cycle ((index + k) % length cycle) 0)
-    → (k : ℕ) → k < length out → get_or out k 0 ≡ get_or cycle (turn_at (index + k) % length cycle) 0
+    → (k : ℕ) → k < length out → get_or out k 0 ≡ get_or cycle (turn_at (index + k) % length cycle)
+    0
 cycled-small cycle out index low cycled k lt =
     cycled k lt
     ∙ ap (λ (n : ℕ). get_or cycle (n % length cycle) 0)

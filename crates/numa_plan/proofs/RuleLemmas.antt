@@ -30,7 +30,8 @@ first-turn : (width : ℕ) (rows cycle : List ℕ) (cpu k : ℕ) → 0 < length 
     ≡ get_or (map (λ number. get_or rows (number * width) 0) cycle) (turn_at k % length cycle) 0
 first-turn width rows cycle cpu k some has =
     first-there rows (get_or cycle (turn_at k % length cycle) 0 * width) width has.some
-    ∙ sym (get_or-map (λ number. get_or rows (number * width) 0) cycle (turn_at k % length cycle) 0 0
+    ∙ sym (get_or-map (λ number. get_or rows (number * width) 0) cycle (turn_at k % length cycle) 0
+    0
     (mod-lt (turn_at k) some))
 
 -- the same by the first nodes that are kept in the order of the cycle

@@ -1,5 +1,6 @@
 -- Lists that come again after the turns of a cycle.
-use Rattle.std.proofs.Common.{◌≡◌, ℕ, ◌+◌, ◌-◌, ◌*◌, ◌/◌, ◌%◌, ◌<◌, ◌≤◌, Option, Some, List, length, get_or}
+use Rattle.std.proofs.Common.{◌≡◌, ℕ, ◌+◌, ◌-◌, ◌*◌, ◌/◌, ◌%◌, ◌<◌, ◌≤◌, Option, Some, List, length}
+use Rattle.std.proofs.Common.{get_or}
 use Rattle.std.proofs.Common.{refl, sym, ap, ◌∙◌, arith, slice_get}
 use Rattle.std.specs.Prelude.{min}
 use Rattle.std.specs.Option.{option_map}
@@ -66,7 +67,8 @@ list-inside plan task cpu place k run apart is lt =
 
 pub list-again : (plan : PlanData) (task cpu place k cycle : ℕ) (run : Run (Option ℕ))
     → AreApart 0 plan.runs → slice_get plan.runs place ≡ Some run
-    → cycle ≡ min (cycle_of (rule_for plan task run.value) run.index run.pages) run.pages → k < run.pages
+    → cycle ≡ min (cycle_of (rule_for plan task run.value) run.index run.pages) run.pages → k <
+    run.pages
     → planned_list plan task (run.first + k) cpu ≡ planned_list plan task (run.first + k % cycle) cpu
 list-again plan task cpu place k cycle run apart is short lt =
     let before : k % cycle ≤ k = mod-le k cycle in

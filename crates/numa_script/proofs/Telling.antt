@@ -90,7 +90,8 @@ says_map c (a ∷ []) = too_few keyword.Map c (a ∷ []) (omega arith)
 says_map c (a ∷ b ∷ []) = too_few keyword.Map c (a ∷ b ∷ []) (omega arith)
 says_map c (a ∷ b ∷ d ∷ []) =
     enough keyword.Map c (a ∷ b ∷ d ∷ []) refl
-    ∙ triple (λ v. line.Command (Ok (command.Map v.0 v.1 v.2 Small))) _ _ _ (number_of a) (number_of b)
+    ∙ triple (λ v. line.Command (Ok (command.Map v.0 v.1 v.2 Small))) _ _ _ (number_of a) (number_of
+    b)
     (number_of d) (λ v. refl)
     (any_number a) (any_number b) (any_number d)
 says_map c (a ∷ b ∷ d ∷ e ∷ words) = too_many keyword.Map c (a ∷ b ∷ d ∷ e ∷ words) (omega arith)

@@ -55,7 +55,8 @@ counted machine history runs shows = count-joined same_record same_record-exact 
 -- a first map
 shows-first : (machine : Hardware) (start bytes offset : ℕ)
     → AreApart 0 (plain (page_of start) (page_count bytes) offset ∷ [])
-    → Shows machine (Map start bytes offset Small ∷ []) (plain (page_of start) (page_count bytes) offset
+    → Shows machine (Map start bytes offset Small ∷ []) (plain (page_of start) (page_count bytes)
+    offset
     ∷ [])
 shows-first machine start bytes offset apart =
     record {
@@ -131,7 +132,8 @@ bind_two : Specification
 bind_two = asked Bind Plain (2 ∷ [])
 
 whole_run : List Command
-whole_run = SetTask 1 (asked Interleave Plain (0 ∷ 1 ∷ 2 ∷ 3 ∷ [])) ∷ Map 0x10000 0xa000 0 Small ∷ []
+whole_run = SetTask 1 (asked Interleave Plain (0 ∷ 1 ∷ 2 ∷ 3 ∷ [])) ∷ Map 0x10000 0xa000 0 Small ∷
+    []
 
 shows-whole : Shows (flat 4) whole_run (plain 16 10 0 ∷ [])
 unfolding whole_run
@@ -180,7 +182,8 @@ unfolding members any_page home_run home_runs spread bind_low
 shows-home_run =
     shows-homed in_a_row (Mbind 0x12000 0x1000 spread ∷ Mbind 0x10000 0x2000 bind_low
     ∷ Map 0x10000 0x4000 0 Small ∷ []) 0x11000 0x1000 2 _
-    (shows-bound in_a_row (Mbind 0x10000 0x2000 bind_low ∷ Map 0x10000 0x4000 0 Small ∷ []) 0x12000 0x1000
+    (shows-bound in_a_row (Mbind 0x10000 0x2000 bind_low ∷ Map 0x10000 0x4000 0 Small ∷ []) 0x12000
+    0x1000
     spread _
     (shows-bound in_a_row (Map 0x10000 0x4000 0 Small ∷ []) 0x10000 0x2000 bind_low _
     (shows-first in_a_row 0x10000 0x4000 0 (omega arith, omega arith, omega arith, omega arith))
@@ -302,5 +305,6 @@ map-with_a_gap = counted (flat 1) (Map 0x12000 0x1000 9 Small ∷ two_pages) _
 map-splits_too_far : refusal_of (flat 1) single two_pages (Map 0x12000 0x1000 9 Small)
     ≡ Some TooManyRanges
 unfolding members any_page bad_map_span single two_pages three_pages
-map-splits_too_far = refused-by_count (range_count_of (flat 1) (Map 0x12000 0x1000 9 Small ∷ two_pages)) 1
+map-splits_too_far = refused-by_count (range_count_of (flat 1) (Map 0x12000 0x1000 9 Small ∷
+    two_pages)) 1
     2 map-with_a_gap refl

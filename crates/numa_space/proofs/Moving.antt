@@ -362,7 +362,8 @@ module _ (old new : SpaceState) (start extent offset : ℕ) (size : PageSize)
     map-value k d l in_span =
         let run : Run (Option PolicyRecord) = get_or new.ranges k d in
         let bounds = begins-split (page_of start) (page_of start + page_count bytes) run in_span in
-        let is : Some (run.index, run.value) ≡ Some (index_in size offset + (run.first - page_of start), None) =
+        let is : Some (run.index, run.value) ≡ Some (index_in size offset + (run.first - page_of
+        start), None) =
         sym (run-page 0 new.ranges k d apart l) ∙ map-page run.first bounds.0 bounds.1 in
         ap (λ (q : Option (ℕ × Option PolicyRecord)). (unwrap_or q (run.index, run.value)).1) is
 
@@ -390,7 +391,8 @@ module _ (old new : SpaceState) (start extent offset : ℕ) (size : PageSize)
           (map-free (page_of start) (omega arith) (omega (arith, map-some))) some short in (
             stayed.0,
             moves-next old.ranges new.ranges from to d
-                (span-moves old new (Map start extent offset size) step tt apart maximal from to window)
+                (span-moves old new (Map start extent offset size) step tt apart maximal from to
+                window)
                 stayed.0 window.within some stayed.1,
             omega (
               arith,

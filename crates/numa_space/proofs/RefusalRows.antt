@@ -46,13 +46,15 @@ two_maps = Map 0x12000 0x1000 2 Small ∷ Map 0x10000 0x1000 0 Small ∷ []
 
 bind-over_a_hole : refusal_of (flat 2) wide two_maps
     (Mbind 0x10000 0x3000 (asked Bind Plain (1 ∷ []))) ≡ Some Hole
-unfolding any_page bad_policy_span bad_unmap_span bad_map_span lacks_policy parts_pages is_inside is_part two_maps wide mems_of
+unfolding any_page bad_policy_span bad_unmap_span bad_map_span lacks_policy parts_pages is_inside
+    is_part two_maps wide mems_of
     lacks_mems
 bind-over_a_hole = refl
 
 default-over_a_hole : refusal_of (flat 2) wide two_maps
     (Mbind 0x10000 0x3000 (asked Default Plain [])) ≡ Some Hole
-unfolding any_page bad_policy_span bad_unmap_span bad_map_span lacks_policy parts_pages is_inside is_part two_maps wide mems_of
+unfolding any_page bad_policy_span bad_unmap_span bad_map_span lacks_policy parts_pages is_inside
+    is_part two_maps wide mems_of
     lacks_mems
 default-over_a_hole = refl
 
@@ -74,62 +76,75 @@ last_page : List Command
 last_page = Map 0x7ffffffff000 0x1000 0 Small ∷ []
 
 -- up to address 2^47 only the number of ranges can stand against a map
-map-up_to_the_end : refusal_of (flat 2) wide [] (Map 0x7ffffffff000 0x1000 0 Small) ≡ too_many_ranges
+map-up_to_the_end : refusal_of (flat 2) wide [] (Map 0x7ffffffff000 0x1000 0 Small) ≡
+    too_many_ranges
     (scene_of (flat 2) wide [] (Map 0x7ffffffff000 0x1000 0 Small))
-unfolding any_page bad_policy_span bad_unmap_span bad_map_span lacks_policy parts_pages is_inside is_part wide mems_of lacks_mems
+unfolding any_page bad_policy_span bad_unmap_span bad_map_span lacks_policy parts_pages is_inside
+    is_part wide mems_of lacks_mems
 map-up_to_the_end = refl
 
 map-past_the_end : refusal_of (flat 2) wide last_page (Map 0x7ffffffff000 0x1001 0 Small)
     ≡ Some OutOfSpace
-unfolding any_page bad_policy_span bad_unmap_span bad_map_span lacks_policy parts_pages is_inside is_part last_page wide mems_of
+unfolding any_page bad_policy_span bad_unmap_span bad_map_span lacks_policy parts_pages is_inside
+    is_part last_page wide mems_of
     lacks_mems
 map-past_the_end = refl
 
 -- a sum above every u64 is no small number
 map-far_past_the_end : refusal_of (flat 2) wide [] (Map 0xfffffffffffff000 0x2000 0 Small)
     ≡ Some OutOfSpace
-unfolding any_page bad_policy_span bad_unmap_span bad_map_span lacks_policy parts_pages is_inside is_part wide mems_of lacks_mems
+unfolding any_page bad_policy_span bad_unmap_span bad_map_span lacks_policy parts_pages is_inside
+    is_part wide mems_of lacks_mems
 map-far_past_the_end = refl
 
 map-of_the_greatest_length : refusal_of (flat 2) wide [] (Map 0x10000 0xffffffffffffffff 0 Small)
     ≡ Some OutOfSpace
-unfolding any_page bad_policy_span bad_unmap_span bad_map_span lacks_policy parts_pages is_inside is_part wide mems_of lacks_mems
+unfolding any_page bad_policy_span bad_unmap_span bad_map_span lacks_policy parts_pages is_inside
+    is_part wide mems_of lacks_mems
 map-of_the_greatest_length = refl
 
 map-of_nothing : refusal_of (flat 2) wide last_page (Map 0x10000 0 0 Small) ≡ Some EmptyLength
-unfolding any_page bad_policy_span bad_unmap_span bad_map_span lacks_policy parts_pages is_inside is_part last_page wide mems_of
+unfolding any_page bad_policy_span bad_unmap_span bad_map_span lacks_policy parts_pages is_inside
+    is_part last_page wide mems_of
     lacks_mems
 map-of_nothing = refl
 
 bind-of_nothing : refusal_of (flat 2) wide last_page (Mbind 0x20000 0 (asked Bind Plain (1 ∷ [])))
     ≡ None
-unfolding any_page bad_policy_span bad_unmap_span bad_map_span lacks_policy parts_pages is_inside is_part last_page wide mems_of
+unfolding any_page bad_policy_span bad_unmap_span bad_map_span lacks_policy parts_pages is_inside
+    is_part last_page wide mems_of
     lacks_mems
 bind-of_nothing = refl
 
 unmap-of_nothing : refusal_of (flat 2) wide last_page (Unmap 0x20000 0) ≡ None
-unfolding any_page bad_policy_span bad_unmap_span bad_map_span lacks_policy parts_pages is_inside is_part last_page wide mems_of
+unfolding any_page bad_policy_span bad_unmap_span bad_map_span lacks_policy parts_pages is_inside
+    is_part last_page wide mems_of
     lacks_mems
 unmap-of_nothing = refl
 
 map-between_pages : refusal_of (flat 2) wide last_page (Map 0x10001 1 0 Small) ≡ Some Unaligned
-unfolding any_page bad_policy_span bad_unmap_span bad_map_span lacks_policy parts_pages is_inside is_part last_page wide mems_of
+unfolding any_page bad_policy_span bad_unmap_span bad_map_span lacks_policy parts_pages is_inside
+    is_part last_page wide mems_of
     lacks_mems
 map-between_pages = refl
 
 map-offset_too_large : refusal_of (flat 2) wide last_page (Map 0x30000 1 34359738368 Small)
     ≡ Some BadOffset
-unfolding any_page bad_policy_span bad_unmap_span bad_map_span lacks_policy parts_pages is_inside is_part last_page wide mems_of
+unfolding any_page bad_policy_span bad_unmap_span bad_map_span lacks_policy parts_pages is_inside
+    is_part last_page wide mems_of
     lacks_mems
 map-offset_too_large = refl
 
-map-over_a_map : refusal_of (flat 2) wide (Map 0x10000 1 0 Small ∷ last_page) (Map 0x10000 0x2000 5 Small)
+map-over_a_map : refusal_of (flat 2) wide (Map 0x10000 1 0 Small ∷ last_page) (Map 0x10000 0x2000 5
+    Small)
     ≡ Some Overlap
-unfolding any_page bad_policy_span bad_unmap_span bad_map_span lacks_policy parts_pages is_inside is_part last_page wide mems_of
+unfolding any_page bad_policy_span bad_unmap_span bad_map_span lacks_policy parts_pages is_inside
+    is_part last_page wide mems_of
     lacks_mems
 map-over_a_map = refl
 
-part_of_a_page-is_mapped : node_list (flat 2) (Map 0x10000 1 0 Small ∷ last_page) 1 0x10 0 ≡ 0 ∷ 1 ∷ []
+part_of_a_page-is_mapped : node_list (flat 2) (Map 0x10000 1 0 Small ∷ last_page) 1 0x10 0 ≡ 0 ∷ 1 ∷
+    []
 unfolding members fallback_order last_page mems_of lacks_mems
 part_of_a_page-is_mapped = refl
 
@@ -220,35 +235,41 @@ bound_run = Mbind 0x12000 0x1000 (asked Interleave Plain (0 ∷ 1 ∷ 2 ∷ []))
 
 home-over_interleave : refusal_of in_a_row wide bound_run (SetHome 0x10000 0x3000 2)
     ≡ Some NotSupported
-unfolding any_page bad_policy_span bad_unmap_span bad_map_span lacks_policy parts_pages is_inside is_part bound_run wide mems_of
+unfolding any_page bad_policy_span bad_unmap_span bad_map_span lacks_policy parts_pages is_inside
+    is_part bound_run wide mems_of
     lacks_mems
 home-over_interleave = refl
 
 home-no_such_node : refusal_of in_a_row wide bound_run (SetHome 0x10000 0x1000 3) ≡ Some NoSuchNode
-unfolding any_page bad_policy_span bad_unmap_span bad_map_span lacks_policy parts_pages is_inside is_part bound_run wide mems_of
+unfolding any_page bad_policy_span bad_unmap_span bad_map_span lacks_policy parts_pages is_inside
+    is_part bound_run wide mems_of
     lacks_mems
 home-no_such_node = refl
 
 home-of_bound_pages : refusal_of in_a_row wide bound_run (SetHome 0x11000 0x1000 2)
     ≡ too_many_ranges (scene_of in_a_row wide bound_run (SetHome 0x11000 0x1000 2))
-unfolding any_page bad_policy_span bad_unmap_span bad_map_span lacks_policy parts_pages is_inside is_part bound_run wide mems_of
+unfolding any_page bad_policy_span bad_unmap_span bad_map_span lacks_policy parts_pages is_inside
+    is_part bound_run wide mems_of
     lacks_mems
 home-of_bound_pages = refl
 
 home-over_unmapped_pages : refusal_of in_a_row wide bound_run (SetHome 0x13000 0x2000 2)
     ≡ too_many_ranges (scene_of in_a_row wide bound_run (SetHome 0x13000 0x2000 2))
-unfolding any_page bad_policy_span bad_unmap_span bad_map_span lacks_policy parts_pages is_inside is_part bound_run wide mems_of
+unfolding any_page bad_policy_span bad_unmap_span bad_map_span lacks_policy parts_pages is_inside
+    is_part bound_run wide mems_of
     lacks_mems
 home-over_unmapped_pages = refl
 
 home-of_nothing : refusal_of in_a_row wide bound_run (SetHome 0x20000 0 2) ≡ None
-unfolding any_page bad_policy_span bad_unmap_span bad_map_span lacks_policy parts_pages is_inside is_part bound_run wide mems_of
+unfolding any_page bad_policy_span bad_unmap_span bad_map_span lacks_policy parts_pages is_inside
+    is_part bound_run wide mems_of
     lacks_mems
 home-of_nothing = refl
 
 home-of_nothing_at_no_such_node : refusal_of in_a_row wide bound_run (SetHome 0x20000 0 3)
     ≡ Some NoSuchNode
-unfolding any_page bad_policy_span bad_unmap_span bad_map_span lacks_policy parts_pages is_inside is_part bound_run wide mems_of
+unfolding any_page bad_policy_span bad_unmap_span bad_map_span lacks_policy parts_pages is_inside
+    is_part bound_run wide mems_of
     lacks_mems
 home-of_nothing_at_no_such_node = refl
 
@@ -326,18 +347,21 @@ linux-weight_zero = refl
 
 linux-home_without_policy : refusal_of linux wide one_page (SetHome 0x10000 0x1000 1)
     ≡ Some NoPolicy
-unfolding any_page bad_policy_span bad_unmap_span lacks_policy parts_pages is_inside is_part one_page wide linux mems_of
+unfolding any_page bad_policy_span bad_unmap_span lacks_policy parts_pages is_inside is_part
+    one_page wide linux mems_of
     lacks_mems
 linux-home_without_policy = refl
 
 -- ---- at the end of the addresses
 
-linux-map_of_nothing_there : refusal_of linux wide [] (Map 0x7ffffffff000 0 0 Small) ≡ Some EmptyLength
+linux-map_of_nothing_there : refusal_of linux wide [] (Map 0x7ffffffff000 0 0 Small) ≡ Some
+    EmptyLength
 unfolding any_page bad_map_span wide linux mems_of lacks_mems
 linux-map_of_nothing_there = refl
 
 -- the end before the start, which is no page's
-linux-map_between_pages_there : refusal_of linux wide [] (Map 0x7fffffffe001 1 0 Small) ≡ Some OutOfSpace
+linux-map_between_pages_there : refusal_of linux wide [] (Map 0x7fffffffe001 1 0 Small) ≡ Some
+    OutOfSpace
 unfolding any_page bad_map_span wide linux mems_of lacks_mems
 linux-map_between_pages_there = refl
 
@@ -377,12 +401,14 @@ bind-past_the_end = refl
 
 linux-home_past_the_end : refusal_of linux wide one_page (SetHome 0x800000000000 0x1000 1)
     ≡ Some NoPolicy
-unfolding any_page bad_policy_span lacks_policy parts_pages is_inside is_part one_page wide linux mems_of lacks_mems
+unfolding any_page bad_policy_span lacks_policy parts_pages is_inside is_part one_page wide linux
+    mems_of lacks_mems
 linux-home_past_the_end = refl
 
 linux-home_of_nothing_past_the_end : refusal_of linux wide one_page (SetHome 0x800000000000 0 1)
     ≡ None
-unfolding any_page bad_policy_span lacks_policy parts_pages is_inside is_part one_page wide linux mems_of lacks_mems
+unfolding any_page bad_policy_span lacks_policy parts_pages is_inside is_part one_page wide linux
+    mems_of lacks_mems
 linux-home_of_nothing_past_the_end = refl
 
 -- ---- no nodes

@@ -135,13 +135,15 @@ choice-not_memory false a other h k e = k e
 
 bad_span-not_memory : (size : PageSize) (start bytes : ℕ)
     → bad_span size start bytes ≡ Some NoMemory → ⊥
-bad_span-not_memory size start bytes = first_of-not_memory _ _ (when-not_memory _ Unaligned (λ e. cc))
+bad_span-not_memory size start bytes = first_of-not_memory _ _ (when-not_memory _ Unaligned (λ e.
+    cc))
     (when-not_memory _ OutOfSpace (λ e. cc))
 
 bad_map_span-not_memory : (rules : Rules) (size : PageSize) (start bytes : ℕ)
     → bad_map_span rules size start bytes ≡ Some NoMemory → ⊥
 unfolding bad_map_span
-bad_map_span-not_memory Document size start bytes = first_of-not_memory (bad_span size start bytes) _
+bad_map_span-not_memory Document size start bytes = first_of-not_memory (bad_span size start bytes)
+    _
     (bad_span-not_memory size start bytes) (when-not_memory _ EmptyLength (λ e. cc))
 bad_map_span-not_memory Linux size start bytes =
     first_of-not_memory _ _ (when-not_memory _ EmptyLength (λ e. cc))

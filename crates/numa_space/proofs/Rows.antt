@@ -231,7 +231,8 @@ weighted_run = SetTask 1 (asked WeightedInterleave Plain (0 ∷ 1 ∷ [])) ∷ M
     ∷ SetWeight 1 2 ∷ SetWeight 0 5 ∷ []
 
 weighted-blocks : firsts (flat 2) weighted_run 1 0x10 6 ≡ 0 ∷ 0 ∷ 1 ∷ 1 ∷ 0 ∷ 0 ∷ []
-unfolding members fallback_order weighted_node turn_at is_part total_weight firsts weighted_run mems_of
+unfolding members fallback_order weighted_node turn_at is_part total_weight firsts weighted_run
+    mems_of
 weighted-blocks = refl
 
 weighted-list : node_list (flat 2) weighted_run 1 0x12 0 ≡ 1 ∷ 0 ∷ []
@@ -412,7 +413,8 @@ static-has_all = refl
 
 -- weight 0 puts back 1
 weight-put_back : firsts linux (SetWeight 0 0 ∷ weighted_run) 1 0x10 3 ≡ 0 ∷ 1 ∷ 1 ∷ []
-unfolding members fallback_order weighted_node turn_at is_part total_weight firsts weighted_run linux mems_of
+unfolding members fallback_order weighted_node turn_at is_part total_weight firsts weighted_run
+    linux mems_of
 weight-put_back = refl
 
 -- ---- by the orders of a kernel, where all nodes have CPUs

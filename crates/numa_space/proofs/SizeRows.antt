@@ -26,7 +26,8 @@ use Rattle.numa_space.proofs.RefusalRows.{wide}
 
 -- 8 MiB and a byte from 1 GiB on, with offset 0, and 4 MiB from 2 GiB on, with an offset of 2 MiB
 huge_run : List Command
-huge_run = SetTask 1 (asked Interleave Plain (0 ∷ 1 ∷ 2 ∷ 3 ∷ [])) ∷ Map 0x80000000 0x400000 512 Huge
+huge_run = SetTask 1 (asked Interleave Plain (0 ∷ 1 ∷ 2 ∷ 3 ∷ [])) ∷ Map 0x80000000 0x400000 512
+    Huge
     ∷ Map 0x40000000 0x800001 0 Huge ∷ []
 
 first-part : node_list (flat 4) huge_run 1 0x40000 0 ≡ 0 ∷ 1 ∷ 2 ∷ 3 ∷ []
@@ -86,7 +87,8 @@ map-offset_between = refl
 -- ---- changes of a part alone
 
 one_page : List Command
-one_page = Mbind 0x40200000 0x200000 (asked Bind Plain (1 ∷ [])) ∷ Map 0x40000000 0x400000 0 Huge ∷ []
+one_page = Mbind 0x40200000 0x200000 (asked Bind Plain (1 ∷ [])) ∷ Map 0x40000000 0x400000 0 Huge ∷
+    []
 
 bind-a_part : refusal_of (flat 2) wide one_page
     (Mbind 0x40001000 0x1000 (asked Bind Plain (1 ∷ []))) ≡ Some Unaligned

@@ -58,7 +58,8 @@ map-few : (rules : Rules) (start bytes : ℕ) → bad_map_span rules Small start
 unfolding bad_map_span
 map-few Document start bytes none =
     let parts = first_of-none (bad_span Small start bytes) (when (bytes == 0) EmptyLength) none in
-    let ends = first_of-none (unaligned Small start) (when (ends_above (2 ^ 47) start bytes) OutOfSpace)
+    let ends = first_of-none (unaligned Small start) (when (ends_above (2 ^ 47) start bytes)
+    OutOfSpace)
     parts.0 in
     let within = ltb-false (2 ^ 47) (start + page_count bytes * 4096)
     (when-none (ends_above (2 ^ 47) start bytes) OutOfSpace ends.1) in
@@ -125,7 +126,8 @@ module _ (old : SpaceState) (small : AreSmall (page_at old.ranges)) where
       (page_at old.ranges page) (small page)
 
 -- whatever the answer was
-pub small-answer : {A : Type 0} (old new : SpaceState) (command : Command) (result : Result A Refusal)
+pub small-answer : {A : Type 0} (old new : SpaceState) (command : Command) (result : Result A
+    Refusal)
     → maps_huge command ≡ false → AreSmall (page_at old.ranges) → IsAnswer old command result new
     → AreSmall (page_at new.ranges)
 small-answer {A} old new command result none small answer =

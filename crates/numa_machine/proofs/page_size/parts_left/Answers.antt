@@ -4,4 +4,5 @@ use Rattle.numa_machine.proofs.page_size.parts_left.Goals as goal
 
 pub returns-then-is_part-clause-same : goal.returns-then-is_part-clause-same
 returns-then-is_part-clause-same c q within =
-    turn-part c.args.index q (part-end c.args.index (sym c.is_part.ensures ∙ c.if-is_part.true)) within
+    turn-part c.args.index q (part-end c.args.index (sym c.is_part.ensures ∙ c.if-is_part.true))
+    within

@@ -1,4 +1,5 @@
-use Rattle.std.proofs.Common.{◌≡◌, ℕ, ◌+◌, ◌-◌, ◌%◌, length, length-drop, get_or, sym, ap, ◌∙◌, arith}
+use Rattle.std.proofs.Common.{◌≡◌, ℕ, ◌+◌, ◌-◌, ◌%◌, length, length-drop, get_or, sym, ap, ◌∙◌}
+use Rattle.std.proofs.Common.{arith}
 use Rattle.std.proofs.lemmas.List.{length-take}
 use Rattle.numa_machine.specs.Sizes.{turn_at}
 use Rattle.numa_plan.proofs.FillLemmas.{fill-more, put_length}
@@ -12,7 +13,8 @@ loop-done-preserved c =
     record {
       within =
           rw (put_length c.loop-done.done (c.loop-done.done + count - c.loop-done.done)
-          c.loop-done.out c.fill_one.new.out (omega (arith, size)) (omega (arith, c.min-count.ensures)))
+          c.loop-done.out c.fill_one.new.out (omega (arith, size)) (omega (arith,
+          c.min-count.ensures)))
           (omega (arith, c.min-count.ensures));
       filled = fill-more
           (λ k. get_or c.args.cycle.now (turn_at (c.args.index + k) % length c.args.cycle.now) 0)

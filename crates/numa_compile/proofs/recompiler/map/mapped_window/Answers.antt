@@ -9,7 +9,8 @@ pub returns-then-begins_beside-clause-open : goal.returns-then-begins_beside-cla
 returns-then-begins_beside-clause-open c =
     let found = c.find_window-window in
     (map-rest c.args.space.now c.args.plan.now found.result c.requires.behind.start c.requires.behind.bytes
-    c.requires.behind.offset c.requires.behind.size c.requires.behind.behind c.survey.ensures.rising c.survey.ensures.maximal
+    c.requires.behind.offset c.requires.behind.size c.requires.behind.behind c.survey.ensures.rising
+    c.survey.ensures.maximal
     (found.ensures.first ∙ sym c.requires.behind.begins)
     (found.ensures.end ∙ sym c.requires.behind.ends) found.ensures.place found.ensures.window
     c.if-begins_beside.ensures.beside (record {
@@ -45,7 +46,8 @@ pub returns-then-begins_beside-clause-few : goal.returns-then-begins_beside-clau
 returns-then-begins_beside-clause-few c =
     let found = c.find_window-window in
     (map-rest c.args.space.now c.args.plan.now found.result c.requires.behind.start c.requires.behind.bytes
-    c.requires.behind.offset c.requires.behind.size c.requires.behind.behind c.survey.ensures.rising c.survey.ensures.maximal
+    c.requires.behind.offset c.requires.behind.size c.requires.behind.behind c.survey.ensures.rising
+    c.survey.ensures.maximal
     (found.ensures.first ∙ sym c.requires.behind.begins)
     (found.ensures.end ∙ sym c.requires.behind.ends) found.ensures.place found.ensures.window
     c.if-begins_beside.ensures.beside (record {
@@ -62,7 +64,8 @@ pub returns-clause-open : goal.returns-clause-open
 returns-clause-open c =
     let found = c.find_window-window in
     open-found c.args.space.now c.args.plan.now found.result
-    (Map c.requires.behind.start c.requires.behind.bytes c.requires.behind.offset c.requires.behind.size) c.requires.behind.behind tt
+    (Map c.requires.behind.start c.requires.behind.bytes c.requires.behind.offset
+    c.requires.behind.size) c.requires.behind.behind tt
     c.survey.ensures.rising c.survey.ensures.maximal (found.ensures.first ∙ sym c.requires.behind.begins)
     (found.ensures.end ∙ sym c.requires.behind.ends)
     found.ensures.place found.ensures.window
@@ -82,7 +85,8 @@ pub returns-clause-few : goal.returns-clause-few
 returns-clause-few c =
     let found = c.find_window-window in
     map-window c.args.space.now c.args.plan.now found.result c.requires.behind.start c.requires.behind.bytes
-    c.requires.behind.offset c.requires.behind.size c.requires.behind.behind c.survey.ensures.rising c.survey.ensures.maximal
+    c.requires.behind.offset c.requires.behind.size c.requires.behind.behind c.survey.ensures.rising
+    c.survey.ensures.maximal
     (found.ensures.first ∙ sym c.requires.behind.begins)
     (found.ensures.end ∙ sym c.requires.behind.ends) found.ensures.place found.ensures.window
     c.if-begins_beside.ensures.inside

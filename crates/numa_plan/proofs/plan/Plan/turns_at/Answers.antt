@@ -17,7 +17,8 @@ returns c =
     } in
     let is : slice_get c.args.self.now.runs c.args.place ≡ Some run = sym c.in_ok-run.ensures in
     let short : c.min.result
-    ≡ min (cycle_of (rule_for c.args.self.now c.args.task run.value) run.index run.pages) run.pages =
+    ≡ min (cycle_of (rule_for c.args.self.now c.args.task run.value) run.index run.pages) run.pages
+    =
     c.min.ensures
     ∙ ap (λ (n : ℕ). min n run.pages)
     (c.cycle_len.ensures

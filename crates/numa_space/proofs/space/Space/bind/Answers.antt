@@ -64,7 +64,8 @@ invariant_of-self-2 c =
       ap (λ (s : SpaceState). s.version) c.self.view_is,
       ap (λ (s : SpaceState). s.bounds.max_commands) c.self.view_is,
     )) span
-    (ne_eqb c.args.length 0 c.if-length-eq0.false) node whole c.in_ok-first.first c.in_ok-first.pages
+    (ne_eqb c.args.length 0 c.if-length-eq0.false) node whole c.in_ok-first.first
+    c.in_ok-first.pages
     c.self.inside.pages.limit c.in-Ok.policy c.passes_holes-passes_holes.result
     c.bind_span.new.self c.bind_span.result
     c.in_ok-first.ensures.span.1 c.in_ok-first.ensures.span.2 c.self.invariant.limit is passes
@@ -129,7 +130,8 @@ returns-clause-answer c =
       ap (λ (s : SpaceState). s.version) c.self.view_is,
       ap (λ (s : SpaceState). s.bounds.max_commands) c.self.view_is,
     )) span
-    (ne_eqb c.args.length 0 c.if-length-eq0.false) node whole c.in_ok-first.first c.in_ok-first.pages
+    (ne_eqb c.args.length 0 c.if-length-eq0.false) node whole c.in_ok-first.first
+    c.in_ok-first.pages
     c.self.inside.pages.limit c.in-Ok.policy c.passes_holes-passes_holes.result
     c.bind_span.new.self c.bind_span.result
     c.in_ok-first.ensures.span.1 c.in_ok-first.ensures.span.2 c.self.invariant.limit is passes
@@ -198,7 +200,8 @@ returns-in_err-bind_span-clause-answer c =
       ap (λ (s : SpaceState). s.version) c.self.view_is,
       ap (λ (s : SpaceState). s.bounds.max_commands) c.self.view_is,
     )) span
-    (ne_eqb c.args.length 0 c.if-length-eq0.false) node whole c.in_ok-first.first c.in_ok-first.pages
+    (ne_eqb c.args.length 0 c.if-length-eq0.false) node whole c.in_ok-first.first
+    c.in_ok-first.pages
     c.self.inside.pages.limit c.in-Ok.policy c.passes_holes-passes_holes.result
     c.bind_span.new.self c.bind_span.result
     c.in_ok-first.ensures.span.1 c.in_ok-first.ensures.span.2 c.self.invariant.limit is passes
@@ -266,7 +269,8 @@ invariant_of-self-in_err-bind_span c =
       ap (λ (s : SpaceState). s.version) c.self.view_is,
       ap (λ (s : SpaceState). s.bounds.max_commands) c.self.view_is,
     )) span
-    (ne_eqb c.args.length 0 c.if-length-eq0.false) node whole c.in_ok-first.first c.in_ok-first.pages
+    (ne_eqb c.args.length 0 c.if-length-eq0.false) node whole c.in_ok-first.first
+    c.in_ok-first.pages
     c.self.inside.pages.limit c.in-Ok.policy c.passes_holes-passes_holes.result
     c.bind_span.new.self c.bind_span.result
     c.in_ok-first.ensures.span.1 c.in_ok-first.ensures.span.2 c.self.invariant.limit is passes
@@ -286,7 +290,8 @@ invariant_of-self-in_err-bind_span c =
     (Mbind c.args.start c.args.length c.args.spec.now) (Err c.in_err-bind_span.field-0.0)
     (shown_of new) = subst P c.in_err-bind_span.was answer in
     kept-answer c.self.inside new (Mbind c.args.start c.args.length c.args.spec.now)
-    (Err c.in_err-bind_span.field-0.0) c.self.invariant c.bind_span.ensures.limit refl (λ none. (none, refl)) done
+    (Err c.in_err-bind_span.field-0.0) c.self.invariant c.bind_span.ensures.limit refl (λ none.
+    (none, refl)) done
 
 pub invariant_of-self : goal.invariant_of-self
 invariant_of-self c =

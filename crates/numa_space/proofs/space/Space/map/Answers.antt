@@ -196,5 +196,6 @@ pub returns-clause-change : goal.returns-clause-change
 returns-clause-change c =
     told-map c.args.self.now c.args.start (whole c.args.size c.args.length) c.in_ok-first.first
     c.in_ok-first.pages c.changed.result c.changed.ensures.first c.changed.ensures.end
-    c.in_ok-first.ensures.span.1 c.in_ok-first.ensures.span.2 c.args.length c.args.offset c.args.size
+    c.in_ok-first.ensures.span.1 c.in_ok-first.ensures.span.2 c.args.length c.args.offset
+    c.args.size
     refl

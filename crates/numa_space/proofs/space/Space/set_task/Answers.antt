@@ -53,7 +53,8 @@ pub invariant_of-self-2 : goal.invariant_of-self-2
 invariant_of-self-2 c =
     kept-answer c.self.inside (next (goal.at.invariant_of-self-2 c).In_default) (SetTask c.args.task
     c.args.spec.now) (Ok (tt {0}))
-    c.self.invariant refl refl (λ none. (none, refl)) (done (goal.at.invariant_of-self-2 c).In_default)
+    c.self.invariant refl refl (λ none. (none, refl)) (done (goal.at.invariant_of-self-2
+    c).In_default)
 
 pub returns-clause-answer : goal.returns-clause-answer
 returns-clause-answer c =

@@ -9,6 +9,7 @@ use Rattle.numa_space.proofs.space.parts.moves_home.Goals as goal
 pub returns-in-Some : goal.returns-in-Some
 returns-in-Some c =
     c.ne.ensures
-    ∙ ap (λ (home : Option PolicyRecord). not (range_test.ghosts.eq c.in-Some.old home)) c.homed.ensures
+    ∙ ap (λ (home : Option PolicyRecord). not (range_test.ghosts.eq c.in-Some.old home))
+    c.homed.ensures
     ∙ ap (λ (same : Option PolicyRecord → Option PolicyRecord → Bool).
     not (same c.in-Some.old (policy_with_home c.args.node c.in-Some.old))) range_test-same
