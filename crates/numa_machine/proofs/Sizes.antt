@@ -1,23 +1,11 @@
 -- Turns of pages of both sizes.
 use Rattle.std.proofs.Common.{◌≡◌, ℕ, ◌+◌, ◌-◌, ◌*◌, ◌/◌, ◌%◌, ◌^◌, ◌<◌, ◌≤◌, true, false, refl}
-use Rattle.std.proofs.Common.{zero, suc, sym, ap, ◌∙◌, arith, inl, inr}
-use Rattle.std.specs.Prelude.{◌==◌, min, nat_le}
+use Rattle.std.proofs.Common.{zero, suc, ap, ◌∙◌, arith, inl, inr}
+use Rattle.std.specs.Prelude.{min, nat_le}
 use Rattle.std.proofs.Math.Nat.{min-eq_left, min-eq_right, min-le_right}
-use Rattle.std.proofs.lemmas.Bool.{cases_Bool, cases_lt, le-leb, leb-true, lt-leb, ne_eqb}
-use Rattle.std.proofs.lemmas.Bool.Decides.{eqb_tells}
-use Rattle.numa_machine.specs.Sizes.{bytes_of, index_in, is_inside, is_part, round_of, turn_at}
-use Rattle.numa_machine.specs.Sizes.{whole}
-use Rattle.numa_machine.specs.declared.page_size.PageSize.{PageSize}
+use Rattle.std.proofs.lemmas.Bool.{cases_Bool, cases_lt, le-leb, leb-true, lt-leb}
+use Rattle.numa_machine.specs.Sizes.{index_in, is_inside, is_part, round_of, turn_at, whole}
 use Rattle.numa_machine.specs.declared.page_size.PageSize.TheVariants.{Small, Huge}
-
--- ---- lengths
-
--- bytes are none, up to the end of their last page, where they are none
-pub none-whole : (bytes : ℕ) → (bytes == 0) ≡ (whole Huge bytes == 0)
-none-whole bytes = elim (eqb_tells bytes 0) [
-  | inl is ↦ rw is.1 refl
-  | inr not ↦ not.0 ∙ sym (ne_eqb (whole Huge bytes) 0 (λ none. not.1 (omega (arith, none))))
-]
 
 -- ---- indexes
 

@@ -11,9 +11,10 @@ ghost use Rattle.numa_machine.specs.Sizes.{parts_in, parts_left, round_of, turn_
 /// The index of the first part of the first page of 2 MiB of a mapping whose offset is 0.
 const FIRST_HUGE: u64 = 1 << 36;
 
-/// The bytes of a page of each size.
+/// The bytes of a page of 4 KiB.
 const SMALL_BYTES: u64 = 4_096;
 
+/// The bytes of a page of 2 MiB.
 const HUGE_BYTES: u64 = 2_097_152;
 
 /// The number of parts of a page of 2 MiB.
