@@ -142,7 +142,7 @@ pub astray-needs : (command : Command) (process : Process) (spots : ℕ → Spot
 astray-needs (Mbind start bytes spec) process spots kept is =
     strict-some (is_default spec)
     (record { start = start; length = bytes; list = spec.mask }) process spots kept is
-astray-needs (Map start bytes offset) process spots kept is = tt
+astray-needs (Map start bytes offset size) process spots kept is = tt
 astray-needs (Unmap start bytes) process spots kept is = absurd (both_ways false refl is)
 astray-needs (SetTask task spec) process spots kept is = absurd (both_ways false refl is)
 astray-needs (Inherit task from) process spots kept is = tt
