@@ -5,9 +5,8 @@ use Rattle.numa_space.specs.Standing.{SpaceState}
 use Rattle.numa_space.proofs.Small.{outside-small}
 use Rattle.numa_space.proofs.space.Space.inside_of.Goals as goal
 
--- (the goal's name and that of the test are guessed)
-pub returns-then-self : goal.returns-then-self
-returns-then-self c =
+pub returns-then-not-self : goal.returns-then-not-self
+returns-then-not-self c =
     sym (outside-small (page_at c.self.inside.pages.runs c.args.page)
-    (c.self.invariant.sizes c.if-self.false c.args.page))
+    (c.self.invariant.sizes c.if-not-self.true c.args.page))
     ∙ ap (λ (s : SpaceState). inside_of (page_at s.ranges c.args.page)) c.self.view_is
