@@ -9,6 +9,7 @@ use Rattle.std.specs.Prelude.{unwrap_or, slice_index}
 use Rattle.numa_mask.specs.NodeSet.{has, both, members, weight_of}
 use Rattle.numa_mask.proofs.Sets.{members-below}
 use Rattle.numa_machine.specs.Machine.{Hardware, fallback_order, IsFallbackOrder}
+use Rattle.numa_machine.specs.Sizes.{turn_at}
 use Rattle.numa_machine.specs.Weights.{interleave_node, weighted_node}
 use Rattle.numa_machine.proofs.Nearest.{IsFallbackOrder-fallback_order}
 use Rattle.numa_machine.proofs.Stored.{length-fallback_order}
@@ -125,7 +126,7 @@ list-short setting None cpu index =
       order-short setting.machine cpu,
     )
 list-short setting (Some r) cpu index = mode-short setting r.spec.mode r.effective
-    (unwrap_or r.home cpu) index
+    (unwrap_or r.home cpu) (turn_at index)
 
 filtered-below : (p : ℕ → Bool) (machine : Hardware) (from : ℕ)
     → All (λ node. node < 256) (filter p (fallback_order machine from))
@@ -158,4 +159,4 @@ pub list-below : (setting : Setting) (policy : Option PolicyRecord) (cpu index :
     → All (λ node. node < 256) (list_for setting policy cpu index)
 list-below setting None cpu index = filtered-below (has setting.allowed) setting.machine cpu
 list-below setting (Some r) cpu index = mode-below setting r.spec.mode r.effective
-    (unwrap_or r.home cpu) index
+    (unwrap_or r.home cpu) (turn_at index)

@@ -15,6 +15,7 @@ use Rattle.numa_mask.proofs.Sets.{contains-has, members-have}
 use Rattle.numa_machine.specs.declared.rules.Rules.{Rules}
 use Rattle.numa_machine.specs.declared.rules.Rules.TheVariants.{Document, Linux}
 use Rattle.numa_machine.specs.Machine.{Hardware, fallback_order, IsFallbackOrder}
+use Rattle.numa_machine.specs.Sizes.{turn_at}
 use Rattle.numa_machine.specs.Weights.{interleave_node, weighted_node}
 use Rattle.numa_machine.proofs.Rising.{IsIn, IsIn-from_Contains}
 use Rattle.numa_machine.proofs.Nearest.{IsFallbackOrder-fallback_order}
@@ -178,24 +179,24 @@ module _ (machine : Hardware) (allowed : ℕ) (small : machine.memory < 2 ^ 256)
       ]
 
   -- the list of a live policy that is in force
-  mode-nodes : (weight : ℕ → ℕ) (mode : Mode) (set from index : ℕ)
+  mode-nodes : (weight : ℕ → ℕ) (mode : Mode) (set from turn : ℕ)
       → (is_local_mode mode ≡ false → set ≢ 0)
       → (stays machine.rules mode ≡ false → both set allowed ≡ set)
       → IsNodeList allowed
       (list_by_mode (record { machine = machine; allowed = allowed; weight = weight }) mode set from
-      index)
-  mode-nodes weight Default set from index filled inside = near-nodes from
-  mode-nodes weight Preferred set from index filled inside =
+      turn)
+  mode-nodes weight Default set from turn filled inside = near-nodes from
+  mode-nodes weight Preferred set from turn filled inside =
       near-nodes (slice_index (members set) 0)
-  mode-nodes weight Bind set from index filled inside =
+  mode-nodes weight Bind set from turn filled inside =
       ordered-nodes set from (filled refl) (inside (bind-follows machine.rules))
-  mode-nodes weight Interleave set from index filled inside = near-nodes (interleave_node set index)
-  mode-nodes weight Local set from index filled inside = near-nodes from
-  mode-nodes weight PreferredMany set from index filled inside =
+  mode-nodes weight Interleave set from turn filled inside = near-nodes (interleave_node set turn)
+  mode-nodes weight Local set from turn filled inside = near-nodes from
+  mode-nodes weight PreferredMany set from turn filled inside =
       preferred-nodes (both set allowed) from
       (within-both (both set allowed) allowed (both-within set allowed))
-  mode-nodes weight WeightedInterleave set from index filled inside =
-      near-nodes (weighted_node weight set index)
+  mode-nodes weight WeightedInterleave set from turn filled inside =
+      near-nodes (weighted_node weight set turn)
 
   pub policy-nodes : (weight : ℕ → ℕ) (policy : Option PolicyRecord) (cpu index : ℕ)
       → IfSome policy (λ r. IsInForce machine allowed r × (is_live r ≡ true))
@@ -203,7 +204,7 @@ module _ (machine : Hardware) (allowed : ℕ) (small : machine.memory < 2 ^ 256)
       (list_for (record { machine = machine; allowed = allowed; weight = weight }) policy cpu index)
   policy-nodes weight None cpu index h = near-nodes cpu
   policy-nodes weight (Some r) cpu index h = mode-nodes weight r.spec.mode r.effective
-      (unwrap_or r.home cpu) index (λ other. live-filled r h.1 other) h.0.inside
+      (unwrap_or r.home cpu) (turn_at index) (λ other. live-filled r h.1 other) h.0.inside
 
 -- ---- the policy that counts
 

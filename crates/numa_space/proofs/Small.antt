@@ -126,8 +126,8 @@ module _ (old : SpaceState) (small : AreSmall (page_at old.ranges)) where
       (page_at old.ranges page) (small page)
 
 -- whatever the answer was
-pub small-answer : {A : Type 0} (old new : SpaceState) (command : Command) (result : Result A
-    Refusal)
+pub small-answer : {A : Type 0} (old new : SpaceState) (command : Command)
+    (result : Result A Refusal)
     → maps_huge command ≡ false → AreSmall (page_at old.ranges) → IsAnswer old command result new
     → AreSmall (page_at new.ranges)
 small-answer {A} old new command result none small answer =
@@ -136,7 +136,7 @@ small-answer {A} old new command result none small answer =
     go : (o : Option Refusal) → refusal_in (scene_in old command) command ≡ o
         → (result : Result A Refusal) → AnswersBy o old command result new
         → AreSmall (page_at new.ranges)
-    go None e (Ok u) h page =
-        subst IsSmall (sym (h.pages page)) (small-next old small command page none e)
+    go None e (Ok u) h =
+        λ page. subst IsSmall (sym (h.pages page)) (small-next old small command page none e)
     go None e (Err r) h = subst (λ (s : SpaceState). AreSmall (page_at s.ranges)) (sym h.1) small
     go (Some r) e result h = subst (λ (s : SpaceState). AreSmall (page_at s.ranges)) (sym h.1) small

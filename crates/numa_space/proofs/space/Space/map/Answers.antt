@@ -51,13 +51,13 @@ invariant_of-self c =
     IsAnswer old (Map c.args.start c.args.length c.args.offset c.args.size) r
     (edited_space old r c.map_span.new.self) in
     let new : Inside =
-    record c.self.inside { pages = c.map_span.new.self; has_huge = c.marked.result } in
+    record c.self.inside { pages = c.map_span.new.self; has_huge = c.marked-self-inside.result } in
     let done : IsAnswer {A = Unit {0}} old
     (Map c.args.start c.args.length c.args.offset c.args.size) (Err c.in_err-map_span.field-0.0)
     (shown_of new) = subst P c.in_err-map_span.was answer in
     kept-answer c.self.inside new (Map c.args.start c.args.length c.args.offset c.args.size)
     (Err c.in_err-map_span.field-0.0) c.self.invariant c.map_span.ensures.limit refl
-    (neither c.self.inside.has_huge (is_huge c.args.size) c.marked.result c.marked.ensures) done
+    (neither c.self.inside.has_huge (is_huge c.args.size) c.marked-self-inside.result c.marked-self-inside.ensures) done
 
 pub invariant_of-self-2 : goal.invariant_of-self-2
 invariant_of-self-2 c =
@@ -89,14 +89,14 @@ invariant_of-self-2 c =
     let new : Inside =
     record c.self.inside {
       pages = c.map_span.new.self;
-      has_huge = c.marked.result;
+      has_huge = c.marked-self-inside.result;
       version = c.self.inside.version + 1;
     } in
     let done : IsAnswer old (Map c.args.start c.args.length c.args.offset c.args.size)
     (Ok (tt {0})) (shown_of new) = subst P c.in_ok-map_span.was answer in
     kept-answer c.self.inside new (Map c.args.start c.args.length c.args.offset c.args.size)
     (Ok (tt {0})) c.self.invariant c.map_span.ensures.limit refl
-    (neither c.self.inside.has_huge (is_huge c.args.size) c.marked.result c.marked.ensures) done
+    (neither c.self.inside.has_huge (is_huge c.args.size) c.marked-self-inside.result c.marked-self-inside.ensures) done
 
 pub returns-clause-answer : goal.returns-clause-answer
 returns-clause-answer c =
@@ -128,7 +128,7 @@ returns-clause-answer c =
     let new : Inside =
     record c.self.inside {
       pages = c.map_span.new.self;
-      has_huge = c.marked.result;
+      has_huge = c.marked-self-inside.result;
       version = c.self.inside.version + 1;
     } in
     let done : IsAnswer old (Map c.args.start c.args.length c.args.offset c.args.size)
@@ -169,7 +169,7 @@ returns-in_err-map_span-clause-answer c =
     IsAnswer old (Map c.args.start c.args.length c.args.offset c.args.size) r
     (edited_space old r c.map_span.new.self) in
     let new : Inside =
-    record c.self.inside { pages = c.map_span.new.self; has_huge = c.marked.result } in
+    record c.self.inside { pages = c.map_span.new.self; has_huge = c.marked-self-inside.result } in
     let done : IsAnswer {A = Unit {0}} old
     (Map c.args.start c.args.length c.args.offset c.args.size) (Err c.in_err-map_span.field-0.0)
     (shown_of new) = subst P c.in_err-map_span.was answer in

@@ -144,6 +144,8 @@ returns-then-parts_homed-clause-answer c =
     home-parts c.args.self.now c.args.start c.args.length c.in_ok-first.first c.in_ok-first.pages
     c.requires (ne_eqb c.args.length 0 c.if-length-eq0.false) c.in_ok-first.ensures.span.1
     c.in_ok-first.ensures.span.2 c.in_ok-first.ensures.span.0 c.args.node there
-    (sym c.has_page.ensures ∙ c.if-has_page.false)
+    (ap (λ (s : SpaceState). any_page (λ page. takes_no_home (page_at s.ranges page))
+    c.in_ok-first.first c.in_ok-first.pages) (sym c.self.view_is)
+    ∙ sym c.has_page.ensures ∙ c.if-has_page.false)
     (sym c.lacks_policy.ensures ∙ c.if-lacks_policy.false)
     (sym c.parts_homed.ensures ∙ c.if-parts_homed.true)
