@@ -87,7 +87,7 @@ shift p q a b (suc n) h =
     ap p left ∙ h (suc k) (omega arith) ∙ ap q right) in
     λ i. cond {A = ℕ} (here i) 1 0 + rest i
 
-count-empty : (p : ℕ → Bool) (a : ℕ) → count_pages p a 0 ≡ 0
+pub count-empty : (p : ℕ → Bool) (a : ℕ) → count_pages p a 0 ≡ 0
 unfolding count_pages
 count-empty p a = refl
 

@@ -11,7 +11,7 @@ use Rattle.numa_machine.specs.Sizes.{is_part, turn_at}
 use Rattle.numa_machine.proofs.Sizes.{part-end, turn-huge, turn-small}
 use Rattle.numa_ranges.specs.Counts.{count_pages}
 use Rattle.numa_ranges.proofs.Counted.{count-split}
-use Rattle.numa_plan.proofs.CountLemmas.{again, count-cycle, rounds, shift, turn_is}
+use Rattle.numa_plan.proofs.CountLemmas.{again, count-cycle, count-empty, rounds, shift, turn_is}
 
 -- ---- pages that are alike
 
@@ -57,25 +57,37 @@ count-hit test hit a n counts node within h =
 products : (len times : ℕ) → 512 * len * times ≡ times * len * 512
 products len times = omega (arith, mul_assoc 512 len times, mul_comm times len)
 
+-- the page of a part
+part-page : (a q : ℕ) → q < 512 → (512 * a + q) / 512 ≡ a
+part-page a q lt = omega (arith, lt)
+
+count-first : (test : ℕ → Bool) (a n : ℕ)
+    → count_pages test a (suc n) ≡ cond {A = ℕ} (test a) 1 0 + count_pages test (a + 1) n
+unfolding count_pages
+count-first test a n = refl
+
 -- pages of 2 MiB are counted by their parts
 count-parts : (test : ℕ → Bool) (a m : ℕ)
     → count_pages (λ place. test (place / 512)) (512 * a) (512 * m) ≡ 512 * count_pages test a m
-unfolding count_pages
-count-parts test a zero = refl
+count-parts test a zero =
+    let none : 0 ≡ 512 * count_pages test a 0 = omega (arith, count-empty test a) in
+    count-empty (λ place. test (place / 512)) (512 * a) ∙ none
 count-parts test a (suc m) =
     let one : count_pages (λ place. test (place / 512)) (512 * a) 512 ≡ cond (test a) 512 0 =
     count-alike (λ place. test (place / 512)) (512 * a) 512 (test a) (λ q lt.
-    let page : (512 * a + q) / 512 ≡ a = omega (arith, lt) in ap test page) in
+    ap test (part-page a q lt)) in
     let next : 512 * a + 512 ≡ 512 * (a + 1) = omega arith in
     let rest : count_pages (λ place. test (place / 512)) (512 * a + 512) (512 * m)
     ≡ 512 * count_pages test (a + 1) m =
     ap (λ (k : ℕ). count_pages (λ place. test (place / 512)) k (512 * m)) next
     ∙ count-parts test (a + 1) m in
+    let whole : 512 + 512 * m ≡ 512 * suc m = omega arith in
     let split : count_pages (λ place. test (place / 512)) (512 * a) (512 * suc m)
     ≡ count_pages (λ place. test (place / 512)) (512 * a) 512
     + count_pages (λ place. test (place / 512)) (512 * a + 512) (512 * m) =
-    count-split (λ place. test (place / 512)) (512 * a) 512 (512 * m) (512 * suc m) (omega arith) in
+    count-split (λ place. test (place / 512)) (512 * a) 512 (512 * m) (512 * suc m) whole in
     split ∙ (λ i. one i + rest i) ∙ all (test a) (count_pages test (a + 1) m)
+    ∙ ap (λ (k : ℕ). 512 * k) (sym (count-first test a m))
   where
     all : (b : Bool) (n : ℕ) → cond {A = ℕ} b 512 0 + 512 * n ≡ 512 * (cond {A = ℕ} b 1 0 + n)
     all true n = omega arith

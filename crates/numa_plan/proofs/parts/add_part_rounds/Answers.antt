@@ -4,7 +4,7 @@ use Rattle.numa_ranges.specs.Counts.{count_pages}
 use Rattle.numa_plan.proofs.PartLemmas.{count-rounds, part_is, rounds_room}
 use Rattle.numa_plan.proofs.parts.add_part_rounds.Goals as goal
 
--- (names of steps are guessed: `times` is pages / 512 / length, `done` times * length * 512)
+-- `times` is pages / 512 / length, `done` times * length * 512
 within : (pages len : ℕ) → pages / 512 / len * len * 512 ≤ pages
 within pages len = omega (arith, div-mul-le_self (pages / 512) len)
 
@@ -14,7 +14,7 @@ times_within pages len = omega (arith, div-le_self (pages / 512) len)
 
 pub returns : goal.returns
 returns c node small =
-    let nodes : List ℕ = c.nodes.result.now in
+    let nodes : List ℕ = c.nodes-nodes.result.now in
     let times : ℕ = c.args.pages / 512 / length nodes in
     let done : ℕ = times * length nodes * 512 in
     omega (
@@ -24,14 +24,14 @@ returns c node small =
       count-rounds nodes node c.args.index c.args.pages times c.requires.part
           (within c.args.pages (length nodes)),
       ap (λ (cycle : List ℕ). count_pages (part_is cycle node) c.args.index c.args.pages)
-          c.nodes.ensures.is,
+          c.nodes-nodes.ensures.is,
       ap (λ (cycle : List ℕ). count_pages (part_is cycle node) (c.args.index + done)
-          (c.args.pages - done)) c.nodes.ensures.is,
+          (c.args.pages - done)) c.nodes-nodes.ensures.is,
     )
 
 pub add_places-requires : goal.add_places-requires
 add_places-requires c node small =
-    let nodes : List ℕ = c.nodes.result.now in
+    let nodes : List ℕ = c.nodes-nodes.result.now in
     omega (
       arith,
       rounds_room nodes node c.args.pages (c.args.pages / 512 / length nodes)
@@ -41,7 +41,7 @@ add_places-requires c node small =
 
 pub add_parts-requires-clause-room : goal.add_parts-requires-clause-room
 add_parts-requires-clause-room c node small =
-    let nodes : List ℕ = c.nodes.result.now in
+    let nodes : List ℕ = c.nodes-nodes.result.now in
     omega (
       arith,
       c.add_places.ensures node small,
@@ -52,4 +52,4 @@ add_parts-requires-clause-room c node small =
 
 pub add_parts-requires-clause-last : goal.add_parts-requires-clause-last
 add_parts-requires-clause-last c =
-    omega (arith, within c.args.pages (length c.nodes.result.now), c.requires.last)
+    omega (arith, within c.args.pages (length c.nodes-nodes.result.now), c.requires.last)

@@ -1,10 +1,19 @@
 use Rattle.std.proofs.Common.{◌≡◌, ℕ, ◌+◌, ◌%◌, Bool, eqb, length, length-set, get_or, ap, ◌∙◌}
-use Rattle.std.proofs.Common.{sym, arith}
+use Rattle.std.proofs.Common.{sym, arith, add-zero, rules}
 use Rattle.numa_machine.specs.Sizes.{turn_at}
 use Rattle.numa_ranges.specs.Counts.{count_pages}
-use Rattle.numa_plan.proofs.CountLemmas.{count-most}
+use Rattle.numa_plan.proofs.CountLemmas.{count-empty, count-most}
 use Rattle.numa_plan.proofs.PartLemmas.{count-hit, part_is, parts-more}
 use Rattle.numa_plan.proofs.parts.add_parts.Goals as goal
+
+pub loop-done-init : goal.loop-done-init
+loop-done-init c = record {
+  within = omega arith;
+  long = search rules;
+  added = λ node small.
+      sym (ap (λ (n : ℕ). get_or c.args.counts.now node 0 + n)
+      (count-empty (part_is c.args.cycle.now node) c.args.index) ∙ add-zero _);
+}
 
 pub loop-done-preserved : goal.loop-done-preserved
 loop-done-preserved c =
