@@ -36,7 +36,7 @@ use Rattle.numa_machine.specs.declared.refusal.PlaceRefusal.TheVariants.{BadCpu,
 use Rattle.numa_machine.specs.declared.page_size.PageSize.TheVariants.{Small}
 use Rattle.numa_space.proofs.Rows.{flat, in_a_row, asked, mems}
 
-pub wide : Bounds
+unfoldable pub wide : Bounds
 wide = record { max_ranges = 64; max_tasks = 64; max_commands = 64 }
 
 -- ---- holes
@@ -314,7 +314,8 @@ linux = record (flat 2) { rules = Linux }
 linux-default_passes_over_a_hole : refusal_of linux wide two_maps
     (Mbind 0x10000 0x3000 (asked Default Plain [])) ≡ too_many_ranges
     (scene_of linux wide two_maps (Mbind 0x10000 0x3000 (asked Default Plain [])))
-unfolding any_page bad_policy_span bad_unmap_span two_maps wide linux mems_of lacks_mems
+unfolding any_page bad_policy_span bad_unmap_span parts_pages is_inside is_part two_maps wide linux
+    mems_of lacks_mems
 linux-default_passes_over_a_hole = refl
 
 linux-default_where_nothing_is_mapped : refusal_of linux wide two_maps
