@@ -12,7 +12,7 @@ pub returns-in-Some-clause-now : goal.returns-in-Some-clause-now
 returns-in-Some-clause-now c =
     let count = c.period_of.ensures
     ∙ ap (λ (w : NodeWeights). period_for (weight_at w) (Some c.in-Some.policy) c.args.index
-    c.args.pages) c.weights.ensures in
+    c.args.pages) c.weights.ensures.weights in
     subst (λ (p : Option PolicyRecord). IsPeriod (setting_in c.args.space.now) p c.args.index
     c.args.pages c.period_of.result) (sym c.in-Some.is)
     (is-period (setting_in c.args.space.now) c.args.index c.args.pages
@@ -22,7 +22,7 @@ pub returns-in-Some-clause-meaning : goal.returns-in-Some-clause-meaning
 returns-in-Some-clause-meaning c history stands =
     let count = c.period_of.ensures
     ∙ ap (λ (w : NodeWeights). period_for (weight_at w) (Some c.in-Some.policy) c.args.index
-    c.args.pages) c.weights.ensures in
+    c.args.pages) c.weights.ensures.weights in
     subst (λ (p : Option PolicyRecord). IsPeriod (setting_of c.args.space.now.machine history) p
     c.args.index c.args.pages c.period_of.result) (sym c.in-Some.is)
     (is-period (setting_of c.args.space.now.machine history) c.args.index c.args.pages
