@@ -57,7 +57,8 @@ invariant_of-self c =
     (shown_of new) = subst P c.in_err-map_span.was answer in
     kept-answer c.self.inside new (Map c.args.start c.args.length c.args.offset c.args.size)
     (Err c.in_err-map_span.field-0.0) c.self.invariant c.map_span.ensures.limit refl
-    (neither c.self.inside.has_huge (is_huge c.args.size) c.marked-self-inside.result c.marked-self-inside.ensures) done
+    (neither c.self.inside.has_huge (is_huge c.args.size) c.marked-self-inside.result
+    c.marked-self-inside.ensures) done
 
 pub invariant_of-self-2 : goal.invariant_of-self-2
 invariant_of-self-2 c =
@@ -96,7 +97,8 @@ invariant_of-self-2 c =
     (Ok (tt {0})) (shown_of new) = subst P c.in_ok-map_span.was answer in
     kept-answer c.self.inside new (Map c.args.start c.args.length c.args.offset c.args.size)
     (Ok (tt {0})) c.self.invariant c.map_span.ensures.limit refl
-    (neither c.self.inside.has_huge (is_huge c.args.size) c.marked-self-inside.result c.marked-self-inside.ensures) done
+    (neither c.self.inside.has_huge (is_huge c.args.size) c.marked-self-inside.result
+    c.marked-self-inside.ensures) done
 
 pub returns-clause-answer : goal.returns-clause-answer
 returns-clause-answer c =
