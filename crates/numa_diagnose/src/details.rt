@@ -15,6 +15,7 @@ const PAGE: u64 = 4096;
 
 /// That of a page of 2 MiB, and how many pages of 4 KiB it is.
 const HUGE: u64 = 2_097_152;
+
 const PARTS: u64 = 512;
 
 /// A span of pages: the first, and the one after the last.

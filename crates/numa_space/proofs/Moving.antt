@@ -362,8 +362,11 @@ module _ (old new : SpaceState) (start extent offset : ℕ) (size : PageSize)
     map-value k d l in_span =
         let run : Run (Option PolicyRecord) = get_or new.ranges k d in
         let bounds = begins-split (page_of start) (page_of start + page_count bytes) run in_span in
-        let is : Some (run.index, run.value) ≡ Some (index_in size offset + (run.first - page_of
-        start), None) =
+        let is : Some (run.index, run.value) ≡ Some (
+          index_in size offset + (run.first - page_of
+              start),
+          None,
+        ) =
         sym (run-page 0 new.ranges k d apart l) ∙ map-page run.first bounds.0 bounds.1 in
         ap (λ (q : Option (ℕ × Option PolicyRecord)). (unwrap_or q (run.index, run.value)).1) is
 

@@ -10,8 +10,8 @@ ghost use Rattle.numaplan_c.specs.Placed.{PagesAnswer, PagesAnswerRead, change_c
 use crate::codes::{list_code, word_code};
 use crate::keeping::{if_open, or_return};
 use crate::placed_codes::changed_code;
-use numa_mask::read_list;
 use numa_machine::PageSize;
+use numa_mask::read_list;
 use numa_mode::PolicySpec;
 use numa_requests::Command;
 use numa_script::policy::read_policy;

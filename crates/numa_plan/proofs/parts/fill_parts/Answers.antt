@@ -13,8 +13,10 @@ loop-done-preserved c =
     record {
       within =
           rw (put_length c.loop-done.done (c.loop-done.done + count - c.loop-done.done)
-          c.loop-done.out c.fill_one.new.out (omega (arith, size)) (omega (arith,
-          c.min-count.ensures)))
+          c.loop-done.out c.fill_one.new.out (omega (arith, size)) (omega (
+            arith,
+            c.min-count.ensures,
+          )))
           (omega (arith, c.min-count.ensures));
       filled = fill-more
           (λ k. get_or c.args.cycle.now (turn_at (c.args.index + k) % length c.args.cycle.now) 0)
