@@ -10,6 +10,8 @@
  *
  * Pages lie only where it was stated, and where they went since. Frames that workers take
  * (np_core_touch, seats) are separate.
+ * A page of 2 MiB (np_core_map_huge) is 512 pages here, each of which is touched, lies and moves by
+ * itself; a kernel's comes and moves whole.
  * There are at most 1,048,576 runs of pages that lie on one node. Pages that one policy puts on
  * nodes in turn (np_pages_populate) count as one run. */
 #ifndef NUMAPLAN_PLACED_H

@@ -83,8 +83,9 @@ enum np_rule {
 };
 
 /* Why a page goes where it goes: the policy that serves it (its mode is 0 where none does), its
- * index, in pages, the place of its turn among how many (0 of 0 where nodes take no turns), the
- * scope and the rule (of enum np_scope and np_rule), and the node in whose order the nodes are. */
+ * index, in pages of its size, the place of its turn among how many (0 of 0 where nodes take no
+ * turns), the scope and the rule (of enum np_scope and np_rule), and the node in whose order the
+ * nodes are. */
 typedef struct np_explanation {
     np_policy policy;
     uint64_t index, place, places;
