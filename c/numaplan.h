@@ -293,10 +293,11 @@ uint32_t np_core_map(np_core *core, uint64_t start, uint64_t length, uint64_t of
  * also where another call would change a part of one alone.
  *
  * All calls name and count pages of 4 KiB, of which such a page is 512, its parts; only
- * np_core_explain counts its index in pages of 2 MiB. Lists of nodes are the kernel's. But there
- * are no pools, and where pages are placed each part goes by itself, as in no kernel: np_core_touch
- * and all that workers do, np_core_fill, np_core_replay, and what an np_pages of this core says of
- * its pages; np_core_maps shows parts too (kernelpagesize_kB=4). */
+ * np_core_explain and its text count the index in pages of 2 MiB. Each part has the list of nodes
+ * that a kernel goes by for its page. But there are no pools, and where pages are placed each part
+ * goes by itself, as in no kernel: np_core_touch and all that workers do, np_core_fill and other
+ * calls with free pages, np_core_replay, and what an np_pages of this core says of its pages. Texts
+ * show parts too (kernelpagesize_kB=4). */
 uint32_t np_core_map_huge(np_core *core, uint64_t start, uint64_t length, uint64_t offset);
 
 /* Unmaps the pages of a span, those among them that are mapped. */
