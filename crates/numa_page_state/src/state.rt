@@ -1,10 +1,10 @@
 //! Where the pages of a process lie.
-ghost use Rattle.std.specs.Prelude.{◌≡◌, ◌==◌, ◌<◌, ℕ, Bool, Err, IfOk, None, Option, Some};
+ghost use Rattle.std.specs.Prelude.{◌≡◌, ◌==◌, ◌<◌, ℕ, Bool, Err, IfErr, IfOk, None, Option};
 ghost use Rattle.std.specs.Prelude.{if◌then◌else◌, is_some, true, false, [], IsSomeAnd};
-ghost use Rattle.std.specs.Prelude.{MatchOption, OnErr};
+ghost use Rattle.std.specs.Prelude.{MatchOption, OnErr, Some};
 ghost use Rattle.numa_mask.specs.NodeSet.{both};
 ghost use Rattle.numa_maps.specs.Residents.{Kept};
-ghost use Rattle.numa_placed.specs.Refusals.{migrate_cause};
+ghost use Rattle.numa_placed.specs.Refusals.{LacksForBytes, migrate_cause};
 ghost use Rattle.numa_ranges.specs.Runs.{page_at};
 ghost use Rattle.numa_placed.specs.Shifts.{AreRooms};
 ghost use Rattle.numa_placed.specs.Spots.{is_placed, spot_at};
@@ -119,8 +119,9 @@ fn state(
     length: u64,
     node: u32,
 ) -> Result<(), PlacedRefusal>
-    ensures { States placed.old rooms.old (ground_in space.now resident.now) start length node
-        result placed.new rooms.new }
+    ensures states { States placed.old rooms.old (ground_in space.now resident.now) start length
+        node result placed.new rooms.new }
+    ensures room { IfErr result (LacksForBytes length) }
 {
     match rooms {
         None => placed.state_beside(space, start, length, node, resident),
@@ -235,6 +236,7 @@ impl PageState {
     ) -> Result<(), PlacedRefusal>
         ensures does { DoesAs self.old result self.new (Err PlacedRefusal.NoMemory) (λ lack at.
             at_outcome lack (ground_in space.now resident.now) start length node at) }
+        ensures room { IfErr result (LacksForBytes length) }
         ensures unchanged { OnErr result (self.new ≡ self.old) }
     {
         state(

@@ -6,6 +6,7 @@ use Rattle.numa_core.specs.Executions.{CoreStep}
 use Rattle.numa_core.specs.Standing.{CoreState, LeadsTo, core_step_after, setup_of}
 use Rattle.numa_core.specs.Steps.{accept_answer}
 use Rattle.numa_mode.specs.Policy.{Specification}
+use Rattle.numa_placed.specs.Refusals.{LacksForBytes}
 use Rattle.numa_placed.specs.declared.moved.Moved.{Moved}
 use Rattle.numa_placed.specs.declared.spot.Spot.{Spot}
 use Rattle.numa_requests.specs.declared.command.Command.{Command}
@@ -299,10 +300,13 @@ pub record Changes {A Cause : Type 0} (starved : Result A Cause)
   pub core : after.core ≡ before.core
   pub unchanged : OnErr answer (after ≡ before)
 
--- the mapped pages of a span were stated to lie on a node, or it is told why not
-abbrev pub Places : ℕ → ℕ → ℕ → PagesState → Result (Unit {0}) PlacedRefusal → PagesState → Type 0
-Places start bytes node before = Changes lacking
-    (λ lack at. at_outcome lack (ground_of before) start bytes node at) before
+-- the mapped pages of a span were stated to lie on a node, or it is told why not; memory lacks only
+-- for a span that has bytes
+pub record Places (start bytes node : ℕ) (before : PagesState)
+    (answer : Result (Unit {0}) PlacedRefusal) (after : PagesState) : Type 0 where
+  pub does : Changes lacking (λ lack at. at_outcome lack (ground_of before) start bytes node at)
+      before answer after
+  pub room : IfErr answer (LacksForBytes bytes)
 
 -- a task touched the pages of a span first, or it is told why not
 abbrev pub Populates : ℕ → ℕ → ℕ → ℕ → PagesState → Result (Unit {0}) PlacedRefusal → PagesState

@@ -1,5 +1,5 @@
 -- Why a call is refused.
-use Rattle.std.specs.Prelude.{◌≡◌, ℕ, ◌+◌, ◌*◌, ◌%◌, ◌^◌, ◌==◌, ◌||◌, Bool, true, false, not}
+use Rattle.std.specs.Prelude.{◌≡◌, ◌≢◌, ℕ, ◌+◌, ◌*◌, ◌%◌, ◌^◌, ◌==◌, ◌||◌, Bool, true, false, not}
 use Rattle.std.specs.Prelude.{nat_le, nat_lt}
 use Rattle.std.specs.Prelude.{Option, Some, None, if◌then◌else◌}
 use Rattle.numa_mask.specs.NodeSet.{has, both}
@@ -88,6 +88,10 @@ IsLack after Unmapped = ⊥
 IsLack after NoRoom = ⊥
 IsLack after TooManyRuns = too_many after ≡ true
 IsLack after NoMemory = Unit {0}
+
+-- memory lacks only for a span that has bytes
+abbrev pub LacksForBytes : ℕ → PlacedRefusal → Type 0
+LacksForBytes bytes refusal = refusal ≡ NoMemory → bytes ≢ 0
 
 -- a node lacks room for pages that would come to it; or memory lacks
 abbrev pub IsFull : PlacedRefusal → Type 0

@@ -6,7 +6,8 @@ ghost use Rattle.numa_ranges.specs.Runs.{page_at};
 ghost use Rattle.numa_space.specs.History.{page_of, page_count};
 ghost use Rattle.numa_placed.specs.Binds.{IsBound, asked_of, bound_spots};
 ghost use Rattle.numa_placed.specs.Moves.{IsMove, moved_node};
-ghost use Rattle.numa_placed.specs.Refusals.{IsLack, IsRefusal, IsMoveRefusal, state_cause};
+ghost use Rattle.numa_placed.specs.Refusals.{IsLack, IsRefusal, IsMoveRefusal, LacksForBytes};
+ghost use Rattle.numa_placed.specs.Refusals.{state_cause};
 ghost use Rattle.numa_placed.specs.Refusals.{span_cause};
 ghost use Rattle.numa_placed.specs.Refusals.{migrate_cause, move_cause};
 ghost use Rattle.numa_placed.specs.Spots.{is_on, pages_where, pages_within, spot_at};
@@ -149,7 +150,7 @@ impl Placed {
     /// # Errors
     /// The first of these that applies; nothing has changed: `Unaligned`, `OutOfSpace`,
     /// `NoSuchNode`, `TooManyRuns`, `NoMemory`, as [`PlacedRefusal`] says. Near the limit,
-    /// `NoMemory` can come before `TooManyRuns`.
+    /// `NoMemory` can come before `TooManyRuns`; it never comes to a span of 0 bytes.
     pub fn state(
         &mut self,
         space: &Space,
@@ -165,6 +166,7 @@ impl Placed {
         ensures err { IfErr result (IsRefusal (state_cause space.now.machine start length node)
             (stated_spots (λ p. is_some (page_at space.now.ranges p)) (page_of start)
             (page_count length) node (spot_at self.old))) }
+        ensures room { IfErr result (LacksForBytes length) }
         ensures unchanged { OnErr result (self.new ≡ self.old) }
     {
         let said = stated_span(space, start, length, node)?;
@@ -195,6 +197,7 @@ impl Placed {
         ensures err { IfErr result (IsRefusal (state_cause space.now.machine start length node)
             (stated_beside (λ p. is_some (page_at space.now.ranges p)) resident.now
             (page_of start) (page_count length) node (spot_at self.old))) }
+        ensures room { IfErr result (LacksForBytes length) }
         ensures unchanged { OnErr result (self.new ≡ self.old) }
     {
         let said = stated_span(space, start, length, node)?;

@@ -3,8 +3,8 @@ ghost use Rattle.std.specs.Prelude.{◌≡◌, ℕ, IfErr, IfOk, None, OnErr, On
 ghost use Rattle.numa_ranges.specs.Runs.{page_at};
 ghost use Rattle.numa_space.specs.History.{page_of, page_count};
 ghost use Rattle.numa_placed.specs.Binds.{IsBound, bound_spots, touched_of};
-ghost use Rattle.numa_placed.specs.Refusals.{IsRefusal, IsRefusalWithin, populate_cause};
-ghost use Rattle.numa_placed.specs.Refusals.{state_cause};
+ghost use Rattle.numa_placed.specs.Refusals.{IsRefusal, IsRefusalWithin, LacksForBytes};
+ghost use Rattle.numa_placed.specs.Refusals.{populate_cause, state_cause};
 ghost use Rattle.numa_placed.specs.Shifts.{ArePages, AreRooms, is_short, rooms_between, stated_on};
 ghost use Rattle.numa_placed.specs.Spots.{spot_at, stated_beside};
 
@@ -37,7 +37,7 @@ impl Placed {
     /// # Errors
     /// The first of these that applies; nothing has changed: `Unaligned`, `OutOfSpace`,
     /// `NoSuchNode`, `NoRoom`, `TooManyRuns`, `NoMemory`, as [`PlacedRefusal`] says. `NoMemory` can
-    /// come before `NoRoom` and `TooManyRuns`.
+    /// come before `NoRoom` and `TooManyRuns`, but never to a span of 0 bytes.
     pub fn state_within(
         &mut self,
         space: &Space,
@@ -62,6 +62,7 @@ impl Placed {
             (page_of start) (page_count length) node (spot_at self.old)) node)
             (stated_beside (λ p. is_some (page_at space.now.ranges p)) resident.now
             (page_of start) (page_count length) node (spot_at self.old))) }
+        ensures room { IfErr result (LacksForBytes length) }
         ensures unchanged { OnErr result (self.new ≡ self.old) }
         ensures rooms { OnErr result (rooms.new ≡ rooms.old) }
     {

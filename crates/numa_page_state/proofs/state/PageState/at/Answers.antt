@@ -6,10 +6,10 @@ pub returns-clause-does : goal.returns-clause-does
 returns-clause-does c =
     at-told c.args.self.now c.state.new.placed c.state.new.rooms
     (ground_in c.args.space.now c.args.resident.now) c.args.start c.args.length c.args.node
-    c.state.result c.state.ensures
+    c.state.result c.state.ensures.states
 
 pub returns-clause-unchanged : goal.returns-clause-unchanged
 returns-clause-unchanged c =
     at-still c.args.self.now c.state.new.placed c.state.new.rooms
     (ground_in c.args.space.now c.args.resident.now) c.args.start c.args.length c.args.node
-    c.state.result c.state.ensures
+    c.state.result c.state.ensures.states
