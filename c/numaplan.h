@@ -73,7 +73,7 @@ enum np_answer {
 
     /* a command is refused, in the order in which the causes are looked for */
     NP_COMMANDS_SPENT = 10,    /* ENOSPC: as many commands as the limits allow were accepted */
-    NP_UNALIGNED = 11,         /* EINVAL: the start is no multiple of 4,096 */
+    NP_UNALIGNED = 11,         /* EINVAL: the start is no multiple of 4,096; also np_core_map_huge */
     NP_OUT_OF_SPACE = 12,      /* ENOMEM: the span ends above address 2^47 */
     NP_EMPTY_LENGTH = 13,      /* EINVAL: a map of no bytes */
     NP_BAD_OFFSET = 14,        /* EINVAL: an offset of 2^35 pages or more */

@@ -77,7 +77,8 @@ class CommandsSpent(Refused, OSError):
 
 class Unaligned(Refused, ValueError):
     number = 11
-    words = "the start is no multiple of 4096; round it down, and the length up"
+    words = ("the start is no multiple of 4096, or start, end or offset lies inside a page of 2 MiB;"
+             " round to whole pages")
 
 
 class OutOfSpace(Refused, ValueError):

@@ -90,7 +90,8 @@ core.map(0x10000, 0x4000)
 for call, text, number in [
     (lambda: core.map(0x11000, 0x1000), "a page of the span is mapped already; unmap it first", 17),
     (lambda: core.unmap(0x10001, 0x1000),
-     "the start is no multiple of 4096; round it down, and the length up", 22),
+     "the start is no multiple of 4096, or start, end or offset lies inside a page of 2 MiB;"
+     " round to whole pages", 22),
     (lambda: core.set_weight(0, 256), "the weight is 0 or above 255; choose one from 1 to 255", 22),
 ]:
     try:

@@ -35,7 +35,7 @@ causes! {
     10 COMMANDS_SPENT "CommandsSpent"
         "as many commands as the limits allow were accepted; open a core with a higher max_commands";
     11 UNALIGNED "Unaligned"
-        "the start is no multiple of 4096; round it down, and the length up";
+        "the start is no multiple of 4096, or start, end or offset lies inside a page of 2 MiB; round to whole pages";
     12 OUT_OF_SPACE "OutOfSpace"
         "the span ends above address 2^47; use lower addresses";
     13 EMPTY_LENGTH "EmptyLength"
