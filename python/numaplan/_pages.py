@@ -57,7 +57,8 @@ class Bound(NamedTuple):
 class Pages(Owner):
     """A core together with where its pages lie: as it is stated, or a task touches them first, and then
     where Linux moves them. It has a copy of the core, and each command of that is given here; a page
-    that is unmapped lies nowhere any more. Frames that workers take are apart."""
+    that is unmapped lies nowhere any more. Frames that workers take are apart. A page of 2 MiB is
+    512 pages here, each of which comes and moves by itself; a kernel's comes and moves whole."""
 
     _kind = "pages"
 

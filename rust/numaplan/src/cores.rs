@@ -147,8 +147,13 @@ impl Core {
         done(unsafe { raw::np_core_map(&mut self.0, start, length, offset) })
     }
 
-    /// Maps a span of unmapped pages as pages of 2 MiB, as many as the length takes; the offset is in
-    /// pages of 4 KiB.
+    /// Maps a span of unmapped pages as pages of 2 MiB, as many as the length takes, from a start and
+    /// an offset, in pages of 4 KiB, that are such a page's. All else counts each as 512 pages of
+    /// 4 KiB; there are no pools, and where pages are placed each 4 KiB goes by itself, as in no
+    /// kernel.
+    ///
+    /// # Errors
+    /// As [`Core::map`].
     pub fn map_huge(&mut self, start: u64, length: u64, offset: u64) -> Result<(), Refused> {
         done(unsafe { raw::np_core_map_huge(&mut self.0, start, length, offset) })
     }
