@@ -1,6 +1,6 @@
 -- Where the pages of a host's processes lie, and what becomes of them.
 use Rattle.std.specs.Prelude.{◌≡◌, ℕ, ◌==◌, Bool, not, Option, Some, None, List, [], ◌∷◌}
-use Rattle.std.specs.Prelude.{◌++◌, filter, if◌then◌else◌, suc, false, true, Result}
+use Rattle.std.specs.Prelude.{◌++◌, filter, map, if◌then◌else◌, suc, false, true, Result}
 use Rattle.numa_machine.specs.Machine.{Hardware}
 use Rattle.numa_requests.specs.declared.page_refusal.PlacedRefusal.{PlacedRefusal}
 use Rattle.numa_placed.specs.declared.spot.Spot.TheVariants.{Nowhere}
@@ -11,13 +11,14 @@ use Rattle.numa_page_state.specs.Outcomes.{Enough, Lack, followed, room_outcome}
 abbrev pub Room : Type 0
 Room = Option (ℕ → ℕ)
 
--- a process: its number, its group, the nodes that it is allowed, and where its pages lie, once one
--- was touched or said to lie somewhere
+-- a process: its number, its group, the nodes that it is allowed, where its pages lie, once one was
+-- touched or said to lie somewhere, and whether the host's last move was of them
 pub record Home : Type 0 where
   pub id : ℕ
   pub group : ℕ
   pub allowed : ℕ
   pub lying : Option Lying
+  pub along : Bool
 
 -- how many more pages each node takes, whichever process they are of; whether pages follow the
 -- allowed nodes; and the processes, in the order in which they came to their groups
@@ -86,6 +87,7 @@ with_born process group nodes at = record at {
     group = group;
     allowed = nodes;
     lying = None;
+    along = false;
   } ∷ [];
 }
 
@@ -102,6 +104,20 @@ with_ended process at = record at {
   homes = other_homes process at.homes;
 }
 
+-- ---- the host's last move
+
+-- it was of no process
+abbrev pub all_still : HostLying → HostLying
+all_still at = record at {
+  homes = map (λ (home : Home). record home { along = false }) at.homes;
+}
+
+-- it was of one process
+abbrev pub taken_along : ℕ → HostLying → HostLying
+taken_along process at = record at {
+  homes = map (λ (home : Home). record home { along = home.id == process }) at.homes;
+}
+
 -- ---- pages follow the nodes that their process is allowed
 
 -- the pages of a process that was allowed some nodes and is allowed others, and the rooms then
@@ -110,7 +126,7 @@ pages_followed lack follows old new None room = (None, room)
 pages_followed lack follows old new (Some lying) room =
     let done = followed lack old new [] (lent room follows lying) in (Some done, done.room)
 
--- the same of a process; where it is allowed what it was, nothing changes
+-- the same of a process, which then went along; where it is allowed what it was, nothing changes
 abbrev pub home_followed : Lack → Bool → ℕ → Home → Room → Home × Room
 home_followed lack follows nodes home room =
     if home.allowed == nodes then (home, room)
@@ -118,6 +134,7 @@ home_followed lack follows nodes home room =
       record home {
         allowed = nodes;
         lying = (pages_followed lack follows home.allowed nodes home.lying room).0;
+        along = true;
       },
       (pages_followed lack follows home.allowed nodes home.lying room).1,
     )
@@ -167,7 +184,7 @@ FollowEach nodes [] at after = after ≡ at
 FollowEach nodes (group ∷ groups) at after = (lacks : ℕ → Lack)
     × FollowEach nodes groups (group_followed lacks group (nodes group) at) after
 
--- a process comes to another group, behind all that are there
+-- a process comes to another group, behind all that are there, and goes along alone
 abbrev pub with_attached : Lack → ℕ → ℕ → ℕ → ℕ → HostLying → HostLying
 with_attached lack process group old new at = record {
   room = (home_followed lack at.follows new (record {
@@ -175,12 +192,14 @@ with_attached lack process group old new at = record {
     group = group;
     allowed = old;
     lying = pages_in process at.homes;
+    along = false;
   }) at.room).1;
   follows = at.follows;
-  homes = other_homes process at.homes ++ (home_followed lack at.follows new (record {
+  homes = other_homes process (all_still at).homes ++ (home_followed lack at.follows new (record {
     id = process;
     group = group;
     allowed = old;
     lying = pages_in process at.homes;
+    along = false;
   }) at.room).0 ∷ [];
 }

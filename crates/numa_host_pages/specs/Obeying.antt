@@ -8,15 +8,16 @@ use Rattle.numa_requests.specs.declared.host_command.HostCommand.TheVariants.{Ne
 use Rattle.numa_requests.specs.declared.host_command.HostCommand.TheVariants.{Attach, Fork}
 use Rattle.numa_requests.specs.declared.host_command.HostCommand.TheVariants.{SetGroupMems}
 use Rattle.numa_page_state.specs.Outcomes.{Lack}
-use Rattle.numa_host_pages.specs.Homes.{HostLying, followed_each, with_attached, with_born}
-use Rattle.numa_host_pages.specs.Homes.{with_ended}
+use Rattle.numa_host_pages.specs.Homes.{HostLying, all_still, followed_each, with_attached}
+use Rattle.numa_host_pages.specs.Homes.{with_born, with_ended}
 use Rattle.numa_host_pages.specs.TopDown.{top_down}
 
 -- groups allow what their lists say now, and the pages of each process follow whose group allows
--- others than before
+-- others than before: this is the host's last move
 abbrev pub mems_followed : (ℕ → ℕ → Lack) → Hardware → List HostCommand → HostLying → HostLying
 mems_followed lacks machine history at = followed_each lacks
-    (effective_mems machine.memory (groups_of history)) (top_down (groups_of history)) at
+    (effective_mems machine.memory (groups_of history)) (top_down (groups_of history))
+    (all_still at)
 
 -- a new process has no page, nor has a child until it writes; one that ends gives its room back;
 -- and pages follow the nodes that their process is allowed. `lacks` says of each place among the

@@ -30,6 +30,7 @@ pub record IsHome (member : Member) (home : Home) : Type 0 where
   pub group : member.group ≡ home.group
   pub allowed : member.allowed ≡ home.allowed
   pub pages : Sits member.pages home.lying
+  pub along : member.along ≡ home.along
 
 -- the processes, in the same order
 abbrev pub AreHomes : List Member → List Home → Type 0

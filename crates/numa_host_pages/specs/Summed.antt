@@ -1,0 +1,48 @@
+-- What the last move of a host did, all its processes together: a group's new nodes (`cgroup-mems`),
+-- a process's other group (`attach`), or what one process asked for (`migrate`, `move`,
+-- `mbind .. move`). Commands that move nothing leave it as it was; a process that was born since
+-- adds nothing to it, and one that ended no more.
+use Rattle.std.specs.Prelude.{ℕ, ◌+◌, ◌==◌, Option, Some, None, List, [], ◌∷◌, min}
+use Rattle.std.specs.Prelude.{if◌then◌else◌}
+use Rattle.numa_page_state.specs.Lying.{LastMove, Lying, OfNodes, OfPages, Sent, Told}
+use Rattle.numa_host_pages.specs.Homes.{Home}
+
+-- the most pages that are told: 2^64 - 1
+abbrev pub most : ℕ
+most = 18446744073709551615
+
+-- two numbers of pages together, at most as many as are told
+abbrev pub both_pages : ℕ → ℕ → ℕ
+both_pages one other = min (one + other) most
+
+-- how many pages went from a node to another, where those of each node go to one
+abbrev pub flow_told : Told → ℕ → ℕ → ℕ
+flow_told told from to = if told.to from == to then told.from from else 0
+
+-- what a move did, by the nodes from which and to which pages went, whichever move it was
+abbrev pub sent_last : LastMove → Sent
+sent_last (OfNodes told) = record { moved = told.moved; left = told.left; flow = flow_told told }
+sent_last (OfPages sent) = sent
+
+-- no page moved
+abbrev pub none_sent : Sent
+none_sent = record { moved = 0; left = 0; flow = λ from to. 0 }
+
+-- what the last move of a process did; none where it has no pages
+abbrev pub sent_of : Option Lying → Sent
+sent_of None = none_sent
+sent_of (Some lying) = sent_last lying.last
+
+-- two moves together, pair by pair of nodes
+abbrev pub both_sent : Sent → Sent → Sent
+both_sent one other = record {
+  moved = both_pages one.moved other.moved;
+  left = both_pages one.left other.left;
+  flow = λ from to. both_pages (one.flow from to) (other.flow from to);
+}
+
+-- the processes that went along, together
+abbrev pub sum_of : List Home → Sent
+sum_of [] = none_sent
+sum_of (home ∷ homes) =
+    if home.along then both_sent (sent_of home.lying) (sum_of homes) else sum_of homes
