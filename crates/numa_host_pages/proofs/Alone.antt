@@ -56,6 +56,7 @@ same-home lack follows nodes home =
           rw e (ap (λ (p : Option Lying × Room). record home {
             allowed = nodes;
             lying = p.0;
+            along = true;
           }) (free-pages lack follows home.allowed nodes home.lying))
     ]
 

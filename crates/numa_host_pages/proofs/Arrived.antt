@@ -9,6 +9,7 @@ use Rattle.numa_page_state.specs.Outcomes.{Lack}
 use Rattle.numa_host_pages.specs.Homes.{Home, HostLying, Room, followed_each, group_followed}
 use Rattle.numa_host_pages.specs.Homes.{home_followed, homes_followed, other_homes}
 use Rattle.numa_host_pages.specs.Standing.{AreSame, arrival_of, count_of}
+use Rattle.numa_host_pages.proofs.Along.{along, calm}
 
 abbrev pub has : ℕ → Process → Bool
 has process member = eqb member.0 process
@@ -187,6 +188,17 @@ followed-arrivals lacks follows group nodes (home ∷ homes) room =
           let rest = followed-arrivals (λ k. lacks (suc k)) follows group nodes homes room in
           rw e (λ i. arrival_of home ∷ rest i)
     ]
+
+-- so do those that go along, and those that don't
+pub calm-arrivals : (homes : List Home) → map arrival_of (map calm homes) ≡ map arrival_of homes
+calm-arrivals [] = refl
+calm-arrivals (home ∷ homes) = let rest = calm-arrivals homes in λ i. arrival_of home ∷ rest i
+
+pub along-arrivals : (process : ℕ) (homes : List Home)
+    → map arrival_of (map (along process) homes) ≡ map arrival_of homes
+along-arrivals process [] = refl
+along-arrivals process (home ∷ homes) =
+    let rest = along-arrivals process homes in λ i. arrival_of home ∷ rest i
 
 pub each-arrivals : (lacks : ℕ → ℕ → Lack) (nodes : ℕ → ℕ) (groups : List ℕ) (at : HostLying)
     → map arrival_of (followed_each lacks nodes groups at).homes ≡ map arrival_of at.homes

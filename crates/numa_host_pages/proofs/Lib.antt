@@ -1,8 +1,11 @@
 pub mod Alone
+pub mod Along
 pub mod Arrived
 pub mod Known
 pub mod Obeyed
 pub mod Ordered
 pub mod Places
 mod Rows
+mod SummedRows
+pub mod Summing
 pub mod Walked

@@ -23,13 +23,13 @@ use Rattle.numa_requests.specs.declared.host_refusal.HostRefusal.{HostRefusal}
 use Rattle.numa_requests.specs.declared.host_refusal.HostRefusal.TheVariants as cause
 use Rattle.numa_page_state.specs.Outcomes.{Enough, Lack}
 use Rattle.numa_host_pages.specs.Homes.{Home, HostLying, home_followed, other_homes, pages_in}
-use Rattle.numa_host_pages.specs.Homes.{with_born, with_ended}
-use Rattle.numa_host_pages.specs.Homes.{with_attached}
+use Rattle.numa_host_pages.specs.Homes.{all_still, with_attached, with_born, with_ended}
 use Rattle.numa_host_pages.specs.Obeying.{pages_after}
 use Rattle.numa_host_pages.specs.Standing.{AreOf, AreSame, HostLies, Obeys, arrival_of, count_of}
 use Rattle.numa_host_pages.specs.TopDown.{arrivals_of}
 use Rattle.numa_host_pages.specs.declared.pages.HostPages.{HostPages}
-use Rattle.numa_host_pages.proofs.Arrived.{both-parts, each-arrivals, has, home-arrival, other}
+use Rattle.numa_host_pages.proofs.Arrived.{both-parts, calm-arrivals, each-arrivals, has}
+use Rattle.numa_host_pages.proofs.Arrived.{home-arrival, other}
 use Rattle.numa_host_pages.proofs.Arrived.{other-arrivals, same-joined}
 use Rattle.numa_host_pages.proofs.Arrived.{moved-length, same-moved, same-without}
 
@@ -297,14 +297,16 @@ attached-are at history lack process group old new are once =
       group = group;
       allowed = old;
       lying = pages_in process at.homes;
+      along = false;
     } in
     let newer : Home = (home_followed lack at.follows new home at.room).0 in
     let came : arrival_of newer ≡ (process, group) =
     home-arrival lack at.follows new home at.room in record {
-      order = map-append arrival_of (other_homes process at.homes) (newer ∷ [])
-          ∙ (λ i. map arrival_of (other_homes process at.homes) ++ came i ∷ [])
+      order = map-append arrival_of (other_homes process (all_still at).homes) (newer ∷ [])
+          ∙ (λ i. map arrival_of (other_homes process (all_still at).homes) ++ came i ∷ [])
           ∙ ap (λ (ms : List Process). ms ++ (process, group) ∷ [])
-          (other-arrivals process at.homes
-          ∙ ap (λ (ms : List Process). filter (other process) ms) are.order);
+          (other-arrivals process (all_still at).homes
+          ∙ ap (λ (ms : List Process). filter (other process) ms)
+          (calm-arrivals at.homes ∙ are.order));
       same = same-moved (arrivals_of history) (members_of history) process group are.same once;
     }

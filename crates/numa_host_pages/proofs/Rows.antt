@@ -7,7 +7,8 @@ use Rattle.numa_requests.specs.declared.host_command.HostCommand.TheVariants.{Ne
 use Rattle.numa_requests.specs.declared.host_command.HostCommand.TheVariants.{Attach, Fork}
 use Rattle.numa_page_state.specs.Outcomes.{Enough}
 use Rattle.numa_host_pages.specs.Homes.{Home, HostLying, empty_host, group_followed, pages_in}
-use Rattle.numa_host_pages.specs.Homes.{with_attached, with_born, with_ended, with_pages}
+use Rattle.numa_host_pages.specs.Homes.{taken_along, with_attached, with_born, with_ended}
+use Rattle.numa_host_pages.specs.Homes.{with_pages}
 use Rattle.numa_host_pages.specs.TopDown.{arrivals_of, top_down}
 
 -- two groups below the root, two below the first, one of which has a group below it in turn
@@ -41,13 +42,34 @@ came-back = refl
 here : HostLying
 here = with_born 3 1 6 (with_born 1 2 9 (with_born 2 1 6 empty_host))
 
--- the first group's processes are allowed others, and nobody else
-told : group_followed (λ k. Enough) 1 3 here
-    ≡ with_born 3 1 3 (with_born 1 2 9 (with_born 2 1 3 empty_host))
+abbrev bare : ℕ → ℕ → ℕ → Bool → Home
+bare process group nodes along = record {
+  id = process;
+  group = group;
+  allowed = nodes;
+  lying = None;
+  along = along;
+}
+
+-- the first group's processes are allowed others, and nobody else: these go along
+told : (group_followed (λ k. Enough) 1 3 here).homes
+    ≡ bare 2 1 3 true ∷ bare 1 2 9 false ∷ bare 3 1 3 true ∷ []
 unfolding here
 told = refl
 
-moved : with_attached Enough 2 2 6 9 here
-    ≡ with_born 2 2 9 (with_born 3 1 6 (with_born 1 2 9 empty_host))
+-- the host's last move is of the one that moves, and then of the one that asks for it
+moved : (with_attached Enough 2 2 6 9 (group_followed (λ k. Enough) 1 3 here)).homes
+    ≡ bare 1 2 9 false ∷ bare 3 1 3 false ∷ bare 2 2 9 true ∷ []
 unfolding here
 moved = refl
+
+asked : (taken_along 1 (with_attached Enough 2 2 6 9 here)).homes
+    ≡ bare 1 2 9 true ∷ bare 3 1 6 false ∷ bare 2 2 9 false ∷ []
+unfolding here
+asked = refl
+
+-- one that is born, and one that ends
+born : (with_ended 3 (with_born 4 1 3 (group_followed (λ k. Enough) 1 3 here))).homes
+    ≡ bare 2 1 3 true ∷ bare 1 2 9 false ∷ bare 4 1 3 false ∷ []
+unfolding here
+born = refl

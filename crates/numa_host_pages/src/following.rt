@@ -37,7 +37,7 @@ fn follow_pages(
     *rooms = state.rooms_left();
 }
 
-/// A process is allowed nodes, and its pages follow if it was allowed others.
+/// A process is allowed nodes; if it was allowed others, its pages follow, and it went along.
 pub(crate) fn follow_home(
     member: &mut Member,
     rooms: &mut Option<Rooms>,
@@ -54,6 +54,7 @@ pub(crate) fn follow_home(
     let old = member.allowed;
     follow_pages(&mut member.pages, rooms, follows, &old, nodes);
     member.allowed = *nodes;
+    member.along = true;
 }
 
 /// The processes of a group are allowed nodes, one after the other.

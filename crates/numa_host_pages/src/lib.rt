@@ -5,7 +5,7 @@
 //! taken back afterwards, so that all that is said there of one process is said here of each.
 //! Where a group's nodes change, the pages of each process follow whose allowed nodes change: group
 //! by group from the top down, siblings as they were made, and in each group the processes as they
-//! came to it.
+//! came to it. What the host's last move did is the sum over the processes that went along.
 #![tactic(auto)]
 
 mod following;
@@ -14,6 +14,7 @@ mod member;
 pub mod obeying;
 mod order;
 mod pages;
+mod summing;
 
 pub use obeying::obey;
 pub use pages::HostPages;

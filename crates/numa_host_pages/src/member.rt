@@ -3,6 +3,7 @@ ghost use Rattle.std.specs.Prelude.{◌≡◌, ◌==◌, ◌<◌, ◌≤◌, Lis
 ghost use Rattle.std.specs.Prelude.{IfOk, None, Option, Some, filter, length, not, vec_capacity};
 ghost use Rattle.numa_page_state.specs.Lying.{Lying};
 ghost use Rattle.numa_page_state.specs.Standing.{HaveRoom};
+ghost use Rattle.std.specs.Prelude.{map};
 ghost use Rattle.numa_host_pages.specs.Homes.{Home, Room, pages_in, room_without, with_pages};
 ghost use Rattle.numa_host_pages.specs.Standing.{AreHomes, IsHome, LiesApart, Sits};
 
@@ -12,14 +13,15 @@ use numa_page_state::PageState;
 use numa_placed::Rooms;
 use std::alloc::Global;
 
-/// A process: its number, its group, the nodes that it is allowed, and its pages, once one was
-/// touched or said to lie somewhere.
+/// A process: its number, its group, the nodes that it is allowed, its pages, once one was touched
+/// or said to lie somewhere, and whether the host's last move was of them.
 #[derive(Drop)]
 pub(crate) struct Member {
     pub(crate) id: u32,
     pub(crate) group: u32,
     pub(crate) allowed: NodeMask,
     pub(crate) pages: Option<Box<PageState>>,
+    pub(crate) along: bool,
 }
 
 /// Takes the pages of a process out, if it has any.
@@ -64,6 +66,30 @@ pub(crate) fn pages_of(members: &[Member], process: u32) -> Option<&PageState>
         return first.pages.as_deref();
     }
     pages_of(rest, process)
+}
+
+/// The host's last move is of no process.
+pub(crate) fn still_all(members: &mut [Member])
+    ensures { (homes : List Home) → AreHomes members.old homes → AreHomes members.new
+        (map (λ (home : Home). record home { along = false }) homes) }
+{
+    let Some((first, rest)) = members.split_first_mut() else {
+        return;
+    };
+    first.along = false;
+    still_all(rest);
+}
+
+/// The host's last move is of one process.
+pub(crate) fn take_along(members: &mut [Member], process: u32)
+    ensures { (homes : List Home) → AreHomes members.old homes → AreHomes members.new
+        (map (λ (home : Home). record home { along = home.id == process }) homes) }
+{
+    let Some((first, rest)) = members.split_first_mut() else {
+        return;
+    };
+    first.along = first.id == process;
+    take_along(rest, process);
 }
 
 /// The rooms once pages are gone.

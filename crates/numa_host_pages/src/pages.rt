@@ -1,23 +1,27 @@
 //! Where the pages of a host's processes lie.
 ghost use Rattle.std.specs.Prelude.{◌≡◌, ◌<◌, ℕ, Bool, IfOk, MatchOption, None, OnErr, Some};
-ghost use Rattle.std.specs.Prelude.{length};
+ghost use Rattle.std.specs.Prelude.{length, slice_index};
 ghost use Rattle.numa_host.specs.Groups.{effective_mems};
 ghost use Rattle.numa_placed.specs.Shifts.{AreRooms};
 ghost use Rattle.numa_page_state.specs.Lying.{Lying, nothing};
 ghost use Rattle.numa_page_state.specs.Outcomes.{Lack};
 ghost use Rattle.numa_page_state.specs.Standing.{LiesAs};
-ghost use Rattle.numa_host_pages.specs.Homes.{FollowEach, HostLying, empty_host, given_back, lent};
-ghost use Rattle.numa_host_pages.specs.Homes.{other_homes, pages_in, with_attached, with_born};
-ghost use Rattle.numa_host_pages.specs.Homes.{with_ended, with_pages, with_room};
+ghost use Rattle.numa_host_pages.specs.Homes.{FollowEach, HostLying, all_still, empty_host};
+ghost use Rattle.numa_host_pages.specs.Homes.{given_back, lent, other_homes, pages_in};
+ghost use Rattle.numa_host_pages.specs.Homes.{taken_along, with_attached, with_born, with_ended};
+ghost use Rattle.numa_host_pages.specs.Homes.{with_pages, with_room};
 ghost use Rattle.numa_host_pages.specs.Standing.{HostLies, IsLent, LiesApart};
+ghost use Rattle.numa_host_pages.specs.Summed.{sum_of};
 ghost use Rattle.numa_host_pages.specs.TopDown.{top_down};
 
 use crate::following::{follow_below, follow_home};
-use crate::member::{Member, add, boxed, pages_of, put_pages, remove, rooms_without, take_pages};
+use crate::member::{Member, add, boxed, pages_of, put_pages, remove, rooms_without, still_all};
+use crate::member::{take_along, take_pages};
+use crate::summing::{add_flows, sum_of};
 use numa_host::ControlGroup;
 use numa_machine::{Machine, NoMemory};
 use numa_mask::NodeMask;
-use numa_page_state::PageState;
+use numa_page_state::{PageState, Shift};
 use numa_page_state::lending::limit_rooms;
 use numa_placed::Rooms;
 use numa_requests::PlacedRefusal;
@@ -153,6 +157,7 @@ impl HostPages {
             group,
             allowed: *nodes,
             pages: None,
+            along: false,
         };
         add(&mut self.members, member);
     }
@@ -169,7 +174,7 @@ impl HostPages {
     }
 
     /// A process that was allowed some nodes comes to a group that allows others, behind all that
-    /// are there, and its pages follow.
+    /// are there, and its pages follow: this is the host's last move.
     pub fn attached(&mut self, process: u32, group: u32, old: &NodeMask, nodes: &NodeMask)
         ensures { (at : HostLying) → HostLies self.old at
             → length (other_homes process at.homes) < 4096 → (lack : Lack)
@@ -181,19 +186,23 @@ impl HostPages {
             group,
             allowed: *old,
             pages,
+            along: false,
         };
         follow_home(&mut member, &mut self.rooms, self.follows, nodes);
         remove(&mut self.members, process);
+        still_all(&mut self.members);
         add(&mut self.members, member);
     }
 
     /// Groups allow what they allow from now on, by their lists and those above: the pages of each
-    /// process follow whose group allows others than before. `groups` has the newest first.
+    /// process follow whose group allows others than before: this is the host's last move. `groups`
+    /// has the newest first.
     pub fn follow(&mut self, memory: NodeMask, groups: &[ControlGroup])
         ensures { (at : HostLying) → HostLies self.old at → (after : HostLying)
-            × FollowEach (effective_mems memory groups.now) (top_down groups.now) at after
-            × HostLies self.new after }
+            × FollowEach (effective_mems memory groups.now) (top_down groups.now) (all_still at)
+            after × HostLies self.new after }
     {
+        still_all(&mut self.members);
         follow_below(
             groups,
             0,
@@ -203,5 +212,32 @@ impl HostPages {
             &mut self.rooms,
             self.follows,
         );
+    }
+
+    /// The last move of a process is the host's: `migrate`, `move` or `mbind .. move`.
+    pub fn take_along(&mut self, process: u32)
+        ensures { (at : HostLying) → HostLies self.old at
+            → HostLies self.new (taken_along process at) }
+    {
+        take_along(&mut self.members, process);
+    }
+
+    /// How many pages the host's last move took along, of all processes that are there, and how
+    /// many had a node to go to and stayed; at most 2^64 - 1 each.
+    pub fn last(&self) -> Shift
+        ensures { (at : HostLying) → HostLies self.now at
+            → (result.moved ≡ (sum_of at.homes).moved) × (result.left ≡ (sum_of at.homes).left) }
+    {
+        sum_of(&self.members)
+    }
+
+    /// How many pages the host's last move took from a node to each; at most 2^64 - 1 each.
+    pub fn flow_from(&self, from: u8) -> [u64; 256]
+        ensures { (at : HostLying) → HostLies self.now at → (to : ℕ) → to < 256
+            → slice_index result to ≡ (sum_of at.homes).flow from to }
+    {
+        let mut flow = [0; 256];
+        add_flows(&self.members, from, &mut flow);
+        flow
     }
 }

@@ -22,6 +22,7 @@ returns c = λ home room is have.
         group = is.group;
         allowed = refl;
         pages = done.1;
+        along = refl;
       },
       done.2,
     )

@@ -3,10 +3,10 @@ use Rattle.numa_machine.specs.Machine.{Hardware}
 use Rattle.numa_host.specs.Groups.{effective_mems, groups_of}
 use Rattle.numa_host.specs.declared.group.ControlGroup.{ControlGroup}
 use Rattle.numa_requests.specs.declared.host_command.HostCommand.TheVariants.{SetGroupMems}
-use Rattle.numa_host_pages.specs.Homes.{FollowEach}
+use Rattle.numa_host_pages.specs.Homes.{FollowEach, all_still}
 use Rattle.numa_host_pages.specs.Standing.{HostLies}
 use Rattle.numa_host_pages.specs.TopDown.{top_down}
-use Rattle.numa_host_pages.proofs.Arrived.{each-arrivals}
+use Rattle.numa_host_pages.proofs.Arrived.{calm-arrivals, each-arrivals}
 use Rattle.numa_host_pages.proofs.Obeyed.{accepted, refused}
 use Rattle.numa_host_pages.proofs.Walked.{each-lacks}
 use Rattle.numa_host_pages.proofs.obeying.set_mems.Goals as goal
@@ -22,17 +22,18 @@ returns-in-Ok c =
     ∙ ap (λ (m : Hardware). m.memory) (c.machine.ensures ∙ c.in-Ok.ensures.machine) in
     let groups = c.groups.ensures.groups ∙ (c.in-Ok.ensures.ok history stands).1.groups in
     let went = subst (λ (m : ℕ). FollowEach (effective_mems m (groups_of (said ∷ history)))
-    (top_down (groups_of (said ∷ history))) at told.0) memory
+    (top_down (groups_of (said ∷ history))) (all_still at) told.0) memory
     (subst (λ (gs : List ControlGroup). FollowEach (effective_mems c.memory-memory.result gs)
-    (top_down gs) at told.0) groups told.1) in
+    (top_down gs) (all_still at) told.0) groups told.1) in
     let lacks = each-lacks (effective_mems old.blank.machine.memory (groups_of (said ∷ history)))
-    (top_down (groups_of (said ∷ history))) at told.0 went in (
+    (top_down (groups_of (said ∷ history))) (all_still at) told.0 went in (
       lacks.0,
       subst (HostLies c.follow.new.self) lacks.1 told.2,
       record {
         order = each-arrivals lacks.0
             (effective_mems old.blank.machine.memory (groups_of (said ∷ history)))
-            (top_down (groups_of (said ∷ history))) at ∙ are.order;
+            (top_down (groups_of (said ∷ history))) (all_still at)
+            ∙ calm-arrivals at.homes ∙ are.order;
         same = are.same;
       },
     ))

@@ -1,11 +1,15 @@
-use Rattle.std.proofs.Common.{◌≤◌, Bool, List, None, sym, subst, refl, arith, ◌∙◌}
+use Rattle.std.proofs.Common.{◌<◌, ◌≤◌, Bool, false, List, None, length, sym, subst, refl}
+use Rattle.std.proofs.Common.{arith, ◌∙◌}
+use Rattle.std.proofs.lemmas.List.{length-map}
 use Rattle.std.specs.Prelude.{vec_capacity}
 use Rattle.std.specs.Vec.{with_items}
 use Rattle.numa_page_state.specs.Outcomes.{Lack}
 use Rattle.numa_page_state.specs.Standing.{HaveRoom}
-use Rattle.numa_host_pages.specs.Homes.{Home, home_followed, other_homes, pages_in, with_pages}
+use Rattle.numa_host_pages.specs.Homes.{Home, all_still, home_followed, other_homes, pages_in}
+use Rattle.numa_host_pages.specs.Homes.{with_pages}
 use Rattle.numa_host_pages.specs.Standing.{AreHomes, IsHome}
 use Rattle.numa_host_pages.specs.declared.member.Member.{Member}
+use Rattle.numa_host_pages.proofs.Along.{calm, others-calm, others-count}
 use Rattle.numa_host_pages.proofs.Places.{homes-length, others-after}
 use Rattle.numa_host_pages.proofs.Places.{pages-length, put-items}
 use Rattle.numa_host_pages.proofs.pages.HostPages.attached.Goals as goal
@@ -24,12 +28,23 @@ returns c = λ at lies small.
     c.take_pages-pages.new.members).items at.homes process None there in
     let left = subst (λ (ms : List Member). AreHomes ms (other_homes process at.homes))
     (sym c.remove.ensures.items) others in
+    let stay : List Home = other_homes process at.homes in
+    let quiet = put-items c.remove.new.members c.still_all.new.members _
+    (c.still_all.ensures stay (subst (λ (ms : List Member). AreHomes ms stay)
+    (sym c.deref_mut-2.ensures.value) left))
+    (length-map stay calm ∙ sym (homes-length c.remove.new.members.items stay left)) in
+    let all : List Home = other_homes process (all_still at).homes in
+    let them = subst (λ (hs : List Home).
+    AreHomes (with_items c.remove.new.members c.still_all.new.members).items hs)
+    (sym (others-calm process at.homes)) quiet in
+    let few : length all < 4096 = omega (arith, small, others-count process at.homes) in
     let home : Home =
     record {
       id = process;
       group = c.args.group;
       allowed = c.args.old.now;
       lying = pages_in process at.homes;
+      along = false;
     } in
     let done = subst (λ (f : Bool). (lack : Lack)
     × IsHome c.follow_home.new.member (home_followed lack f c.args.nodes.now home at.room).0
@@ -39,6 +54,7 @@ returns c = λ at lies small.
       group = refl;
       allowed = refl;
       pages = taken.0;
+      along = refl;
     }) lies.room) in
     let places : 4096 ≤ vec_capacity c.remove.new.members =
     subst (λ n. 4096 ≤ n) (sym c.remove.ensures.room) lies.places in (
@@ -46,7 +62,7 @@ returns c = λ at lies small.
       record {
         room = done.2;
         follows = lies.follows;
-        homes = c.add.ensures.added (other_homes process at.homes) _ left done.1 small places;
+        homes = c.add.ensures.added all _ them done.1 few places;
         places = omega (arith, places, c.add.ensures.room);
       },
     )

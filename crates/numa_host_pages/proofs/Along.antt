@@ -1,0 +1,29 @@
+-- Processes that the host's last move takes along, or doesn't.
+use Rattle.std.proofs.Common.{◌≡◌, ℕ, true, false, List, [], ◌∷◌, map, filter, length, eqb, ap}
+use Rattle.std.proofs.Common.{inl, inr, refl, ◌∙◌}
+use Rattle.std.proofs.lemmas.Bool.{cases_Bool}
+use Rattle.std.proofs.lemmas.List.{length-map}
+use Rattle.numa_host_pages.specs.Homes.{Home, other_homes}
+
+-- one that doesn't
+abbrev pub calm : Home → Home
+calm home = record home { along = false }
+
+-- one that does, if it is the process
+abbrev pub along : ℕ → Home → Home
+along process home = record home { along = eqb home.id process }
+
+pub others-calm : (process : ℕ) (homes : List Home)
+    → other_homes process (map calm homes) ≡ map calm (other_homes process homes)
+others-calm process [] = refl
+others-calm process (home ∷ homes) =
+    elim (cases_Bool (eqb home.id process)) [
+      | inl e ↦ rw e (others-calm process homes)
+      | inr e ↦ rw e (ap (λ (hs : List Home). calm home ∷ hs) (others-calm process homes))
+    ]
+
+pub others-count : (process : ℕ) (homes : List Home)
+    → length (other_homes process (map calm homes)) ≡ length (other_homes process homes)
+others-count process homes =
+    ap (λ (hs : List Home). length hs) (others-calm process homes)
+    ∙ length-map (other_homes process homes) calm

@@ -1,0 +1,37 @@
+use Rattle.std.proofs.Common.{ℕ, ◌<◌, get_or, length, arith, ◌∙◌, ap, sym, set}
+use Rattle.std.proofs.Common.{inl, inr, length-set}
+use Rattle.std.proofs.lemmas.Bool.{cases_eq}
+use Rattle.std.proofs.lemmas.List.{get_or-set_same, get_or-set_other}
+use Rattle.numa_host_pages.specs.Summed.{both_pages}
+use Rattle.numa_host_pages.proofs.summing.add_row.Goals as goal
+
+pub loop-node-preserved : goal.loop-node-preserved
+loop-node-preserved c =
+    let at = c.loop-node.node in
+    let sum : ℕ = both_pages (get_or c.args.row.now at 0) (get_or c.loop-node.flow at 0) in
+    let here : at < length c.loop-node.flow = omega (
+      arith,
+      c.loop-node.invariant.long,
+      c.loop-node-test.true,
+    ) in
+    record {
+      long = length-set _ _ _ ∙ c.loop-node.invariant.long;
+      done = λ node lt. elim (cases_eq node at) [
+        | inl is ↦ ap (λ (k : ℕ). get_or (set c.loop-node.flow at sum) k 0) is
+            ∙ get_or-set_same c.loop-node.flow at sum 0 here
+            ∙ ap (λ (k : ℕ). both_pages (get_or c.args.row.now at 0) k)
+            (c.loop-node.invariant.ahead at (omega arith))
+            ∙ ap (λ (k : ℕ). both_pages (get_or c.args.row.now k 0)
+            (get_or c.args.flow.now k 0)) (sym is)
+        | inr ne ↦ get_or-set_other c.loop-node.flow at node sum 0 ne
+            ∙ c.loop-node.invariant.done node (omega (arith, lt, ne))
+      ];
+      ahead = λ node le.
+          get_or-set_other c.loop-node.flow at node sum 0 (λ e. omega (arith, le, e))
+          ∙ c.loop-node.invariant.ahead node (omega (arith, le));
+    }
+
+pub returns : goal.returns
+returns c node small =
+    c.loop-node.invariant.done node
+    (omega (arith, small, c.loop-node.auto.node-end, c.loop-node-test.false))
