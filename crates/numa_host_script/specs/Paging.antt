@@ -5,9 +5,11 @@
 use Rattle.std.specs.Prelude.{ℕ, suc, ◌&&◌, nat_le, not, Bool, true, false, Option, Some, None}
 use Rattle.std.specs.Prelude.{List, [], ◌∷◌, length, if◌then◌else◌, Result, Ok, Err, is_some}
 use Rattle.numa_host.specs.Processes.{commands_of, is_there, members_of}
-use Rattle.numa_host_pages.specs.Homes.{HostLying, given_back, pages_in, pages_lent, with_room}
+use Rattle.numa_host_pages.specs.Homes.{HostLying, given_back, pages_in, pages_lent, taken_along}
+use Rattle.numa_host_pages.specs.Homes.{with_room}
+use Rattle.numa_host_pages.specs.Summed.{sum_of}
 use Rattle.numa_mask.specs.declared.list.ListFault.{ListFault}
-use Rattle.numa_page_state.specs.Lying.{Ground, Lying, Process, ground_of, with_spots}
+use Rattle.numa_page_state.specs.Lying.{Ground, Lying, OfPages, Process, ground_of, with_spots}
 use Rattle.numa_page_state.specs.Outcomes.{Enough, Lack, forgotten, has_stated, is_starved, lack_of}
 use Rattle.numa_page_state.specs.Outcomes.{rooms_of}
 use Rattle.numa_page_state.specs.Sending.{asked_of, command_of, rebinding_in, sent_in, sent_spots}
@@ -71,9 +73,20 @@ abbrev pub told_by : Option Reply → ℕ → Lying → Answer
 told_by (Some answer) version lying = Replied answer
 told_by None version lying = Shown (arrival_line version lying.arrived)
 
+-- a line that is answered by what moved is the host's last move
+abbrev pub tells_move : Option Reply → Bool
+tells_move (Some (reply.Moved moved left)) = true
+tells_move (Some (reply.MovedTo node)) = true
+tells_move _ = false
+
+abbrev pub along_if : Bool → ℕ → HostLying → HostLying
+along_if false process at = at
+along_if true process at = taken_along process at
+
 abbrev pub with_change : Hosting → ℕ → Option Reply × HostLying → Outcome
 with_change at process done =
-    with_lying (told_by done.0 (length at.history) (pages_lent process done.1)) done.1 at
+    with_lying (told_by done.0 (length at.history) (pages_lent process done.1))
+    (along_if (tells_move done.0) process done.1) at
 
 -- what a line changes, and its reply, if it has one; the first change of a process wants memory,
 -- whatever it is
@@ -114,12 +127,21 @@ pages_outcome lacked at process (Err wrong) =
     with_reply (reply.BadWord (word_fault.List wrong)) at
 pages_outcome lacked at process (Ok said) = page_outcome lacked at process said
 
--- ---- room, memory-migrate
+-- ---- room, memory-migrate, moved
 
 abbrev pub room_outcome : Hosting → ℕ → ℕ → Outcome
 room_outcome at node pages = with_lying
     (Replied (page_reply reply.RoomOk (with_room at.machine node pages at.lying).0))
     (with_room at.machine node pages at.lying).1 at
+
+-- what the last move of the host did, all its processes together, at the version of the host
+abbrev pub moved_text : Hosting → List ℕ
+moved_text at = last_line (length at.history) (OfPages (sum_of at.lying.homes))
+
+-- what is shown of the pages of a host: that, or how many more its nodes take
+abbrev pub shown_text : Bool → Hosting → List ℕ
+shown_text true at = moved_text at
+shown_text false at = rooms_line (rooms_of at.lying.room)
 
 -- a line about pages that no process is told
 abbrev pub own_page_outcome : Hosting → PageLine → Outcome
@@ -127,6 +149,7 @@ own_page_outcome at (page.Room node pages) = room_outcome at node pages
 own_page_outcome at page.Rooms = with_text (rooms_line (rooms_of at.lying.room)) at
 own_page_outcome at (page.MemoryMigrate follows) = with_lying (Replied reply.MemoryMigrateOk)
     (record at.lying { follows = follows }) at
+own_page_outcome at page.Moved = with_text (moved_text at) at
 own_page_outcome at _ = with_reply reply.BadState at
 
 -- ---- commands of a process
@@ -182,7 +205,7 @@ judged_by (Some binding) lacked at process said =
 
 -- ---- mbind .. move
 
--- the policy was set, and pages went
+-- the policy was set, and pages went: this is the host's last move
 abbrev pub sent_outcome : Hosting → ℕ → Rebinding → MoveWords → Outcome
 sent_outcome at process said words =
     let asked = asked_of (process_in at process) said (toucher_of words) in
@@ -191,7 +214,8 @@ sent_outcome at process said words =
       answer = Replied (reply.Sent (suc (length at.history)) sent.moved sent.left
           (tells_left words.strict said.spec sent.left));
       history = In process (command_of said) ∷ at.history;
-      lying = lying_with at process (with_sent [] asked (pages_at at process));
+      lying = taken_along process
+          (lying_with at process (with_sent [] asked (pages_at at process)));
     }
 
 -- what refuses the policy is answered as without the words; then lack of runs or memory

@@ -3,7 +3,8 @@ use Rattle.std.specs.Prelude.{◌≡◌, ℕ, Bool, true, false, Option, Some, N
 use Rattle.std.specs.Prelude.{◌∷◌, Ok, Err, length}
 use Rattle.numa_space.specs.Limited.{Bounds}
 use Rattle.numa_host.specs.Standing.{HostState, HostStandsFor, IsHostApplied}
-use Rattle.numa_host_pages.specs.Homes.{HostLying, lent, pages_in, pages_lent, with_pages}
+use Rattle.numa_host_pages.specs.Homes.{HostLying, lent, pages_in, pages_lent, taken_along}
+use Rattle.numa_host_pages.specs.Homes.{with_pages}
 use Rattle.numa_host_pages.specs.Standing.{AreOf, HostLies}
 use Rattle.numa_host_pages.specs.declared.pages.HostPages.{HostPages}
 use Rattle.numa_page_state.specs.Lying.{Lying}
@@ -160,7 +161,7 @@ SendsIn old before (Ok answer) new after process said words = (at : Hosting) →
     × (sent_unless Enough (own_cause at process (command_of said)) at process said words ≡ record {
       answer = Replied answer;
       history = In process (command_of said) ∷ at.history;
-      lying = lying_with at process done;
+      lying = taken_along process (lying_with at process done);
     })
     × HostRuns new (record at { history = In process (command_of said) ∷ at.history })
     × LiesAs after done
@@ -204,6 +205,7 @@ IsTakenIn lack at said (taken.Reply answer) =
 IsTakenIn lack at said (taken.Asked process asked) = said ≡ told process (line.Question asked)
 IsTakenIn lack at said (taken.Listed process task) = said ≡ told process (line.Maps task)
 IsTakenIn lack at said (taken.Moved process) = said ≡ told process (line.Pages (Ok page.Moved))
+IsTakenIn lack at said taken.MovedAll = said ≡ alone (line.Pages (Ok page.Moved))
 IsTakenIn lack at said taken.Rooms = said ≡ alone (line.Pages (Ok page.Rooms))
 IsTakenIn lack at said (taken.Arrived process) =
     (Shown (arrived_text (hosting_with at (host_outcome lack at said)) process)

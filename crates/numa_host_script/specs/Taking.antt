@@ -1,5 +1,6 @@
 -- A line that is taken, and then answered or judged.
-use Rattle.std.specs.Prelude.{◌≡◌, ◌↔◌, ℕ, Bool, List, Option, Some, None, Ok, IsSomeAnd, IsTrue}
+use Rattle.std.specs.Prelude.{◌≡◌, ◌↔◌, ℕ, Bool, false, true, List, Option, Some, None, Ok}
+use Rattle.std.specs.Prelude.{IsSomeAnd, IsTrue}
 use Rattle.numa_lines.specs.Written.{Said}
 use Rattle.numa_lines.specs.declared.watched.Watched.{Watched}
 use Rattle.numa_script.specs.Lines.{alone}
@@ -43,6 +44,7 @@ left_in (taken.Reply answer) = Told answer
 left_in (taken.Asked process asked) = Open (told process (line.Question asked))
 left_in (taken.Listed process task) = Open (told process (line.Maps task))
 left_in (taken.Moved process) = Open (told process (line.Pages (Ok page.Moved)))
+left_in taken.MovedAll = Open (alone (line.Pages (Ok page.Moved)))
 left_in taken.Rooms = Open (alone (line.Pages (Ok page.Rooms)))
 left_in (taken.Arrived process) = Touched (Some process)
 
@@ -78,14 +80,19 @@ fault_left lack session (Touched process) =
     fault_or (reply_in (touched_answer session process)) None
 
 -- where there is a host, a line that names no process and shows what is has no place; but the rooms
--- are the host's
+-- are the host's, and so is its last move
 abbrev pub misplaced_reply : Taken → Option Reply
 misplaced_reply (own.Reply answer) = Some answer
 misplaced_reply (own.Question asked) = Some reply.BadState
 misplaced_reply (own.Maps task) = Some reply.BadState
-misplaced_reply own.Moved = Some reply.BadState
+misplaced_reply own.Moved = None
 misplaced_reply own.Rooms = None
 misplaced_reply own.Arrived = Some reply.BadState
+
+-- of these two it is the last move
+abbrev pub asks_move : Taken → Bool
+asks_move own.Moved = true
+asks_move _ = false
 
 -- ---- what a script does with a line
 

@@ -131,7 +131,10 @@ fn send_lent(
     let told = send_with(&mut running.host, alloc, process, said, words, &mut state);
     running.pages.give_back(process, state);
     match told {
-        Ok(reply) => reply,
+        Ok(reply) => {
+            running.pages.take_along(process);
+            reply
+        }
         Err(reply) => reply,
     }
 }
@@ -154,6 +157,7 @@ fn send_first(
     match send_with(&mut running.host, alloc, process, said, words, &mut state) {
         Ok(reply) => {
             running.pages.give_back(process, state);
+            running.pages.take_along(process);
             reply
         }
         Err(reply) => {

@@ -1,7 +1,7 @@
 //! What kind of line a script is told, and which lines of one process have no place in a host.
 ghost use Rattle.std.specs.Prelude.{◌≡◌, IfSome, MatchOption, Some, true, false};
 ghost use Rattle.numa_host_script.specs.Sessions.{bounds_after, is_begin, is_fresh};
-ghost use Rattle.numa_host_script.specs.Taking.{misplaced_reply};
+ghost use Rattle.numa_host_script.specs.Taking.{asks_move, misplaced_reply};
 ghost use Rattle.numa_run.specs.Answers.{State};
 ghost use Rattle.numa_run.specs.Scripts.{ScriptStandsFor};
 ghost use Rattle.numa_script.specs.Lines.{alone};
@@ -75,7 +75,7 @@ pub(crate) fn limits_after(script: &Script, limits: Limits, line: &Line<'_>) -> 
 }
 
 /// The reply to what was taken of a line of one process, where there is a host; none where the host
-/// tells its rooms.
+/// tells its rooms, or what its last move did.
 pub(crate) fn misplaced(taken: Taken) -> Option<Reply>
     ensures { result ≡ misplaced_reply taken }
 {
@@ -83,8 +83,19 @@ pub(crate) fn misplaced(taken: Taken) -> Option<Reply>
         Taken::Reply(reply) => Some(reply),
         Taken::Question(_) => Some(Reply::BadState),
         Taken::Maps(_) => Some(Reply::BadState),
-        Taken::Moved => Some(Reply::BadState),
+        Taken::Moved => None,
         Taken::Rooms => None,
         Taken::Arrived => Some(Reply::BadState),
+    }
+}
+
+/// Whether a line asks what the last move did.
+#[inline(always)]
+pub(crate) fn asks_move(taken: &Taken) -> bool
+    ensures { result ≡ asks_move taken.now }
+{
+    match taken {
+        Taken::Moved => true,
+        _ => false,
     }
 }

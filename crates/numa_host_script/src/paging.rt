@@ -4,8 +4,9 @@ ghost use Rattle.numa_host.specs.Processes.{is_there, members_of};
 ghost use Rattle.numa_host_pages.specs.Homes.{HostLying, given_back, lent, pages_in, pages_lent};
 ghost use Rattle.numa_host_pages.specs.Homes.{with_pages};
 ghost use Rattle.numa_host_pages.specs.Standing.{HostLies};
-ghost use Rattle.numa_host_script.specs.Paging.{given_outcome, obeyed, page_where, pages_changed};
-ghost use Rattle.numa_host_script.specs.Paging.{pages_reply, unmap_outcome};
+ghost use Rattle.numa_host_script.specs.Paging.{along_if, given_outcome, obeyed, page_where};
+ghost use Rattle.numa_host_script.specs.Paging.{pages_changed, pages_reply, tells_move};
+ghost use Rattle.numa_host_script.specs.Paging.{unmap_outcome};
 ghost use Rattle.numa_host_script.specs.Standing.{Answers, Changes, ChangesPages, ForgetsIn};
 ghost use Rattle.numa_host_script.specs.Standing.{Replies, Takes, told};
 ghost use Rattle.numa_page_state.specs.Lying.{Lying, ground_in, with_spots};
@@ -115,6 +116,28 @@ fn change_pages(
     }
 }
 
+/// Whether a line is answered by what moved.
+fn tells_move(told: &Option<Reply>) -> bool
+    ensures { result ≡ tells_move told.now }
+{
+    match told {
+        Some(Reply::Moved { .. }) => true,
+        Some(Reply::MovedTo(_)) => true,
+        _ => false,
+    }
+}
+
+/// Once a line was answered so, the host's last move is that of the process, if it was one.
+fn take_along(pages: &mut HostPages, process: u32, told: &Option<Reply>)
+    ensures { (at : HostLying) → HostLies pages.old at
+        → HostLies pages.new (along_if (tells_move told.now) process at) }
+{
+    if !tells_move(told) {
+        return;
+    }
+    pages.take_along(process);
+}
+
 /// Carries out a line that changes where the pages of a process lie.
 fn change_in(
     running: &mut RunningHost,
@@ -130,7 +153,9 @@ fn change_in(
     let Some(space) = space_of(&running.host, process) else {
         return Some(Reply::HostRefused(HostRefusal::NoSuchProcess));
     };
-    change_pages(&mut running.pages, alloc, process, space, line)
+    let told = change_pages(&mut running.pages, alloc, process, space, line);
+    take_along(&mut running.pages, process, &told);
+    told
 }
 
 /// Carries out a line about pages that a process is told. What `moved` and a `populate` that isn't
@@ -165,8 +190,8 @@ pub(crate) fn pages_in(
     }
 }
 
-/// Carries out a line about pages that no process is told. What `room` alone tells is still to be
-/// written.
+/// Carries out a line about pages that no process is told. What `room` alone and `moved` tell is
+/// still to be written.
 pub(crate) fn own_page(running: &mut RunningHost, line: &PageLine) -> HostTaken
     ensures { Takes running.old (alone (Line.Pages (Ok line.now))) result running.new }
 {
@@ -176,6 +201,7 @@ pub(crate) fn own_page(running: &mut RunningHost, line: &PageLine) -> HostTaken
             HostTaken::Reply(page_reply(Reply::RoomOk, running.pages.limit(machine, *node, *pages)))
         }
         PageLine::Rooms => HostTaken::Rooms,
+        PageLine::Moved => HostTaken::MovedAll,
         PageLine::MemoryMigrate(follows) => {
             running.pages.set_follows(*follows);
             HostTaken::Reply(Reply::MemoryMigrateOk)

@@ -16,10 +16,10 @@ ghost use Rattle.numa_script.specs.declared.line.Line.{Line};
 ghost use Rattle.numa_script.specs.declared.page_line.PageLine.{PageLine};
 
 use crate::asking::{ask, list, question_cause};
-use crate::lines::{fresh_machine, is_begin, limits_after, misplaced, plain_question};
+use crate::lines::{asks_move, fresh_machine, is_begin, limits_after, misplaced, plain_question};
 use crate::running::RunningHost;
 use crate::taking::{HostTaken, take};
-use crate::telling::{say_arrived_in, say_last_in, say_rooms_in};
+use crate::telling::{say_arrived_in, say_last_in, say_shown_in};
 use numa_host::Host;
 use numa_host_pages::HostPages;
 use numa_lines::{Serve, Watched};
@@ -170,6 +170,7 @@ impl HostScript {
                 self.tell_last(process, output);
                 false
             }
+            HostTaken::MovedAll => self.write_own(alloc, Taken::Moved, output),
             HostTaken::Rooms => self.write_own(alloc, Taken::Rooms, output),
             HostTaken::Arrived(process) => self.tell_arrived(alloc, process, output),
         }
@@ -182,8 +183,9 @@ impl HostScript {
             self.new output.new }
     {
         if let Some(running) = &self.host {
+            let moves = asks_move(&taken);
             let Some(reply) = misplaced(taken) else {
-                say_rooms_in(running, output);
+                say_shown_in(running, moves, output);
                 return false;
             };
             say_reply(output, &reply);
@@ -282,6 +284,7 @@ impl HostScript {
             HostTaken::Asked { process, question } => self.asked_fault(alloc, process, question),
             HostTaken::Listed { process, task: _ } => self.listed_fault(process),
             HostTaken::Moved(process) => self.listed_fault(process),
+            HostTaken::MovedAll => self.own_fault(Taken::Moved),
             HostTaken::Rooms => self.own_fault(Taken::Rooms),
             HostTaken::Arrived(_) => self.arrived_fault(),
         }

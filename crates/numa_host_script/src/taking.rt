@@ -29,6 +29,8 @@ pub enum HostTaken {
     Listed { process: u32, task: u32 },
     /// What the last move of a process did is still to be told.
     Moved(u32),
+    /// What the last move of the host did, all its processes together, is still to be told.
+    MovedAll,
     /// How many more pages nodes take is still to be told.
     Rooms,
     /// Pages of a process were touched, and what came of it is still to be told.

@@ -3,18 +3,22 @@ ghost use Rattle.std.specs.Prelude.{length};
 ghost use Rattle.numa_lines.specs.Written.{Said};
 ghost use Rattle.numa_page_state.specs.Outcomes.{rooms_of};
 ghost use Rattle.numa_host_script.specs.Hosts.{Hosting};
-ghost use Rattle.numa_host_script.specs.Paging.{arrived_text, pages_at};
+ghost use Rattle.numa_host_pages.specs.Homes.{HostLying};
+ghost use Rattle.numa_host_pages.specs.Standing.{HostLies};
+ghost use Rattle.numa_host_pages.specs.Summed.{sum_of};
+ghost use Rattle.numa_host_script.specs.Paging.{arrived_text, moved_text, pages_at, shown_text};
 ghost use Rattle.numa_host_script.specs.Standing.{RunsAs};
 ghost use Rattle.numa_run.specs.ArrivedTexts.{rooms_line};
-ghost use Rattle.numa_run.specs.MovedTexts.{last_line};
+ghost use Rattle.numa_run.specs.MovedTexts.{all_flows_text, last_line};
 
 use crate::running::RunningHost;
+use numa_host_pages::HostPages;
 use numa_lines::Watched;
 use numa_page_state::arrived::untouched;
 use numa_page_state::state::still;
 use numa_placed::Rooms;
 use numa_run::arrived::{say_arrived, say_rooms};
-use numa_run::moved::{say_last, say_told};
+use numa_run::moved::{say_counted_at, say_flows_from, say_last, say_told};
 use std::io::Write;
 
 /// Writes what the last move of a process did, at the version of the host.
@@ -30,7 +34,7 @@ pub(crate) fn say_last_in<W: Write>(running: &RunningHost, process: u32, output:
 }
 
 /// Writes how many more pages nodes take, whichever process they are of.
-pub(crate) fn say_rooms_in<W: Write>(running: &RunningHost, output: &mut Watched<W>)
+fn say_rooms_in<W: Write>(running: &RunningHost, output: &mut Watched<W>)
     ensures { (at : Hosting) → RunsAs running.now at → Said W.contents output.old output.new
         (rooms_line (rooms_of at.lying.room)) }
 {
@@ -38,6 +42,45 @@ pub(crate) fn say_rooms_in<W: Write>(running: &RunningHost, output: &mut Watched
         Some(rooms) => say_rooms(output, rooms),
         None => say_rooms(output, &Rooms::endless()),
     }
+}
+
+/// Writes how many pages the last move of the host took from each node to each, all its processes
+/// together.
+fn say_sums<W: Write>(pages: &HostPages, output: &mut Watched<W>)
+    ensures { (at : HostLying) → HostLies pages.now at → Said W.contents output.old output.new
+        (all_flows_text (sum_of at.homes).flow) }
+{
+    for from in 0..256usize {
+        say_flows_from(output, from, &pages.flow_from(from as u8));
+    }
+}
+
+/// Writes what the last move of the host did, all its processes together, at the version of the
+/// host: `v4: moved 5 left 0 N2->N3=5`.
+fn say_moved_in<W: Write>(running: &RunningHost, output: &mut Watched<W>)
+    ensures { (at : Hosting) → RunsAs running.now at → Said W.contents output.old output.new
+        (moved_text at) }
+{
+    let all = running.pages.last();
+    say_counted_at(output, running.host.version(), all.moved, all.left);
+    say_sums(&running.pages, output);
+    output.say(b"\n");
+}
+
+/// Writes what is shown of the pages of a host: what its last move did, or its rooms.
+pub(crate) fn say_shown_in<W: Write>(
+    running: &RunningHost,
+    moves: bool,
+    output: &mut Watched<W>,
+)
+    ensures { (at : Hosting) → RunsAs running.now at → Said W.contents output.old output.new
+        (shown_text moves at) }
+{
+    if moves {
+        say_moved_in(running, output);
+        return;
+    }
+    say_rooms_in(running, output);
 }
 
 /// Writes what the last first touches of a process did, at the version of the host.

@@ -53,7 +53,7 @@ fn say_flows<W: Write>(output: &mut Watched<W>, from: &[u64; 256], to: &[u8; 256
 }
 
 /// Writes how many pages went to each node.
-fn say_flows_from<W: Write>(output: &mut Watched<W>, from: usize, flow: &[u64; 256])
+pub fn say_flows_from<W: Write>(output: &mut Watched<W>, from: usize, flow: &[u64; 256])
     ensures { Said W.contents output.old output.new (flows_from_text from (slice_index flow.now)) }
 {
     for to in 0..256usize {
@@ -72,7 +72,7 @@ fn say_all_flows<W: Write>(output: &mut Watched<W>, before: &Placed, after: &Pla
 }
 
 /// Writes how many pages moved, and how many stayed, at a version: `v4: moved 5 left 0`.
-fn say_counted_at<W: Write>(output: &mut Watched<W>, version: u64, moved: u64, left: u64)
+pub fn say_counted_at<W: Write>(output: &mut Watched<W>, version: u64, moved: u64, left: u64)
     ensures { Said W.contents output.old output.new
         (codes "v" ++ decimal version ++ codes ": " ++ moved_words moved left) }
 {
