@@ -31,13 +31,13 @@ use Rattle.numa_run.specs.Replies.{Shown, reply_in}
 use Rattle.numa_host_script.specs.Hosts.{Hosting, HostLack, Outcome, plenty, with_reply}
 use Rattle.numa_host_script.specs.Paging.{arrived_text, changed, own_page_outcome, page_outcome}
 use Rattle.numa_host_script.specs.Paging.{page_there, page_where, pages_changed, process_in}
-use Rattle.numa_host_script.specs.Paging.{told_by, with_change}
+use Rattle.numa_host_script.specs.Paging.{along_if, tells_move, told_by, with_change}
 use Rattle.numa_host_script.specs.Sessions.{host_outcome}
 use Rattle.numa_host_script.specs.Standing.{Changes, ChangesPages, Replies, RunsAs, Takes}
 use Rattle.numa_host_script.specs.Standing.{hosting_with, told}
 use Rattle.numa_host_script.specs.declared.running.RunningHost.{RunningHost}
 use Rattle.numa_host_script.specs.declared.taking.HostTaken.TheVariants as taken
-use Rattle.numa_host_script.proofs.Lent.{given-are}
+use Rattle.numa_host_script.proofs.Lent.{along_if-are, given-are}
 use Rattle.numa_host_script.proofs.Obeyed.{still}
 use Rattle.numa_host_script.proofs.Spaces.{same-ground}
 use Rattle.numa_host_script.proofs.Unmapped.{flag}
@@ -176,7 +176,14 @@ changed-nobody running process said nobody = λ at stands.
     (refl, stands) in
     (Enough, done.0, done.1)
 
-pub changed-there : (running : RunningHost) (space : SpaceState) (pages : HostPages)
+-- whether it was a move changes no text
+told-along : (answer : Option Reply) (version process : ℕ) (at : HostLying)
+    → told_by answer version (pages_lent process at)
+    ≡ told_by answer version (pages_lent process (along_if (tells_move answer) process at))
+told-along (Some answer) version process at = refl
+told-along None version process at = refl
+
+pub changed-there : (running : RunningHost) (space : SpaceState) (pages pages_then : HostPages)
     (answer : Option Reply) (process : ℕ) (said : PageLine) → said ≢ page.Moved
     → ((history : List HostCommand) → HostStandsFor running.host history
     → (is_there (members_of history) process ≡ true)
@@ -184,9 +191,12 @@ pub changed-there : (running : RunningHost) (space : SpaceState) (pages : HostPa
     (commands_of running.host.blank.machine history process) space)
     → ChangesPages running.pages answer pages
     (λ lacked at. pages_changed lacked (ground_in space []) process said at)
-    → Changes running answer (record { host = running.host; pages = pages }) process
+    → ((at : HostLying) → HostLies pages at
+    → HostLies pages_then (along_if (tells_move answer) process at))
+    → Changes running answer (record { host = running.host; pages = pages_then }) process
     (λ lacked at. page_by process said lacked at)
-changed-there running space pages answer process said moved owns changes = λ at stands.
+changed-there running space pages pages_then answer process said moved owns changes goes =
+    λ at stands.
     let own = owns at.history stands.stands in
     let d = changes at.lying stands.lies in
     let basis = same-ground running.host at process space stands.machine stands.bounds own.1 in
@@ -196,15 +206,21 @@ changed-there running space pages answer process said moved owns changes = λ at
     ∙ there-changes said moved d.0 at process
     ∙ ap (λ (g : Ground). with_change at process (pages_changed d.0 g process said at.lying))
     (sym basis) in
-    let to = subst (ChangesTo answer (record { host = running.host; pages = pages }) process at)
+    let moves : Option Reply → HostLying = λ t. along_if (tells_move t) process done.1 in
+    let to = subst
+    (ChangesTo answer (record { host = running.host; pages = pages_then }) process at)
     (sym is) (
-      ap (λ (t : Option Reply). told_by t (length at.history) (pages_lent process done.1)) d.1,
+      told-along done.0 (length at.history) process done.1
+          ∙ ap (λ (t : Option Reply). told_by t (length at.history)
+          (pages_lent process (moves done.0))) d.1,
       record {
         machine = stands.machine;
         bounds = stands.bounds;
         stands = stands.stands;
-        lies = d.2;
-        are = changed-are d.0 (ground_in space []) process said at.lying at.history stands.are;
+        lies = subst (λ (t : Option Reply). HostLies pages_then (moves t)) (sym d.1)
+            (goes done.1 d.2);
+        are = along_if-are (tells_move done.0) process done.1 at.history
+            (changed-are d.0 (ground_in space []) process said at.lying at.history stands.are);
       },
     ) in
     (d.0, to.0, to.1)
@@ -310,22 +326,24 @@ followed-taken running pages follows sets = λ at stands. (
 )
 
 nothing-own : (said : PageLine) → ((node pages : ℕ) → said ≢ page.Room node pages)
-    → said ≢ page.Rooms → ((follows : Bool) → said ≢ page.MemoryMigrate follows)
+    → said ≢ page.Rooms → said ≢ page.Moved
+    → ((follows : Bool) → said ≢ page.MemoryMigrate follows)
     → (at : Hosting) → own_page_outcome at said ≡ with_reply reply.BadState at
-nothing-own (page.At start bytes node) room rooms follow at = refl
-nothing-own (page.Room node pages) room rooms follow at = absurd (room node pages refl)
-nothing-own (page.MemoryMigrate follows) room rooms follow at = absurd (follow follows refl)
-nothing-own (page.Migrate from to) room rooms follow at = refl
-nothing-own (page.Move address node) room rooms follow at = refl
-nothing-own (page.Populate start bytes task cpu) room rooms follow at = refl
-nothing-own page.Rooms room rooms follow at = absurd (rooms refl)
-nothing-own page.Moved room rooms follow at = refl
+nothing-own (page.At start bytes node) room rooms moved follow at = refl
+nothing-own (page.Room node pages) room rooms moved follow at = absurd (room node pages refl)
+nothing-own (page.MemoryMigrate follows) room rooms moved follow at =
+    absurd (follow follows refl)
+nothing-own (page.Migrate from to) room rooms moved follow at = refl
+nothing-own (page.Move address node) room rooms moved follow at = refl
+nothing-own (page.Populate start bytes task cpu) room rooms moved follow at = refl
+nothing-own page.Rooms room rooms moved follow at = absurd (rooms refl)
+nothing-own page.Moved room rooms moved follow at = absurd (moved refl)
 
 -- every other line is a process's
 pub own-nothing : (running : RunningHost) (said : PageLine)
     → ((node pages : ℕ) → said ≢ page.Room node pages) → said ≢ page.Rooms
-    → ((follows : Bool) → said ≢ page.MemoryMigrate follows)
+    → said ≢ page.Moved → ((follows : Bool) → said ≢ page.MemoryMigrate follows)
     → Takes running (alone (line.Pages (Ok said))) (taken.Reply reply.BadState) running
-own-nothing running said room rooms follow =
+own-nothing running said room rooms moved follow =
     still running reply.BadState (λ lack at. own_page_outcome at said) plenty
-    (λ at stands. nothing-own said room rooms follow at)
+    (λ at stands. nothing-own said room rooms moved follow at)

@@ -6,7 +6,7 @@ use Rattle.numa_space.specs.Limited.{Bounds}
 use Rattle.numa_space.specs.Standing.{SpaceState, StandsFor}
 use Rattle.numa_host.specs.Processes.{commands_of, is_there, members_of}
 use Rattle.numa_host.specs.Standing.{HostState, HostStandsFor}
-use Rattle.numa_page_state.specs.Outcomes.{Enough, Lack, rooms_of}
+use Rattle.numa_page_state.specs.Outcomes.{Enough, Lack}
 use Rattle.numa_requests.specs.declared.host_command.HostCommand.{HostCommand}
 use Rattle.numa_script.specs.Lines.{alone}
 use Rattle.numa_script.specs.Replies.{LacksMemory, fault_in}
@@ -17,7 +17,6 @@ use Rattle.numa_script.specs.declared.page_line.PageLine.TheVariants as page
 use Rattle.numa_script.specs.declared.reply.Reply.{Reply}
 use Rattle.numa_script.specs.declared.reply.Reply.TheVariants as reply
 use Rattle.numa_run.specs.Answers.{State, after}
-use Rattle.numa_run.specs.ArrivedTexts.{rooms_line}
 use Rattle.numa_run.specs.Judged.{fault_or}
 use Rattle.numa_run.specs.Replies.{Answer, Replied, Shown, Served as Played, reply_in}
 use Rattle.numa_run.specs.Scripts.{answer_left as own_answer_left, fault_left as own_fault_left}
@@ -29,13 +28,13 @@ use Rattle.numa_run.proofs.Taking.{malformed-is, maps-same, question-same, text-
 use Rattle.numa_host_script.specs.Hosts.{plenty}
 use Rattle.numa_host_script.specs.Judged.{Starves, refused_where, session_fault}
 use Rattle.numa_host_script.specs.Judged.{session_refused}
-use Rattle.numa_host_script.specs.Paging.{page_where}
+use Rattle.numa_host_script.specs.Paging.{page_where, shown_text}
 use Rattle.numa_host_script.specs.Sessions.{Hosted, Hosting, HostLack, Session, Single}
 use Rattle.numa_host_script.specs.Sessions.{asked_where, listed_where, session_after}
 use Rattle.numa_host_script.specs.Sessions.{session_served}
 use Rattle.numa_host_script.specs.Standing.{StandsIn, told}
 use Rattle.numa_host_script.specs.Taking.{IsLeft, Left, Open, Told, Touched, answer_left}
-use Rattle.numa_host_script.specs.Taking.{fault_left, left_in, misplaced_reply}
+use Rattle.numa_host_script.specs.Taking.{asks_move, fault_left, left_in, misplaced_reply}
 use Rattle.numa_host_script.specs.declared.running.RunningHost.{RunningHost}
 use Rattle.numa_host_script.specs.declared.taking.HostTaken.{HostTaken}
 use Rattle.numa_host_script.specs.declared.taking.HostTaken.TheVariants as taken
@@ -114,17 +113,17 @@ own-fault lack state own.Moved = refl
 own-fault lack state own.Rooms = refl
 own-fault lack state own.Arrived = refl
 
--- and as a host does: by a reply, or by its rooms
-abbrev pub misplaced_as : Option Reply → Hosting → Answer
-misplaced_as (Some answer) at = Replied answer
-misplaced_as None at = Shown (rooms_line (rooms_of at.lying.room))
+-- and as a host does: by a reply, by what its last move did, or by its rooms
+abbrev pub misplaced_as : Option Reply → Bool → Hosting → Answer
+misplaced_as (Some answer) moves at = Replied answer
+misplaced_as None moves at = Shown (shown_text moves at)
 
 abbrev pub misplaced_fault : Option Reply → Option Reply
 misplaced_fault (Some answer) = fault_in answer
 misplaced_fault None = None
 
 pub misplaced-answer : (lack : HostLack) (at : Hosting) (found : Taken)
-    → misplaced_as (misplaced_reply found) at
+    → misplaced_as (misplaced_reply found) (asks_move found) at
     ≡ answer_left lack (Hosted at) (left_in (taken.Own found))
 unfolding session_served
 misplaced-answer lack at (own.Reply answer) = refl
@@ -244,6 +243,8 @@ stays lack (Single state) (taken.Asked process asked) =
 stays lack (Single state) (taken.Listed process task) =
     ap Single (malformed-same lack.lacked state)
 stays lack (Single state) (taken.Moved process) = ap Single (malformed-same lack.lacked state)
+stays lack (Single state) taken.MovedAll =
+    ap Single (text-same page.Moved last_text moved-text lack.lacked state)
 stays lack (Single state) taken.Rooms =
     ap Single (text-same page.Rooms rooms_left rooms-text lack.lacked state)
 stays lack (Hosted at) (taken.Own (own.Question asked)) = refl
@@ -256,6 +257,7 @@ stays lack (Hosted at) (taken.Listed process task) =
     ap Hosted (listed-still (is_there (members_of at.history) process) at process task)
 stays lack (Hosted at) (taken.Moved process) =
     ap Hosted (moved-still (is_there (members_of at.history) process) lack.lacked at process)
+stays lack (Hosted at) taken.MovedAll = refl
 stays lack (Hosted at) taken.Rooms = refl
 
 -- a question of a line that names no process is left as it is

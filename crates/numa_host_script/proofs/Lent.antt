@@ -9,11 +9,13 @@ use Rattle.numa_page_state.specs.Lying.{Lying, nothing}
 use Rattle.numa_page_state.specs.Standing.{LiesAs}
 use Rattle.numa_page_state.specs.declared.state.PageState.{PageState}
 use Rattle.numa_host_pages.specs.Homes.{Home, HostLying, Room, given_back, lent, lent_or_new}
-use Rattle.numa_host_pages.specs.Homes.{pages_in, pages_lent, with_pages}
+use Rattle.numa_host_pages.specs.Homes.{pages_in, pages_lent, taken_along, with_pages}
 use Rattle.numa_host_pages.specs.Standing.{AreHomes, AreOf, HostLies, IsHome, IsLent, Sits}
 use Rattle.numa_host_pages.specs.Standing.{arrival_of}
 use Rattle.numa_host_pages.specs.declared.member.Member.{Member}
 use Rattle.numa_host_pages.specs.declared.pages.HostPages.{HostPages}
+use Rattle.numa_host_pages.proofs.Arrived.{along-arrivals}
+use Rattle.numa_host_script.specs.Paging.{along_if}
 
 -- ---- a process without pages
 
@@ -89,6 +91,22 @@ given-are process done at history are = record {
   same = are.same;
 }
 
+-- ---- the host's last move
+
+pub along-are : (process : ℕ) (at : HostLying) (history : List HostCommand)
+    → AreOf at history → AreOf (taken_along process at) history
+along-are process at history are = record {
+  order = along-arrivals process at.homes ∙ are.order;
+  same = are.same;
+}
+
+pub along_if-are : (moves : Bool) (process : ℕ) (at : HostLying) (history : List HostCommand)
+    → AreOf at history → AreOf (along_if moves process at) history
+along_if-are false process at history are = are
+along_if-are true process at history are = along-are process at history are
+
+-- ---- what is given back as it was lent
+
 sits-lent : (pages : Option (Box PageState Global)) (room : Room) (follows : Bool) (lying : Lying)
     → Sits pages (Some (lent room follows lying)) → Sits pages (Some lying)
 sits-lent None room follows lying sits = absurd sits
@@ -116,6 +134,7 @@ homes-back process room follows lying (m ∷ members) (home ∷ homes) is are =
               id = both.0.id;
               group = both.0.group;
               allowed = both.0.allowed;
+              along = both.0.along;
               pages = subst (λ (l : Option Lying). Sits m.pages l) (sym its)
                   (sits-lent m.pages room follows lying both.0.pages);
             },

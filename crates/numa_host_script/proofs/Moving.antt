@@ -16,7 +16,7 @@ use Rattle.numa_requests.specs.declared.refusal.Refusal.{Refusal}
 use Rattle.numa_host.specs.Processes.{commands_of, is_there, members_of}
 use Rattle.numa_host.specs.Standing.{HostState, HostStandsFor, IsHostApplied, IsSpaceOf}
 use Rattle.numa_host_pages.specs.Homes.{HostLying, given_back, lent, pages_in}
-use Rattle.numa_host_pages.specs.Homes.{with_pages}
+use Rattle.numa_host_pages.specs.Homes.{taken_along, with_pages}
 use Rattle.numa_host_pages.specs.Standing.{AreOf, HostLies, IsLent}
 use Rattle.numa_host_pages.specs.declared.pages.HostPages.{HostPages}
 use Rattle.numa_page_state.specs.Lying.{Lying, Process, nothing}
@@ -43,8 +43,8 @@ use Rattle.numa_host_script.specs.Standing.{Answers, HostRuns, IsSentTo, Replies
 use Rattle.numa_host_script.specs.Standing.{RunsAs, SendsIn, SendsLent, hosting_with}
 use Rattle.numa_host_script.specs.declared.running.RunningHost.{RunningHost}
 use Rattle.numa_host_script.proofs.Bindings.{nobody-takes}
-use Rattle.numa_host_script.proofs.Lent.{given-are, lent-none, lent-some, none-in, none-lent}
-use Rattle.numa_host_script.proofs.Lent.{none-out, same-back, some-lent}
+use Rattle.numa_host_script.proofs.Lent.{along-are, given-are, lent-none, lent-some, none-in}
+use Rattle.numa_host_script.proofs.Lent.{none-lent, none-out, same-back, some-lent}
 use Rattle.numa_host_script.proofs.Spaces.{own-space, same-process}
 use Rattle.numa_host_script.proofs.Unmapped.{cause-some, flag, refused-plain}
 
@@ -190,12 +190,12 @@ module _ (host : HostState) (state : PageState) (process : ℕ) (said : Rebindin
       let told : sent_outcome at process said words ≡ record {
         answer = Replied (reply.Sent version done.moved done.left late);
         history = command ∷ at.history;
-        lying = lying_with at process lying;
+        lying = taken_along process (lying_with at process lying);
       } = λ i. record {
         answer = Replied (reply.Sent (sym counted i) (sym so.1.moved i) (sym so.1.left i)
             (sym lateness i));
         history = command ∷ at.history;
-        lying = lying_with at process lying;
+        lying = taken_along process (lying_with at process lying);
       } in (
         lying,
         ap (λ (o : Option Refusal). sent_unless Enough o at process said words) so.0 ∙ told,
@@ -214,35 +214,47 @@ module _ (host : HostState) (pages pages_then : HostPages) (state after : PageSt
   abbrev pub given : RunningHost
   given = record { host = new; pages = pages_then }
 
+  -- and the host's last move was of them
+  abbrev pub moved : HostPages → RunningHost
+  moved pages_last = record { host = new; pages = pages_last }
+
+  abbrev pub Goes : HostPages → Type 0
+  Goes pages_last = (at : HostLying) → HostLies pages_then at
+      → HostLies pages_last (taken_along process at)
+
   abbrev pub Gives : Type 0
   Gives = (at : HostLying) (done : Lying)
       → HostLies pages (record at { homes = with_pages process None at.homes })
       → LiesAs after done → HostLies pages_then (given_back process done at)
 
   -- the pages went
-  sent-given : (answer : Reply) → SendsIn host state (Ok answer) new after process said words
-      → Gives → (at : Hosting) → HostRuns host at → AreOf at.lying at.history
+  sent-given : (pages_last : HostPages) (answer : Reply)
+      → SendsIn host state (Ok answer) new after process said words
+      → Gives → Goes pages_last → (at : Hosting) → HostRuns host at → AreOf at.lying at.history
       → takes_more at process ≡ true → LiesAs state (pages_at at process)
       → HostLies pages (record at.lying { homes = with_pages process None at.lying.homes })
-      → IsSentTo answer given at process said words
-  sent-given answer sends gives at runs are more lies out =
+      → IsSentTo answer (moved pages_last) at process said words
+  sent-given pages_last answer sends gives goes at runs are more lies out =
       let d = sends at runs more lies in
-      let kept = given-are process d.0 at.lying at.history are in (
+      let back : HostLying = given_back process d.0 at.lying in
+      let kept = along-are process back at.history
+      (given-are process d.0 at.lying at.history are) in (
         flag Enough,
         sym (ap (λ (o : Outcome). reply_in o.answer) d.1),
-        subst (λ (o : Outcome). RunsAs given (hosting_with at o)) (sym d.1) (record {
+        subst (λ (o : Outcome). RunsAs (moved pages_last) (hosting_with at o)) (sym d.1) (record {
           machine = d.2.machine;
           bounds = d.2.bounds;
           stands = d.2.stands;
-          lies = gives at.lying d.0 out d.3;
+          lies = goes back (gives at.lying d.0 out d.3);
           are = record { order = kept.order; same = kept.same };
         }),
       )
 
-  pub lent-sent : (answer : Reply) → SendsIn host state (Ok answer) new after process said words
-      → Gives → SendsLent host pages state answer given process said words
-  lent-sent answer sends gives = λ at lying runs are is out has more.
-      sent-given answer sends gives at runs are more
+  pub lent-sent : (pages_last : HostPages) (answer : Reply)
+      → SendsIn host state (Ok answer) new after process said words → Gives → Goes pages_last
+      → SendsLent host pages state answer (moved pages_last) process said words
+  lent-sent pages_last answer sends gives goes = λ at lying runs are is out has more.
+      sent-given pages_last answer sends gives goes at runs are more
       (subst (λ (l : Lying). LiesAs state l) (sym (lent-some process at.lying lying is)) has) out
 
   -- they are as they were
@@ -282,13 +294,13 @@ module _ (host : HostState) (pages pages_then : HostPages) (state after : PageSt
   first-lies begins at stands none = subst (λ (l : Lying). LiesAs state l)
       (sym (lent-none process at.lying none)) (begins at.lying stands.lies)
 
-  pub first-sent : (answer : Reply) → SendsIn host state (Ok answer) new after process said words
-      → Gives → ((at : HostLying) → HostLies pages at
-      → LiesAs state (lent at.room at.follows nothing))
+  pub first-sent : (pages_last : HostPages) (answer : Reply)
+      → SendsIn host state (Ok answer) new after process said words → Gives → Goes pages_last
+      → ((at : HostLying) → HostLies pages at → LiesAs state (lent at.room at.follows nothing))
       → (at : Hosting) → RunsAs before at → pages_in process at.lying.homes ≡ None
-      → takes_more at process ≡ true → IsSentTo answer given at process said words
-  first-sent answer sends gives begins at stands none more =
-      sent-given answer sends gives at (runs-before at stands) stands.are more
+      → takes_more at process ≡ true → IsSentTo answer (moved pages_last) at process said words
+  first-sent pages_last answer sends gives goes begins at stands none more =
+      sent-given pages_last answer sends gives goes at (runs-before at stands) stands.are more
       (first-lies begins at stands none) (none-out pages process at.lying none stands.lies)
 
   pub first-kept : (answer : Reply) → SendsIn host state (Err answer) new after process said words

@@ -107,6 +107,10 @@ moved-taken running process = λ at stands. (
       (sym (moved-still (is_there (members_of at.history) process) Enough at process)) stands,
 )
 
+pub all-moved-taken : (running : RunningHost)
+    → Takes running (alone (line.Pages (Ok page.Moved))) taken.MovedAll running
+all-moved-taken running = λ at stands. (plenty, refl, stands)
+
 pub rooms-taken : (running : RunningHost)
     → Takes running (alone (line.Pages (Ok page.Rooms))) taken.Rooms running
 rooms-taken running = λ at stands. (plenty, refl, stands)
@@ -337,6 +341,7 @@ module _ (script : Script) (limits : Bounds) where
   left-hosted lack at said (taken.Asked process asked) same left = left
   left-hosted lack at said (taken.Listed process task) same left = left
   left-hosted lack at said (taken.Moved process) same left = left
+  left-hosted lack at said taken.MovedAll same left = left
   left-hosted lack at said taken.Rooms same left = left
   left-hosted lack at said (taken.Arrived process) same left = (
     subst (λ (s : Served). touched_answer s.session (Some process) ≡ s.answer) (sym same) left.0,

@@ -1,9 +1,12 @@
 -- What is told of the pages of a host's processes.
 use Rattle.std.proofs.Common.{◌≡◌, ℕ, ◌<◌, Option, Some, None, List, length}
 use Rattle.std.proofs.Common.{refl, sym, ap, ◌∙◌, Bor}
-use Rattle.std.specs.Prelude.{MatchOption, codes, ◌++◌}
+use Rattle.std.proofs.Common.{append_assoc}
+use Rattle.std.specs.Prelude.{MatchOption, codes, decimal, ◌++◌}
 use Rattle.numa_host_pages.specs.Homes.{HostLying, lent_or_new, pages_in, pages_lent}
 use Rattle.numa_host_pages.specs.Standing.{HostLies, LiesApart}
+use Rattle.numa_host_pages.specs.Summed.{sum_of}
+use Rattle.numa_script.specs.PageTexts.{moved_words}
 use Rattle.numa_page_state.specs.Lying.{LastMove, Lying, OfNodes, still as no_move}
 use Rattle.numa_page_state.specs.Standing.{ArrivedAs, LieThere, TellsOf, told_in}
 use Rattle.numa_page_state.specs.declared.arrived.Arrived.{Arrived}
@@ -14,13 +17,13 @@ use Rattle.numa_placed.specs.declared.moved.Moved.{Moved}
 use Rattle.numa_placed.specs.declared.rooms.Rooms.{Rooms}
 use Rattle.numa_placed.specs.declared.spot.Spot.TheVariants.{Nowhere}
 use Rattle.numa_run.specs.ArrivedTexts.{arrival_in, arrival_line, rooms_line}
-use Rattle.numa_run.specs.MovedTexts.{last_line}
+use Rattle.numa_run.specs.MovedTexts.{all_flows_text, last_line, told_line}
 use Rattle.numa_run.proofs.Flows.{nodes-told}
 use Rattle.numa_run.proofs.Telling.{arrival-told, rooms-alike}
 use Rattle.numa_run.specs.declared.script.Script.{Script}
 use Rattle.numa_space.specs.Limited.{Bounds}
 use Rattle.numa_host_script.specs.Hosts.{Hosting}
-use Rattle.numa_host_script.specs.Paging.{arrived_text, pages_at}
+use Rattle.numa_host_script.specs.Paging.{arrived_text, moved_text, pages_at}
 use Rattle.numa_host_script.specs.Sessions.{Hosted, Session, Single}
 use Rattle.numa_host_script.specs.Standing.{ArePagesOf, IsBare, StandsIn}
 use Rattle.numa_host_script.specs.declared.running.RunningHost.{RunningHost}
@@ -59,6 +62,23 @@ pub nothing-moved : (at : Hosting) (process version : ℕ) (moved : Moved)
 nothing-moved at process version moved tells counts none =
     nodes-told version moved (went.Nodes moved) (OfNodes no_move) refl tells
     ∙ last-told at process version None (OfNodes no_move) counts none refl
+
+-- the last move of the host, all its processes together: how many moved and stayed, and the nodes
+pub sum-told : (at : Hosting) (version moved left : ℕ) → version ≡ length at.history
+    → moved ≡ (sum_of at.lying.homes).moved → left ≡ (sum_of at.lying.homes).left
+    → ((codes "v" ++ decimal version ++ codes ": " ++ moved_words moved left)
+    ++ all_flows_text (sum_of at.lying.homes).flow) ++ codes "\n" ≡ moved_text at
+sum-told at version moved left counts gone stayed =
+    let flows : List ℕ = all_flows_text (sum_of at.lying.homes).flow in
+    append_assoc (codes "v" ++ decimal version ++ codes ": " ++ moved_words moved left) flows
+    (codes "\n")
+    ∙ append_assoc (codes "v") (decimal version ++ codes ": " ++ moved_words moved left)
+    (flows ++ codes "\n")
+    ∙ ap (λ (rest : List ℕ). codes "v" ++ rest)
+    (append_assoc (decimal version) (codes ": " ++ moved_words moved left) (flows ++ codes "\n")
+    ∙ ap (λ (rest : List ℕ). decimal version ++ rest)
+    (append_assoc (codes ": ") (moved_words moved left) (flows ++ codes "\n")))
+    ∙ (λ i. told_line (counts i) (gone i) (stayed i) flows)
 
 -- what first touches of a process did
 pub touches-told : (at : Hosting) (process version : ℕ) (found : Option Lying) (done : Arrived)

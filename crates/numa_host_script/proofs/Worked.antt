@@ -1,5 +1,5 @@
 -- Lines of a host's script, what they are answered.
-use Rattle.std.specs.Prelude.{◌≡◌, true, [], ◌∷◌, codes, Some, None, Ok, refl}
+use Rattle.std.specs.Prelude.{◌≡◌, false, true, [], ◌∷◌, codes, Some, None, Ok, refl}
 use Rattle.numa_mask.specs.Lists.{item_of, ends_of, digit_of, numeral_of as node_numeral_of}
 use Rattle.numa_machine.specs.Machine.{Hardware}
 use Rattle.numa_machine.specs.declared.fallback.Fallback.TheVariants.{Nearest}
@@ -7,7 +7,8 @@ use Rattle.numa_machine.specs.declared.rules.Rules.TheVariants.{Document}
 use Rattle.numa_machine.specs.declared.page_size.PageSize.TheVariants.{Small}
 use Rattle.numa_requests.specs.declared.command.Command.TheVariants as own
 use Rattle.numa_requests.specs.declared.host_command.HostCommand.TheVariants as command
-use Rattle.numa_script.specs.Lines.{keyword_of, line_of}
+use Rattle.numa_host_pages.specs.Summed.{none_sent, sum_of}
+use Rattle.numa_script.specs.Lines.{alone, keyword_of, line_of}
 use Rattle.numa_script.specs.Numbers.{number_of, numeral_of, in_64_bits}
 use Rattle.numa_script.specs.Texts.{text_of}
 use Rattle.numa_run.specs.Answers.{start}
@@ -20,6 +21,7 @@ use Rattle.numa_script.specs.declared.page_line.PageLine.TheVariants as page
 use Rattle.numa_host_script.specs.Standing.{told}
 use Rattle.numa_run.specs.States.{usual_bounds}
 use Rattle.numa_host_script.specs.Hosts.{plenty}
+use Rattle.numa_host_script.specs.Paging.{moved_text}
 use Rattle.numa_host_script.specs.Sessions.{Hosted, Hosting, Single, session_answer_to}
 use Rattle.numa_host_script.specs.Sessions.{session_served}
 
@@ -43,7 +45,7 @@ run = record {
   lying = record {
     room = None;
     follows = true;
-    homes = record { id = 1; group = 5; allowed = 6; lying = None } ∷ [];
+    homes = record { id = 1; group = 5; allowed = 6; lying = None; along = false } ∷ [];
   };
 }
 
@@ -74,8 +76,19 @@ said-plainly : session_answer_to plenty (Hosted run) (codes "ranges") ≡ codes 
 unfolding session_served line_of keyword_of text_of
 said-plainly = refl
 
-page-of_a_host : session_answer_to plenty (Hosted run) (codes "moved") ≡ codes "bad state\n"
-unfolding session_served line_of keyword_of text_of
+-- but what the host's last move did is told: nothing yet, at the version of the host
+moved-of_a_host : (session_served plenty (Hosted run) (alone (line.Pages (Ok page.Moved)))).answer
+    ≡ Shown (moved_text run)
+unfolding session_served
+moved-of_a_host = refl
+
+moved-of_nothing : sum_of run.lying.homes ≡ none_sent
+moved-of_nothing = refl
+
+page-of_a_host : session_answer_to plenty (Hosted run) (codes "migrate 0 1")
+    ≡ codes "bad state\n"
+unfolding session_served line_of keyword_of number_of numeral_of in_64_bits item_of ends_of
+    node_numeral_of digit_of text_of
 page-of_a_host = refl
 
 -- ---- pages

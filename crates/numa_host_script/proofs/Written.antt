@@ -4,7 +4,7 @@ use Rattle.std.proofs.Common.{refl, sym, ap, subst, ◌∙◌}
 use Rattle.std.specs.Prelude.{◌↔◌, IsSomeAnd, IsTrue, length}
 use Rattle.numa_machine.specs.Machine.{Hardware}
 use Rattle.numa_page_state.specs.Lying.{Process}
-use Rattle.numa_page_state.specs.Outcomes.{Enough, Lack, Starved, is_starved, rooms_of}
+use Rattle.numa_page_state.specs.Outcomes.{Enough, Lack, Starved, is_starved}
 use Rattle.numa_space.specs.Limited.{Bounds}
 use Rattle.numa_space.specs.Standing.{SpaceState, StandsFor}
 use Rattle.numa_host.specs.Processes.{commands_of, is_there, members_of}
@@ -23,7 +23,6 @@ use Rattle.numa_script.specs.declared.line.Question.TheVariants as question
 use Rattle.numa_script.specs.declared.line.ScriptLine.{ScriptLine}
 use Rattle.numa_script.specs.declared.reply.Reply.{Reply}
 use Rattle.numa_script.specs.declared.reply.Reply.TheVariants as reply
-use Rattle.numa_run.specs.ArrivedTexts.{rooms_line}
 use Rattle.numa_run.specs.Listings.{there_listing}
 use Rattle.numa_run.specs.MovedTexts.{last_line}
 use Rattle.numa_run.specs.Questions.{question_text}
@@ -36,12 +35,12 @@ use Rattle.numa_run.specs.declared.script.Script.{Script}
 use Rattle.numa_run.proofs.JudgeLemmas.{cause-starved, reply-starved}
 use Rattle.numa_host_script.specs.Hosts.{plenty}
 use Rattle.numa_host_script.specs.Judged.{Starves}
-use Rattle.numa_host_script.specs.Paging.{arrived_text, pages_at, process_in}
+use Rattle.numa_host_script.specs.Paging.{arrived_text, pages_at, process_in, shown_text}
 use Rattle.numa_host_script.specs.Sessions.{Hosted, Hosting, HostLack, Session, Single}
 use Rattle.numa_host_script.specs.Sessions.{session_after, session_answer, session_served}
 use Rattle.numa_host_script.specs.Standing.{RunsAs, StandsIn, told}
 use Rattle.numa_host_script.specs.Taking.{IsLeft, Left, Open, Told, Touched, answer_left}
-use Rattle.numa_host_script.specs.Taking.{fault_left, left_in, misplaced_reply}
+use Rattle.numa_host_script.specs.Taking.{asks_move, fault_left, left_in, misplaced_reply}
 use Rattle.numa_host_script.specs.declared.running.RunningHost.{RunningHost}
 use Rattle.numa_host_script.specs.declared.taking.HostTaken.{HostTaken}
 use Rattle.numa_host_script.specs.declared.taking.HostTaken.TheVariants as taken
@@ -84,17 +83,18 @@ module _ {W : Type 0} (contents : W → Option (List ℕ)) (output output_then :
             (own-fault lack state found) w.3,
       )
 
-  -- what a host says of a line of one process: a reply, or its rooms
+  -- what a host says of a line of one process: a reply, or what it shows of its pages
   misplaced-at : (script : Script) (limits : Bounds) (host : RunningHost) (found : Taken)
       (shown : Option Reply) (lacks : Bool) (at : Hosting) → shown ≡ misplaced_reply found
-      → RunsAs host at → Said contents output output_then (bytes_of (misplaced_as shown at))
+      → RunsAs host at
+      → Said contents output output_then (bytes_of (misplaced_as shown (asks_move found) at))
       → (IsTrue lacks ↔ IsSomeAnd (misplaced_fault shown) LacksMemory)
       → WritesAt (left_in (taken.Own found)) lacks script limits (Some host) (Hosted at)
   misplaced-at script limits host found shown lacks at is stands said starved = (
     plenty,
     stands,
     said_same contents output output_then _ _
-        (ap (λ (s : Option Reply). bytes_of (misplaced_as s at)) is
+        (ap (λ (s : Option Reply). bytes_of (misplaced_as s (asks_move found) at)) is
         ∙ ap bytes_of (misplaced-answer plenty at found)) said,
     subst (λ (o : Option Reply). IsTrue lacks ↔ IsSomeAnd o LacksMemory)
         (ap misplaced_fault is ∙ misplaced-fault plenty at found) starved,
@@ -112,17 +112,17 @@ module _ {W : Type 0} (contents : W → Option (List ℕ)) (output output_then :
       misplaced-at script limits host found (Some answer) lacks at is stands said
       (reply-starved answer lacks starved)
 
-  -- the rooms of a host
-  abbrev pub TellsRooms : RunningHost → Type 0
-  TellsRooms host = (at : Hosting) → RunsAs host at
-      → Said contents output output_then (rooms_line (rooms_of at.lying.room))
+  -- what its last move did, or its rooms
+  abbrev pub TellsShown : RunningHost → Bool → Type 0
+  TellsShown host moves = (at : Hosting) → RunsAs host at
+      → Said contents output output_then (shown_text moves at)
 
-  pub written-rooms : (script : Script) (limits : Bounds) (host : RunningHost) (found : Taken)
-      (session : Session) → None ≡ misplaced_reply found → TellsRooms host
+  pub written-shown : (script : Script) (limits : Bounds) (host : RunningHost) (found : Taken)
+      (session : Session) → None ≡ misplaced_reply found → TellsShown host (asks_move found)
       → StandsIn script limits (Some host) session
       → WritesAt (left_in (taken.Own found)) false script limits (Some host) session
-  written-rooms script limits host found (Single state) is tells stands = absurd stands
-  written-rooms script limits host found (Hosted at) is tells stands =
+  written-shown script limits host found (Single state) is tells stands = absurd stands
+  written-shown script limits host found (Hosted at) is tells stands =
       misplaced-at script limits host found None false at is stands (tells at stands)
       (λ e. cc, λ s. absurd s)
 

@@ -10,9 +10,9 @@ pub returns-in-Ok-send_with : goal.returns-in-Ok-send_with
 returns-in-Ok-send_with c =
     first-sent c.args.running.now.host c.args.running.now.pages c.give_back.new.self
     c.in-Ok.state.value c.send_with.new.state c.send_with.new.host c.args.process
-    c.args.said.now c.args.words.now c.in-Ok-send_with.reply
+    c.args.said.now c.args.words.now c.take_along.new.self c.in-Ok-send_with.reply
     (rw c.deref_mut.ensures.value at c.in-Ok-send_with.ensures) c.give_back.ensures
-    c.in-Ok.ensures
+    c.take_along.ensures c.in-Ok.ensures
 
 pub returns-in-Err : goal.returns-in-Err
 returns-in-Err c =

@@ -5,8 +5,9 @@ pub returns-in-Ok : goal.returns-in-Ok
 returns-in-Ok c =
     lent-sent c.args.running.now.host c.args.running.now.pages c.give_back.new.self
     c.args.state.value c.send_with-told.new.state c.send_with-told.new.host c.args.process
-    c.args.said.now c.args.words.now c.in-Ok.reply
+    c.args.said.now c.args.words.now c.take_along.new.self c.in-Ok.reply
     (rw (c.in-Ok.is, c.deref_mut.ensures.value) at c.send_with-told.ensures) c.give_back.ensures
+    c.take_along.ensures
 
 pub returns-in-Err : goal.returns-in-Err
 returns-in-Err c =

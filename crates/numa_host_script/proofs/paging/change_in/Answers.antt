@@ -7,6 +7,6 @@ returns-in_default c = changed-nobody c.args.running.now c.args.process c.args.l
 
 pub returns : goal.returns
 returns c =
-    changed-there c.args.running.now c.in-Some.space.now c.change_pages.new.pages
-    c.change_pages.result c.args.process c.args.line.now c.requires.moved c.in-Some.ensures
-    c.change_pages.ensures
+    changed-there c.args.running.now c.in-Some.space.now c.change_pages-told.new.pages
+    c.take_along.new.pages c.change_pages-told.result c.args.process c.args.line.now
+    c.requires.moved c.in-Some.ensures c.change_pages-told.ensures c.take_along.ensures

@@ -21,6 +21,9 @@ pub returns-in-Moved : goal.returns-in-Moved
 returns-in-Moved c = rw c.in-Moved.is
     (λ session stands. (plenty, stands, c.listed_fault-in-Moved.ensures.moved session stands))
 
+pub returns-in-MovedAll : goal.returns-in-MovedAll
+returns-in-MovedAll c = rw c.in-MovedAll.is c.own_fault-in-MovedAll.ensures
+
 pub returns-in-Rooms : goal.returns-in-Rooms
 returns-in-Rooms c = rw c.in-Rooms.is c.own_fault-in-Rooms.ensures
 

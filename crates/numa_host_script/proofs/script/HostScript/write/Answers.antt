@@ -37,6 +37,9 @@ returns-in-Moved g c =
     c.args.self.now.script c.args.self.now.limits c.args.self.now.host c.in-Moved.process
     session (c.tell_last.ensures session stands) stands)
 
+pub returns-in-MovedAll : goal.returns-in-MovedAll
+returns-in-MovedAll g c = rw c.in-MovedAll.is c.write_own-in-MovedAll.ensures
+
 pub returns-in-Rooms : goal.returns-in-Rooms
 returns-in-Rooms g c = rw c.in-Rooms.is c.write_own-in-Rooms.ensures
 

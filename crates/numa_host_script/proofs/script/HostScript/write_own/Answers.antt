@@ -1,14 +1,15 @@
 use Rattle.std.proofs.Common.{◌∙◌, sym}
-use Rattle.numa_host_script.proofs.Written.{written-misplaced, written-own, written-rooms}
+use Rattle.numa_host_script.proofs.Written.{written-misplaced, written-own, written-shown}
 use Rattle.numa_host_script.proofs.script.HostScript.write_own.Goals as goal
 
 pub returns-in_default-misplaced : goal.returns-in_default-misplaced
 returns-in_default-misplaced g c =
     rw c.in-Some.is
     (λ session stands.
-    written-rooms g.W.Write.contents c.args.output.now c.say_rooms_in.new.output
+    written-shown g.W.Write.contents c.args.output.now c.say_shown_in.new.output
     c.args.self.now.script c.args.self.now.limits c.in-Some.running c.args.taken session
-    (sym c.in_default-misplaced.is ∙ c.misplaced.ensures) c.say_rooms_in.ensures stands)
+    (sym c.in_default-misplaced.is ∙ c.misplaced.ensures)
+    (rw (← c.asks_move-moves.ensures) c.say_shown_in.ensures) stands)
 
 pub returns-in-Some : goal.returns-in-Some
 returns-in-Some g c =
