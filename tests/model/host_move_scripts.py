@@ -34,7 +34,7 @@ class HostMoveScript(host_scripts.HostScript, move_scripts.MoveScript):
         self.add(f"room {self.dice.choice(sorted(self.memory))} {pages}")
 
     def rooms(self):
-        self.outside("room")
+        self.outside(self.dice.choice(["room", "room", "moved"]))
 
     def outside(self, line):
         """A line that no process is told, though one acts."""
@@ -78,6 +78,7 @@ class HostMoveScript(host_scripts.HostScript, move_scripts.MoveScript):
             self.add(f"in {process} moved")
             self.add(f"in {process} maps 1")
         self.add("room")
+        self.add("moved")
 
     def shift(self):
         """A group's nodes change, or a process' group, and what became of pages."""

@@ -3,6 +3,8 @@
 A line is told apart by its first word, and what stands behind `in P` is read as a line by itself.
 Written from docs/SCRIPT.md alone. Not proved."""
 
+from collections import Counter
+
 import placed
 from commands import COMMANDS, mems as allow
 from space import ERRNO, Space
@@ -58,6 +60,7 @@ class Host:
         self.weight_count = 0  # accepted lines `weight`, which each process begins with
         self.arrivals = []  # the processes as they came to their groups, the last behind all others
         self.pages = {}  # by process; all find the same rooms
+        self.along = set()  # the processes of whose pages the last move was
         self.common = placed.Placed()  # the rooms, and whether pages follow
         self.common.follows = True
 
@@ -110,10 +113,12 @@ def top_down(host, group):
 def go_along(host, allowed):
     """Pages follow of each process that was allowed other nodes: group by group, in each the first that
     came first."""
+    host.along = set()
     for group in top_down(host, 0):
         for process in [it for it in host.arrivals if host.processes[it][0] == group]:
             old, new = allowed.get(process), host.processes[process][1].allowed
             if old is not None and old != new:
+                host.along.add(process)
                 placed.follow(Process(host, process), old, new)
 
 
@@ -208,6 +213,7 @@ def leave(host, process):
         placed.leave(Process(host, process).placed, page)
     del host.processes[process], host.pages[process]
     host.arrivals.remove(process)
+    host.along.discard(process)
     return None
 
 
@@ -303,12 +309,23 @@ def answer(host, line, ask):
         return answer_in(host, rest, ask)
     if name not in FORMS:
         said, arguments = line_of(line)
+        if said == "moved":
+            return moved(host)
         return placed.LINES[said](Common(host), *arguments) if said in OF_HOST else "bad state"
     if len(rest) != len(FORMS[name]):
         raise BadWords
     arguments = [read(word) for read, word in zip(FORMS[name], rest)]
     fault = next((it for it in arguments if isinstance(it, Fault)), None)
     return fault.text if fault else accept(host, name, arguments)
+
+
+def moved(host):
+    """`moved`: what the last move of the host did to the processes that are there, together."""
+    total = placed.Placed()
+    total.tell(sum((host.pages[it].flows for it in host.along), Counter()),
+               sum(host.pages[it].left for it in host.along))
+    flows = "".join(f" N{old}->N{new}={count}" for (old, new), count in sorted(total.flows.items()))
+    return f"v{host.version}: {placed.done(total)}{flows}"
 
 
 def answer_in(host, words, ask):
@@ -331,7 +348,10 @@ def answer_in(host, words, ask):
     if process not in host.processes:
         return refused("NoSuchProcess")
     if name in PLACES:
-        return of_host(host, placed.LINES[name](Process(host, process), *arguments))
+        text = placed.LINES[name](Process(host, process), *arguments)
+        if name in ("migrate", "move") and not text.startswith("refused"):
+            host.along = {process}
+        return of_host(host, text)
     its = Process(host, process)
     return ask(its.space, placed.nodes_of(its), name, arguments)
 
@@ -341,7 +361,10 @@ def answer_command(host, process, name, arguments):
     if process not in host.processes or host.version >= host.limits[2]:
         return accept(host, "in", (process, name.split()[0], arguments[:3] if name in BINDS else arguments))
     if name in BINDS:
-        return placed.LINES[name](Process(host, process), *arguments)
+        text = placed.LINES[name](Process(host, process), *arguments)
+        if " moved " in text:
+            host.along = {process}
+        return text
     return placed.command(Process(host, process), name, arguments)
 
 

@@ -1,4 +1,4 @@
--- What the last move of a host did, all its processes together: a group's new nodes (`cgroup-mems`),
+-- What the last move of a host did, all its processes together: new nodes of a group (`cgroup-mems`),
 -- a process's other group (`attach`), or what one process asked for (`migrate`, `move`,
 -- `mbind .. move`). Commands that move nothing leave it as it was; a process that was born since
 -- adds nothing to it, and one that ended no more.
