@@ -1,8 +1,9 @@
 -- What the last move of a host did, one process after the other.
-use Rattle.std.proofs.Common.{◌≡◌, ◌≤◌, ◌<◌, ℕ, true, false, Option, List, [], ◌∷◌, length, refl}
-use Rattle.std.proofs.Common.{arith, slice_index}
+use Rattle.std.proofs.Common.{◌≡◌, ◌≤◌, ◌<◌, ℕ, suc, true, false, Option, List, [], ◌∷◌, ◌++◌}
+use Rattle.std.proofs.Common.{length, map, eqb, refl, ap, arith, inl, inr, slice_index}
+use Rattle.std.proofs.lemmas.Bool.{cases_Bool}
 use Rattle.std.specs.Prelude.{◌==◌, if◌then◌else◌}
-use Rattle.numa_page_state.specs.Lying.{LastMove, Lying, OfNodes, OfPages}
+use Rattle.numa_page_state.specs.Lying.{LastMove, Lying, OfNodes, OfPages, Sent}
 use Rattle.numa_page_state.specs.Sending.{flow_between}
 use Rattle.numa_page_state.specs.Standing.{LastAs}
 use Rattle.numa_page_state.specs.declared.last.Departures.{Departures}
@@ -10,11 +11,12 @@ use Rattle.numa_page_state.specs.declared.last.Last.{Last}
 use Rattle.numa_page_state.specs.declared.last.Last.TheVariants as went
 use Rattle.numa_placed.specs.Spots.{spot_at}
 use Rattle.numa_placed.specs.declared.moved.Moved.{Moved}
-use Rattle.numa_host_pages.specs.Homes.{Home}
-use Rattle.numa_host_pages.specs.Standing.{AreHomes, IsHome}
+use Rattle.numa_host_pages.specs.Homes.{Home, pages_in}
+use Rattle.numa_host_pages.specs.Standing.{AreHomes, IsHome, arrival_of, count_of}
 use Rattle.numa_host_pages.specs.Summed.{both_pages, both_sent, most, none_sent, sent_last}
 use Rattle.numa_host_pages.specs.Summed.{sent_of, sum_of}
 use Rattle.numa_host_pages.specs.declared.member.Member.{Member}
+use Rattle.numa_host_pages.proofs.Along.{along, calm}
 
 -- ---- processes
 
@@ -41,6 +43,48 @@ sum-joined first rest [] are its = absurd are
 sum-joined first rest (home ∷ others) are its =
     let is : home.along ≡ true = rw (← are.0.along) its in
     (home, others, are.0, are.1, rw is refl)
+
+-- none did
+pub sum-calm : (homes : List Home) → sum_of (map calm homes) ≡ none_sent
+sum-calm [] = refl
+sum-calm (home ∷ homes) = sum-calm homes
+
+-- one that is born adds nothing
+pub sum-born : (homes : List Home) (home : Home) → home.along ≡ false
+    → sum_of (homes ++ home ∷ []) ≡ sum_of homes
+sum-born [] home off = rw off refl
+sum-born (first ∷ homes) home off =
+    ap (λ (s : Sent). if first.along then both_sent (sent_of first.lying) s else s)
+    (sum-born homes home off)
+
+-- one alone did, or nobody
+sum-nobody : (process : ℕ) (homes : List Home) → count_of process (map arrival_of homes) ≡ 0
+    → sum_of (map (along process) homes) ≡ none_sent
+sum-nobody process [] none = refl
+sum-nobody process (home ∷ homes) none =
+    elim (cases_Bool (eqb home.id process)) [
+      | inl e ↦
+          let some : suc (count_of process (map arrival_of homes)) ≡ 0 = rw e at none in
+          absurd (omega (arith, some))
+      | inr e ↦
+          let rest : count_of process (map arrival_of homes) ≡ 0 = rw e at none in
+          rw e (sum-nobody process homes rest)
+    ]
+
+pub sum-one : (process : ℕ) (homes : List Home) → count_of process (map arrival_of homes) ≡ 1
+    → sum_of (map (along process) homes)
+    ≡ both_sent (sent_of (pages_in process homes)) none_sent
+sum-one process [] once = absurd (omega (arith, once))
+sum-one process (home ∷ homes) once =
+    elim (cases_Bool (eqb home.id process)) [
+      | inl e ↦
+          let more : suc (count_of process (map arrival_of homes)) ≡ 1 = rw e at once in
+          rw e (ap (λ (s : Sent). both_sent (sent_of home.lying) s)
+          (sum-nobody process homes (omega (arith, more))))
+      | inr e ↦
+          let rest : count_of process (map arrival_of homes) ≡ 1 = rw e at once in
+          rw e (sum-one process homes rest)
+    ]
 
 -- ---- one move
 

@@ -1,11 +1,13 @@
 //! Laws about the definitions that the contracts of this crate cite. The functions do nothing: what
 //! each one ensures is a law.
-ghost use Rattle.std.specs.Prelude.{◌≡◌, ℕ, Bool, List, None, Option, false, length};
+ghost use Rattle.std.specs.Prelude.{◌≡◌, ℕ, Bool, List, None, Option, false, length, map};
 ghost use Rattle.numa_page_state.specs.Lying.{Lying};
 ghost use Rattle.numa_page_state.specs.Outcomes.{Lack};
-ghost use Rattle.numa_host_pages.specs.Homes.{FollowEach, Home, HostLying, given_back};
+ghost use Rattle.numa_host_pages.specs.Homes.{FollowEach, Home, HostLying, all_still, given_back};
 ghost use Rattle.numa_host_pages.specs.Homes.{homes_followed, pages_followed, pages_in};
-ghost use Rattle.numa_host_pages.specs.Homes.{pages_told, with_pages};
+ghost use Rattle.numa_host_pages.specs.Homes.{pages_told, taken_along, with_born, with_pages};
+ghost use Rattle.numa_host_pages.specs.Standing.{arrival_of, count_of};
+ghost use Rattle.numa_host_pages.specs.Summed.{both_sent, none_sent, sent_of, sum_of};
 
 /// What a process does changes where its own pages lie, and those of no other.
 pub fn others_stay()
@@ -28,4 +30,16 @@ pub fn free_groups()
 pub fn same_processes()
     ensures { (nodes : ℕ → ℕ) (groups : List ℕ) (at after : HostLying)
         → FollowEach nodes groups at after → length after.homes ≡ length at.homes }
+{}
+
+/// What the host's last move did is the sum over the processes that went along: nothing where none
+/// did; what its own last move did, where it was one's; and a process that is born since adds
+/// nothing.
+pub fn moves_add_up()
+    ensures none { (at : HostLying) → sum_of (all_still at).homes ≡ none_sent }
+    ensures one { (process : ℕ) (at : HostLying) → count_of process (map arrival_of at.homes) ≡ 1
+        → sum_of (taken_along process at).homes
+        ≡ both_sent (sent_of (pages_in process at.homes)) none_sent }
+    ensures born { (process group nodes : ℕ) (at : HostLying)
+        → sum_of (with_born process group nodes at).homes ≡ sum_of at.homes }
 {}
