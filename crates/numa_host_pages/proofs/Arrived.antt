@@ -6,10 +6,10 @@ use Rattle.std.proofs.lemmas.Bool.{both_ways, cases_Bool, eqb-true, eq-eqb}
 use Rattle.std.proofs.lemmas.List.Elements.{filter-append}
 use Rattle.numa_host.specs.Processes.{Member as Process, is_there, moved_member}
 use Rattle.numa_page_state.specs.Outcomes.{Lack}
-use Rattle.numa_host_pages.specs.Homes.{Home, HostLying, Room, followed_each, group_followed}
-use Rattle.numa_host_pages.specs.Homes.{home_followed, homes_followed, other_homes}
+use Rattle.numa_host_pages.specs.Homes.{Home, HostLying, Room, along_homes, followed_each}
+use Rattle.numa_host_pages.specs.Homes.{group_followed, home_followed, homes_followed}
+use Rattle.numa_host_pages.specs.Homes.{other_homes, still_homes}
 use Rattle.numa_host_pages.specs.Standing.{AreSame, arrival_of, count_of}
-use Rattle.numa_host_pages.proofs.Along.{along, calm}
 
 abbrev pub has : ℕ → Process → Bool
 has process member = eqb member.0 process
@@ -190,12 +190,13 @@ followed-arrivals lacks follows group nodes (home ∷ homes) room =
     ]
 
 -- so do those that go along, and those that don't
-pub calm-arrivals : (homes : List Home) → map arrival_of (map calm homes) ≡ map arrival_of homes
+pub calm-arrivals : (homes : List Home)
+    → map arrival_of (still_homes homes) ≡ map arrival_of homes
 calm-arrivals [] = refl
 calm-arrivals (home ∷ homes) = let rest = calm-arrivals homes in λ i. arrival_of home ∷ rest i
 
 pub along-arrivals : (process : ℕ) (homes : List Home)
-    → map arrival_of (map (along process) homes) ≡ map arrival_of homes
+    → map arrival_of (along_homes process homes) ≡ map arrival_of homes
 along-arrivals process [] = refl
 along-arrivals process (home ∷ homes) =
     let rest = along-arrivals process homes in λ i. arrival_of home ∷ rest i

@@ -1,10 +1,9 @@
 -- The example of two services that lose a node, examples/services-lose-a-node.script: what the last
 -- move of the host did, from what it did to each process.
 use Rattle.std.proofs.Common.{◌≡◌, ℕ, Bool, true, false, List, [], ◌∷◌, Option, Some, None, refl}
-use Rattle.std.proofs.Common.{eqb}
-use Rattle.std.specs.Prelude.{if◌then◌else◌}
-use Rattle.numa_page_state.specs.Lying.{LastMove, OfNodes, OfPages, Told, nothing, still}
-use Rattle.numa_host_pages.specs.Homes.{Home, HostLying, empty_host, with_ended}
+use Rattle.std.specs.Prelude.{◌==◌, if◌then◌else◌}
+use Rattle.numa_page_state.specs.Lying.{LastMove, OfNodes, OfPages, nothing, still}
+use Rattle.numa_host_pages.specs.Homes.{Home, empty_host, with_ended}
 use Rattle.numa_host_pages.specs.Summed.{both_pages, most, sum_of}
 
 -- so many pages went from node 1 to node 2, and so many stayed

@@ -11,12 +11,11 @@ use Rattle.numa_page_state.specs.declared.last.Last.{Last}
 use Rattle.numa_page_state.specs.declared.last.Last.TheVariants as went
 use Rattle.numa_placed.specs.Spots.{spot_at}
 use Rattle.numa_placed.specs.declared.moved.Moved.{Moved}
-use Rattle.numa_host_pages.specs.Homes.{Home, pages_in}
+use Rattle.numa_host_pages.specs.Homes.{Home, along_homes, pages_in, still_homes}
 use Rattle.numa_host_pages.specs.Standing.{AreHomes, IsHome, arrival_of, count_of}
 use Rattle.numa_host_pages.specs.Summed.{both_pages, both_sent, most, none_sent, sent_last}
 use Rattle.numa_host_pages.specs.Summed.{sent_of, sum_of}
 use Rattle.numa_host_pages.specs.declared.member.Member.{Member}
-use Rattle.numa_host_pages.proofs.Along.{along, calm}
 
 -- ---- processes
 
@@ -45,7 +44,7 @@ sum-joined first rest (home ∷ others) are its =
     (home, others, are.0, are.1, rw is refl)
 
 -- none did
-pub sum-calm : (homes : List Home) → sum_of (map calm homes) ≡ none_sent
+pub sum-calm : (homes : List Home) → sum_of (still_homes homes) ≡ none_sent
 sum-calm [] = refl
 sum-calm (home ∷ homes) = sum-calm homes
 
@@ -59,7 +58,7 @@ sum-born (first ∷ homes) home off =
 
 -- one alone did, or nobody
 sum-nobody : (process : ℕ) (homes : List Home) → count_of process (map arrival_of homes) ≡ 0
-    → sum_of (map (along process) homes) ≡ none_sent
+    → sum_of (along_homes process homes) ≡ none_sent
 sum-nobody process [] none = refl
 sum-nobody process (home ∷ homes) none =
     elim (cases_Bool (eqb home.id process)) [
@@ -72,7 +71,7 @@ sum-nobody process (home ∷ homes) none =
     ]
 
 pub sum-one : (process : ℕ) (homes : List Home) → count_of process (map arrival_of homes) ≡ 1
-    → sum_of (map (along process) homes)
+    → sum_of (along_homes process homes)
     ≡ both_sent (sent_of (pages_in process homes)) none_sent
 sum-one process [] once = absurd (omega (arith, once))
 sum-one process (home ∷ homes) once =

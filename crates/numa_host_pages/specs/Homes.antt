@@ -107,16 +107,19 @@ with_ended process at = record at {
 -- ---- the host's last move
 
 -- it was of no process
+abbrev pub still_homes : List Home → List Home
+still_homes homes = map (λ (home : Home). record home { along = false }) homes
+
 abbrev pub all_still : HostLying → HostLying
-all_still at = record at {
-  homes = map (λ (home : Home). record home { along = false }) at.homes;
-}
+all_still at = record at { homes = still_homes at.homes }
 
 -- it was of one process
+abbrev pub along_homes : ℕ → List Home → List Home
+along_homes process homes =
+    map (λ (home : Home). record home { along = home.id == process }) homes
+
 abbrev pub taken_along : ℕ → HostLying → HostLying
-taken_along process at = record at {
-  homes = map (λ (home : Home). record home { along = home.id == process }) at.homes;
-}
+taken_along process at = record at { homes = along_homes process at.homes }
 
 -- ---- pages follow the nodes that their process is allowed
 

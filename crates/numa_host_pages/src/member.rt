@@ -3,8 +3,8 @@ ghost use Rattle.std.specs.Prelude.{◌≡◌, ◌==◌, ◌<◌, ◌≤◌, Lis
 ghost use Rattle.std.specs.Prelude.{IfOk, None, Option, Some, filter, length, not, vec_capacity};
 ghost use Rattle.numa_page_state.specs.Lying.{Lying};
 ghost use Rattle.numa_page_state.specs.Standing.{HaveRoom};
-ghost use Rattle.std.specs.Prelude.{map};
-ghost use Rattle.numa_host_pages.specs.Homes.{Home, Room, pages_in, room_without, with_pages};
+ghost use Rattle.numa_host_pages.specs.Homes.{Home, Room, along_homes, pages_in, room_without};
+ghost use Rattle.numa_host_pages.specs.Homes.{still_homes, with_pages};
 ghost use Rattle.numa_host_pages.specs.Standing.{AreHomes, IsHome, LiesApart, Sits};
 
 use numa_machine::NoMemory;
@@ -70,8 +70,8 @@ pub(crate) fn pages_of(members: &[Member], process: u32) -> Option<&PageState>
 
 /// The host's last move is of no process.
 pub(crate) fn still_all(members: &mut [Member])
-    ensures { (homes : List Home) → AreHomes members.old homes → AreHomes members.new
-        (map (λ (home : Home). record home { along = false }) homes) }
+    ensures { (homes : List Home) → AreHomes members.old homes
+        → AreHomes members.new (still_homes homes) }
 {
     let Some((first, rest)) = members.split_first_mut() else {
         return;
@@ -82,8 +82,8 @@ pub(crate) fn still_all(members: &mut [Member])
 
 /// The host's last move is of one process.
 pub(crate) fn take_along(members: &mut [Member], process: u32)
-    ensures { (homes : List Home) → AreHomes members.old homes → AreHomes members.new
-        (map (λ (home : Home). record home { along = home.id == process }) homes) }
+    ensures { (homes : List Home) → AreHomes members.old homes
+        → AreHomes members.new (along_homes process homes) }
 {
     let Some((first, rest)) = members.split_first_mut() else {
         return;

@@ -85,10 +85,9 @@ moved-of_a_host = refl
 moved-of_nothing : sum_of run.lying.homes ≡ none_sent
 moved-of_nothing = refl
 
-page-of_a_host : session_answer_to plenty (Hosted run) (codes "migrate 0 1")
+page-of_a_host : session_answer_to plenty (Hosted run) (codes "at 0 4096 0")
     ≡ codes "bad state\n"
-unfolding session_served line_of keyword_of number_of numeral_of in_64_bits item_of ends_of
-    node_numeral_of digit_of text_of
+unfolding session_served line_of keyword_of number_of numeral_of in_64_bits text_of
 page-of_a_host = refl
 
 -- ---- pages

@@ -74,10 +74,14 @@ told_by (Some answer) version lying = Replied answer
 told_by None version lying = Shown (arrival_line version lying.arrived)
 
 -- a line that is answered by what moved is the host's last move
+abbrev pub is_move : Reply → Bool
+is_move (reply.Moved moved left) = true
+is_move (reply.MovedTo node) = true
+is_move _ = false
+
 abbrev pub tells_move : Option Reply → Bool
-tells_move (Some (reply.Moved moved left)) = true
-tells_move (Some (reply.MovedTo node)) = true
-tells_move _ = false
+tells_move None = false
+tells_move (Some answer) = is_move answer
 
 abbrev pub along_if : Bool → ℕ → HostLying → HostLying
 along_if false process at = at

@@ -4,8 +4,8 @@ ghost use Rattle.numa_host.specs.Processes.{is_there, members_of};
 ghost use Rattle.numa_host_pages.specs.Homes.{HostLying, given_back, lent, pages_in, pages_lent};
 ghost use Rattle.numa_host_pages.specs.Homes.{with_pages};
 ghost use Rattle.numa_host_pages.specs.Standing.{HostLies};
-ghost use Rattle.numa_host_script.specs.Paging.{along_if, given_outcome, obeyed, page_where};
-ghost use Rattle.numa_host_script.specs.Paging.{pages_changed, pages_reply, tells_move};
+ghost use Rattle.numa_host_script.specs.Paging.{along_if, given_outcome, is_move, obeyed};
+ghost use Rattle.numa_host_script.specs.Paging.{page_where, pages_changed, pages_reply, tells_move};
 ghost use Rattle.numa_host_script.specs.Paging.{unmap_outcome};
 ghost use Rattle.numa_host_script.specs.Standing.{Answers, Changes, ChangesPages, ForgetsIn};
 ghost use Rattle.numa_host_script.specs.Standing.{Replies, Takes, told};
@@ -116,14 +116,24 @@ fn change_pages(
     }
 }
 
-/// Whether a line is answered by what moved.
+/// Whether a reply tells what moved.
+fn is_move(reply: &Reply) -> bool
+    ensures { result ≡ is_move reply.now }
+{
+    match reply {
+        Reply::Moved { .. } => true,
+        Reply::MovedTo(_) => true,
+        _ => false,
+    }
+}
+
+/// Whether a line is answered so.
 fn tells_move(told: &Option<Reply>) -> bool
     ensures { result ≡ tells_move told.now }
 {
     match told {
-        Some(Reply::Moved { .. }) => true,
-        Some(Reply::MovedTo(_)) => true,
-        _ => false,
+        None => false,
+        Some(reply) => is_move(reply),
     }
 }
 

@@ -1,6 +1,5 @@
 use Rattle.std.proofs.Common.{◌<◌, ◌≤◌, Bool, false, List, None, length, sym, subst, refl}
 use Rattle.std.proofs.Common.{arith, ◌∙◌}
-use Rattle.std.proofs.lemmas.List.{length-map}
 use Rattle.std.specs.Prelude.{vec_capacity}
 use Rattle.std.specs.Vec.{with_items}
 use Rattle.numa_page_state.specs.Outcomes.{Lack}
@@ -9,7 +8,7 @@ use Rattle.numa_host_pages.specs.Homes.{Home, all_still, home_followed, other_ho
 use Rattle.numa_host_pages.specs.Homes.{with_pages}
 use Rattle.numa_host_pages.specs.Standing.{AreHomes, IsHome}
 use Rattle.numa_host_pages.specs.declared.member.Member.{Member}
-use Rattle.numa_host_pages.proofs.Along.{calm, others-calm, others-count}
+use Rattle.numa_host_pages.proofs.Along.{others-calm, others-count, still-count}
 use Rattle.numa_host_pages.proofs.Places.{homes-length, others-after}
 use Rattle.numa_host_pages.proofs.Places.{pages-length, put-items}
 use Rattle.numa_host_pages.proofs.pages.HostPages.attached.Goals as goal
@@ -32,7 +31,7 @@ returns c = λ at lies small.
     let quiet = put-items c.remove.new.members c.still_all.new.members _
     (c.still_all.ensures stay (subst (λ (ms : List Member). AreHomes ms stay)
     (sym c.deref_mut-2.ensures.value) left))
-    (length-map stay calm ∙ sym (homes-length c.remove.new.members.items stay left)) in
+    (still-count stay ∙ sym (homes-length c.remove.new.members.items stay left)) in
     let all : List Home = other_homes process (all_still at).homes in
     let them = subst (λ (hs : List Home).
     AreHomes (with_items c.remove.new.members c.still_all.new.members).items hs)

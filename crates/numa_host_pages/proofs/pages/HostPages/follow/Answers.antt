@@ -1,12 +1,11 @@
 use Rattle.std.proofs.Common.{List, sym, subst, ◌∙◌}
-use Rattle.std.proofs.lemmas.List.{length-map}
 use Rattle.std.specs.Vec.{with_items}
 use Rattle.numa_host.specs.Groups.{effective_mems}
 use Rattle.numa_host_pages.specs.Homes.{all_still}
 use Rattle.numa_host_pages.specs.Standing.{AreHomes}
 use Rattle.numa_host_pages.specs.TopDown.{top_down}
 use Rattle.numa_host_pages.specs.declared.member.Member.{Member}
-use Rattle.numa_host_pages.proofs.Along.{calm}
+use Rattle.numa_host_pages.proofs.Along.{still-count}
 use Rattle.numa_host_pages.proofs.Places.{each-length, homes-length, put-items}
 use Rattle.numa_host_pages.proofs.pages.HostPages.follow.Goals as goal
 
@@ -16,7 +15,7 @@ returns c = λ at lies.
     let quiet = put-items had c.still_all.new.members (all_still at).homes
     (c.still_all.ensures at.homes (subst (λ (ms : List Member). AreHomes ms at.homes)
     (sym c.deref_mut.ensures.value) lies.homes))
-    (length-map at.homes calm ∙ sym (homes-length had.items at.homes lies.homes)) in
+    (still-count at.homes ∙ sym (homes-length had.items at.homes lies.homes)) in
     let told = c.follow_below.ensures (all_still at)
     (subst (λ (ms : List Member). AreHomes ms (all_still at).homes)
     (sym c.deref_mut-2.ensures.value) quiet) lies.room lies.follows in (

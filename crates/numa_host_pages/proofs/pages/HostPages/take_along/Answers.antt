@@ -1,9 +1,8 @@
 use Rattle.std.proofs.Common.{List, sym, subst, ◌∙◌}
-use Rattle.std.proofs.lemmas.List.{length-map}
 use Rattle.numa_host_pages.specs.Homes.{taken_along}
 use Rattle.numa_host_pages.specs.Standing.{AreHomes}
 use Rattle.numa_host_pages.specs.declared.member.Member.{Member}
-use Rattle.numa_host_pages.proofs.Along.{along}
+use Rattle.numa_host_pages.proofs.Along.{along-count}
 use Rattle.numa_host_pages.proofs.Places.{homes-length, put-items}
 use Rattle.numa_host_pages.proofs.pages.HostPages.take_along.Goals as goal
 
@@ -15,7 +14,7 @@ returns c = λ at lies. record {
       (taken_along c.args.process at).homes
       (c.take_along.ensures at.homes (subst (λ (ms : List Member). AreHomes ms at.homes)
       (sym c.deref_mut.ensures.value) lies.homes))
-      (length-map at.homes (along c.args.process)
+      (along-count c.args.process at.homes
       ∙ sym (homes-length c.args.self.now.members.items at.homes lies.homes));
   places = lies.places;
 }
