@@ -52,10 +52,9 @@ pub(crate) fn sum_of(members: &[Member]) -> Shift
         return others;
     }
     let own = counts_of(&first.pages);
-    Shift {
-        moved: own.moved.saturating_add(others.moved),
-        left: own.left.saturating_add(others.left),
-    }
+    let moved = own.moved.saturating_add(others.moved);
+    let left = own.left.saturating_add(others.left);
+    Shift { moved, left }
 }
 
 /// Adds pages that went to a node.
@@ -64,7 +63,9 @@ fn add_pages(flow: &mut [u64; 256], node: u8, pages: u64)
     ensures { (to : ℕ) → to < 256 → slice_index flow.new to
         ≡ both_pages (if node == to then pages else 0) (slice_index flow.old to) }
 {
-    flow[node as usize] = pages.saturating_add(flow[node as usize]);
+    let at = node as usize;
+    let sum = pages.saturating_add(flow[at]);
+    flow[at] = sum;
 }
 
 /// Adds pages that went to each node.
@@ -73,7 +74,8 @@ fn add_row(flow: &mut [u64; 256], row: &[u64; 256])
         ≡ both_pages (slice_index row.now to) (slice_index flow.old to) }
 {
     for node in 0..256usize {
-        flow[node] = row[node].saturating_add(flow[node]);
+        let sum = row[node].saturating_add(flow[node]);
+        flow[node] = sum;
     }
 }
 

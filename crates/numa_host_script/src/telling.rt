@@ -68,11 +68,7 @@ fn say_moved_in<W: Write>(running: &RunningHost, output: &mut Watched<W>)
 }
 
 /// Writes what is shown of the pages of a host: what its last move did, or its rooms.
-pub(crate) fn say_shown_in<W: Write>(
-    running: &RunningHost,
-    moves: bool,
-    output: &mut Watched<W>,
-)
+pub(crate) fn say_shown_in<W: Write>(running: &RunningHost, moves: bool, output: &mut Watched<W>)
     ensures { (at : Hosting) → RunsAs running.now at → Said W.contents output.old output.new
         (shown_text moves at) }
 {

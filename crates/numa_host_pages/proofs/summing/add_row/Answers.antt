@@ -1,4 +1,4 @@
-use Rattle.std.proofs.Common.{ℕ, ◌<◌, get_or, length, arith, ◌∙◌, ap, sym, set}
+use Rattle.std.proofs.Common.{◌≡◌, ℕ, ◌<◌, rules, get_or, length, arith, ◌∙◌, ap, sym, set}
 use Rattle.std.proofs.Common.{inl, inr, length-set}
 use Rattle.std.proofs.lemmas.Bool.{cases_eq}
 use Rattle.std.proofs.lemmas.List.{get_or-set_same, get_or-set_other}
@@ -8,7 +8,9 @@ use Rattle.numa_host_pages.proofs.summing.add_row.Goals as goal
 pub loop-node-preserved : goal.loop-node-preserved
 loop-node-preserved c =
     let at = c.loop-node.node in
-    let sum : ℕ = both_pages (get_or c.args.row.now at 0) (get_or c.loop-node.flow at 0) in
+    let sum : ℕ = c.saturating_add-sum.result in
+    let is : sum ≡ both_pages (get_or c.args.row.now at 0) (get_or c.loop-node.flow at 0) =
+    search rules in
     let here : at < length c.loop-node.flow = omega (
       arith,
       c.loop-node.invariant.long,
@@ -17,12 +19,12 @@ loop-node-preserved c =
     record {
       long = length-set _ _ _ ∙ c.loop-node.invariant.long;
       done = λ node lt. elim (cases_eq node at) [
-        | inl is ↦ ap (λ (k : ℕ). get_or (set c.loop-node.flow at sum) k 0) is
-            ∙ get_or-set_same c.loop-node.flow at sum 0 here
+        | inl same ↦ ap (λ (k : ℕ). get_or (set c.loop-node.flow at sum) k 0) same
+            ∙ get_or-set_same c.loop-node.flow at sum 0 here ∙ is
             ∙ ap (λ (k : ℕ). both_pages (get_or c.args.row.now at 0) k)
             (c.loop-node.invariant.ahead at (omega arith))
             ∙ ap (λ (k : ℕ). both_pages (get_or c.args.row.now k 0)
-            (get_or c.args.flow.now k 0)) (sym is)
+            (get_or c.args.flow.now k 0)) (sym same)
         | inr ne ↦ get_or-set_other c.loop-node.flow at node sum 0 ne
             ∙ c.loop-node.invariant.done node (omega (arith, lt, ne))
       ];
