@@ -17,6 +17,9 @@ returns-then-not-first-clause-sum t c = λ homes are to small.
     (rw (← c.in-Some.ensures.cases.0) are) c.if-not-first.true in
     rw so.2 (c.add_flows.ensures.sum so.0 so.1 to small)
 
+pub add_own-requires : goal.add_own-requires
+add_own-requires t c = record { small = c.add_flows.ensures.small }
+
 pub returns-clause-sum : goal.returns-clause-sum
 returns-clause-sum t c = λ homes are to small.
     let so = sum-joined c.in-Some.first.now c.in-Some.rest.now homes
