@@ -1,6 +1,6 @@
 -- The example of two services that lose a node, examples/services-lose-a-node.script: what the last
 -- move of the host did, from what it did to each process.
-use Rattle.std.proofs.Common.{◌≡◌, ℕ, Bool, true, false, List, [], ◌∷◌, Option, Some, None, refl}
+use Rattle.std.proofs.Common.{◌≡◌, ℕ, Bool, true, false, List, [], ◌∷◌, Some, None, refl}
 use Rattle.std.specs.Prelude.{◌==◌, if◌then◌else◌}
 use Rattle.numa_page_state.specs.Lying.{LastMove, OfNodes, OfPages, nothing, still}
 use Rattle.numa_host_pages.specs.Homes.{Home, empty_host, with_ended}

@@ -1,9 +1,9 @@
 -- What the last move of a host did, one process after the other.
-use Rattle.std.proofs.Common.{◌≡◌, ◌≤◌, ◌<◌, ℕ, suc, true, false, Option, List, [], ◌∷◌, ◌++◌}
+use Rattle.std.proofs.Common.{◌≡◌, ◌≤◌, ◌<◌, ℕ, suc, true, false, List, [], ◌∷◌, ◌++◌}
 use Rattle.std.proofs.Common.{length, map, eqb, refl, ap, arith, inl, inr, slice_index}
 use Rattle.std.proofs.lemmas.Bool.{cases_Bool}
 use Rattle.std.specs.Prelude.{◌==◌, if◌then◌else◌}
-use Rattle.numa_page_state.specs.Lying.{LastMove, Lying, OfNodes, OfPages, Sent}
+use Rattle.numa_page_state.specs.Lying.{LastMove, OfNodes, OfPages, Sent}
 use Rattle.numa_page_state.specs.Sending.{flow_between}
 use Rattle.numa_page_state.specs.Standing.{LastAs}
 use Rattle.numa_page_state.specs.declared.last.Departures.{Departures}

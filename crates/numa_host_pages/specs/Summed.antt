@@ -1,7 +1,7 @@
--- What the last move of a host did, all its processes together: new nodes of a group (`cgroup-mems`),
--- a process's other group (`attach`), or what one process asked for (`migrate`, `move`,
--- `mbind .. move`). Commands that move nothing leave it as it was; a process that was born since
--- adds nothing to it, and one that ended no more.
+-- What the last move of a host did, all its processes together: new nodes of a group
+-- (`cgroup-mems`), a process's other group (`attach`), or what one process asked for (`migrate`,
+-- `move`, `mbind .. move`). Commands that move nothing leave it as it was; a process that was born
+-- since adds nothing to it, and one that ended no more.
 use Rattle.std.specs.Prelude.{ℕ, ◌+◌, ◌==◌, Option, Some, None, List, [], ◌∷◌, min}
 use Rattle.std.specs.Prelude.{if◌then◌else◌}
 use Rattle.numa_page_state.specs.Lying.{LastMove, Lying, OfNodes, OfPages, Sent, Told}

@@ -1,5 +1,4 @@
 use Rattle.std.proofs.Common.{false, None, refl}
-use Rattle.numa_host_pages.specs.Homes.{Home}
 use Rattle.numa_host_pages.proofs.Summing.{sum-born, sum-calm, sum-one}
 use Rattle.numa_host_pages.proofs.laws.moves_add_up.Goals as goal
 

@@ -1,4 +1,4 @@
-use Rattle.std.proofs.Common.{refl, subst, sym}
+use Rattle.std.proofs.Common.{subst, sym}
 use Rattle.numa_page_state.specs.Standing.{LiesAs}
 use Rattle.numa_page_state.specs.declared.state.PageState.{PageState}
 use Rattle.numa_host_pages.specs.Homes.{lent}

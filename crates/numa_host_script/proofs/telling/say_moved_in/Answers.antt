@@ -1,7 +1,4 @@
-use Rattle.std.proofs.Common.{ℕ, ap, length, ◌∙◌}
-use Rattle.std.specs.Prelude.{codes}
 use Rattle.numa_lines.proofs.Adding.{said_both, said_same}
-use Rattle.numa_host_pages.specs.Summed.{sum_of}
 use Rattle.numa_host_script.proofs.Told.{sum-told}
 use Rattle.numa_host_script.proofs.telling.say_moved_in.Goals as goal
 

@@ -1,5 +1,4 @@
 -- The nodes so far are told, whatever homes the pages stand for.
-use Rattle.std.proofs.Common.{ℕ}
 use Rattle.numa_lines.specs.Written.{Said}
 use Rattle.numa_host_pages.specs.Homes.{HostLying}
 use Rattle.numa_host_pages.specs.Standing.{HostLies}
