@@ -7,5 +7,5 @@ pub mod Ordered
 pub mod Places
 mod Rows
 mod SummedRows
-pub mod Summing
+pub mod Sums
 pub mod Walked

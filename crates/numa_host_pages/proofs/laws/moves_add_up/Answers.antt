@@ -1,5 +1,5 @@
 use Rattle.std.proofs.Common.{false, None, refl}
-use Rattle.numa_host_pages.proofs.Summing.{sum-born, sum-calm, sum-one}
+use Rattle.numa_host_pages.proofs.Sums.{sum-born, sum-calm, sum-one}
 use Rattle.numa_host_pages.proofs.laws.moves_add_up.Goals as goal
 
 pub returns-clause-none : goal.returns-clause-none

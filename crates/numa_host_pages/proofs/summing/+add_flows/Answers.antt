@@ -1,7 +1,7 @@
 use Rattle.std.proofs.Common.{ℕ, ap, sym, ◌∙◌, arith}
 use Rattle.numa_page_state.specs.Lying.{Sent}
 use Rattle.numa_host_pages.specs.Summed.{both_pages, sent_of}
-use Rattle.numa_host_pages.proofs.Summing.{sum-joined, sum-none, sum-passed}
+use Rattle.numa_host_pages.proofs.Sums.{sum-joined, sum-none, sum-passed}
 use Rattle.numa_host_pages.proofs.summing.+add_flows.Goals as goal
 
 pub returns-in_default-clause-sum : goal.returns-in_default-clause-sum

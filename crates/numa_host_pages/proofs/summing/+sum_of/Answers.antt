@@ -1,7 +1,7 @@
 use Rattle.std.proofs.Common.{◌≡◌, ap, sym, ◌∙◌, refl, rules}
 use Rattle.numa_page_state.specs.Lying.{Sent}
 use Rattle.numa_host_pages.specs.Summed.{both_pages}
-use Rattle.numa_host_pages.proofs.Summing.{sum-joined, sum-none, sum-passed}
+use Rattle.numa_host_pages.proofs.Sums.{sum-joined, sum-none, sum-passed}
 use Rattle.numa_host_pages.proofs.summing.+sum_of.Goals as goal
 
 pub returns-in_default : goal.returns-in_default

@@ -1,6 +1,6 @@
 use Rattle.std.proofs.Common.{ℕ, ap, arith, slice_index, ◌∙◌}
 use Rattle.numa_host_pages.specs.Summed.{both_pages}
-use Rattle.numa_host_pages.proofs.Summing.{both-most, nodes-went, pages-went}
+use Rattle.numa_host_pages.proofs.Sums.{both-most, nodes-went, pages-went}
 use Rattle.numa_host_pages.proofs.summing.add_last.Goals as goal
 
 pub returns-in-Nodes-clause-sum : goal.returns-in-Nodes-clause-sum

@@ -2,7 +2,7 @@ use Rattle.std.proofs.Common.{subst, sym}
 use Rattle.numa_page_state.specs.Standing.{LiesAs}
 use Rattle.numa_page_state.specs.declared.state.PageState.{PageState}
 use Rattle.numa_host_pages.specs.Homes.{lent}
-use Rattle.numa_host_pages.proofs.Summing.{both-none}
+use Rattle.numa_host_pages.proofs.Sums.{both-none}
 use Rattle.numa_host_pages.proofs.Walked.{none-lying, some-lying}
 use Rattle.numa_host_pages.proofs.summing.add_own.Goals as goal
 

@@ -1,4 +1,4 @@
-use Rattle.numa_host_pages.proofs.Summing.{nodes-counted, pages-counted}
+use Rattle.numa_host_pages.proofs.Sums.{nodes-counted, pages-counted}
 use Rattle.numa_host_pages.proofs.summing.counts_in.Goals as goal
 
 pub returns-in-Nodes : goal.returns-in-Nodes
