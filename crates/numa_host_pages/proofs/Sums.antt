@@ -90,7 +90,7 @@ sum-one process (home ∷ homes) once =
 pub nodes-counted : (moved : Moved) (last : Last) (done : LastMove) → last ≡ went.Nodes moved
     → LastAs last done
     → (moved.moved ≡ (sent_last done).moved) × (moved.left ≡ (sent_last done).left)
-nodes-counted moved last done is as = by_done done (rw is at as)
+nodes-counted moved last done is tells = by_done done (rw is at tells)
   where
     by_done : (d : LastMove) → LastAs (went.Nodes moved) d
         → (moved.moved ≡ (sent_last d).moved) × (moved.left ≡ (sent_last d).left)
@@ -100,7 +100,7 @@ nodes-counted moved last done is as = by_done done (rw is at as)
 pub pages-counted : (gone : Departures) (last : Last) (done : LastMove) → last ≡ went.Pages gone
     → LastAs last done
     → (gone.moved ≡ (sent_last done).moved) × (gone.left ≡ (sent_last done).left)
-pages-counted gone last done is as = by_done done (rw is at as)
+pages-counted gone last done is tells = by_done done (rw is at tells)
   where
     by_done : (d : LastMove) → LastAs (went.Pages gone) d
         → (gone.moved ≡ (sent_last d).moved) × (gone.left ≡ (sent_last d).left)
@@ -112,7 +112,7 @@ pub nodes-went : (moved : Moved) (last : Last) (done : LastMove) (from to : ℕ)
     → last ≡ went.Nodes moved → LastAs last done → from < 256
     → (if slice_index moved.to from == to then slice_index moved.from from else 0)
     ≡ (sent_last done).flow from to
-nodes-went moved last done from to is as small = by_done done (rw is at as)
+nodes-went moved last done from to is tells small = by_done done (rw is at tells)
   where
     by_done : (d : LastMove) → LastAs (went.Nodes moved) d
         → (if slice_index moved.to from == to then slice_index moved.from from else 0)
@@ -124,7 +124,7 @@ pub pages-went : (gone : Departures) (last : Last) (done : LastMove) (from to : 
     → last ≡ went.Pages gone → LastAs last done
     → flow_between (spot_at gone.before) (spot_at gone.after) from to
     ≡ (sent_last done).flow from to
-pages-went gone last done from to is as = by_done done (rw is at as)
+pages-went gone last done from to is tells = by_done done (rw is at tells)
   where
     by_done : (d : LastMove) → LastAs (went.Pages gone) d
         → flow_between (spot_at gone.before) (spot_at gone.after) from to

@@ -2,9 +2,9 @@ use Rattle.numa_host_pages.proofs.Sums.{nodes-counted, pages-counted}
 use Rattle.numa_host_pages.proofs.summing.counts_in.Goals as goal
 
 pub returns-in-Nodes : goal.returns-in-Nodes
-returns-in-Nodes c = λ done as.
-    nodes-counted c.in-Nodes.moved c.args.last.now done c.in-Nodes.is as
+returns-in-Nodes c = λ done tells.
+    nodes-counted c.in-Nodes.moved c.args.last.now done c.in-Nodes.is tells
 
 pub returns-in-Pages : goal.returns-in-Pages
-returns-in-Pages c = λ done as.
-    pages-counted c.in-Pages.gone c.args.last.now done c.in-Pages.is as
+returns-in-Pages c = λ done tells.
+    pages-counted c.in-Pages.gone c.args.last.now done c.in-Pages.is tells
