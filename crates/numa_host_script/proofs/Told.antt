@@ -1,7 +1,6 @@
 -- What is told of the pages of a host's processes.
 use Rattle.std.proofs.Common.{◌≡◌, ℕ, ◌<◌, Option, Some, None, List, length}
 use Rattle.std.proofs.Common.{refl, sym, ap, ◌∙◌, Bor}
-use Rattle.std.proofs.Common.{append_assoc}
 use Rattle.std.specs.Prelude.{MatchOption, codes, decimal, ◌++◌}
 use Rattle.numa_host_pages.specs.Homes.{HostLying, lent_or_new, pages_in, pages_lent}
 use Rattle.numa_host_pages.specs.Standing.{HostLies, LiesApart}
@@ -69,16 +68,7 @@ pub sum-told : (at : Hosting) (version moved left : ℕ) → version ≡ length 
     → ((codes "v" ++ decimal version ++ codes ": " ++ moved_words moved left)
     ++ all_flows_text (sum_of at.lying.homes).flow) ++ codes "\n" ≡ moved_text at
 sum-told at version moved left counts gone stayed =
-    let flows : List ℕ = all_flows_text (sum_of at.lying.homes).flow in
-    append_assoc (codes "v" ++ decimal version ++ codes ": " ++ moved_words moved left) flows
-    (codes "\n")
-    ∙ append_assoc (codes "v") (decimal version ++ codes ": " ++ moved_words moved left)
-    (flows ++ codes "\n")
-    ∙ ap (λ (rest : List ℕ). codes "v" ++ rest)
-    (append_assoc (decimal version) (codes ": " ++ moved_words moved left) (flows ++ codes "\n")
-    ∙ ap (λ (rest : List ℕ). decimal version ++ rest)
-    (append_assoc (codes ": ") (moved_words moved left) (flows ++ codes "\n")))
-    ∙ (λ i. told_line (counts i) (gone i) (stayed i) flows)
+    λ i. told_line (counts i) (gone i) (stayed i) (all_flows_text (sum_of at.lying.homes).flow)
 
 -- what first touches of a process did
 pub touches-told : (at : Hosting) (process version : ℕ) (found : Option Lying) (done : Arrived)
