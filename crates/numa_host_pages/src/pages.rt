@@ -15,8 +15,10 @@ ghost use Rattle.numa_host_pages.specs.Summed.{sum_of};
 ghost use Rattle.numa_host_pages.specs.TopDown.{top_down};
 
 use crate::following::{follow_below, follow_home};
-use crate::member::{Member, add, boxed, pages_of, put_pages, remove, rooms_without, still_all};
-use crate::member::{take_along, take_pages};
+use crate::member::{
+    Member, add, boxed, pages_of, put_pages, remove, rooms_without, still_all, take_along,
+    take_pages,
+};
 use crate::summing::{add_flows, sum_of};
 use numa_host::ControlGroup;
 use numa_machine::{Machine, NoMemory};
