@@ -9,8 +9,11 @@ use crate::sheet::fields::{PlacedPages, RangeRow};
 use crate::sheet::nodes::{NodePages, put_nodes};
 use numa_sheets::{CELL, Rectangle, Scale, Touch, Written, fill_of, mark_at, put_rectangle, share};
 
-/// The most nodes that are named in the line of a range.
+/// The most nodes that are named in the line of a range, and the most letters of one, so that it
+/// ends within the picture, also with a name beside its addresses.
 const NAMED: usize = 4;
+
+const LETTERS: usize = 106;
 
 /// The first row of pixels of the ranges, and the rows of a range and of a node.
 const TOP: u64 = 60;
@@ -51,21 +54,54 @@ pub(crate) fn put_head(
     scale.put_line(text, 44);
 }
 
-/// Writes the nodes that get pages, each with its pages, or their number.
-fn put_counts(text: &mut Written, nodes: &[NodePages]) {
-    if nodes.len() > NAMED {
-        text.put_form(b" on $ nodes", &[nodes.len() as u64]);
-    } else {
-        put_nodes(text, nodes);
-    }
-}
-
 /// Writes the number of pages that find no free page, if there are any.
 fn put_lacking(text: &mut Written, placed: PlacedPages<'_>) {
     if let Some(pages) = placed.lacking() {
         text.put(b" exhausted=");
         text.put_grouped(pages);
     }
+}
+
+/// Writes the nodes that get pages, each with its pages, and those that find no free page.
+fn put_named(text: &mut Written, placed: PlacedPages<'_>) {
+    put_nodes(text, placed.nodes);
+    put_lacking(text, placed);
+}
+
+/// Writes how many nodes get pages, and those that find no free page.
+fn put_number(text: &mut Written, placed: PlacedPages<'_>) {
+    let nodes = placed.nodes.len() as u64;
+    text.put_form(b" on $ node", &[nodes]);
+    text.put_either(nodes, b"", b"s");
+    put_lacking(text, placed);
+}
+
+/// Writes the nodes that get pages, in a line of which so many letters are taken; or how many there
+/// are, if they are many, or find no room.
+fn put_counts(text: &mut Written, placed: PlacedPages<'_>, taken: usize) {
+    if placed.nodes.len() > NAMED {
+        return put_number(text, placed);
+    }
+    let mut named = Written::new(text.alloc());
+    put_named(&mut named, placed);
+    if taken.saturating_add(named.len()) > LETTERS {
+        return put_number(text, placed);
+    }
+    match named.take() {
+        Ok(words) => text.put(words.as_slice()),
+        Err(_) => text.lack(),
+    }
+}
+
+/// Writes a policy in a line of which so many letters are taken; `..` stands for what finds no room.
+fn put_policy(text: &mut Written, policy: &[u8], taken: usize) {
+    let room = LETTERS.saturating_sub(taken);
+    if policy.len() <= room {
+        text.put(policy);
+        return;
+    }
+    text.put(policy.get(..room.saturating_sub(2)).unwrap_or(&[]));
+    text.put(b"..");
 }
 
 /// The row of pixels at which this many rows of ranges end.
@@ -83,6 +119,26 @@ fn begin_row(text: &mut Written, class: &[u8], before: u64) {
     );
 }
 
+/// The letters of a line that begins at a byte of the text.
+fn letters_since(text: &Written, begun: usize) -> usize {
+    text.len().saturating_sub(begun)
+}
+
+/// Writes the words of a range's line.
+fn put_words(text: &mut Written, row: RangeRow<'_>) {
+    let begun = text.len();
+    let policy = row.policy.as_bytes();
+    text.put_addresses(row.start, row.end);
+    text.put(b" ");
+    text.put_amount(row.placed.pages);
+    let behind = policy.len().saturating_add(1);
+    let taken = letters_since(text, begun).saturating_add(behind);
+    put_counts(text, row.placed, taken);
+    text.put(b" ");
+    let taken = letters_since(text, begun);
+    put_policy(text, policy, taken);
+}
+
 /// Writes a range, with `before` rows before it: its line and its bar. A page has a cell where all
 /// pages of the range are in `cells` and find room.
 pub(crate) fn put_range(
@@ -93,13 +149,7 @@ pub(crate) fn put_range(
     width: u64,
 ) {
     begin_row(text, b"range", before);
-    text.put_addresses(row.start, row.end);
-    text.put(b" ");
-    text.put_amount(row.placed.pages);
-    put_counts(text, row.placed.nodes);
-    put_lacking(text, row.placed);
-    text.put(b" ");
-    text.put(row.policy.as_bytes());
+    put_words(text, row);
     text.put(b"</text>");
     let count = cells.len() as u64;
     let place = Rectangle {
@@ -126,11 +176,12 @@ pub(crate) fn put_rest(
     width: u64,
 ) {
     begin_row(text, b"rest", before);
+    let begun = text.len();
     text.put_number(ranges);
     text.put_either(ranges, b" other range, ", b" other ranges, ");
     text.put_amount(placed.pages);
-    put_counts(text, placed.nodes);
-    put_lacking(text, placed);
+    let taken = letters_since(text, begun);
+    put_counts(text, placed, taken);
     text.put(b"</text>");
     let place = Rectangle {
         left: 0,
