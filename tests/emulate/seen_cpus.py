@@ -39,6 +39,23 @@ def status_row(name):
     return next(line.split()[1] for line in read("/proc/self/status").splitlines() if line.startswith(name))
 
 
+def cpus_in(text):
+    ends = [part.split("-") for part in text.split(",") if part]
+    return {cpu for end in ends for cpu in range(int(end[0]), int(end[-1]) + 1)}
+
+
+def devices():
+    """Devices are near to no node, and to all CPUs of the nodes."""
+    cpus = set().union(*(cpus_in(read(path)) for path in glob.glob(f"{NODES}/node*/cpulist")))
+    for device in glob.glob("/sys/bus/pci/devices/*") + glob.glob("/sys/class/net/*/device"):
+        if os.path.exists(f"{device}/numa_node"):
+            want(read(f"{device}/numa_node"), "-1", f"{device}/numa_node")
+        if os.path.exists(f"{device}/local_cpus"):
+            want(cpus_in(read(f"{device}/local_cpulist")), cpus, f"{device}/local_cpulist")
+            mask = int(read(f"{device}/local_cpus").replace(",", ""), 16)
+            want({cpu for cpu in range(1024) if mask >> cpu & 1}, cpus, f"{device}/local_cpus")
+
+
 def made_up():
     want(os.sched_getaffinity(0), set(range(8)), "the mask at first")
     want(read(f"{NODES}/node2/cpulist"), "4-5", "node2/cpulist")
@@ -78,6 +95,7 @@ def as_they_are():
         want(here(), (cpu, node_of(cpu)), "the CPU and its node")
 
 
+devices()
 made_up() if sys.argv[1:] == ["made-up"] else as_they_are()
 print("\n".join(wrong), end="")
 sys.exit(bool(wrong))

@@ -22,6 +22,7 @@ MADE_UP = ("/proc/", "/sys/", "/dev/cpuset/")  # where what is made up when it i
 PROCESS = r"/proc/(self|thread-self|\d+)(?:/task/(\d+))?/(status|stat|numa_maps)$"
 MEMS_SET, CPU_SET = (rf"/sys/fs/cgroup/.*cpuset\.(?:{name}|{name}\.effective|effective_{name})$|/dev/cpuset/.*{name}$"
                      for name in ("mems", "cpus"))
+OF_DEVICE = r"/sys/(?:block|bus|class|devices)/.*/(numa_node|local_cpulist|local_cpus)$"
 OF_NODE = re.escape(NODES) + r"/node(\d+)/(meminfo|numastat)$"
 ROWS_OF_MEMORY = """MemTotal MemFree MemUsed SwapCached Active Inactive Active(anon) Inactive(anon) Active(file)
     Inactive(file) Unevictable Mlocked Dirty Writeback FilePages Mapped AnonPages Shmem KernelStack PageTables
@@ -154,6 +155,13 @@ def times_text(cpus):
     return "".join(rows[:1] + made + rows[1 + len(times):])
 
 
+def device_text(cpus, name):
+    """Where a device is: near to no node, as kernels say it where nobody told them."""
+    if name == "numa_node":
+        return "-1\n"
+    return (list_text(cpus.node_of) if name == "local_cpulist" else mask_text(cpus.node_of)) + "\n"
+
+
 def area_rows(space, word):
     """(start, end, policy that serves it, name, placed pages) of each area as the kernel has them, parted where its
     policy changes; at last of what is known of no area any more."""
@@ -217,6 +225,9 @@ def text_of(all_, task, path):
             return OF_ALL_CPUS[path](cpus)
         if re.match(CPU_SET, path):
             return list_text(cpus.node_of) + "\n"
+    found = re.match(OF_DEVICE, path)
+    if found and os.path.exists(path):
+        return device_text(all_.machine.cpus, found[1])
     found = re.match(OF_NODE, path)
     if found and int(found[1]) < all_.machine.count:
         if all_.follows(task):
