@@ -215,7 +215,8 @@ function explained(view, address) {
   }
   const said = view.words.get(range.start);
   const node = nodeOf(view, address);
-  const index = said ? ', index ' + (said.index + (address - said.start) / 4096) : '';
+  const turn = said && said.index + Math.floor((address - said.start) / (said.bytes || 4096));
+  const index = said ? ', index ' + turn : '';
   const where = node === undefined ? (view.lies ? 'on no node' : 'node ?') : 'node ' + node;
   const line = 'page ' + hex(address) + index + ': ' + where;
   return view.lies || !said ? [line] : [line, ...said.words];

@@ -1,6 +1,6 @@
 //! By which rules the pages of a span go, stretch by stretch.
 use crate::reasons::put_fields;
-use numa_machine::{PlaceRefusal, turn_at};
+use numa_machine::{PageSize, PlaceRefusal, is_part, turn_at};
 use numa_reports::Largest;
 use numa_requests::PAGE_BYTES;
 use numa_rules::{Explanation, ReasonError, explain, say_stretch, say_unmapped};
@@ -42,13 +42,17 @@ fn mapped_object(alloc: Global, said: &Explanation, pages: u64, text: &[u8]) -> 
     object
 }
 
-/// The same with the first page's index and the lines of the text alone.
+/// The same with the first page's index, the bytes of its pages where these aren't 4 KiB, and the
+/// lines of the text alone.
 fn short_object(alloc: Global, said: &Explanation, text: &[u8]) -> Object {
     let mut lines = Items::new(alloc);
     lines.push_lines(text);
     let mut object = Object::new(alloc);
     object.put_number("start", said.page.saturating_mul(PAGE_BYTES));
     object.put_number("index", turn_at(said.index));
+    if is_part(said.index) {
+        object.put_number("bytes", PageSize::Huge.bytes());
+    }
     object.put_items("words", lines);
     object
 }
