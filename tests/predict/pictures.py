@@ -9,6 +9,7 @@ DRAWN = 40
 CELLS = 64
 CELL = 12
 NAMED = 4
+LETTERS = 106  # of a line without a name
 PAGE = re.compile(r"([0-9a-f]{8,}): node (\d+)")
 NODE = re.compile(r"node (\d+): ([\d,]+) pages? \(.*\)")
 LACKING = re.compile(r"no free page: ([\d,]+) pages? \(.*\)")
@@ -53,10 +54,21 @@ def largest(rows, number):
     return sorted(sorted(range(len(rows)), key=lambda k: (-rows[k].pages, k))[:number])
 
 
-def counts_text(counts, lacking):
+def counts_text(counts, lacking, letters):
+    """The nodes of a line whose other words have so many letters; their number where they find no room."""
+    exhausted = f" exhausted={lacking:,}" if lacking else ""
     named = "".join(f" N{node}={pages}" for node, pages in sorted(counts.items()))
-    named = named if len(counts) <= NAMED else f" on {len(counts)} nodes"
-    return named + (f" exhausted={lacking:,}" if lacking else "")
+    if len(counts) > NAMED or letters + len(named + exhausted) > LETTERS:
+        named = f" on {said(len(counts), 'node')}"
+    return named + exhausted
+
+
+def line_of(row):
+    """The line of a range, in which `..` stands for what finds no room of its policy."""
+    front = f"{row.start:08x}-{row.end:08x} {amount(sum(row.counts.values()))}"
+    line = front + counts_text(row.counts, row.lacking, len(front + row.policy) + 1) + " "
+    room = LETTERS - len(line)
+    return line + (row.policy if len(row.policy) <= room else row.policy[:room - 2] + "..")
 
 
 def parts_of(group):
@@ -133,8 +145,7 @@ def difference(text, rows, nodes, left=None, number=DRAWN):
         return f"{len(groups['range'])} ranges are drawn, not {len(drawn)}"
     sizes, widths = [], []
     for row, group in zip(drawn, groups["range"]):
-        line = (f"{row.start:08x}-{row.end:08x} {amount(sum(row.counts.values()))}"
-                f"{counts_text(row.counts, row.lacking)} {row.policy}")
+        line = line_of(row)
         if group.find(SVG + "text").text != line:
             return f"{group.find(SVG + 'text').text!r}, not {line!r}"
         parts = parts_of(group)
@@ -146,8 +157,8 @@ def difference(text, rows, nodes, left=None, number=DRAWN):
     if others:
         counts = sum((Counter(row.counts) for row in others), Counter())
         lacking = sum(row.lacking for row in others)
-        line = (f"{said(len(others), 'other range')}, {amount(sum(counts.values()))}"
-                f"{counts_text(counts, lacking)}")
+        front = f"{said(len(others), 'other range')}, {amount(sum(counts.values()))}"
+        line = front + counts_text(counts, lacking, len(front))
         if groups["rest"][0].find(SVG + "text").text != line:
             return f"{groups['rest'][0].find(SVG + 'text').text!r}, not {line!r}"
         sizes.append(sum(row.pages for row in others))
