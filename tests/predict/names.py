@@ -64,9 +64,27 @@ def named_text(text, areas, process=None):
     return "\n".join(lines) + "\n"
 
 
-def clipped(name):
+def clipped(name, room=28):
     """A name as a picture has it: of a long one the end."""
-    return name if len(name) <= 28 else ".." + name[-26:]
+    return name if len(name) <= room else ".." + name[2 - room:]
+
+
+def bytes_of(name):
+    """The bytes of a name as a picture writes it."""
+    return len(html.escape(name).replace("&#x27;", "&#39;").encode())
+
+
+def clipped_names(names, letters):
+    """The names in a picture's line whose other words have so many letters: as many as find room there;
+    `..` stands for the others."""
+    room, told, used = max(119 - letters, 12), [], 0
+    for name in names:
+        left = min(room - used, 28)
+        if told and left < min(len(name), 28):
+            return ", ".join([*told, ".."])
+        told.append(clipped(name, left))
+        used += bytes_of(told[-1]) + 2  # (and ", ")
+    return ", ".join(told)
 
 
 def picture_difference(picture, areas, process=None):
@@ -80,11 +98,34 @@ def picture_difference(picture, areas, process=None):
         label = part.find(SVG + "text")
         start, end = (int(it, 16) for it in RANGE.match(label.text).groups())
         found = [it.text for it in label.iter(SVG + "tspan")]
-        want = ", ".join(clipped(shown(it)) for it in names_between(areas.get(process, []), start, end))
+        letters = len("".join(label.itertext())) - len("".join(found)) - (not found)
+        want = clipped_names([shown(it) for it in names_between(areas.get(process, []), start, end)], letters)
         if found != ([want] if want else []):
             return f"{label.text}: {found}, not {want!r}"
         count += bool(want)
     return None if count else "no names"
+
+
+def try_widths(call, tell, folder):
+    """Lines end within the picture: large ranges with long names and policies, pages on several nodes and some
+    that find no free page; and areas that make one range."""
+    nodes, start = "0,2,4,6,8,10,12,14,16,18,20,22,24,26,28,30", 0x700000000000
+    policies = ["interleave:0-3", "interleave:0-7", f"interleave:{nodes}", f"bind:{nodes}", "prefer:31"]
+    lines = ["machine 32 0-31 0 flat"]
+    for k, policy in enumerate(policies):
+        span = f"{start + (k << 36)} {12 << 30}"
+        lines += [f"# name: /dev/zero (deleted), of PostgreSQL {k}", f"map {span} 0", f"mbind {span} {policy}"]
+    for k in range(9):
+        lines += [f"# name: part {k} of some pages", f"map {start + (9 << 36) + (k << 20)} {1 << 20} {k << 8}"]
+    with open(f"{folder}/wide", "w", encoding="utf-8") as file:
+        file.write("\n".join([*lines, ""]))
+    widest, told = 0, []
+    for more in ([], ["--free", ",".join(f"{node}=1200001" for node in range(32))], ["--free", "0=1,1=1,2=1,3=1"]):
+        picture = ElementTree.fromstring(call("predict", *TOUCH, *more, "--format", "svg", f"{folder}/wide")[1])
+        labels = [it.find(SVG + "text") for it in picture.findall(SVG + "g") if it.get("class") == "range"]
+        told += ["".join(it.itertext()) for it in labels]
+        widest = max(widest, *map(len, told))
+    return tell(widest <= 123 and len(told) == 18, f"lines of at most {widest} letters: {max(told, key=len)!r}")
 
 
 def as_json(name):
@@ -164,4 +205,4 @@ def try_names(call, tell, folder):
     words = ["explain", *TOUCH, "--pages", "9", "0x10000"]
     plain, told = call(*words, one)[1], call(*words, "--names", one)[1]
     good &= tell(told == named_text(plain, {None: areas}) != plain, f"and of stretches: {told!r}")
-    return good
+    return good & try_widths(call, tell, folder)

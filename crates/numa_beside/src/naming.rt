@@ -47,8 +47,8 @@ pub(crate) trait PutName {
     /// Writes what stands before the first name of a range, or else between two.
     fn put_before(&self, text: &mut Written, is_first: bool);
 
-    /// Writes a name.
-    fn put_name(&self, text: &mut Written, name: &[u8]);
+    /// Writes a name; if it finds no room, `..` in its place, and returns false: it is the last.
+    fn put_name(&self, text: &mut Written, name: &[u8]) -> bool;
 
     /// Writes what stands behind the last name of a range.
     fn put_end(&self, text: &mut Written);
@@ -62,8 +62,12 @@ fn put_all<F: PutName>(text: &mut Written, areas: &Areas, some: &[Area], form: &
         let name = areas.name(&some[place]);
         if count < NAMES && !has_name(areas, &some[..place], name) {
             form.put_before(text, count == 0);
-            form.put_name(text, name);
-            count = count.saturating_add(1);
+            let goes_on = form.put_name(text, name);
+            count = if goes_on {
+                count.saturating_add(1)
+            } else {
+                NAMES
+            };
         }
     }
     if count > 0 {

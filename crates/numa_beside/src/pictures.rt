@@ -14,8 +14,17 @@ const HEADING: &[u8] = b"<text class=\"heading\" ";
 
 const BOLD: &[u8] = b"font-weight=\"bold\">";
 
-/// The most bytes of a name; of a longer one the end is shown.
+/// What stands before the first name.
+const OPEN: &[u8] = b" <tspan class=\"name\" font-weight=\"bold\">";
+
+/// The most letters of a name, and those for which there is room in any line; of a longer name the
+/// end is shown.
 const WIDE: usize = 28;
+
+const NARROW: usize = 12;
+
+/// The most letters of a line with its names, so that it ends within the picture.
+const LETTERS: usize = 119;
 
 /// Where some bytes end that begin among the first of a line; nothing if they don't.
 fn end_of(line: &[u8], part: &[u8]) -> Option<usize> {
@@ -37,12 +46,34 @@ fn label_in(line: &[u8]) -> Option<(Range, usize)> {
     Some((range, begin.saturating_add(range.length)))
 }
 
+/// The letters of a text up to its next tag.
+fn letters_in(text: &[u8]) -> usize {
+    let mut letters = 0usize;
+    for byte in text {
+        if *byte == b'<' {
+            return letters;
+        }
+        letters = letters.saturating_add(1);
+    }
+    letters
+}
+
 /// The process of a heading, if a line is one.
 fn heading_in(line: &[u8]) -> Option<u32> {
     if !line.starts_with(HEADING) {
         return None;
     }
     process_in(line.get(end_of(line, BOLD)?..)?)
+}
+
+/// Writes a name of at most so many letters; of a longer one the end.
+fn put_clipped(text: &mut Written, name: &[u8], room: usize) {
+    if name.len() <= room {
+        return text.put_escaped(name);
+    }
+    text.put(b"..");
+    let hidden = name.len().saturating_add(2).saturating_sub(room);
+    text.put_escaped(name.get(hidden..).unwrap_or(&[]));
 }
 
 /// Names behind addresses, in bold letters.
@@ -55,28 +86,41 @@ impl PutLine for Bold {
             naming.process = heading_in(line).or(naming.process);
             return;
         };
+        let rest = line.get(length..).unwrap_or(&[]);
+        let letters = letters_in(rest)
+            .saturating_add(range.length)
+            .saturating_add(1);
         naming.text.put(line.get(..length).unwrap_or(&[]));
-        put_names(naming, range.start, range.end, self);
-        naming.text.put(line.get(length..).unwrap_or(&[]));
+        let names = Names {
+            begun: naming.text.len().saturating_add(OPEN.len()),
+            room: LETTERS.saturating_sub(letters).max(NARROW),
+        };
+        put_names(naming, range.start, range.end, &names);
+        naming.text.put(rest);
     }
 }
 
-impl PutName for Bold {
+/// The names of a line, which begin at a byte of the text, and the letters for which there is room.
+#[derive(Clone, Copy)]
+struct Names {
+    begun: usize,
+    room: usize,
+}
+
+impl PutName for Names {
     fn put_before(&self, text: &mut Written, is_first: bool) {
-        text.put(if is_first {
-            b" <tspan class=\"name\" font-weight=\"bold\">".as_slice()
-        } else {
-            b", "
-        });
+        text.put(if is_first { OPEN } else { b", " });
     }
 
-    fn put_name(&self, text: &mut Written, name: &[u8]) {
-        if name.len() <= WIDE {
-            return text.put_escaped(name);
+    fn put_name(&self, text: &mut Written, name: &[u8]) -> bool {
+        let used = text.len().saturating_sub(self.begun);
+        let room = self.room.saturating_sub(used).min(WIDE);
+        if used > 0 && room < name.len().min(WIDE) {
+            text.put(b"..");
+            return false;
         }
-        text.put(b"..");
-        let hidden = name.len().saturating_sub(WIDE - 2);
-        text.put_escaped(name.get(hidden..).unwrap_or(&[]));
+        put_clipped(text, name, room);
+        true
     }
 
     fn put_end(&self, text: &mut Written) {

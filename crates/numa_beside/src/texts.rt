@@ -23,13 +23,14 @@ impl PutName for Behind {
         text.put(if is_first { b"  # ".as_slice() } else { b", " });
     }
 
-    fn put_name(&self, text: &mut Written, name: &[u8]) {
+    fn put_name(&self, text: &mut Written, name: &[u8]) -> bool {
         for byte in name {
             match byte {
                 b' '..=b'~' => text.put(&[*byte]),
                 _ => text.put(b"\xEF\xBF\xBD"),
             }
         }
+        true
     }
 
     fn put_end(&self, _text: &mut Written) {}
