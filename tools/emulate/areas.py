@@ -9,6 +9,7 @@ import re
 import struct
 from collections import namedtuple
 
+from . import huge
 from .tracing import PAGE, TOP
 
 # (compiled at their first use)
@@ -21,22 +22,24 @@ MOST_CLOSED = 1 << 30  # bytes: larger areas without access are mostly addresses
 
 # From start to end; index is that of the first page, by which the kernel interleaves. Pages of a file's
 # cache aren't placed by a policy: `has_cache`. `is_closed` is without access, and large. `shared` names the object
-# in memory that processes share there; None where there is none.
-Area = namedtuple("Area", "start end index has_cache is_closed shared name")
+# in memory that processes share there; None where there is none. `huge`: the bytes of its pages, where these are of a
+# pool (hugetlb; a policy of them is the area's alone, also where they are shared), else 0.
+Area = namedtuple("Area", "start end index has_cache is_closed shared name huge", defaults=[0])
 
 
-def area_of(start, end, is_shared, is_closed, offset, device, inode, name):
+def area_of(start, end, is_shared, is_closed, offset, device, inode, name, size=PAGE):
     """An area as a kernel tells it; None where it is the kernel's own."""
     if end > TOP or name in KERNELS_OWN:
         return None
-    is_in_memory = name[:1] in "/[" and bool(re.match(IN_MEMORY, name))
+    is_in_memory = size == PAGE and name[:1] in "/[" and bool(re.match(IN_MEMORY, name))
     is_file = inode != 0 or is_in_memory  # (the inode of System V's first object is 0)
     index = (offset if is_file else start) // PAGE
     if is_shared and is_in_memory and index + inode < MOST_INDEX:
         index += inode
     is_closed = is_closed and end - start > MOST_CLOSED
     shared = (device, inode) if is_shared and is_in_memory else None
-    return Area(start, end, index, is_file and not shared, is_closed, shared, name)
+    has_cache = is_file and not (shared or is_shared and size > PAGE)
+    return Area(start, end, index, has_cache, is_closed, shared, name, size if size > PAGE else 0)
 
 
 class ByReading:
@@ -48,7 +51,8 @@ class ByReading:
     def between(self, start, end):
         """The areas that have an address from start to end, whole."""
         if self.found is None:
-            self.found = [area for area in map(self.area_of_line, self.lines()) if area]
+            sizes = huge.page_sizes(self.task)
+            self.found = [area for area in (self.area_of_line(line, sizes) for line in self.lines()) if area]
         return [area for area in self.found if area.start < end and start < area.end]
 
     def lines(self):
@@ -56,10 +60,11 @@ class ByReading:
             return file.read().split("\n")
 
     @staticmethod
-    def area_of_line(line):
+    def area_of_line(line, sizes):
         found = re.match(LINE, line)
         return found and area_of(int(found[1], 16), int(found[2], 16), found[3][3] == "s",
-                                 found[3].startswith("---"), int(found[4], 16), found[5], int(found[6]), found[7])
+                                 found[3].startswith("---"), int(found[4], 16), found[5], int(found[6]), found[7],
+                                 sizes.get(int(found[1], 16), PAGE))
 
     def close(self):
         """(Nothing is open.)"""
@@ -90,7 +95,7 @@ class ByQuestions:
             # (a line's end as maps has it: a script's lines end there)
             name = os.fsdecode(name_room[:name_size - 1]).replace("\n", "\\012") if name_size else ""
             area = area_of(told[3], told[4], bool(told[5] & SHARED), not told[5] & ACCESS, told[7], told[9:11],
-                           told[8], name)
+                           told[8], name, told[6])
             if area:
                 found.append(area)
         return found
@@ -147,7 +152,7 @@ def joined(areas):
     """Neighbours that could be one mapping as one: they differ in rights alone."""
     last = None
     for area in areas:
-        if last and last.end == area.start and last.name == area.name and \
+        if last and last.end == area.start and (last.name, last.huge) == (area.name, area.huge) and \
                 last.index + (last.end - last.start) // PAGE == area.index:
             last = last._replace(end=area.end)
             continue

@@ -1,5 +1,6 @@
 """Huge pages, of which the made-up machine has none: transparent ones are never made, pools are empty. What files tell
-of them, and what calls that ask for them answer. A kernel whose pools are empty answers by itself. Not proved."""
+of them, and what calls that ask for them answer. A kernel whose pools are empty answers by itself. On this machine
+(numaplan-record) areas may have some. Not proved."""
 
 import ctypes
 import errno
@@ -73,6 +74,14 @@ def never(text):
 def is_possible(space):
     """THP_enabled of /proc/PID/status: what the kernel is built for, and the program hasn't turned off."""
     return int(os.path.isdir(TRANSPARENT) and not space.is_without_huge)
+
+
+def page_sizes(task):
+    """By start the bytes of the pages of each of a task's areas, where this machine's pools aren't empty."""
+    if are_empty():
+        return {}
+    rows = re.findall(r"^([0-9a-f]+)-[0-9a-f]+ |^KernelPageSize: *(\d+) kB$", read(f"/proc/{task}/smaps"), re.MULTILINE)
+    return {int(start, 16): int(size) << 10 for (start, _), (_, size) in zip(rows, rows[1:]) if start and size}
 
 
 # ---- calls

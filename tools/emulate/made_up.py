@@ -175,9 +175,9 @@ def area_rows(space, word):
             yield start, end, policy or served, "", space.placed_between(start, end)
 
 
-def pages_text(pages):
-    """Pages by node, as numa_maps has them."""
-    return " ".join(f"N{node}={count}" for node, count in sorted(pages.items()))
+def pages_text(pages, kilobytes=4):
+    """Pages by node, as numa_maps has them, in units of so many kilobytes (they are counted in 4)."""
+    return " ".join(f"N{node}={-(-count * 4 // kilobytes)}" for node, count in sorted(pages.items()))
 
 
 def numa_maps_text(all_, task):
@@ -186,8 +186,11 @@ def numa_maps_text(all_, task):
     rows = []
     for start, _, policy, name, pages in area_rows(task.space, task.word):
         nodes = [task.space.placed[page] for page in pages]
-        placed = f" anon={len(nodes)} dirty={len(nodes)} {pages_text(Counter(nodes))} kernelpagesize_kB=4" if nodes else ""
-        rows.append(f"{start:08x} {policy}{name_in_maps(name)}{placed}\n")
+        size = task.space.kilobytes(start)
+        count, kind = -(-len(nodes) * 4 // size), " huge" if size > 4 else ""
+        by_node = pages_text(Counter(nodes), size)
+        placed = f" anon={count} dirty={count} {by_node} kernelpagesize_kB={size}" if nodes else ""
+        rows.append(f"{start:08x} {policy}{name_in_maps(name)}{kind}{placed}\n")
     return "".join(rows)
 
 

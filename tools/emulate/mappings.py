@@ -22,6 +22,8 @@ def mmap(all_, task, start, length, _protection, flags, file, *_):
 def replace(all_, task, start, length):
     """What is mapped there goes, if the call is a success."""
     space, end = task.space, start + whole_pages(length)
+    if space.parts_page(start, end):
+        return None
     if start % PAGE or end > TOP or not space.spans.between(start, end) or not all_.follows(task):
         forget(all_, task, start, length)
         return None
@@ -40,7 +42,7 @@ def munmap(all_, task, start, length, *_):
 def forget(all_, task, start, length):
     """Pages that go: what was touched of them is placed before."""
     end = start + whole_pages(length)
-    if start % PAGE or end > TOP:
+    if start % PAGE or end > TOP or task.space.parts_page(start, end):
         return
     if not all_.follows(task):
         forget_touchers(all_, task, start, end)
@@ -122,17 +124,17 @@ def moved(space, pieces, old, new):
     the new span."""
     (from_, old_length), (to, new_length) = old, new
     kept = space.take(from_, from_ + min(old_length, new_length))
+    sizes = [space.huge.at(start) or 0 for start, *_ in pieces]
     space.unmap(from_, from_ + old_length)
     space.unmap(to, to + new_length)
     for place, (start, end, index, _, policy) in enumerate(pieces):
-        if not kept[0] and index == start // PAGE:
+        if not kept[0] and index == start // PAGE and not sizes[place]:
             index += (to - from_) // PAGE  # (anonymous, and never touched: the index moves too)
         first = to + start - from_
         after = to + new_length if place == len(pieces) - 1 else min(first + end - start, to + new_length)
         if first >= after:
             continue
-        space.do("map", first, after - first, index)
-        space.spans.add(first, after)
+        space.map(first, after, index, sizes[place])
         if policy:
             space.do("mbind", first, after - first, word_of(policy.mode, set(policy.asked)))
         if policy and policy.home is not None:

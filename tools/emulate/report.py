@@ -6,6 +6,7 @@ from collections import Counter
 
 from .areas import shown_name
 from .made_up import area_rows
+from .tracing import PAGE
 from .words import Unfit, read_lines
 
 WANTED = r"(.+) (\d+=\d+(?:,\d+=\d+)*)(?: at (\S+))?$"
@@ -111,6 +112,8 @@ def part_of(space, word, state):
             rows.append({"start": start, "end": end, "policy": policy, "pages": dict(sorted(nodes.items())),
                          "name": shown_name(name) if name else "", "touched": touchers_of(space, pages),
                          "bounds": {} if are_sure(bounds) else bounds})
+            if space.kilobytes(start) > PAGE >> 10:
+                rows[-1]["page_kB"] = space.kilobytes(start)
     refused = [{"call": what, "reason": why, "times": times} for (what, why), times in space.refused.items()]
     return {"process": space.leader, "program": space.name, "state": state, "policy": word, "ranges": rows,
             "pages": dict(sorted(all_.items())), "refused": refused,

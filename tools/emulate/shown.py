@@ -52,9 +52,9 @@ def heading(part):
 
 
 def row_text(part, row):
-    notes = "; ".join(notes_of(part, row))
-    return (f"{row['start']:08x}-{row['end']:08x} {row['policy']} anon={sum(row['pages'].values())}"
-            f" {pages_text(row['pages'])} kernelpagesize_kB=4" + (f"  # {notes}" if notes else ""))
+    notes, size = "; ".join(notes_of(part, row)), row.get("page_kB", 4)
+    return (f"{row['start']:08x}-{row['end']:08x} {row['policy']} anon={-(-sum(row['pages'].values()) * 4 // size)}"
+            f" {pages_text(row['pages'], size)} kernelpagesize_kB={size}" + (f"  # {notes}" if notes else ""))
 
 
 def notes_of(part, row):

@@ -18,9 +18,11 @@ from .tracing import PAGE, TOP
 from .words import list_text
 
 MOST_PEAKS = 1000  # that are kept
+TURN_OF_HUGE = 1 << 36  # is added to the index of pages of a pool (NP_HUGE)
 LINES = {
     "map": "map 0x{:x} 0x{:x} 0x{:x}", "unmap": "unmap 0x{:x} 0x{:x}", "mbind": "mbind 0x{:x} 0x{:x} {}",
     "set_task": "task {} {}", "inherit": "inherit {} {}", "set_home": "home 0x{:x} 0x{:x} {}",
+    "map_huge": "# left out: 0x{:x} 0x{:x}: huge pages, OFFSET 0x{:x}",
 }
 
 
@@ -35,6 +37,7 @@ class Space:
         self.placed, self.common = Placed(), {}  # by page its node; its frame where others have it since a fork
         self.objects = Spans()  # by page which object it is of, and how far its index is from its number
         self.spans = Spans()  # what the core has mapped
+        self.huge = Spans()  # what of it has pages of a pool: of how many bytes
         self.areas = []  # all of them, as they were when they were last looked at as a whole
         self.names = Spans()  # that the program gave
         self.touchers, self.stacks = Touchers(), {}  # (the latter: by thread where its stack began)
@@ -52,14 +55,25 @@ class Space:
         """A command; its line is kept, as a comment where it is refused."""
         line = LINES[what].format(*words)
         try:
-            getattr(self.core, what)(*words)
+            if what == "map_huge":
+                self.core.map(*words, huge=True)
+            else:
+                getattr(self.core, what)(*words)
         except numaplan.Refused as refusal:
             self.lines.append(f"# {line} => refused {type(refusal).__name__} {errno.errorcode[refusal.errno]}")
             self.refuse(line, f"{type(refusal).__name__} {errno.errorcode[refusal.errno]}: {refusal}")
             raise
         self.plan = None
         self.takes_turns |= is_interleaved(str(words[-1]))
-        self.lines.append(line)
+        self.lines += self.without_huge(what, line, words) if what in ("mbind", "set_home") else [line]
+
+    def without_huge(self, what, line, words):
+        """The lines of a command for what isn't of pages of a pool, which scripts don't have."""
+        start, length, word = words
+        if not self.huge.between(start, start + length):
+            return [line]
+        parts = self.huge.gaps(start, start + length)
+        return [f"# left out of huge pages: {line}"] + [LINES[what].format(low, high - low, word) for low, high in parts]
 
     def would(self, what, *words):
         """Raises what the command would be refused for; changes nothing."""
@@ -90,10 +104,9 @@ class Space:
         found = list(with_names(areas.between(start, end), self.names))
         for area in joined(found):
             for first, after in self.spans.gaps(area.start, area.end):
-                if area.name:
+                if area.name and not area.huge:
                     self.lines.append(f"# name: {shown_name(area.name)}")
-                self.do("map", first, after - first, area.index + (first - area.start) // PAGE)
-                self.spans.add(first, after)
+                self.map(first, after, area.index + (first - area.start) // PAGE, area.huge)
                 if area.shared:
                     inherited(self, area, first, after)
         now = Spans()
@@ -104,6 +117,20 @@ class Space:
                 self.unmap(*hole)  # (what went by a call that isn't followed)
         return found
 
+    def map(self, start, end, index, huge=0):
+        self.do("map_huge" if huge else "map", start, end - start, index)
+        self.spans.add(start, end)
+        if huge:
+            self.huge.add(start, end, huge)
+
+    def parts_page(self, *borders):
+        """Whether one of the addresses is inside a page of a pool: a kernel parts no area there (EINVAL)."""
+        return any(border % (self.huge.at(border) or PAGE) for border in borders)
+
+    def kilobytes(self, address):
+        """Of the page there."""
+        return (self.huge.at(address) or PAGE) >> 10
+
     def unmap(self, start, end):
         if self.core is None or end <= start:
             return
@@ -111,6 +138,7 @@ class Space:
             self.do("unmap", start, end - start)
         self.forget(start, end)
         self.spans.remove(start, end)
+        self.huge.remove(start, end)
         self.names.remove(start, end)
 
     def forget(self, start, end):
@@ -142,7 +170,8 @@ class Space:
         """(start, end, index, policy of its own) of what of the core's ranges lies from start to end."""
         for one in self.core.ranges(start, end):
             first = max(one.start, start)
-            yield first, min(one.start + one.length, end), one.offset + (first - one.start) // PAGE, one.policy
+            index = one.offset % TURN_OF_HUGE + (first - one.start) // PAGE
+            yield first, min(one.start + one.length, end), index, one.policy
 
     def has(self, address):
         return self.spans.has(address)
@@ -306,6 +335,7 @@ class Space:
         other = type(self)(self.machine)
         other.placed, other.spans, other.areas = self.placed.copy(), self.spans.copy(), list(self.areas)
         other.lines, other.name, other.names = list(self.lines), self.name, self.names.copy()
+        other.huge = self.huge.copy()
         other.core, other.takes_turns = self.core and self.core.copy(), self.takes_turns
         other.touchers, other.raced = self.touchers.copy(self.placed), self.raced.copy()
         other.touched_by, other.stacks = self.touched_by.copy(), self.stacks.copy()
