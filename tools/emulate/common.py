@@ -70,9 +70,10 @@ def written(space, first, after, pagemap):
     some, span = space.common, range(first, after)
     pages = [page for page in some if page in span] if len(some) < len(span) else [page for page in span if page in some]
     for page, entry in pagemap.entries(pages):
-        if not is_own(entry):
-            continue
         frame, number = space.common[page], number_of(entry)
+        if not is_own(entry):
+            frame.number = number or frame.number  # (this machine may have moved it, to make room for huge pages)
+            continue
         if number != frame.number if number and frame.number else is_new_by_writes(space, page, frame):
             yield page
         elif len(frame.holders) == 1:
