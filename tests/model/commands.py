@@ -4,15 +4,16 @@ is given a copy of the space to change, and answers the cause of a refusal or No
 Written from docs/SCRIPT.md and docs/internals/MODEL.md alone; what `rules linux` does otherwise, from
 the kernel's mm/mempolicy.c, mm/mmap.c and kernel/cgroup/cpuset.c. Not proved."""
 
-from space import (ERRNO, LAST, PAGE, Piece, has_hole, inside, lacks_nodes, mapped_pages, page_count,
-                   page_of, ranges, record_after, record_when_set)
+from space import (ERRNO, HUGE, LAST, PAGE, Piece, has_hole, inside, lacks_nodes, mapped_pages,
+                   page_count, page_of, ranges, record_after, record_inside, record_when_set)
 
 TASK_SIZE = (LAST - 1) * PAGE  # in a kernel, the end of what can be mapped
 
 
-def span_cause(start, length):
-    """Each span: its start is a multiple of 4,096, and it ends at address 2^47 at the latest."""
-    if start % PAGE:
+def span_cause(start, length, unit=1):
+    """Each span: its start is a multiple of 4,096 (of a page's size, where it is mapped), and it ends
+    at address 2^47 at the latest."""
+    if start % (unit * PAGE):
         return "Unaligned"
     if start + length > LAST * PAGE:
         return "OutOfSpace"
@@ -24,15 +25,17 @@ def end_of(start, length):
     return start + page_count(length) * PAGE
 
 
-def map_cause(space, start, length):
-    """`map`'s span. do_mmap judges length 0 first, get_unmapped_area the end before the start."""
+def map_cause(space, start, length, unit):
+    """`map`'s span. do_mmap judges length 0 first, get_unmapped_area the length, and the end before the
+    start; of pages of 2 MiB hugetlb_get_unmapped_area has judged the start by then."""
     if not space.machine.is_linux:
-        return span_cause(start, length) or ("EmptyLength" if length == 0 else None)
+        return span_cause(start, length, unit) or ("EmptyLength" if length == 0 else None)
     if length == 0:
         return "EmptyLength"
-    if end_of(start, length) > TASK_SIZE:
+    is_unaligned = start % (unit * PAGE) != 0
+    if end_of(start, length) > TASK_SIZE and (unit == 1 or not is_unaligned or length > TASK_SIZE):
         return "OutOfSpace"
-    return "Unaligned" if start % PAGE else None
+    return "Unaligned" if is_unaligned else None
 
 
 def unmap_cause(space, start, length):
@@ -65,18 +68,34 @@ def range_cause(space):
     return "TooManyRanges" if len(ranges(space)) > space.limits[0] else None
 
 
-def map_span(space, start, length, offset):
+def map_span(space, start, length, offset, unit=1):
     """`map`: a span of unmapped pages is mapped, from the index OFFSET on, without a policy."""
-    cause = map_cause(space, start, length)
+    cause = map_cause(space, start, length, unit)
     if cause:
         return cause
     if offset >= LAST:
         return "BadOffset"
     first, end = span_of(start, length)
-    if inside(space, first, end):
+    if mapped_pages(space, first, end):
         return "Overlap"
-    space.pieces = sorted(space.pieces + [Piece(first, end, offset, None)], key=lambda it: it.first)
+    if offset % unit:
+        return "Unaligned"  # hugetlbfs_file_mmap comes last
+    made = Piece(first, end, offset, None, unit)
+    space.pieces = sorted(space.pieces + [made], key=lambda it: it.first)
     return range_cause(space)
+
+
+def map_huge(space, start, length, offset, _):
+    """`map .. huge`: so many whole pages of 2 MiB, from a pool that always has some."""
+    whole = -(-length // (HUGE * PAGE)) * HUGE * PAGE
+    return map_span(space, start, whole, offset, HUGE)
+
+
+def parts_page(space, start, length, stays):
+    """Whether an end of a span lies inside a page of 2 MiB, and the record there wouldn't stay: an area
+    that is left as it is isn't cut, another can't be (hugetlb_vm_op_split)."""
+    inner = [it for page in span_of(start, length) for it in record_inside(space, page)]
+    return any(not stays(record) for record in inner)
 
 
 def unmap(space, start, length):
@@ -84,9 +103,18 @@ def unmap(space, start, length):
     cause = unmap_cause(space, start, length)
     if cause or length == 0:
         return cause
+    if parts_page(space, start, length, lambda _: False):
+        return "Unaligned"
     gone = inside(space, *span_of(start, length))
     space.pieces = [piece for piece in space.pieces if piece not in gone]
     return range_cause(space)
+
+
+def is_same(one, other):
+    """Whether two policies are one (mpol_equal): the nodes that were asked for count with a flag only."""
+    if one is None or other is None:
+        return one is other
+    return (one if one.flag else one._replace(mask=other.mask)) == other
 
 
 def set_records(space, pieces, record_for):
@@ -110,6 +138,8 @@ def mbind(space, start, length, asked):
     if lacks_nodes(space, asked):
         return "NodesNotAllowed"
     record = record_when_set(asked, space.allowed)
+    if parts_page(space, start, length, lambda own: is_same(own, record)):
+        return "Unaligned"
     set_records(space, inside(space, first, end), lambda _: record)
     return range_cause(space)
 
@@ -136,8 +166,15 @@ def home(space, start, length, node):
         return "NotSupported"
     if space.machine.is_linux and not any(piece.record for piece in pieces):
         return "NoPolicy"  # what the call answers where it met no policy
-    set_records(space, pieces, lambda record: record and record._replace(home=node))
+    if parts_page(space, start, length, lambda own: is_same(own, with_home(own, node))):
+        return "Unaligned"
+    set_records(space, pieces, lambda own: with_home(own, node))
     return range_cause(space)
+
+
+def with_home(record, node):
+    """The same policy with a home; none stays none."""
+    return record and record._replace(home=node)
 
 
 def task(space, number, asked):
@@ -194,8 +231,8 @@ def mems(space, nodes):
     return None
 
 
-COMMANDS = {"map": map_span, "unmap": unmap, "mbind": mbind, "home": home, "task": task,
-            "inherit": inherit, "weight": weight, "mems": mems}
+COMMANDS = {"map": map_span, "map huge": map_huge, "unmap": unmap, "mbind": mbind, "home": home,
+            "task": task, "inherit": inherit, "weight": weight, "mems": mems}
 
 
 def accept(space, name, arguments):

@@ -116,7 +116,8 @@ def parts(space, task, address, pages, cpu):
     for piece in space.pieces:
         start, stop = max(first, piece.first), min(end, piece.end)
         if start < stop:
-            cycle = firsts(space, resolved(space, task, piece), cpu)
+            nodes = firsts(space, resolved(space, task, piece), cpu)
+            cycle = [node for node in nodes for _ in range(piece.unit)]
             yield cycle, index_at(piece, start), stop - start
 
 

@@ -212,6 +212,7 @@ FORMS = {
     "cpus": [node_list],
     "machine": [small, node_list, frames, distances],
     "map": [number, number, number],
+    "map huge": [number, number, number, small],
     "unmap": [number, number],
     "mbind": [number, number, policy],
     "home": [number, number, small],
@@ -254,6 +255,8 @@ def line_of(line):
             if flag in ("strict", "move"):
                 name += " " + flag
         del rest[3 : 3 + name.count(" ")]
+    if name == "map" and rest[3:4] == ["huge"]:
+        name += " " + rest.pop(3)
     if name == "room" and not rest:
         name = "room alone"
     if name not in FORMS or len(rest) != len(FORMS[name]):

@@ -3,7 +3,7 @@ answers the text of its line.
 
 Written from docs/SCRIPT.md and docs/internals/MODEL.md alone. Not proved."""
 
-from space import index_at, page_of, piece_at, policy_list, resolved
+from space import page_of, piece_at, policy_list, resolved, turn_at
 
 WORKERS = 4
 WORD = 64
@@ -37,10 +37,10 @@ def place_cause(space, address, cpu):
 
 
 def list_of_page(space, task, address, cpu):
-    """The fallback list of a mapped page: that of the policy which counts there, at its index."""
+    """The fallback list of a mapped page: that of the policy which counts there, at its turn."""
     page = page_of(address)
     piece = piece_at(space, page)
-    return policy_list(space, resolved(space, task, piece), index_at(piece, page), cpu)
+    return policy_list(space, resolved(space, task, piece), turn_at(piece, page), cpu)
 
 
 def publish(crew, space):
