@@ -27,11 +27,19 @@ class Follower:
 
     def __init__(self, machine):
         self.state = model.State()
+        self.shared = {}  # by process: pages that a fork left to it, as long as it only writes
         for line in ["rules linux"] + opening(machine):
             self.play(line)
 
     def play(self, line):
-        return model.answer(self.state, line)
+        """The model's answer. Until a new child has written to all that its parent has, which takes some
+        lines, the kernel shows it the others where they lie for both."""
+        said, words = model.answer(self.state, line), line.split(" ")
+        if words[0] == "fork" and said.startswith("ok"):
+            self.shared = {int(words[2]): dict(self.nodes(int(words[1])))}
+        elif not line.startswith(tuple(f"in {child} populate " for child in self.shared)):
+            self.shared = {}
+        return said
 
     def write(self, process, line, is_front):
         """A kernel has written to the pages of a span in front of its first hole, or to all others."""
@@ -44,7 +52,7 @@ class Follower:
 
     def nodes(self, process):
         """The node of each page of a process."""
-        return self.state.host.pages[process].stated
+        return {**self.shared.get(process, {}), **self.state.host.pages[process].stated}
 
     def counts(self, process):
         """What numa_maps counts of a process' pages, by node."""
