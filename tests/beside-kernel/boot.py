@@ -66,8 +66,9 @@ def main():
         initrd.write(archive(files))
         initrd.flush()
         # one thread, since CPUs that wait for each other take long where processors are short
-        command = ["qemu-system-x86_64", "-M", "pc", "-accel", "tcg,thread=single", "-cpu", "max"]
-        command += ["-nographic", "-no-reboot"]
+        command = ["qemu-system-x86_64", "-M", "pc", "-accel", "tcg,thread=single"]
+        # (a kernel that clears pages byte by byte, by ERMS, takes long here)
+        command += ["-cpu", "max,-erms,-fsrm", "-nographic", "-nic", "none", "-no-reboot"]
         command += ["-kernel", kernel, "-initrd", initrd.name, "-append", LINE]
         run = subprocess.run(
             command + words_for(machine),

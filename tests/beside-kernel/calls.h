@@ -132,10 +132,11 @@ static int set_task(struct policy policy)
 		       ? errno : 0;
 }
 
-static int map(unsigned long start, unsigned long length)
+/* `huge` is MAP_HUGETLB or 0; the kernel looks at the offset, in pages of 4 KiB, of such pages alone. */
+static int map(unsigned long start, unsigned long length, unsigned long offset, int huge)
 {
 	void *at = mmap((void *)start, length, PROT_READ | PROT_WRITE,
-			MAP_PRIVATE | MAP_ANONYMOUS | MAP_FIXED_NOREPLACE, -1, 0);
+			MAP_PRIVATE | MAP_ANONYMOUS | MAP_FIXED_NOREPLACE | huge, -1, offset * PAGE);
 	return at == MAP_FAILED ? errno : 0;
 }
 
@@ -189,10 +190,10 @@ static int carry_out_of_task(const char *line, char *answer, int size)
 /* A line of this process's memory; ENOSYS where it is none. */
 static int carry_out_of_memory(const char *line)
 {
-	unsigned long start, length, node;
+	unsigned long start, length, offset, node;
 	char word[128];
-	if (sscanf(line, "map %lx %lx", &start, &length) == 2)
-		return map(start, length);
+	if (sscanf(line, "map %lx %lx %lx", &start, &length, &offset) == 3)
+		return map(start, length, offset, strstr(line, " huge ") ? MAP_HUGETLB : 0);
 	if (sscanf(line, "unmap %lx %lx", &start, &length) == 2)
 		return munmap((void *)start, length) ? errno : 0;
 	if (sscanf(line, "mbind %lx %lx %127s", &start, &length, word) == 3)

@@ -28,16 +28,20 @@ ROWS = {
     "unmap above": "unmap of that page, or past it",
     "unmap across": "unmap of that page, and of pages below",
     "above": "mbind or home past 2^47",
+    "parts": "mbind or home of several areas, from or to inside a page of 2 MiB",
+    "kept": "mbind to inside a page of 2 MiB, of the policy there but for nodes that aren't kept",
+    "huge above": "map of pages of 2 MiB at an unaligned START, above",
     "no memory": "mems without a node that has memory",
 }
 
 # rows behind which the two have another space where one accepts, so that no line is compared
-APART = {"default", "no memory", "unmap across", "above"}
+APART = {"default", "no memory", "unmap across", "above", "parts", "kept"}
 
 # the rows that are left under each set of rules
-LEFT = {"document": set(ROWS), "linux": {"home"}}
+LEFT = {"document": set(ROWS), "linux": {"home", "parts", "kept", "huge above"}}
 
 LAST_PAGE = 2**47 - 4096
+HUGE = 2**21
 
 
 def opening(name):
@@ -132,8 +136,11 @@ def at_end(words, mine, seen):
     """The row of a difference over a span that reaches the last page below 2^47, or None."""
     if words[0] not in ("map", "unmap", "mbind", "home"):
         return None
+    size = HUGE if "huge" in words else 4096
     start = int(words[1], 16)
-    end = start - int(words[2], 16) // -4096 * 4096
+    end = start - int(words[2], 16) // -size * size
+    if "huge" in words and (mine, seen) == ("refused OutOfSpace ENOMEM", "EINVAL"):
+        return "huge above"
     if words[0] == "map" and max(start, end) > LAST_PAGE:
         return "last page" if mine.startswith("ok") else "map above"
     if words[0] == "unmap" and end > LAST_PAGE:
@@ -143,6 +150,15 @@ def at_end(words, mine, seen):
     if words[0] == "mbind" and mine.startswith("ok") and seen == "EFAULT" and end >= LAST_PAGE:
         return "last page"
     return "no policy" if words[0] == "home" and seen == "ENOENT" and end > LAST_PAGE else None
+
+
+def may_be_half_done(words, mine):
+    """Whether a kernel may have changed areas before it came to an end inside a page of 2 MiB."""
+    if words[0] not in ("mbind", "home") or mine != "refused Unaligned EINVAL":
+        return False
+    start = int(words[1], 16)
+    end = start + int(words[2], 16)
+    return end % HUGE > 0 and start < end // HUGE * HUGE
 
 
 def cause(line, mine, seen, before, left):
@@ -157,10 +173,14 @@ def cause(line, mine, seen, before, left):
             return "default"
         if mine == "refused Hole EFAULT" and seen == "EINVAL":
             return "nodes first"
+        if mine == "refused Unaligned EINVAL" and seen == "ok" and "half done" not in before:
+            return "kept"
     elif words[0] == "weight" and words[2] == "0" and seen == "ok":
         return "weight"
     elif words[0] == "home" and seen == "ENOENT" and mine.startswith("ok"):
         return "no policy"
+    elif words[0] == "home" and mine.startswith("refused NotSupported") and seen == "EINVAL":
+        return "parts" if int(words[1], 16) % HUGE else None
     elif words[0] == "unmap" and int(words[2], 16) == 0 and seen == "EINVAL":
         return "unmap"
     elif words[0] == "mems" and seen == "ok" and mine.startswith("refused NodesNotAllowed"):
@@ -175,7 +195,7 @@ def cause(line, mine, seen, before, left):
             return "weight"
         if "home" in before and policy.startswith(("bind", "prefer (many)")):
             return "home"
-    return None
+    return "parts" if "half done" in before else None
 
 
 def compare(program, rules, machine, script, counts):
@@ -194,6 +214,8 @@ def compare(program, rules, machine, script, counts):
             before.add("mems")
         if mine.startswith("refused NotSupported"):
             before.add("home")
+        if may_be_half_done(bare.split(), mine):
+            before.add("half done")
         if short(mine) == seen:
             counts["refused"] += seen.startswith("E")
             continue

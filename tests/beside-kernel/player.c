@@ -12,6 +12,7 @@
 #include "calls.h"
 
 #define MEMS "/cgroup/played/cpuset.mems"
+#define POOL "16" /* pages of 2 MiB on each node */
 
 /* ---- tasks: a thread each, which carries out one line at a time */
 
@@ -76,6 +77,24 @@ static void play_line(const char *line)
 	printf("%s => %s\n", line, answer);
 }
 
+/* Each node with memory has a pool of more pages of 2 MiB than a script maps at once. */
+static void fill_pools(const char *all)
+{
+	unsigned long nodes[4] = {0};
+	char path[128], text[128];
+	int node;
+	read_list(all, nodes);
+	for (node = 0; node < 256; node++) {
+		if (!(nodes[node / 64] >> node % 64 & 1))
+			continue;
+		snprintf(path, sizeof path, NODES "node%d/hugepages/hugepages-2048kB/nr_hugepages", node);
+		write_file(path, POOL);
+		read_line_of(path, text, sizeof text);
+		if (strcmp(text, POOL))
+			printf("no pool on node %d\n", node);
+	}
+}
+
 static void open_cgroup(const char *all)
 {
 	char text[128];
@@ -85,6 +104,7 @@ static void open_cgroup(const char *all)
 	if (write_file("/cgroup/played/cgroup.procs", text))
 		printf("no cgroup\n");
 	set_all_weights_to_1();
+	fill_pools(all);
 }
 
 static void play(FILE *lines, const char *all)
