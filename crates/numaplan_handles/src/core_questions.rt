@@ -3,6 +3,7 @@ ghost use Rattle.std.specs.Prelude.{◌≡◌, ◌≤◌, ◌^◌, Some, None, t
 ghost use Rattle.std.specs.Prelude.{IfOk, length, slice_get};
 ghost use Rattle.numa_maps.specs.Listing.{AreRangesOf, IsListing, listing_in};
 ghost use Rattle.numa_ranges.specs.Runs.{end_of};
+ghost use Rattle.numa_space.specs.Refusals.{range_count_of};
 ghost use Rattle.numa_space.specs.Standing.{StandsFor};
 ghost use Rattle.numa_requests.specs.declared.command.Command.{Command};
 ghost use Rattle.numaplan_handles.specs.Handles.{core_in};
@@ -35,6 +36,15 @@ pub fn core_kept(kept: &Kept) -> &Core
         unreachable!()
     };
     core
+}
+
+/// The number of ranges.
+fn count_of(space: &Space) -> usize
+    ensures ranges { result ≡ length space.now.ranges }
+    ensures meaning { (history : List Command) → StandsFor space.now history
+        → result ≡ range_count_of space.now.machine history }
+{
+    space.ranges()
 }
 
 /// The range at a place, counted from 0 in ascending order.
@@ -99,7 +109,7 @@ impl CoreHandle {
     pub fn ranges(&mut self, alloc: Global) -> Option<usize>
         ensures { Asks (HasRanges (core_in self.old)) (core_in self.old) result (core_in self.new) }
     {
-        of_kept!(self.handle, alloc, kept => core_kept(&kept).space().ranges())
+        of_kept!(self.handle, alloc, kept => count_of(core_kept(&kept).space()))
     }
 
     /// The range at a place, counted from 0 in ascending order, or no range. `None` if the handle
