@@ -93,7 +93,7 @@ fn put_counts(text: &mut Written, placed: PlacedPages<'_>, taken: usize) {
     }
 }
 
-/// Writes a policy in a line of which so many letters are taken; `..` stands for what finds no room.
+/// Writes a policy in a line of which so many letters are taken; `..` stands for what lacks room.
 fn put_policy(text: &mut Written, policy: &[u8], taken: usize) {
     let room = LETTERS.saturating_sub(taken);
     if policy.len() <= room {
