@@ -42,7 +42,9 @@ pre { background: #f6f6f6; padding: 8px; max-width: 1184px; white-space: pre-wra
   th { position: static; }
   .wide { overflow: visible; }
   tr, .strip { break-inside: avoid; }
-  td.one { white-space: normal; overflow-wrap: anywhere; }
+  table { font-size: 11px; }
+  td, th { padding: 1px 6px; }
+  td:not(.one, .number), td.one:last-child { white-space: normal; overflow-wrap: anywhere; }
   body, .bar, .mark, .cell { print-color-adjust: exact; }
 }
 </style>

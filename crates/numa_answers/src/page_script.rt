@@ -44,6 +44,7 @@ function sizeText(pages) {
   }
   return (size < 10 ? Math.round(size * 10) / 10 : grouped(Math.round(size))) + ' ' + unit;
 }
+const amountText = (pages) => pagesText(pages) + ' (' + sizeText(pages) + ')';
 const nodesText = (nodes, what) => nodes.map((it) => 'N' + it.node + '=' + it[what]).join(' ');
 
 function paint(made, node) {
@@ -259,6 +260,8 @@ function follow() {
   views.told.strips.scrollIntoView();
 }
 
+const sizeCell = (pages) => ({ key: pages, text: sizeText(pages), isNumber: true });
+
 // The table of a view's ranges, and what the others have.
 function rangesPart(title, view, views) {
   const nodes = view.prediction.total.nodes.map((it) => it.node);
@@ -269,31 +272,33 @@ function rangesPart(title, view, views) {
       { key: it.start, text: hex(it.start) },
       { key: it.end, text: hex(it.end) },
       it.anon,
+      sizeCell(it.anon),
       it.policy,
       ...nodeCells(it, nodes),
       ...nameCells(it),
     ],
   }));
-  const heads = ['start', 'end', 'pages', 'policy', ...nodeHeads(nodes), ...nameHeads()];
+  const heads = ['start', 'end', 'pages', 'size', 'policy', ...nodeHeads(nodes), ...nameHeads()];
   table(title, heads, rows, (it) => open(views, it), nodes);
   const rest = view.others;
   if (rest) {
     make('p', page, 'These are the largest. Others: ' + rest.ranges + ', with '
-      + pagesText(rest.anon) + ', ' + nodesText(rest.nodes, 'pages'), 'others');
+      + amountText(rest.anon) + ', ' + nodesText(rest.nodes, 'pages'), 'others');
   }
 }
 
-function totals(title, total) {
-  const nodes = total.nodes;
-  const most = Math.max(1, ...nodes.map((it) => it.pages));
+const mostOf = (total) => Math.max(1, ...total.nodes.map((it) => it.pages));
+
+// The pages of each node, with bars of which the longest has this many.
+function totals(title, total, most) {
   table(
     title,
-    ['node', 'pages', 'size', ''],
-    nodes.map((it) => ({
+    ['node', 'pages', 'size', 'in proportion'],
+    total.nodes.map((it) => ({
       cells: [
         { key: it.node, text: String(it.node), mark: true },
         it.pages,
-        { key: it.pages, text: sizeText(it.pages), isNumber: true },
+        sizeCell(it.pages),
         { key: it.pages, text: '', bar: Math.round((400 * it.pages) / most), node: it.node },
       ],
     })),
@@ -319,9 +324,9 @@ function say(text) {
 }
 
 const pairsText = (list) => list.map((m) => 'N' + m.from + '->N' + m.to + '=' + m.pages).join(' ');
-const placedText = ({ anon, exhausted }) => pagesText(anon)
+const placedText = ({ anon, exhausted }) => amountText(anon)
   + (exhausted ? ', ' + exhausted + ' exhausted' : '');
-const differsText = ({ differs: pages, differences }) => pages
+const differsText = ({ differs: pages, differences }) => amountText(pages)
   + (pages ? ', ' + pairsText(differences) : '');
 
 function leftPart(left) {
@@ -333,7 +338,7 @@ function prediction(from) {
   const { task, cpu, version, total, left } = view.prediction;
   say('Where pages would go that task ' + task + ' touched on node ' + cpu + ' (version ' + version
     + '): ' + placedText(total));
-  totals('Totals', total);
+  totals('Totals', total, mostOf(total));
   leftPart(left);
   const views = [['now', view]];
   rangesPart('Ranges', view, views);
@@ -342,7 +347,7 @@ function prediction(from) {
 
 function predictions({ total, left }) {
   say(placedText(total));
-  totals('Totals', total);
+  totals('Totals', total, mostOf(total));
   leftPart(left);
 }
 
@@ -352,8 +357,10 @@ function difference(from) {
   const views = [['before', before], ['after', after]];
   say('Pages that would go elsewhere if task ' + task + ' touched them on node ' + cpu + ': '
     + differsText(total));
-  totals('Before', before.prediction.total);
-  totals('After', after.prediction.total);
+  const [old, changed] = [before.prediction.total, after.prediction.total];
+  const most = Math.max(mostOf(old), mostOf(changed));
+  totals('Before', old, most);
+  totals('After', changed, most);
   table(
     'Differences',
     ['start', 'end', 'differs', 'from and to', ...nameHeads()],
@@ -371,7 +378,7 @@ function difference(from) {
   );
   if (others) {
     make('p', page, 'These are the largest. Others: ' + others.spans + ', with '
-      + pagesText(others.differs) + ' that differ', 'others');
+      + amountText(others.differs) + ' that differ', 'others');
   }
   rangesPart('Ranges after', after, views);
   pagesPart(views);
@@ -386,7 +393,7 @@ function replays({ total }) {
   say('What ' + total.accesses + ' accesses met: ' + total.placed + ' faults placed a page, '
     + total.exhausted + ' found no frame, ' + total.unserved + ' accesses went nowhere');
   const most = Math.max(1, ...total.nodes.map((it) => it.accesses));
-  table('Nodes', ['node', 'accesses', ''], total.nodes.map((it) => ({
+  table('Nodes', ['node', 'accesses', 'in proportion'], total.nodes.map((it) => ({
     cells: [
       { key: it.node, text: String(it.node), mark: true },
       it.accesses,
