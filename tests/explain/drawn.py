@@ -96,6 +96,9 @@ def difference(picture, text, space, record, asked, around, index):
     lies = re.match(r"page 0x[0-9a-f]+ is resident on node (\d+)", text)
     if framed != [it for it in order if lies and int(lies[1]) == it]:
         return f"frames at {framed}"
+    told = [it.text.split("which ")[1] for it in root.iter(SVG + "text") if ". The page lies on node" in (it.text or "")]
+    if told != (["has a thick frame" if framed else "isn't one of them"] if lies else []):
+        return f"the title says {told}"
     table, shown = table_of(nodes), min(space.machine.nodes, TABLE)
     if table.get("distance") != [str(it) for it in distances[:shown]]:
         return f"distances {table.get('distance')}"

@@ -6,7 +6,7 @@
 
 use crate::about::put_wrapped;
 use crate::about_forms::{height_of_rows, put_rows};
-use crate::reason_table::{distance_of, put_table};
+use crate::reason_table::{distance_of, put_table, rank_of};
 use numa_machine::{Machine, turn_at};
 use numa_mask::{NodeMask, Parts};
 use numa_requests::PAGE_BYTES;
@@ -51,7 +51,7 @@ pub(crate) fn around(rule: OrderRule) -> u32 {
     }
 }
 
-/// Writes the title, and how the order is to be read; with `lies` what the thick frame means.
+/// Writes the title, and how the order is to be read; with `lies` where the page lies.
 fn put_title(text: &mut Written, said: &Explanation, lies: Option<u8>) {
     text.put(b"<text x=\"16\" y=\"24\" font-size=\"14\">Where page ");
     text.put_address(said.page.saturating_mul(PAGE_BYTES));
@@ -64,10 +64,13 @@ fn put_title(text: &mut Written, said: &Explanation, lies: Option<u8>) {
         &[u64::from(around(said.rule))],
     );
     if let Some(node) = lies {
-        text.put_form(
-            b". The page lies on node $, which has a thick frame",
-            &[u64::from(node)],
-        );
+        text.put_form(b". The page lies on node $, which ", &[u64::from(node)]);
+        let rank = rank_of(said.nodes.as_slice(), u32::from(node));
+        text.put(if rank.is_some() {
+            b"has a thick frame".as_slice()
+        } else {
+            b"isn't one of them"
+        });
     }
     text.put(b"</text>\n");
 }

@@ -135,7 +135,7 @@ impl Row {
 }
 
 /// The place of a node in an order, from 1.
-fn rank_of(order: &[u8], node: u32) -> Option<u64> {
+pub(crate) fn rank_of(order: &[u8], node: u32) -> Option<u64> {
     let mut rank = 1u64;
     for one in order {
         if u32::from(*one) == node {
