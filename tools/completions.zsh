@@ -31,6 +31,7 @@ _numaplan() {
                 '(--format)--format[How the answer is written]:FORMAT:(text json)' \
                 '(--rules)--rules[Whose rules count, unless a line `rules` of the scripts says otherwise]:RULES:(document linux)' \
                 '(-h --help)-h[Print help]' '(-h --help)--help[Print help]' \
+                '(--machine)--machine[The machine, whose lines come before the scripts]:FILE:_files' \
                 '*:file:_files'
             ;;
         check)
@@ -39,6 +40,7 @@ _numaplan() {
                 '(--process)--process[Asks about process P of a host only; without it, or with all, about each process]:P: ' \
                 '(--rules)--rules[Whose rules count, unless a line `rules` of the scripts says otherwise]:RULES:(document linux)' \
                 '(-h --help)-h[Print help]' '(-h --help)--help[Print help]' \
+                '(--machine)--machine[The machine, whose lines come before the scripts]:FILE:_files' \
                 '*:file:_files'
             ;;
         expect)
@@ -63,6 +65,7 @@ _numaplan() {
                 '(--lenient)--lenient[Ends with status 0 even if lines were faulty or refused]' \
                 '(--rules)--rules[Whose rules count, unless a line `rules` of the scripts says otherwise]:RULES:(document linux)' \
                 '(-h --help)-h[Print help]' '(-h --help)--help[Print help]' \
+                '(--machine)--machine[The machine, whose lines come before the scripts]:FILE:_files' \
                 '*:file:_files'
             ;;
         diff)
@@ -78,6 +81,7 @@ _numaplan() {
                 '(--lenient)--lenient[Ends with status 0 even if lines were faulty or refused]' \
                 '(--rules)--rules[Whose rules count, unless a line `rules` of the scripts says otherwise]:RULES:(document linux)' \
                 '(-h --help)-h[Print help]' '(-h --help)--help[Print help]' \
+                '(--machine)--machine[The machine, whose lines come before the scripts]:FILE:_files' \
                 '*:file:_files'
             ;;
         moves)
@@ -94,6 +98,7 @@ _numaplan() {
                 '(--lenient)--lenient[Ends with status 0 even if lines were faulty or refused]' \
                 '(--rules)--rules[Whose rules count, unless a line `rules` of the scripts says otherwise]:RULES:(document linux)' \
                 '(-h --help)-h[Print help]' '(-h --help)--help[Print help]' \
+                '(--machine)--machine[The machine, whose lines come before the scripts]:FILE:_files' \
                 '*:file:_files'
             ;;
         explain)
@@ -108,6 +113,7 @@ _numaplan() {
                 '(--lenient)--lenient[Ends with status 0 even if lines were faulty or refused]' \
                 '(--rules)--rules[Whose rules count, unless a line `rules` of the scripts says otherwise]:RULES:(document linux)' \
                 '(-h --help)-h[Print help]' '(-h --help)--help[Print help]' \
+                '(--machine)--machine[The machine, whose lines come before the scripts]:FILE:_files' \
                 '*:file:_files'
             ;;
         report)
@@ -119,6 +125,7 @@ _numaplan() {
                 '(--lenient)--lenient[Ends with status 0 even if lines were faulty or refused]' \
                 '(--rules)--rules[Whose rules count, unless a line `rules` of the scripts says otherwise]:RULES:(document linux)' \
                 '(-h --help)-h[Print help]' '(-h --help)--help[Print help]' \
+                '(--machine)--machine[The machine, whose lines come before the scripts]:FILE:_files' \
                 '*:file:_files'
             ;;
         replay)
@@ -131,6 +138,7 @@ _numaplan() {
                 '(--lenient)--lenient[Ends with status 0 even if lines were faulty or refused]' \
                 '(--rules)--rules[Whose rules count, unless a line `rules` of the scripts says otherwise]:RULES:(document linux)' \
                 '(-h --help)-h[Print help]' '(-h --help)--help[Print help]' \
+                '(--machine)--machine[The machine, whose lines come before the scripts]:FILE:_files' \
                 '*:file:_files'
             ;;
         shell)
@@ -138,6 +146,7 @@ _numaplan() {
                 '(--process)--process[Asks about process P of a host only; without it, or with all, about each process]:P: ' \
                 '(--rules)--rules[Whose rules count, unless a line `rules` of the scripts says otherwise]:RULES:(document linux)' \
                 '(-h --help)-h[Print help]' '(-h --help)--help[Print help]' \
+                '(--machine)--machine[The machine, whose lines come before the scripts]:FILE:_files' \
                 '*:file:_files'
             ;;
         storm)

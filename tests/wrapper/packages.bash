@@ -53,7 +53,7 @@ is_elsewhere() {
 try_tree() {
     check 'the tarball has one folder' unpack
     check 'with program, libraries, header, pages, completions, documents and examples' holds \
-        bin/numaplan{,-emulate,-record,-machine-line} lib/libnumaplan.{a,so,so.0} \
+        bin/numaplan{,-emulate,-record,-machine-line} libexec/numaplan/{numaplan,on-machine} lib/libnumaplan.{a,so,so.0} \
         lib/pkgconfig/numaplan.pc include/numaplan{,_pools,_reports}.h share/man/man1/numaplan{,-emulate,-record}.1 \
         share/man/man{3/libnumaplan.3,5/numaplan-script.5} share/numaplan/numaplan/machine-line \
         share/numaplan/rust/numaplan/{Cargo.toml,build.rs,src/lib.rs,examples/first.rs} \

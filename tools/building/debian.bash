@@ -14,7 +14,7 @@ declare -A about=(
 )
 # What was proved is packed as it was built: PROOF has its sum.
 declare -A overrides=(
-    [numaplan]='unstripped-binary-or-object [usr/bin/numaplan]'
+    [numaplan]='unstripped-binary-or-object [usr/libexec/numaplan/numaplan]'
     [libnumaplan0]='unstripped-binary-or-object [usr/lib/*]'
 )
 
@@ -143,7 +143,7 @@ make_deb() {
 # Makes all four in a folder, of the tree below $room.
 make_debs() {
     local debian=$room/debian package libc
-    libc=$(libc_of "$room/$package_name/"{bin/numaplan,lib/libnumaplan.so})
+    libc=$(libc_of "$room/$package_name/"{libexec/numaplan/numaplan,lib/libnumaplan.so})
     mkdir -p "$debian/all" && cp -a "$room/$package_name" "$debian/all/usr" &&
         mv "$debian/all/usr/share/doc/numaplan/PROOF" "$debian/" &&
         rm "$debian/all/usr/share/doc/numaplan/CHANGELOG.md" && suit_debian "$debian/all" &&

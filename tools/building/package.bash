@@ -24,8 +24,8 @@ write_record() {
         "  for the crates below the library: $(<"$out/library/proof")" \
         'The crate of the library itself was proved when its archive was built.' '' \
         'What was proved is in these files, here with their SHA-256, as it was built; scripts in' \
-        'bin and share are not proved. sha256sum -c takes these lines, where bin and lib are.' ''
-    cd "$1" && sha256sum bin/numaplan lib/libnumaplan.a "lib/libnumaplan.so.$version"
+        'bin, libexec and share are not proved. sha256sum -c takes these lines, where lib is.' ''
+    cd "$1" && sha256sum libexec/numaplan/numaplan lib/libnumaplan.a "lib/libnumaplan.so.$version"
 }
 
 # Puts a list of changes and the documents and examples for authors beside the others.
