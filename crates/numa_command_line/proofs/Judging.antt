@@ -1,12 +1,13 @@
 -- What the parse's outcome means for the job.
 use Rattle.std.proofs.Common.{◌≡◌, ◌∙◌, ◌&&◌, Bool, true, false, refl, sym, ap, subst}
 use Rattle.std.proofs.Common.{List, [], Option, None, Result, Ok, Err, inl, inr}
-use Rattle.clap.specs.Words.{App, HasKind, Row, fault_of}
+use Rattle.clap.specs.Words.{App, HasKind, IsAmong, Row, fault_of}
 use Rattle.clap.specs.Words.{kind_of, subcommand_of}
 use Rattle.clap.specs.declared.error.Error.{Error}
 use Rattle.clap.specs.declared.error.kind.ErrorKind.TheVariants as kind
-use Rattle.numa_command_line.specs.Asked.{HasNoJob, IsJobOf, IsShown, IsTold}
+use Rattle.numa_command_line.specs.Asked.{Answers, HasNoJob, IsJobOf, IsShown, IsTold}
 use Rattle.numa_command_line.specs.Asked.{doings_found}
+use Rattle.numa_command_line.specs.Grammar.{StandsIn, program}
 use Rattle.numa_command_line.specs.Jobs.{IsMade, IsRefusal, Text, doings_of}
 use Rattle.numa_command_line.specs.declared.jobs.Job.{Job}
 use Rattle.numa_command_line.specs.declared.jobs.JobFault.{JobFault}
@@ -49,3 +50,25 @@ pub refused_is_made : {X Y : Type 0} (seen : X → Y) (wanted : Option Y) (fault
 refused_is_made seen wanted (Usage text) none refusal = none
 refused_is_made seen wanted (Help text) none refusal = absurd refusal
 refused_is_made seen wanted NoMemory none refusal = tt
+
+-- where two programs parse a line alike, its job is the same
+same_job : (a b : App) (words : List Text) (answer : Result Job JobFault)
+    → fault_of a words ≡ fault_of b words → subcommand_of a words ≡ subcommand_of b words
+    → IsJobOf a words answer → IsJobOf b words answer
+same_job a b words (Ok job) refused found is =
+    (sym refused ∙ is.0, ap (doings_found words) (sym found) ∙ is.1)
+same_job a b words (Err (Help text)) refused found is =
+    (is.0, subst (IsAmong is.0) refused is.1, is.2)
+same_job a b words (Err (Usage text)) refused found (inl is) =
+    inl (is.0, subst (IsAmong is.0) refused is.1, is.2)
+same_job a b words (Err (Usage text)) refused found (inr is) =
+    inr (sym refused ∙ is.0, ap (doings_found words) (sym found) ∙ is.1)
+same_job a b words (Err NoMemory) refused found is = tt
+
+pub job_by_stand_in : (app : App) (words : List Text) (answer : Result Job JobFault)
+    → StandsIn words app → IsJobOf app words answer → Answers words answer
+job_by_stand_in app words answer stands is = (
+  program stands.0,
+  (stands.0, stands.1, refl),
+  same_job app (program stands.0) words answer stands.2 stands.3 is,
+)

@@ -1,5 +1,8 @@
+pub mod Alone
 pub mod Examples
 pub mod FirstWord
 pub mod Judging
 pub mod Naming
 pub mod Reading
+pub mod Said
+pub mod Standing

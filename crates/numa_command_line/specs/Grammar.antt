@@ -1,9 +1,13 @@
 -- The words of the command line, and the arguments of each.
-use Rattle.std.specs.Prelude.{◌≡◌, ◌∷◌, [], List, Bool, true, codes, map}
-use Rattle.clap.specs.Words.{App, Rule, Shape, Text, with_rule, with_subcommand}
+use Rattle.std.specs.Prelude.{◌≡◌, ◌∷◌, [], List, Bool, Option, Some, None, true, codes, map}
+use Rattle.std.specs.Prelude.{if◌then◌else◌}
+use Rattle.std.specs.Str.{bytes_eq}
+use Rattle.clap.specs.Words.{App, Rule, Shape, Text, fault_of, subcommand_of, with_rule}
+use Rattle.clap.specs.Words.{with_subcommand}
 use Rattle.clap.specs.Simple.{new_shape}
 use Rattle.numa_command_line.specs.Usage.{Names, bare, choice, flag, needed, number, number_or}
-use Rattle.numa_command_line.specs.Usage.{option, option_or, options, rule_said, words}
+use Rattle.numa_command_line.specs.Usage.{option, option_or, options, rule_said, shape_said, words}
+use Rattle.numa_command_line.specs.declared.usage.Argument.{Argument}
 use Rattle.numa_command_line.specs.declared.usage.SubcommandHelp.{SubcommandHelp}
 
 -- ---- arguments
@@ -185,3 +189,43 @@ program c =
 -- the command is the program's, wherever the names lie
 abbrev pub IsProgram : App → Type 0
 IsProgram app = (c : Choices) × AreChoices c × (app ≡ program c)
+
+-- the word of this name
+abbrev pub word_called : Choices → Text → Option Shape
+word_called c name =
+    if bytes_eq name (codes "run") then Some (reader c.rules (codes "run") (run_arguments c.run))
+    else if bytes_eq name (codes "check")
+    then Some (reader c.rules (codes "check") (check_arguments c.check))
+    else if bytes_eq name (codes "expect")
+    then Some (reader c.rules (codes "expect") (expect_arguments c.expect))
+    else if bytes_eq name (codes "predict")
+    then Some (reader c.rules (codes "predict") (predict_arguments c.predict))
+    else if bytes_eq name (codes "diff")
+    then Some (reader c.rules (codes "diff") (diff_arguments c.diff))
+    else if bytes_eq name (codes "moves")
+    then Some (reader c.rules (codes "moves") (moves_arguments c.moves))
+    else if bytes_eq name (codes "explain")
+    then Some (reader c.rules (codes "explain") (explain_arguments c.explain))
+    else if bytes_eq name (codes "report")
+    then Some (reader c.rules (codes "report") report_arguments)
+    else if bytes_eq name (codes "replay")
+    then Some (reader c.rules (codes "replay") (replay_arguments c.replay))
+    else if bytes_eq name (codes "shell")
+    then Some (reader c.rules (codes "shell") shell_arguments)
+    else if bytes_eq name (codes "storm") then Some (word (codes "storm") storm_arguments)
+    else None
+
+-- what is said of the word of this name, whatever `--rules` lists
+abbrev pub IsCalled : Text → SubcommandHelp → Type 0
+IsCalled name said = (c : Choices) × AreChoices c × ((option : Argument) (names : Names)
+    → rule_said option ≡ rules names
+    → word_called (record c { rules = names }) name ≡ Some (shape_said said option))
+
+-- the program with one word alone
+abbrev pub alone : Shape → App
+alone word = with_subcommand bare_program word
+
+-- a parse of this command line is refused as the program's is, and finds what that finds
+abbrev pub StandsIn : List Text → App → Type 0
+StandsIn line app = (c : Choices) × AreChoices c × (fault_of app line ≡ fault_of (program c) line)
+    × (subcommand_of app line ≡ subcommand_of (program c) line)

@@ -5,16 +5,17 @@ ghost use Rattle.clap.specs.Words.{app_of, found_of, is_simple_and_free, rows_of
 ghost use Rattle.clap.specs.Words.{subcommand_rows_of};
 ghost use Rattle.numa_command_line.specs.Asked.{Answers, IsJobOf, IsTold, doings_found, job_named};
 ghost use Rattle.numa_command_line.specs.Asked.{name_of, scripts_asked, word_named, work_asked};
+ghost use Rattle.numa_command_line.specs.Grammar.{StandsIn};
 ghost use Rattle.numa_command_line.specs.Jobs.{CanBeDone, IsMade, doings_of, work_of};
 
 use crate::found::{is_on, texts_at};
 use crate::jobs::{Job, JobFault, ScriptJob};
-use crate::program::program;
+use crate::program::{program, program_for};
 use crate::words::format::format_in;
 use crate::words::{diff, explain, moves, predict, process, replay, report, rules, storm};
 use clap::error::ErrorKind;
 use clap::{ArgMatches, Command, Error};
-use std::alloc::Global;
+use std::alloc::{AllocError, Global};
 
 /// The message without a command.
 const NO_COMMAND: &str = "error: a command is missing\n\nFor more information, try '--help'.\n";
@@ -170,6 +171,18 @@ fn job_by<'a>(alloc: Global, command: Command<'a>, words: &'a [String]) -> Resul
     }
 }
 
+/// A program that parses this command line as the whole program does.
+fn program_of<'a>(alloc: Global, words: &[String]) -> Result<Command<'a>, AllocError>
+    ensures simple { IfOk result (λ command. is_simple_and_free (app_of command) ≡ true) }
+    ensures same { IfOk result (λ command.
+        StandsIn (map string_bytes words.now) (app_of command)) }
+{
+    match words.get(1) {
+        Some(name) => program_for(alloc, name.as_str()),
+        None => program(alloc),
+    }
+}
+
 /// The job of a command line. Its first word is the program's name, and the second the subcommand.
 ///
 /// # Errors
@@ -181,7 +194,7 @@ pub fn job(alloc: Global, words: &[String]) -> Result<Job, JobFault>
     ensures word { IfOk result (λ job.
         slice_get (map string_bytes words.now) 1 ≡ Some (name_of (doings_of job))) }
 {
-    let Ok(command) = program(alloc) else {
+    let Ok(command) = program_of(alloc, words) else {
         return Err(JobFault::NoMemory);
     };
     job_by(alloc, command, words)

@@ -1,10 +1,11 @@
 //! The program as a clap command: its subcommands in the order of the help.
-ghost use Rattle.std.specs.Prelude.{◌≡◌, IfOk};
-ghost use Rattle.clap.specs.Words.{app_of};
-ghost use Rattle.numa_command_line.specs.Grammar.{IsProgram, bare_program};
+ghost use Rattle.std.specs.Prelude.{◌≡◌, ◌∷◌, IfOk, IfSome, List, true};
+ghost use Rattle.clap.specs.Words.{Text, app_of, is_simple_and_free};
+ghost use Rattle.numa_command_line.specs.Grammar.{IsCalled, IsProgram, StandsIn};
+ghost use Rattle.numa_command_line.specs.Grammar.{bare_program};
 ghost use Rattle.numa_command_line.specs.Usage.{IsLocal};
 
-use crate::usage::with_word;
+use crate::usage::{SubcommandHelp, with_word};
 use crate::words::{
     check, diff, expect, explain, moves, predict, replay, report, rules, run, shell, storm,
 };
@@ -56,4 +57,42 @@ pub fn program<'a>(alloc: Global) -> Result<Command<'a>, AllocError>
     let program = with_word(alloc, program, replay::word(), rules);
     let program = with_word(alloc, program, shell::word(), rules);
     with_word(alloc, program, storm::word(), rules)
+}
+
+/// The help of the subcommand of this name, if there is one.
+fn word_called(name: &str) -> Option<&'static SubcommandHelp>
+    ensures { IfSome result (λ word. IsCalled name.now word.now) }
+{
+    match name {
+        "run" => Some(run::word()),
+        "check" => Some(check::word()),
+        "expect" => Some(expect::word()),
+        "predict" => Some(predict::word()),
+        "diff" => Some(diff::word()),
+        "moves" => Some(moves::word()),
+        "explain" => Some(explain::word()),
+        "report" => Some(report::word()),
+        "replay" => Some(replay::word()),
+        "shell" => Some(shell::word()),
+        "storm" => Some(storm::word()),
+        _ => None,
+    }
+}
+
+/// A program for command lines with this word behind the program's name, which it parses as the
+/// whole program does: it has the subcommand of that name alone, so that the others aren't built.
+/// Without such a subcommand it is the whole program.
+///
+/// # Errors
+/// `AllocError`: out of memory.
+pub fn program_for<'a>(alloc: Global, name: &str) -> Result<Command<'a>, AllocError>
+    ensures simple { IfOk result (λ command. is_simple_and_free (app_of command) ≡ true) }
+    ensures same { IfOk result (λ command. (first : Text) (rest : List Text)
+        → StandsIn (first ∷ name.now ∷ rest) (app_of command)) }
+{
+    let rules = rules::argument();
+    let Some(word) = word_called(name) else {
+        return program(alloc);
+    };
+    with_word(alloc, Ok(bare(alloc)), word, rules)
 }

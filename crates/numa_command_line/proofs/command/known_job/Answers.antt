@@ -1,14 +1,11 @@
-use Rattle.std.proofs.lemmas.Option.{slice_get-map, slice_get_read}
-use Rattle.std.proofs.Common.{Global, String, true≢false, ◌<◌, length, slice_index_or, rules, ◌≡◌}
-use Rattle.std.proofs.Common.{◌∙◌, List, Option, Some, None, ap, map, refl, subst, sym, slice_get}
-use Rattle.std.specs.Option.{option_map}
-use Rattle.std.specs.String.{string_bytes}
+use Rattle.std.proofs.Common.{true≢false, rules, ◌≡◌}
+use Rattle.std.proofs.Common.{List, Option, Some, None, refl, subst, sym, slice_get}
 use Rattle.std.specs.Prelude.{option_and_then}
 use Rattle.clap.specs.Words.{Row, found_of, rows_of, subcommand_rows_of}
 use Rattle.numa_command_line.specs.Asked.{doings_found, job_named, rows_behind}
 use Rattle.numa_command_line.specs.Jobs.{Doings, IsMade, Text, doings_of}
 use Rattle.numa_command_line.proofs.Judging.{refused_is_made}
-use Rattle.numa_command_line.proofs.Naming.{behind_none, behind_some}
+use Rattle.numa_command_line.proofs.Naming.{behind_none, behind_some, second_is}
 use Rattle.numa_command_line.proofs.command.known_job.Goals as goal
 
 -- with this word, and these rows behind it, the words ask for this
@@ -18,20 +15,11 @@ found_is : (words : List Text) (name : Text) (found : Option (Text × List Row))
     → option_and_then (job_named name) rows ≡ doings_found words found
 found_is words name found rows word behind = rw (word, behind) refl
 
--- the word behind the program's name
-word_is : (words : List (String Global)) (first : String Global) (name : Text) → 1 < length words
-    → first ≡ slice_index_or words 1 first → name ≡ string_bytes first
-    → slice_get (map string_bytes words) 1 ≡ Some name
-word_is words first name below at said =
-    slice_get-map string_bytes words 1
-    ∙ (ap (option_map string_bytes) (slice_get_read words _ 1 first refl below at)
-    ∙ ap Some (sym said))
-
 pub returns-in-Some-subcommand_matches-clause-asked :
     goal.returns-in-Some-subcommand_matches-clause-asked
 returns-in-Some-subcommand_matches-clause-asked c =
     let got = c.in-Some.ensures.lookup in
-    let word = word_is c.args.words.now c.in-Some.name.now c.as_str-name.result.now got.3.0 got.1
+    let word = second_is c.args.words.now c.in-Some.name.now c.as_str-name.result.now got.3.0 got.1
     c.as_str-name.ensures.value in
     let behind : rows_behind c.as_str-name.result.now (subcommand_rows_of c.args.matches.now)
     ≡ Some (rows_of (found_of c.in-Some-subcommand_matches.matches.now)) =
@@ -43,7 +31,7 @@ returns-in-Some-subcommand_matches-clause-asked c =
 pub returns-in-None-clause-asked : goal.returns-in-None-clause-asked
 returns-in-None-clause-asked c =
     let got = c.in-Some.ensures.lookup in
-    let word = word_is c.args.words.now c.in-Some.name.now c.as_str-name.result.now got.3.0 got.1
+    let word = second_is c.args.words.now c.in-Some.name.now c.as_str-name.result.now got.3.0 got.1
     c.as_str-name.ensures.value in
     let behind : rows_behind c.as_str-name.result.now (subcommand_rows_of c.args.matches.now)
     ≡ None =

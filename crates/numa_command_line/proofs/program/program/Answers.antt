@@ -1,28 +1,15 @@
-use Rattle.std.proofs.Common.{◌≡◌, ◌∙◌, List, ap, ap₂, refl, true, false}
+use Rattle.std.proofs.Common.{◌∙◌, ap, ap₂}
 use Rattle.std.proofs.lemmas.Result.{IfOk-weaker}
-use Rattle.clap.specs.Words.{Rule, Shape, Text, with_subcommand}
-use Rattle.numa_command_line.specs.Grammar.{IsWord, bare_program, check_arguments, diff_arguments}
+use Rattle.clap.specs.Words.{Shape, with_subcommand}
+use Rattle.numa_command_line.specs.Grammar.{bare_program, check_arguments, diff_arguments}
 use Rattle.numa_command_line.specs.Grammar.{expect_arguments, explain_arguments, moves_arguments}
 use Rattle.numa_command_line.specs.Grammar.{predict_arguments}
-use Rattle.numa_command_line.specs.Grammar.{reader, replay_arguments, report_arguments, rules}
+use Rattle.numa_command_line.specs.Grammar.{replay_arguments, report_arguments, rules}
 use Rattle.numa_command_line.specs.Grammar.{run_arguments}
 use Rattle.numa_command_line.specs.Grammar.{shell_arguments, storm_arguments, word}
-use Rattle.numa_command_line.specs.Usage.{Names, rule_said, shape_said}
-use Rattle.numa_command_line.specs.declared.usage.Argument.{Argument}
-use Rattle.numa_command_line.specs.declared.usage.SubcommandHelp.{SubcommandHelp}
+use Rattle.numa_command_line.specs.Usage.{shape_said}
+use Rattle.numa_command_line.proofs.Said.{reader_is, word_is}
 use Rattle.numa_command_line.proofs.program.program.Goals as goal
-
--- what is said of a word that reads lines
-reader_is : (said : SubcommandHelp) (option : Argument) (names : Names) (name : Text)
-    (arguments : List Rule)
-    → IsWord name arguments true said → rule_said option ≡ rules names
-    → shape_said said option ≡ reader names name arguments
-reader_is said option names name arguments is same = rw (is.2, is.0, is.1, same) refl
-
--- and of one that doesn't
-word_is : (said : SubcommandHelp) (option : Argument) (name : Text) (arguments : List Rule)
-    → IsWord name arguments false said → shape_said said option ≡ word name arguments
-word_is said option name arguments is = rw (is.2, is.0, is.1) refl
 
 pub returns : goal.returns
 returns c =
