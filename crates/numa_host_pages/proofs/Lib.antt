@@ -1,6 +1,7 @@
 pub mod Alone
 pub mod Along
 pub mod Arrived
+pub mod Copied
 pub mod Known
 pub mod Obeyed
 pub mod Ordered

@@ -1,6 +1,7 @@
 //! The processes of a host, with their pages.
 ghost use Rattle.std.specs.Prelude.{◌≡◌, ◌==◌, ◌<◌, ◌≤◌, List, [], ◌∷◌, ◌++◌, MatchOption};
-ghost use Rattle.std.specs.Prelude.{IfOk, None, Option, Some, filter, length, not, vec_capacity};
+ghost use Rattle.std.specs.Prelude.{IfOk, None, OnOk, Option, Some, filter, length, not};
+ghost use Rattle.std.specs.Prelude.{vec_capacity};
 ghost use Rattle.numa_page_state.specs.Lying.{Lying};
 ghost use Rattle.numa_page_state.specs.Standing.{HaveRoom};
 ghost use Rattle.numa_host_pages.specs.Homes.{Home, Room, along_homes, pages_in, room_without};
@@ -136,4 +137,72 @@ pub(crate) fn boxed(alloc: Global, state: PageState) -> Result<Box<PageState>, N
         Ok(kept) => Ok(kept),
         Err(_) => Err(NoMemory),
     }
+}
+
+/// A copy of pages, if there are any.
+///
+/// # Errors
+/// `NoMemory`: there is no memory for it.
+fn pages_again(
+    alloc: Global,
+    pages: &Option<Box<PageState>>,
+) -> Result<Option<Box<PageState>>, NoMemory>
+    ensures { IfOk result (λ copy. (lying : Option Lying) → Sits pages.now lying
+        → Sits copy lying) }
+{
+    let Some(kept) = pages.as_deref() else {
+        return Ok(None);
+    };
+    let Ok(state) = kept.copy() else {
+        return Err(NoMemory);
+    };
+    match boxed(alloc, state) {
+        Ok(copy) => Ok(Some(copy)),
+        Err(lack) => Err(lack),
+    }
+}
+
+/// A copy of a process with its pages.
+///
+/// # Errors
+/// `NoMemory`: there is no memory for it.
+fn member_again(alloc: Global, member: &Member) -> Result<Member, NoMemory>
+    ensures { IfOk result (λ copy. (home : Home) → IsHome member.now home → IsHome copy home) }
+{
+    match pages_again(alloc, &member.pages) {
+        Ok(pages) => Ok(Member {
+            id: member.id,
+            group: member.group,
+            allowed: member.allowed,
+            pages,
+            along: member.along,
+        }),
+        Err(lack) => Err(lack),
+    }
+}
+
+/// Puts copies of processes with their pages behind those that are there already.
+///
+/// # Errors
+/// `NoMemory`: there is no memory for one of them.
+pub(crate) fn add_again(
+    alloc: Global,
+    members: &[Member],
+    copies: &mut Vec<Member>,
+) -> Result<(), NoMemory>
+    ensures added { (before homes : List Home) → AreHomes copies.old.items before
+        → AreHomes members.now homes
+        → OnOk result (AreHomes copies.new.items (before ++ homes)) }
+    ensures room { vec_capacity copies.old ≤ vec_capacity copies.new }
+{
+    let Some((first, rest)) = members.split_first() else {
+        return Ok(());
+    };
+    let Ok(copy) = member_again(alloc, first) else {
+        return Err(NoMemory);
+    };
+    let Ok(()) = copies.push(copy) else {
+        return Err(NoMemory);
+    };
+    add_again(alloc, rest, copies)
 }

@@ -16,8 +16,8 @@ ghost use Rattle.numa_host_pages.specs.TopDown.{top_down};
 
 use crate::following::{follow_below, follow_home};
 use crate::member::{
-    Member, add, boxed, pages_of, put_pages, remove, rooms_without, still_all, take_along,
-    take_pages,
+    Member, add, add_again, boxed, pages_of, put_pages, remove, rooms_without, still_all,
+    take_along, take_pages,
 };
 use crate::summing::{add_flows, sum_of};
 use numa_host::ControlGroup;
@@ -67,6 +67,28 @@ impl HostPages {
         Ok(HostPages {
             rooms: None,
             follows: true,
+            members,
+        })
+    }
+
+    /// Returns a copy. Later changes of one of the two don't affect the other.
+    ///
+    /// # Errors
+    /// `NoMemory`: there is no memory for it.
+    pub fn copy(&self, alloc: Global) -> Result<HostPages, NoMemory>
+        ensures { IfOk result (λ copy. (at : HostLying) → HostLies self.now at
+            → HostLies copy at) }
+    {
+        let Ok(mut members) = Vec::with_capacity(alloc, MAX_PROCESSES) else {
+            return Err(NoMemory);
+        };
+        let Ok(()) = add_again(alloc, &self.members, &mut members) else {
+            drop(members);
+            return Err(NoMemory);
+        };
+        Ok(HostPages {
+            rooms: self.rooms,
+            follows: self.follows,
             members,
         })
     }
