@@ -1,5 +1,6 @@
 mod Worked
 pub mod Acted
+pub mod Applied
 pub mod Bindings
 pub mod Bounds
 pub mod Decided

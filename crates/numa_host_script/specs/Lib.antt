@@ -1,3 +1,4 @@
+pub mod Acting
 pub mod Hosts
 pub mod Judged
 pub mod Paging

@@ -1,9 +1,11 @@
 //! Lines about pages in a host.
-ghost use Rattle.std.specs.Prelude.{◌≡◌, ◌≢◌, ℕ, [], Bool, IsSome, None, Ok, Some, false, true};
+ghost use Rattle.std.specs.Prelude.{◌≡◌, ◌≢◌, ℕ, [], Bool, IfErr, IsSome, None, Ok, Some};
+ghost use Rattle.std.specs.Prelude.{false, true};
 ghost use Rattle.numa_host.specs.Processes.{is_there, members_of};
 ghost use Rattle.numa_host_pages.specs.Homes.{HostLying, given_back, lent, pages_in, pages_lent};
 ghost use Rattle.numa_host_pages.specs.Homes.{with_pages};
 ghost use Rattle.numa_host_pages.specs.Standing.{HostLies};
+ghost use Rattle.numa_host_script.specs.Acting.{AppliesTo, IsLackOf};
 ghost use Rattle.numa_host_script.specs.Paging.{along_if, given_outcome, is_move, obeyed};
 ghost use Rattle.numa_host_script.specs.Paging.{page_where, pages_changed, pages_reply, tells_move};
 ghost use Rattle.numa_host_script.specs.Paging.{unmap_outcome};
@@ -14,6 +16,8 @@ ghost use Rattle.numa_page_state.specs.Outcomes.{Lack};
 ghost use Rattle.numa_page_state.specs.Standing.{LiesAs};
 ghost use Rattle.numa_placed.specs.Spots.{spot_at};
 ghost use Rattle.numa_placed.specs.declared.spot.Spot.{Spot};
+ghost use Rattle.numa_requests.specs.declared.command.Command.{Command};
+ghost use Rattle.numa_requests.specs.declared.host_command.HostCommand.{HostCommand};
 ghost use Rattle.numa_run.specs.PageLines.{lack_reply};
 ghost use Rattle.numa_script.specs.Lines.{alone};
 
@@ -149,7 +153,7 @@ fn take_along(pages: &mut HostPages, process: u32, told: &Option<Reply>)
 }
 
 /// Carries out a line that changes where the pages of a process lie.
-fn change_in(
+pub(crate) fn change_in(
     running: &mut RunningHost,
     alloc: Global,
     process: u32,
@@ -157,7 +161,8 @@ fn change_in(
 ) -> Option<Reply>
     requires moved { line.now ≢ PageLine.Moved }
     requires rooms { line.now ≢ PageLine.Rooms }
-    ensures { Changes running.old result running.new process (λ lacked at. page_where
+    ensures host { running.new.host ≡ running.old.host }
+    ensures runs { Changes running.old result running.new process (λ lacked at. page_where
         (is_there (members_of at.history) process) lacked at process line.now) }
 {
     let Some(space) = space_of(&running.host, process) else {
@@ -255,8 +260,9 @@ fn without_span(
     start: u64,
     length: u64,
 ) -> Result<Option<Placed>, PlacedRefusal>
-    ensures { (at : HostLying) → HostLies pages.now at → ForgetsIn (pages_in process at.homes)
-        (pages_lent process at).spots start length result }
+    ensures forgets { (at : HostLying) → HostLies pages.now at → ForgetsIn
+        (pages_in process at.homes) (pages_lent process at).spots start length result }
+    ensures lack { IfErr result (IsLackOf length) }
 {
     match pages.pages_of(process) {
         Some(state) => state.without_span(start, length),
@@ -280,7 +286,9 @@ fn replace(pages: &mut HostPages, process: u32, after: Placed)
 
 /// Unmaps pages of a process; if the host accepts that, nothing is stated of them any more.
 fn unmap(running: &mut RunningHost, process: u32, start: u64, length: u64) -> Reply
-    ensures { Replies running.old result running.new (λ lack at. unmap_outcome lack.lacked at
+    ensures host { AppliesTo running.old.host (HostCommand.In process (Command.Unmap start length))
+        result running.new.host }
+    ensures runs { Replies running.old result running.new (λ lack at. unmap_outcome lack.lacked at
         process start length) }
 {
     let command = Command::Unmap { start, length };
@@ -305,8 +313,10 @@ fn unmap(running: &mut RunningHost, process: u32, start: u64, length: u64) -> Re
 }
 
 /// Carries out a command of a process.
-fn obeyed(running: &mut RunningHost, process: u32, command: &Command) -> Reply
-    ensures { Replies running.old result running.new (λ lack at. obeyed lack.lacked at process
+pub(crate) fn obeyed(running: &mut RunningHost, process: u32, command: &Command) -> Reply
+    ensures host { AppliesTo running.old.host (HostCommand.In process command.now) result
+        running.new.host }
+    ensures runs { Replies running.old result running.new (λ lack at. obeyed lack.lacked at process
         command.now) }
 {
     match command {

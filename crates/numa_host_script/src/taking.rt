@@ -1,5 +1,6 @@
 //! Carrying out the lines of a host.
 ghost use Rattle.std.specs.Prelude.{◌≡◌, Ok, Option};
+ghost use Rattle.numa_host_script.specs.Acting.{AppliesTo};
 ghost use Rattle.numa_host_script.specs.Sessions.{command_outcome, given_outcome, host_command_of};
 ghost use Rattle.numa_host_script.specs.Sessions.{own_where, plain_reply};
 ghost use Rattle.numa_script.specs.Lines.{alone};
@@ -38,8 +39,9 @@ pub enum HostTaken {
 }
 
 /// Carries out a command of the host.
-fn obey_host(running: &mut RunningHost, command: &HostCommand) -> Reply
-    ensures { Replies running.old result running.new
+pub(crate) fn obey_host(running: &mut RunningHost, command: &HostCommand) -> Reply
+    ensures host { AppliesTo running.old.host command.now result running.new.host }
+    ensures runs { Replies running.old result running.new
         (λ lack at. command_outcome lack at command.now) }
 {
     match obey(&mut running.host, &mut running.pages, command) {

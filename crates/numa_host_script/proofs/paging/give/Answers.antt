@@ -6,7 +6,7 @@ use Rattle.numa_host_script.proofs.Obeyed.{still}
 use Rattle.numa_host_script.proofs.paging.give.Goals as goal
 
 pub returns-in-Ok : goal.returns-in-Ok
-returns-in-Ok c = rw c.in-Ok.is c.obeyed.ensures
+returns-in-Ok c = rw c.in-Ok.is c.obeyed.ensures.runs
 
 pub returns-in-Err : goal.returns-in-Err
 returns-in-Err c =

@@ -31,10 +31,10 @@ pub returns-in-Some : goal.returns-in-Some
 returns-in-Some c =
     acted-told c.args.running.now c.change_in.new.running c.args.process c.args.line.now
     (λ lacked at. page-acts c.args.line.now c.in_default.not-Room c.in_default.not-Rooms
-    c.in_default.not-MemoryMigrate lacked at c.args.process) c.in-Some.reply c.in-Some.ensures
+    c.in_default.not-MemoryMigrate lacked at c.args.process) c.in-Some.reply c.in-Some.ensures.runs
 
 pub returns-in-None : goal.returns-in-None
 returns-in-None c =
     acted-touched c.args.running.now c.change_in.new.running c.args.process c.args.line.now
     (λ lacked at. page-acts c.args.line.now c.in_default.not-Room c.in_default.not-Rooms
-    c.in_default.not-MemoryMigrate lacked at c.args.process) c.in-None.ensures
+    c.in_default.not-MemoryMigrate lacked at c.args.process) c.in-None.ensures.runs

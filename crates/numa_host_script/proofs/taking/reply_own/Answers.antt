@@ -10,7 +10,8 @@ pub returns-in-Some-Ok : goal.returns-in-Some-Ok
 returns-in-Some-Ok c =
     own-found c.args.running.now c.obey_host.new.running c.args.line.now c.obey_host.result
     (Some (Ok c.in-Some-Ok.command))
-    (sym (c.in-Some-Ok.is ∙ ap Some c.in-Some-Ok.field-0-is) ∙ c.host_command_of.ensures) c.obey_host.ensures
+    (sym (c.in-Some-Ok.is ∙ ap Some c.in-Some-Ok.field-0-is) ∙ c.host_command_of.ensures)
+    c.obey_host.ensures.runs
 
 pub returns-in-Some-Err : goal.returns-in-Some-Err
 returns-in-Some-Err c =
