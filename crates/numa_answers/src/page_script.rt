@@ -234,10 +234,11 @@ function explain(views, address) {
 
 // The pages of a range by node: a column for each of few nodes, else all in one.
 const countOf = (range, node) => (range.nodes.find((it) => it.node === node) || { pages: 0 }).pages;
-const countCell = (pages) => ({ key: pages, text: pages ? String(pages) : '', isNumber: true });
+const countCell = (count) => ({ key: count, text: String(count), isNumber: true, isCount: true });
+const someCell = (pages) => (pages ? countCell(pages) : { key: 0, text: '', isNumber: true });
 const nodeHeads = (nodes) => (nodes.length > FEW ? ['nodes'] : nodes.map((node) => 'N' + node));
 const nodeCells = (range, nodes) => (nodes.length > FEW ? [nodesText(range.nodes, 'pages')]
-  : nodes.map((node) => countCell(countOf(range, node))));
+  : nodes.map((node) => someCell(countOf(range, node))));
 const nameHeads = () => (areas.length ? ['name'] : []);
 const nameCells = (range) => (areas.length ? [namesOf(range, ofProcess)] : []);
 
@@ -271,7 +272,7 @@ function rangesPart(title, view, views) {
     cells: [
       { key: it.start, text: hex(it.start) },
       { key: it.end, text: hex(it.end) },
-      it.anon,
+      countCell(it.anon),
       sizeCell(it.anon),
       it.policy,
       ...nodeCells(it, nodes),
@@ -297,7 +298,7 @@ function totals(title, total, most) {
     total.nodes.map((it) => ({
       cells: [
         { key: it.node, text: String(it.node), mark: true },
-        it.pages,
+        countCell(it.pages),
         sizeCell(it.pages),
         { key: it.pages, text: '', bar: Math.round((400 * it.pages) / most), node: it.node },
       ],
@@ -305,9 +306,10 @@ function totals(title, total, most) {
   );
 }
 
-function pagesPart(views) {
+function pagesPart(views, isUntold) {
   make('h2', page, 'Pages');
-  make('p', page, 'Choose a row above; a cell of several pages opens, one of a page tells why.');
+  make('p', page, 'Choose a row above; a cell of several pages opens, one of a page tells why.'
+    + (isUntold ? ' Where nodes fill or repeat after many pages, a page has no node but -.' : ''));
   views.told = { strips: make('div', page), words: make('pre', page) };
   views.told.strips.id = 'strips' + mark;
   views.told.words.id = 'words' + mark;
@@ -325,12 +327,15 @@ function say(text) {
 
 const pairsText = (list) => list.map((m) => 'N' + m.from + '->N' + m.to + '=' + m.pages).join(' ');
 const placedText = ({ anon, exhausted }) => amountText(anon)
-  + (exhausted ? ', ' + exhausted + ' exhausted' : '');
+  + (exhausted ? ', ' + grouped(exhausted) + ' exhausted' : '');
 const differsText = ({ differs: pages, differences }) => amountText(pages)
   + (pages ? ', ' + pairsText(differences) : '');
 
 function leftPart(left) {
-  if (left) table('Left', ['node', 'pages'], left.map((it) => ({ cells: [it.node, it.pages] })));
+  if (!left) return;
+  table('Left', ['node', 'pages', 'size'], left.map(({ node, pages }) => ({
+    cells: [{ key: node, text: String(node), mark: true }, countCell(pages), sizeCell(pages)],
+  })));
 }
 
 function prediction(from) {
@@ -342,7 +347,7 @@ function prediction(from) {
   leftPart(left);
   const views = [['now', view]];
   rangesPart('Ranges', view, views);
-  pagesPart(views);
+  pagesPart(views, view.ranges.some((it) => view.node(it, it.start) === undefined));
 }
 
 function predictions({ total, left }) {
@@ -369,7 +374,7 @@ function difference(from) {
       cells: [
         { key: it.start, text: hex(it.start) },
         { key: it.end, text: hex(it.end) },
-        it.differs,
+        countCell(it.differs),
         pairsText(it.differences),
         ...nameCells(it),
       ],
@@ -390,18 +395,20 @@ function differences({ total }) {
 
 // What the accesses of a trace met.
 function replays({ total }) {
-  say('What ' + total.accesses + ' accesses met: ' + total.placed + ' faults placed a page, '
-    + total.exhausted + ' found no frame, ' + total.unserved + ' accesses went nowhere');
+  const [all, placed, exhausted, unserved] = [total.accesses, total.placed, total.exhausted,
+    total.unserved].map(grouped);
+  say('What ' + all + ' accesses met: ' + placed + ' faults placed a page, ' + exhausted
+    + ' found no frame, ' + unserved + ' accesses went nowhere');
   const most = Math.max(1, ...total.nodes.map((it) => it.accesses));
   table('Nodes', ['node', 'accesses', 'in proportion'], total.nodes.map((it) => ({
     cells: [
       { key: it.node, text: String(it.node), mark: true },
-      it.accesses,
+      countCell(it.accesses),
       { key: it.accesses, text: '', bar: Math.round((400 * it.accesses) / most), node: it.node },
     ],
   })));
   table('Distances', ['distance', 'accesses'], total.distances.map((it) => ({
-    cells: [it.distance, it.accesses],
+    cells: [it.distance, countCell(it.accesses)],
   })));
 }
 
@@ -411,8 +418,8 @@ function replay(from) {
     'Tasks',
     ['task', 'accesses', 'nodes', 'placed', 'exhausted', 'unserved'],
     from.replay.tasks.map((it) => ({
-      cells: [it.task, it.accesses, nodesText(it.nodes, 'accesses'), it.placed, it.exhausted,
-        it.unserved],
+      cells: [it.task, countCell(it.accesses), nodesText(it.nodes, 'accesses'),
+        ...[it.placed, it.exhausted, it.unserved].map(countCell)],
     })),
   );
   const before = viewOf(from.before);

@@ -11,6 +11,8 @@ const fills = [];
 
 const shown = (cell) => (typeof cell === 'object' ? cell.text : String(cell));
 const key = (cell) => (typeof cell === 'object' ? cell.key : cell);
+// What one reads in a cell, where thousands stand apart; records have plain numbers.
+const seen = (cell) => (cell && cell.isCount ? grouped(cell.key) : shown(cell));
 
 // Hands a text to the browser to be saved.
 function save(name, kind, text) {
@@ -73,11 +75,12 @@ function pictureOf(rows) {
 function fillCell(line, it) {
   const isNumber = typeof it === 'number' || (it && it.isNumber);
   const kind = shown(it).length < 60 ? 'one' : '';
-  const cell = make('td', line, shown(it), isNumber ? 'number' : kind);
+  const cell = make('td', line, seen(it), isNumber ? 'number' : kind);
   if (it && it.bar !== undefined) cell.textContent = '';
   if (it && it.bar > 0) {
     const bar = make('span', cell, undefined, 'bar');
-    bar.style.width = it.bar + 'px';
+    // (As long in proportion where a phone has no room for the longest.)
+    bar.style.width = 'min(' + it.bar + 'px, ' + it.bar / 10 + 'vw)';
     paint(bar, it.node);
   }
   if (it && it.mark) {
@@ -129,7 +132,8 @@ function table(title, heads, rows, chosen, nodes) {
     const has = (row) => !pick || pick.value === ''
       || row.value.nodes.some((it) => it.node === Number(pick.value));
     left = rows.filter((row) => has(row)
-      && (filter.value === '' || row.cells.some((it) => shown(it).includes(filter.value))));
+      && (filter.value === ''
+        || row.cells.some((it) => (shown(it) + ' ' + seen(it)).includes(filter.value))));
     if (by >= 0) {
       left.sort((a, b) => {
         const [x, y] = [key(a.cells[by]), key(b.cells[by])];
