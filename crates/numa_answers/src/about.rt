@@ -16,7 +16,7 @@ const NODES: u32 = 16;
 /// The most lines that are told, and the most bytes in a row.
 const LINES: usize = 12;
 
-const WIDE: usize = 110;
+const WIDE: usize = 116;
 
 /// What an answer is of.
 #[derive(Clone, Copy)]
@@ -27,6 +27,8 @@ pub struct About<'a> {
     pub allowed: Option<NodeMask>,
     /// How pages are touched, if they are.
     pub touch: Option<Touch>,
+    /// Whether pages that are there stay where they lie.
+    pub stay: bool,
     /// The lines that were added.
     pub lines: &'a [String],
 }
@@ -42,6 +44,25 @@ impl<'a> About<'a> {
             machine,
             allowed,
             touch,
+            stay: false,
+            lines,
+        }
+    }
+
+    /// The same where pages that are there stay where they lie, or else are touched as others.
+    pub fn staying(self, stay: bool) -> About<'a> {
+        let About {
+            machine,
+            allowed,
+            touch,
+            stay: _,
+            lines,
+        } = self;
+        About {
+            machine,
+            allowed,
+            touch,
+            stay,
             lines,
         }
     }
@@ -136,9 +157,13 @@ fn put_distances(text: &mut Written, machine: &Machine) {
 fn put_touch(text: &mut Written, about: &About<'_>) {
     if let Some(touch) = about.touch {
         text.put_form(
-            b"Task $ touches pages on a CPU of node $\n",
+            b"Task $ touches pages on a CPU of node $",
             &[u64::from(touch.task), u64::from(touch.cpu)],
         );
+        if about.stay {
+            text.put(b"; those that are there stay where they lie");
+        }
+        text.put(b"\n");
     }
     if let Some(allowed) = about.allowed {
         text.put(if about.lines.is_empty() {
