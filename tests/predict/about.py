@@ -98,6 +98,12 @@ def try_about(call, tell, folder):
                 got = rows_of(call(*words, "--format", form, name)[1], form)
                 good &= tell(got == want, f"what a {form} of {words[0]} is of, {kind}"
                              + ("" if got == want else f": {got}, not {want}"))
+        lies = "at 0x10000 0x1000 0\n" if allowed else "in 1 at 0x10000 0x1000 0\n"
+        with open(name + ".at", "w", encoding="utf-8") as file:
+            file.write(lies)
+        got = rows_of(call("predict", *asked, "--at", name + ".at", "--format", "svg", name)[1], "svg")
+        want = [TOUCH + "; those that are there stay where they lie", *now, *ends]
+        good &= tell(got == want, f"what a picture of predict --at is of, {kind}: {got}")
         got = rows_of(call("report", *asked, *then, name)[1], "report")
         good &= tell(got == [*shown, TOUCH, *after, *ends], f"what a report is of, {kind}: {got}")
         words = ["moves", *asked[:4], "--lenient", "--then", added[0], "--format", "svg"]

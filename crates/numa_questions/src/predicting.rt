@@ -61,7 +61,8 @@ pub fn prediction_of<P: Watch>(
     };
     match text {
         Ok(text) => {
-            let about = About::of(subject, Some(asked.touch), &[]);
+            let stay = !asked.there.is_empty();
+            let about = About::of(subject, Some(asked.touch), &[]).staying(stay);
             told_of(alloc, asked.format, &about, text)
         }
         Err(halt) => Err(halt),
