@@ -22,6 +22,9 @@ if TYPE_CHECKING:
 NO_HOME = 256  # (NP_NO_HOME)
 
 
+HUGE = 2**36  # (added to the offset of a range whose pages have 2 MiB)
+
+
 class Placement(NamedTuple):
     """Where a page was placed: by this version, the page of this number (address / 4096), for this
     task, on this frame of this node, which is at this rank of the page's list, from 0."""
@@ -167,7 +170,7 @@ class Core(CoreReports):
             [node, *pair] for node, pair in enumerate(zip(frames, map(on_a_line, rows)))]
         return table(f"{shown}; memory on nodes {memory}", ["node", "frames", "distances"], machine,
                      len(rows)) + table("ranges", ["start", "pages", "offset", "policy"], [
-                         [f"{one.start:#x}", one.length // 4096, one.offset, one.policy or ""]
+                         [f"{one.start:#x}", one.length // 4096, _offset_shown(one), one.policy or ""]
                          for one in ranges], count.value)
 
     def copy(self) -> Core:
@@ -398,6 +401,11 @@ def policy_of(told: StandingPolicy) -> "Policy | None":
 def by_node(counts: Iterable[int]) -> dict[int, int]:
     """The nodes that have some, and how many."""
     return {node: count for node, count in enumerate(counts) if count}
+
+
+def _offset_shown(one: Range) -> str:
+    """The offset in a cell of a table, with what pages there are."""
+    return str(one.offset) if one.offset < HUGE else f"{one.offset - HUGE}, pages of 2 MiB"
 
 
 def _request(worker: int, task: int, page: int, cpu: int) -> tuple[int, int, int, int]:

@@ -36,6 +36,17 @@ def on_a_line(numbers: bytes) -> str:
     return " ".join(map(str, numbers[:MOST])) + " .." * (len(numbers) > MOST)
 
 
+def turns_on_a_line(nodes: bytes) -> str:
+    """A cycle of nodes in a cell; where it is long, those that many pages in a row have once, with how
+    many."""
+    from itertools import groupby
+
+    turns = [(node, len(list(same))) for node, same in groupby(nodes)]
+    if len(nodes) <= MOST or len(turns) == len(nodes):
+        return on_a_line(nodes)
+    return ", ".join(f"{node} for {count:,}" for node, count in turns[:MOST]) + " .." * (len(turns) > MOST)
+
+
 class Pictured:
     """What can be asked for once more, in another format."""
 

@@ -10,7 +10,7 @@ from ._causes import NoRoom, Refused, Unmapped
 from ._judged import Numbers, bytes_to_write, places_for, u8, u32, u64, u64s_to_read
 from ._library import LIBRARY, Handle, PagesInTurns
 from ._owners import Owner
-from ._pictured import MOST, on_a_line, table
+from ._pictured import MOST, table, turns_on_a_line
 
 if TYPE_CHECKING:
     from ._buffers import AnyBuffer, Buffer
@@ -64,7 +64,7 @@ class Plan(Owner):
         try:
             found, version = self._found_runs(0), self.version
             rows: "list[list[object]]" = [
-                [run.first, run.pages, on_a_line(self._firsts((0, 0), run.first, run.cycle))]
+                [run.first, run.pages, turns_on_a_line(self._firsts((0, 0), run.first, run.cycle))]
                 for run in found[:MOST]]
         except Refused:
             return None

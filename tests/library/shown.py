@@ -218,6 +218,15 @@ page, runs = Tables(large._repr_html_()), Tables(large.compile()._repr_html_())
 want([len(each) for each in page.found + runs.found], [42, 42, 42], "as many rows as are shown")
 want(page.beside + runs.beside, ["and 10 more"] * 3, "how many more there are")
 want(page.found[0][2][2].split(" ")[-2:], ["20", ".."], "distances that go on")
+huge = Core([0, 0], FAR)
+huge.map(0, 2**22, huge=True)
+huge.map(2**30, 2**21, 512, huge=True)
+huge.set_task(0, "interleave:0-1")
+want(Tables(huge._repr_html_()).found[1][2:],
+     [["0x0", "1024", "0, pages of 2 MiB", ""], ["0x40000000", "512", "512, pages of 2 MiB", ""]],
+     "pages of 2 MiB in a notebook")
+want(Tables(huge.compile()._repr_html_()).found[0][2:],
+     [["0", "1024", "0 for 512, 1 for 512"], ["262144", "512", "1 for 512"]], "and in that of a plan")
 for one, _ in SHOWN:
     one.close()
     want(repr(one), f"<numaplan.{type(one).__name__}, closed>", "a closed one")
