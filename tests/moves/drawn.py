@@ -139,6 +139,17 @@ def try_hostile(call, tell, example):
     return good
 
 
+def try_rooms(call, tell, example):
+    """The room that is left is told of each node that is named."""
+    words = ["moves", "--at", example + ".at", "--then", "mems 0-1", "--free", "0=3,1=515"]
+    left = [line for line in call(*words, example + ".numaplan")[1].splitlines() if line.startswith("left ")]
+    rooms = [(node, int(pages)) for node, pages in re.findall(r"N(\d+)=(\d+)", left[0])]
+    text = "Room left: " + ", ".join(f"node {node}: {amount(pages)}" for node, pages in rooms)
+    root = ElementTree.fromstring(call(*words, "--format", "svg", example + ".numaplan")[1])
+    told = [it.text for it in root.iter(SVG + "text") if (it.text or "").startswith("Room left")]
+    return tell(len(rooms) == 2 and told == [text], f"a picture with room: {told}, {left}")
+
+
 def try_largest(call, tell, example):
     """The ranges that aren't drawn share one bar."""
     words = ["moves", "--at", example + ".at", "--then", "mems 0", "--format", "svg", "--largest", "1"]

@@ -80,11 +80,14 @@ fn put_fates(text: &mut Written, sum: &MoveSum, nodes: u32) {
 
 /// Writes how many more pages named nodes take.
 fn put_rooms(text: &mut Written, free: &[FreePages], rooms: &Rooms) {
-    text.put(b"Room left:");
+    text.put(b"Room left: ");
+    let mut between = b"".as_slice();
     for one in free.get(..free.len().min(ROOMS)).unwrap_or(&[]) {
         let pages = rooms.at(one.node).unwrap_or(u64::MAX);
-        text.put_form(b" node $: ", &[u64::from(one.node)]);
+        text.put(between);
+        text.put_form(b"node $: ", &[u64::from(one.node)]);
         text.put_amount(pages);
+        between = b", ".as_slice();
     }
     if free.len() > ROOMS {
         text.put(b" ..");
