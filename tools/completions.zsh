@@ -119,7 +119,7 @@ _numaplan() {
         report)
             _arguments \
                 '(--task)--task[The task that touches the pages; it may be left out where scripts name one task or none]:T: ' \
-                '(--node)--node[The node of the CPU on which the task runs, or all\: each node with CPUs in turn]:N: ' \
+                '(--node)--node[The node of the CPU on which the task runs]:N: ' \
                 '*--then[A script line to add, of which it is told what it changes; several are added in turn]:LINE: ' \
                 '(--process)--process[Asks about process P of a host only; without it, or with all, about each process]:P: ' \
                 '(--lenient)--lenient[Ends with status 0 even if lines were faulty or refused]' \

@@ -12,11 +12,20 @@ use crate::found::texts_at;
 use crate::jobs::{JobFault, PageQuestion, ScriptJob};
 use crate::usage::{Argument, FILES, SubcommandHelp, Takes};
 use crate::words::asked;
-use crate::words::asked::{NODE, TASK};
+use crate::words::asked::TASK;
 use crate::words::lenient::LENIENT;
 use crate::words::process::PROCESS;
 use clap::ArgMatches;
 use std::alloc::Global;
+
+/// The option `--node N`, or `--cpu N`: a page is about one node.
+const NODE: Argument = Argument {
+    name: "node",
+    value: "N",
+    help: "The node of the CPU on which the task runs",
+    is_required: true,
+    takes: Takes::TextOr("cpu"),
+};
 
 /// The option `--then LINE`.
 const THEN: Argument = Argument {
