@@ -2,6 +2,10 @@ pub mod Adding
 pub mod Arranged
 pub mod Counted
 pub mod Lists
+pub mod Merging
 pub mod PageMoves
+pub mod Reading
+pub mod Summing
 pub mod Telling
+pub mod Totals
 pub mod Touched

@@ -1,3 +1,4 @@
 pub mod Held
 pub mod Moving
 pub mod Shares
+pub mod Sums

@@ -1,4 +1,6 @@
 //! What becomes of pages, as text, JSON and SVG.
+ghost use Rattle.std.specs.Prelude.{◌≡◌, flat_map};
+ghost use Rattle.numa_moves.specs.Sums.{AddsEach, AddsMove, IsSumOf, IsWhole, moves_at};
 
 mod bars;
 mod drawing;
@@ -85,7 +87,9 @@ impl Sheet {
     }
 
     /// Writes the open span.
-    fn close(&mut self) {
+    fn close(&mut self)
+        ensures { self.new.total ≡ self.old.total }
+    {
         let Some(span) = self.span.take() else {
             return;
         };
@@ -99,30 +103,47 @@ impl Sheet {
         self.sum.clear(self.nodes);
     }
 
-    /// Adds a share; the one before it is of the same span, or that is closed.
-    fn take(&mut self, moved: &ShareMove) {
-        let span = moved.share.span;
+    /// Opens a span, unless it is open; another that is open is written.
+    fn enter(&mut self, span: PageSpan)
+        ensures { self.new.total ≡ self.old.total }
+    {
         match self.span {
             Some(open) if open.first == span.first => {}
             _ => self.close(),
         }
         self.span = Some(span);
+    }
+
+    /// Adds a share; the one before it is of the same span, or that is closed.
+    fn take(&mut self, moved: &ShareMove)
+        ensures { AddsMove self.old.total moved.now self.new.total }
+    {
+        self.enter(moved.share.span);
         self.sum.add(moved);
         self.total.add(moved);
     }
 
-    /// Writes what became of the pages of a process.
-    fn put_moves(&mut self, moves: &[ShareMove], is_last: bool) {
-        self.spans = 0;
-        self.total.clear(self.nodes);
-        if let Format::Svg(number) = self.format {
-            self.drawing
-                .begin(&mut self.text, moves, number, self.nodes);
-        }
+    /// Takes the shares of a process, whose sum is of them alone.
+    fn take_all(&mut self, moves: &[ShareMove])
+        ensures { IsSumOf moves.now self.new.total }
+    {
+        self.total = MoveSum::new();
         for moved in moves {
             self.take(moved);
         }
         self.close();
+    }
+
+    /// Writes what became of the pages of a process.
+    fn put_moves(&mut self, moves: &[ShareMove], is_last: bool)
+        ensures { IsSumOf moves.now self.new.total }
+    {
+        self.spans = 0;
+        if let Format::Svg(number) = self.format {
+            self.drawing
+                .begin(&mut self.text, moves, number, self.nodes);
+        }
+        self.take_all(moves);
         let text = &mut self.text;
         match self.format {
             Format::Json => objects::put_sum(text, &self.total, self.nodes, is_last),
@@ -132,7 +153,9 @@ impl Sheet {
     }
 
     /// Writes what became of the pages of a process of a host.
-    fn put_process(&mut self, told: &HoldingMoves, is_first: bool) {
+    fn put_process(&mut self, told: &HoldingMoves, is_first: bool)
+        ensures { IsSumOf told.now.moves.items self.new.total }
+    {
         let text = &mut self.text;
         match self.format {
             Format::Json => objects::begin_process(text, told.process, is_first),
@@ -141,16 +164,35 @@ impl Sheet {
         self.put_moves(told.moves.as_slice(), true);
     }
 
-    /// Writes what became of the pages of all processes, those at these places one after the other.
-    fn put_each(&mut self, told: &[HoldingMoves], order: &[usize], all: &mut AllMoves) {
+    /// Writes what became of the pages of the process at a place, if there is one, and adds them to
+    /// all; says whether the next one is the first that is written.
+    fn put_at(
+        &mut self,
+        told: &[HoldingMoves],
+        place: usize,
+        is_first: bool,
+        all: &mut AllMoves,
+    ) -> bool
+        requires whole { IsWhole all.old }
+        ensures { AddsEach all.old (moves_at told.now place) all.new }
+    {
+        let Some(one) = told.get(place) else {
+            return is_first;
+        };
+        self.put_process(one, is_first);
+        all.add(&self.total);
+        false
+    }
+
+    /// Writes what became of the pages of all processes, those at these places one after the other,
+    /// and adds them.
+    fn put_each(&mut self, told: &[HoldingMoves], order: &[usize], all: &mut AllMoves)
+        requires whole { IsWhole all.old }
+        ensures { AddsEach all.old (flat_map (moves_at told.now) order.now) all.new }
+    {
         let mut is_first = true;
         for place in order {
-            let Some(one) = told.get(*place) else {
-                continue;
-            };
-            self.put_process(one, is_first);
-            all.add(&self.total);
-            is_first = false;
+            is_first = self.put_at(told, *place, is_first, all);
         }
     }
 

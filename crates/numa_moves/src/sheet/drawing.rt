@@ -5,6 +5,7 @@
 //! lie before the line above where they lie after it. Pages that move have a thick frame, and those
 //! that find no room are hatched. Parts of bars have the colour and the number of their node, so
 //! nothing depends on colours.
+ghost use Rattle.numa_moves.specs.Sums.{IsSumOf};
 
 use crate::moving::ShareMove;
 use crate::sheet::bars::put_bars;
@@ -55,7 +56,9 @@ fn add_size(sizes: &mut Vec<u64>, pages: u64, is_open: bool) -> bool {
 }
 
 /// What becomes of all pages.
-fn sum_of_all(moves: &[ShareMove]) -> MoveSum {
+fn sum_of_all(moves: &[ShareMove]) -> MoveSum
+    ensures { IsSumOf moves.now result }
+{
     let mut sum = MoveSum::new();
     for moved in moves {
         sum.add(moved);
