@@ -238,6 +238,29 @@ typedef struct np_range {
     uint64_t start, length, offset;
 } np_range;
 
+/* Reads a mask of nodes as mbind(2) and set_mempolicy(2) do: of `mask` the bits below `maxnode` - 1,
+ * bit n % 64 of word n / 64 for node n; no mask is the empty set. NP_LIST_TOO_HIGH where a bit from
+ * 256 on is 1 (EINVAL, of a number that a kernel can't have), and where `maxnode` is 0 or above
+ * 32,769 (EINVAL). Then `nodes` is as it was. (These few lines are in the header, and not proved.) */
+static inline uint32_t np_nodes_of(const unsigned long *mask, unsigned long maxnode,
+                                   np_nodes *nodes)
+{
+    const unsigned long bits = 8 * sizeof *mask;
+    np_nodes found = {{0, 0, 0, 0}};
+    unsigned long node;
+    if (mask && maxnode - 1 > 32768)
+        return NP_LIST_TOO_HIGH;
+    for (node = 0; mask && node < maxnode - 1; node++) {
+        if (!(mask[node / bits] >> node % bits & 1))
+            continue;
+        if (node >= 256)
+            return NP_LIST_TOO_HIGH;
+        found.words[node / 64] |= (uint64_t)1 << node % 64;
+    }
+    *nodes = found;
+    return NP_OK;
+}
+
 /* (the library's own sizes are proved where the types are written) */
 #if defined(__cplusplus) && __cplusplus >= 201103L
 static_assert(sizeof(np_core) == 16 && sizeof(np_plan) == 16, "a handle");
@@ -306,7 +329,7 @@ uint32_t np_core_unmap(np_core *core, uint64_t start, uint64_t length);
 /* Gives the pages of a span a policy of their own (mbind(2)): a word as "interleave=static:0-3", by
  * name (default, prefer, bind, interleave, local, many, weighted), flags and nodes. "default" takes
  * the policy away. A faulty word is answered first, even for a closed handle: 60 to 63, 70
- * to 74. */
+ * to 74; but by the kernel's rules no bytes are bound before 72 to 74 are looked for. */
 uint32_t np_core_mbind(np_core *core, uint64_t start, uint64_t length, const uint8_t *policy,
                        size_t policy_length);
 
@@ -316,18 +339,42 @@ uint32_t np_core_mbind(np_core *core, uint64_t start, uint64_t length, const uin
 uint32_t np_core_mbind_by(np_core *core, uint64_t start, uint64_t length, uint32_t mode,
                           const np_nodes *nodes);
 
-/* Gives a task its policy (set_mempolicy(2)); as np_core_mbind. */
+/* The same by a mask as mbind(2) takes it; as np_nodes_of answers of it first. */
+static inline uint32_t np_core_mbind_mask(np_core *core, uint64_t start, uint64_t length,
+                                          uint32_t mode, const unsigned long *mask,
+                                          unsigned long maxnode)
+{
+    np_nodes nodes;
+    uint32_t code = np_nodes_of(mask, maxnode, &nodes);
+    return code ? code : np_core_mbind_by(core, start, length, mode, &nodes);
+}
+
+/* Gives a task its policy (set_mempolicy(2)); a faulty word is answered as by np_core_mbind. */
 uint32_t np_core_set_task(np_core *core, uint32_t task, const uint8_t *policy,
                           size_t policy_length);
 
 /* The same by set_mempolicy(2)'s own words; as np_core_mbind_by. */
 uint32_t np_core_set_task_by(np_core *core, uint32_t task, uint32_t mode, const np_nodes *nodes);
 
+/* The same by a mask as set_mempolicy(2) takes it; as np_nodes_of answers of it first. */
+static inline uint32_t np_core_set_task_mask(np_core *core, uint32_t task, uint32_t mode,
+                                             const unsigned long *mask, unsigned long maxnode)
+{
+    np_nodes nodes;
+    uint32_t code = np_nodes_of(mask, maxnode, &nodes);
+    return code ? code : np_core_set_task_by(core, task, mode, &nodes);
+}
+
 /* Gives a task the policy that another has, or none, as a new thread has its maker's (clone(2)). */
 uint32_t np_core_inherit(np_core *core, uint32_t task, uint32_t from);
 
 /* Gives the policies of a span's pages a home node (set_mempolicy_home_node(2)). */
 uint32_t np_core_set_home(np_core *core, uint64_t start, uint64_t length, uint32_t node);
+
+/* The same by set_mempolicy_home_node(2)'s own words. First of all, even for a closed handle,
+ * NP_FLAGS_FORBIDDEN where `flags` isn't 0. */
+uint32_t np_core_home_by(np_core *core, uint64_t start, uint64_t length, uint64_t node,
+                         uint64_t flags);
 
 /* Gives a node its weight for weighted interleaving, from 1 to 255. */
 uint32_t np_core_set_weight(np_core *core, uint32_t node, uint32_t weight);
@@ -504,6 +551,12 @@ uint32_t np_script_answer(np_script *script, uint8_t *answer, size_t room, size_
  * many bytes it has (at most 32) to `length`. NP_NO_ROOM as above; NP_UNKNOWN where no answer has
  * this number. */
 uint32_t np_answer_name(uint32_t code, uint8_t *name, size_t room, size_t *length);
+
+/* Writes what an answer says in words, and what to do, as "a page of the span is mapped already;
+ * unmap it first" for NP_OVERLAP, at the start of `words`, and how many bytes that are (at most 160)
+ * to `length`: what Python and Rust say after the name. NP_NO_ROOM as above; NP_UNKNOWN. A later
+ * version may say it in other words. */
+uint32_t np_answer_words(uint32_t code, uint8_t *words, size_t room, size_t *length);
 
 /* Writes the error number that Linux gives for the cause of an answer (errno(3)): EINVAL,
  * ENOMEM, EEXIST, EFAULT, ENOSPC, EOPNOTSUPP or ENOENT for what mmap(2), mbind(2),

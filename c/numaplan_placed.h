@@ -106,10 +106,15 @@ uint32_t np_pages_unmap(np_pages *pages, uint64_t start, uint64_t length);
 
 uint32_t np_pages_mbind(np_pages *pages, uint64_t start, uint64_t length, const uint8_t *policy,
                         size_t policy_length);
+uint32_t np_pages_mbind_by(np_pages *pages, uint64_t start, uint64_t length, uint32_t mode,
+                           const np_nodes *nodes);
 uint32_t np_pages_set_task(np_pages *pages, uint32_t task, const uint8_t *policy,
                            size_t policy_length);
+uint32_t np_pages_set_task_by(np_pages *pages, uint32_t task, uint32_t mode, const np_nodes *nodes);
 uint32_t np_pages_inherit(np_pages *pages, uint32_t task, uint32_t from);
 uint32_t np_pages_set_home(np_pages *pages, uint64_t start, uint64_t length, uint32_t node);
+uint32_t np_pages_home_by(np_pages *pages, uint64_t start, uint64_t length, uint64_t node,
+                          uint64_t flags);
 uint32_t np_pages_set_weight(np_pages *pages, uint32_t node, uint32_t weight);
 
 /* The pages stay where they lie, as in a cpuset of cgroup v1 without memory_migrate. */
@@ -123,6 +128,10 @@ uint32_t np_pages_set_mems(np_pages *pages, const uint8_t *nodes, size_t nodes_l
  * first hole. */
 uint32_t np_pages_mbind_strictly(np_pages *pages, uint64_t start, uint64_t length,
                                  const uint8_t *policy, size_t policy_length);
+
+/* The same by mbind(2)'s own words, as np_core_mbind_by takes them. */
+uint32_t np_pages_mbind_strictly_by(np_pages *pages, uint64_t start, uint64_t length, uint32_t mode,
+                                    const np_nodes *nodes);
 
 /* ---- where pages lie, and how many more a node takes: NP_CLOSED first */
 
@@ -206,6 +215,11 @@ uint32_t np_pages_move(np_pages *pages, uint64_t address, uint32_t node);
 uint32_t np_pages_mbind_moving(np_pages *pages, uint64_t start, uint64_t length,
                                const uint8_t *policy, size_t policy_length, bool strict,
                                uint32_t task, uint32_t cpu, np_bound *bound);
+
+/* The same by mbind(2)'s own words, as np_core_mbind_by takes them. */
+uint32_t np_pages_mbind_moving_by(np_pages *pages, uint64_t start, uint64_t length, uint32_t mode,
+                                  const np_nodes *nodes, bool strict, uint32_t task, uint32_t cpu,
+                                  np_bound *bound);
 
 #ifdef __cplusplus
 }

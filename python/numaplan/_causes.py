@@ -281,7 +281,7 @@ class NodesForbidden(Refused, ValueError):
 
 class FlagsForbidden(Refused, ValueError):
     number = 73
-    words = ("local takes no flag, nor does prefer without a list; leave it out, or name nodes")
+    words = ("local takes no flag, nor does prefer without a list, nor a home; leave it out, or name nodes")
 
 
 class NodesMissing(Refused, ValueError):

@@ -229,6 +229,12 @@ class Core(CoreReports):
         self._call("core_set_home", u64("start", start), u64("length", length),
               u32("node", node))
 
+    def home_by(self, start: int, length: int, node: int, flags: int = 0) -> None:
+        """The same by set_mempolicy_home_node(2)'s own words; raises FlagsForbidden where `flags`
+        isn't 0."""
+        self._call("core_home_by", u64("start", start), u64("length", length), u64("node", node),
+                   u64("flags", flags))
+
     def set_weight(self, node: int, weight: int) -> None:
         """Gives a node its weight for weighted interleaving, from 1 to 255."""
         self._call("core_set_weight", u32("node", node), u32("weight", weight))

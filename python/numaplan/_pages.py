@@ -5,7 +5,7 @@ from __future__ import annotations
 from ctypes import byref, c_size_t, c_uint32, c_uint64
 from typing import TYPE_CHECKING, NamedTuple, overload
 
-from ._calls import encoded
+from ._calls import encoded, node_set
 from ._causes import NoRoom, NotPlaced
 from ._cores import Core, by_node
 from ._judged import Nodes, Numbers, ensure, list_of, places_for, u8, u32, u64, u64s_to_read
@@ -119,9 +119,21 @@ class Pages(Owner):
         name = "pages_mbind_strictly" if strict else "pages_mbind"
         self._call(name, u64("start", start), u64("length", length), *encoded("policy", policy))
 
+    def mbind_by(self, start: int, length: int, mode: int, nodes: Nodes = (), *,
+                 strict: bool = False) -> None:
+        """The same by mbind(2)'s own words, a mode with its flag in it and nodes; as Core.mbind_by."""
+        name = "pages_mbind_strictly_by" if strict else "pages_mbind_by"
+        self._call(name, u64("start", start), u64("length", length), u32("mode", mode),
+                   byref(node_set("nodes", nodes)))
+
     def set_task(self, task: int, policy: str) -> None:
         """Gives a task its policy (set_mempolicy(2)); "default" takes it away."""
         self._call("pages_set_task", u32("task", task), *encoded("policy", policy))
+
+    def set_task_by(self, task: int, mode: int, nodes: Nodes = ()) -> None:
+        """The same by set_mempolicy(2)'s own words, as mbind_by takes them."""
+        self._call("pages_set_task_by", u32("task", task), u32("mode", mode),
+                   byref(node_set("nodes", nodes)))
 
     def inherit(self, task: int, from_task: int) -> None:
         """Gives a task the policy that another has, or none, as a new thread has its maker's."""
@@ -132,6 +144,11 @@ class Pages(Owner):
         (set_mempolicy_home_node(2))."""
         self._call("pages_set_home", u64("start", start), u64("length", length),
              u32("node", node))
+
+    def home_by(self, start: int, length: int, node: int, flags: int = 0) -> None:
+        """The same by set_mempolicy_home_node(2)'s own words; as Core.home_by."""
+        self._call("pages_home_by", u64("start", start), u64("length", length), u64("node", node),
+                   u64("flags", flags))
 
     def set_weight(self, node: int, weight: int) -> None:
         """Gives a node its weight for weighted interleaving, from 1 to 255."""
@@ -247,6 +264,15 @@ class Pages(Owner):
         told = ToldBound()
         self._call("pages_mbind_moving", u64("start", start), u64("length", length),
              *encoded("policy", policy), strict, u32("task", task), u32("cpu", cpu), byref(told))
+        return Bound(told.moved, told.left, told.error)
+
+    def mbind_moving_by(self, start: int, length: int, mode: int, nodes: Nodes, task: int, cpu: int,
+                        *, strict: bool = False) -> Bound:
+        """The same by mbind(2)'s own words, a mode with its flag in it and nodes."""
+        told = ToldBound()
+        self._call("pages_mbind_moving_by", u64("start", start), u64("length", length),
+             u32("mode", mode), byref(node_set("nodes", nodes)), strict, u32("task", task),
+             u32("cpu", cpu), byref(told))
         return Bound(told.moved, told.left, told.error)
 
 

@@ -24,12 +24,12 @@ def want(got, wanted, what):
         wrong.append(f"{what}: {got}, not {wanted}")
 
 
-def name_in_library(number):
-    """The name that np_answer_name gives."""
+def in_library(call, number):
+    """The text that np_answer_name or np_answer_words gives."""
     library = ctypes.CDLL(os.path.join(os.path.dirname(numaplan.__file__),
                                        "../../../lib/libnumaplan.so.0"))
-    room, length = ctypes.create_string_buffer(32), ctypes.c_size_t()
-    code = library.np_answer_name(number, room, ctypes.c_size_t(32), ctypes.byref(length))
+    room, length = ctypes.create_string_buffer(160), ctypes.c_size_t()
+    code = library[call](number, room, ctypes.c_size_t(160), ctypes.byref(length))
     return room[:length.value].decode() if code == 0 else ""
 
 
@@ -65,7 +65,9 @@ def kind_of(name, number):
 # one class for each answer that is a failure
 causes = {number: cause.__name__ for number, cause in numaplan.CAUSES.items()}
 want(causes, dict(of_the_header()), "the causes")
-want(causes, {number: name_in_library(number) for number in causes}, "names in the library")
+want(causes, {number: in_library("np_answer_name", number) for number in causes}, "names in the library")
+want({number: str(cause()) for number, cause in numaplan.CAUSES.items()},
+     {number: in_library("np_answer_words", number) for number in causes}, "words in the library")
 for number, cause in numaplan.CAUSES.items():
     name, text = cause.__name__, str(cause())
     want(getattr(numaplan, name, None), cause, f"numaplan.{name}")

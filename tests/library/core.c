@@ -147,6 +147,68 @@ static void raw_words(void) {
     np_core_close(&core);
 }
 
+/* Masks by pointer and maxnode, as mbind(2)'s and set_mempolicy(2)'s get_nodes (mm/mempolicy.c) reads
+ * them: one bit less than maxnode says. */
+static void masks(void) {
+    static const unsigned long first[] = {2, 0}, full[] = {~0ul, ~0ul, ~0ul, ~0ul, 0, 0, 0, 0, 1};
+    const uint32_t bind = 2, fixed = 0x8000;
+    np_nodes nodes = {{9, 9, 9, 9}};
+    np_core core = {0};
+    np_policy policy;
+    WANT(np_nodes_of(first, 0, &nodes), NP_LIST_TOO_HIGH);
+    WANT(np_nodes_of(first, 32770, &nodes), NP_LIST_TOO_HIGH);
+    WANT(np_nodes_of(full, 514, &nodes), NP_LIST_TOO_HIGH);
+    WANT(nodes.words[0], 9);
+    WANT(np_nodes_of(full, 513, &nodes), NP_OK);
+    WANT(nodes.words[0] & nodes.words[1] & nodes.words[2] & nodes.words[3], UINT64_MAX);
+    WANT(np_nodes_of(full, 71, &nodes), NP_OK);
+    WANT(nodes.words[0], UINT64_MAX);
+    WANT(nodes.words[1], 63);
+    WANT(nodes.words[2] | nodes.words[3], 0);
+    WANT(np_nodes_of(first, 2, &nodes), NP_OK);
+    WANT(nodes.words[0], 0);
+    WANT(np_nodes_of(first, 3, &nodes), NP_OK);
+    WANT(nodes.words[0], 2);
+    WANT(np_nodes_of(first, 1, &nodes), NP_OK);
+    WANT(nodes.words[0] | nodes.words[1], 0);
+    WANT(np_nodes_of(NULL, 0, &nodes), NP_OK);
+    WANT(np_nodes_of(NULL, 70000, &nodes), NP_OK);
+    WANT(open_core(&core), NP_OK);
+    WANT(np_core_map(&core, 0x10000, 0x8000, 16), NP_OK);
+    WANT(np_core_mbind_mask(&core, 0x10000, 0x1000, bind | fixed, first, 65), NP_OK);
+    WANT(np_core_range_policy(&core, 0, &policy), NP_OK);
+    WANT(policy.mode, bind | fixed);
+    WANT(policy.asked.words[0], 2);
+    WANT(np_core_mbind_mask(&core, 0x10000, 0x1000, bind, first, 2), NP_NODES_MISSING);
+    WANT(np_core_mbind_mask(&core, 0x10000, 0x1000, bind, full, 514), NP_LIST_TOO_HIGH);
+    WANT(np_core_mbind_mask(&core, 0x10000, 0x1000, 0, NULL, 0), NP_OK);
+    WANT(np_core_set_task_mask(&core, 5, bind, first, 65), NP_OK);
+    WANT(np_core_task_policy(&core, 5, &policy), NP_OK);
+    WANT(policy.asked.words[0], 2);
+    WANT(np_core_set_task_mask(&core, 5, bind, first, 0), NP_LIST_TOO_HIGH);
+    np_core_close(&core);
+}
+
+/* Homes by the words of set_mempolicy_home_node(2), which takes no flags. */
+static void homes(void) {
+    const uint64_t high = (uint64_t)1 << 32;
+    np_core core = {0};
+    np_policy policy;
+    WANT(np_core_home_by(&core, 0x10000, 0x1000, 0, 1), NP_FLAGS_FORBIDDEN);
+    WANT(np_core_home_by(&core, 0x10000, 0x1000, 0, 0), NP_CLOSED);
+    WANT(open_core(&core), NP_OK);
+    WANT(np_core_map(&core, 0x10000, 0x8000, 16), NP_OK);
+    WANT(np_core_mbind(&core, 0x10000, 0x8000, TEXT("bind:0-1")), NP_OK);
+    WANT(np_core_home_by(&core, 0x10000, 0x1000, 1, high), NP_FLAGS_FORBIDDEN);
+    WANT(np_core_home_by(&core, 0x10000, 0x1000, 2, 0), NP_NO_SUCH_NODE);
+    WANT(np_core_home_by(&core, 0x10000, 0x1000, high, 0), NP_NO_SUCH_NODE);
+    WANT(np_core_home_by(&core, 0x10000, 0x1000, high + 1, 0), NP_NO_SUCH_NODE);
+    WANT(np_core_home_by(&core, 0x10000, 0x1000, 1, 0), NP_OK);
+    WANT(np_core_range_policy(&core, 0, &policy), NP_OK);
+    WANT(policy.home, 1);
+    np_core_close(&core);
+}
+
 /* Workers: two frames of node 0 and one of node 1; BIND falls back to no other node. */
 static void workers(void) {
     np_core core = {0};
@@ -314,6 +376,8 @@ int main(void) {
     machines();
     commands();
     raw_words();
+    masks();
+    homes();
     workers();
     plans();
     published();

@@ -56,6 +56,9 @@ with Core([2, 1], [[10, 20], [20, 10]], workers=2) as core:
         copy.set_task_by(1, 0)
         assert copy.task_policy(1) is None
         assert is_refused(numaplan.NodesMissing, copy.mbind_by, 0x20000, 0x2000, 3)
+        copy.home_by(0x20000, 0x2000, 0)
+        assert copy.policy_at(0x20000).home == 0
+        assert is_refused(numaplan.FlagsForbidden, copy.home_by, 0x20000, 0x2000, 0, 1)
     core.publish()
     with core.published_plan() as plan:
         core.mbind(0x20000, 0x1000, "bind:1")

@@ -27,10 +27,12 @@ fn main() -> Result<(), Refused> {
     copy.set_task_by(1, 1, &[1])?;
     assert_eq!(copy.task_policy(1).map(|policy| (policy.mode, policy.asked)), Some((1, vec![1])));
     assert_eq!(copy.set_task_by(1, 2, &[]), Err(Refused::NODES_MISSING));
+    copy.home_by(0x20000, 0x2000, 0, 0)?;
+    assert_eq!(copy.home_by(0x20000, 0x2000, 0, 1), Err(Refused::FLAGS_FORBIDDEN));
     assert_eq!(core.ranges()?, wanted);
     wanted[3].policy = Some("bind=static:1".to_owned());
     assert_eq!(copy.ranges()?, wanted);
-    assert_eq!((core.versions(), copy.versions()), ((3, 0), (5, 0)));
+    assert_eq!((core.versions(), copy.versions()), ((3, 0), (6, 0)));
     // more lines than the first room for a text has
     for k in 0..300 {
         copy.map(0x1000000 + k * 0x2000, 0x1000, 5)?;

@@ -688,7 +688,55 @@ static void causes(void) {
     WANT(np_answer_errno(110, &number), NP_UNKNOWN);
 }
 
+/* Commands by the system calls' own words do what those by text do; and an mbind of no bytes whose
+ * mode, flag and nodes don't go together is refused by the documents alone, whatever way it is told. */
+static void by_words(uint32_t rules) {
+    static const np_nodes none = {{0, 0, 0, 0}}, one = {{2, 0, 0, 0}}, two = {{6, 0, 0, 0}};
+    const uint32_t bind = 2, local = 4, relative = 0x4000;
+    const uint32_t code = rules == NP_RULES_LINUX ? NP_OK : NP_FLAGS_FORBIDDEN;
+    np_pages pages = {0};
+    np_core core = {0};
+    np_policy policy;
+    np_bound bound = {9, 9, 9};
+    WANT(np_pages_mbind_by(&pages, BASE, 0x1000, bind, &none), NP_NODES_MISSING);
+    WANT(np_pages_home_by(&pages, BASE, 0x1000, 1, 2), NP_FLAGS_FORBIDDEN);
+    WANT(np_pages_mbind_by(&pages, BASE, 0x1000, bind, &one), NP_CLOSED);
+    open_pages_by(&pages, 64, 99, rules);
+    place_all(&pages, "112299");
+    WANT(np_pages_mbind_by(&pages, BASE, 0x4000, bind, &two), NP_OK);
+    WANT(np_pages_mbind_strictly_by(&pages, BASE, 0x3000, bind, &one), NP_ASTRAY);
+    WANT(np_pages_mbind_strictly_by(&pages, BASE, 0x3000, bind, &two), NP_OK);
+    WANT(np_pages_mbind_moving_by(&pages, BASE, 0x3000, bind, &none, false, 1, 0, &bound),
+         NP_NODES_MISSING);
+    WANT(bound.moved, 9);
+    WANT(np_pages_mbind_moving_by(&pages, BASE, 0x3000, bind, &one, false, 1, 0, &bound), NP_OK);
+    WANT(bound.moved, 1);
+    WANT(nodes_of(&pages), 7111299);
+    WANT(np_pages_home_by(&pages, BASE, 0x3000, 1, 0), NP_OK);
+    WANT(np_pages_set_task_by(&pages, 7, bind, &none), NP_NODES_MISSING);
+    WANT(np_pages_set_task_by(&pages, 7, bind | relative, &one), NP_OK);
+    WANT(np_pages_mbind(&pages, BASE, 0, TEXT("local=relative")), code);
+    WANT(np_pages_mbind_by(&pages, BASE, 0, local | relative, &none), code);
+    WANT(np_pages_mbind_strictly(&pages, BASE, 0, TEXT("local=relative")), code);
+    WANT(np_pages_mbind_strictly_by(&pages, BASE, 0, local | relative, &none), code);
+    WANT(np_pages_mbind_moving(&pages, BASE, 0, TEXT("local=relative"), true, 1, 0, &bound), code);
+    WANT(np_pages_mbind_moving_by(&pages, BASE, 0, local | relative, &none, true, 1, 0, &bound),
+         code);
+    WANT(nodes_of(&pages), 7111299);
+    WANT(np_pages_core(&pages, &core), NP_OK);
+    WANT(np_core_range_policy(&core, 0, &policy), NP_OK);
+    WANT(policy.mode, bind);
+    WANT(policy.asked.words[0], 2);
+    WANT(policy.home, 1);
+    WANT(np_core_task_policy(&core, 7, &policy), NP_OK);
+    WANT(policy.mode, bind | relative);
+    np_core_close(&core);
+    np_pages_close(&pages);
+}
+
 int main(void) {
+    by_words(NP_RULES_DOCUMENT);
+    by_words(NP_RULES_LINUX);
     statements();
     arrays();
     followed();

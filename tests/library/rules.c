@@ -103,6 +103,50 @@ static void refusals(void) {
     np_core_close(&kernel);
 }
 
+/* An mbind of no bytes whose mode, flag and nodes don't go together: a kernel returns before it looks
+ * at them together, but judges each by itself before that. A faulty policy of a closed handle is
+ * told by no kernel's rules. */
+static void empty_binds(void) {
+    static const np_nodes none = {{0, 0, 0, 0}}, two = {{2, 0, 0, 0}};
+    static const struct {
+        const char *policy;
+        uint32_t mode, code, kernels;
+        const np_nodes *nodes;
+    } asked[] = {
+        {"local=relative", LOCAL | RELATIVE, NP_FLAGS_FORBIDDEN, NP_OK, &none},
+        {"local:1", LOCAL, NP_NODES_FORBIDDEN, NP_OK, &two},
+        {"bind", BIND, NP_NODES_MISSING, NP_OK, &none},
+        {"bind=static=relative:1", BIND | STATIC | RELATIVE, NP_BOTH_FLAGS, NP_BOTH_FLAGS, &two},
+        {"bend:1", 7, NP_UNKNOWN_MODE, NP_UNKNOWN_MODE, &two},
+    };
+    np_core document = {0}, kernel = {0}, closed = {0};
+    uint64_t accepted, published;
+    open_by(&document, NP_RULES_DOCUMENT);
+    open_by(&kernel, NP_RULES_LINUX);
+    for (size_t k = 0; k < sizeof asked / sizeof *asked; k++) {
+        const uint8_t *policy = (const uint8_t *)asked[k].policy;
+        const size_t length = strlen(asked[k].policy);
+        const uint32_t mode = asked[k].mode, code = asked[k].code, kernels = asked[k].kernels;
+        const np_nodes *nodes = asked[k].nodes;
+        WANT(np_core_mbind(&document, 0x10000, 0, policy, length), code);
+        WANT(np_core_mbind_by(&document, 0x10000, 0, mode, nodes), code);
+        WANT(np_core_mbind(&closed, 0x10000, 0, policy, length), code);
+        WANT(np_core_mbind_by(&closed, 0x10000, 0, mode, nodes), code);
+        WANT(np_core_mbind(&kernel, 0x10000, 0, policy, length), kernels);
+        WANT(np_core_mbind_by(&kernel, 0x10000, 0, mode, nodes), kernels);
+        WANT(np_core_mbind(&kernel, 0x10000, 1, policy, length), code);
+        WANT(np_core_mbind_by(&kernel, 0x10000, 1, mode, nodes), code);
+        WANT(np_core_mbind(&kernel, 0x10001, 0, policy, length), kernels ? kernels : NP_UNALIGNED);
+    }
+    WANT(np_core_mbind(&kernel, 0x10000, 0, TEXT("bind:x")), NP_LIST_BAD_DIGIT);
+    WANT(np_core_versions(&kernel, &accepted, &published), NP_OK);
+    WANT(accepted, 7); /* (the map, and six of no bytes) */
+    WANT(np_core_versions(&document, &accepted, &published), NP_OK);
+    WANT(accepted, 1);
+    np_core_close(&document);
+    np_core_close(&kernel);
+}
+
 /* Numbers that the header lacks, and in which order causes are told. */
 static void options(void) {
     np_core core = {0};
@@ -322,6 +366,7 @@ int main(void) {
     prefers(NP_RULES_DOCUMENT, 0x8, 3);
     prefers(NP_RULES_LINUX, 0x2, 2);
     refusals();
+    empty_binds();
     options();
     orders();
     scripts();

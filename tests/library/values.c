@@ -189,6 +189,30 @@ static void as_words(const char *constant, char *name) {
     *name = 0;
 }
 
+/* The words of an answer: some where it has a name, and in no room that is too small. */
+static void words_of(uint32_t number, bool known) {
+    static const char unmap[] = "a page of the span is mapped already; unmap it first";
+    uint8_t words[160];
+    size_t length = 999, needed;
+    memset(words, '?', sizeof words);
+    WANT(np_answer_words(number, words, sizeof words, &length), known ? NP_OK : NP_UNKNOWN);
+    if (!known) {
+        WANT(length, 999);
+        WANT(words[0], '?');
+        return;
+    }
+    WANT(length > 5 && length <= sizeof words && words[length - 1] != '.', true);
+    needed = length;
+    memset(words, '?', sizeof words);
+    WANT(np_answer_words(number, words, needed - 1, &length), NP_NO_ROOM);
+    WANT(length, needed);
+    WANT(words[0], '?');
+    if (number == NP_OVERLAP) {
+        WANT(np_answer_words(number, words, needed, &length), NP_OK);
+        WANT(needed == strlen(unmap) && memcmp(words, unmap, needed) == 0, true);
+    }
+}
+
 /* Each name and number of the header, and no other number below 200. */
 static void names(const char *path) {
     char constant[64], wanted[64], known[200][64] = {{0}};
@@ -211,6 +235,7 @@ static void names(const char *path) {
         }
         if (needed)
             WANT(np_answer_name(number, name, needed - 1, &length), NP_NO_ROOM);
+        words_of(number, needed != 0);
     }
     if (file)
         fclose(file);

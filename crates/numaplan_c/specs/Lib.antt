@@ -2,6 +2,7 @@ pub mod Codes
 pub mod Compared
 pub mod Explanations
 pub mod Border
+pub mod Bound
 pub mod Hosts
 pub mod Options
 pub mod Questions
@@ -17,3 +18,4 @@ pub mod Pools
 pub mod Predictions
 pub mod Reports
 pub mod Version
+pub mod Words

@@ -3,14 +3,16 @@ ghost use Rattle.std.specs.Prelude.{◌≡◌, MatchOption};
 ghost use Rattle.numa_mask.specs.Lists.{list_of};
 ghost use Rattle.numa_mask.specs.Words.{number_of};
 ghost use Rattle.numa_mode.specs.Policy.{raw_specification};
-ghost use Rattle.numa_script.specs.Policies.{policy_of};
+ghost use Rattle.numa_script.specs.Policies.{policy_of, spec_or_fault};
 ghost use Rattle.numa_requests.specs.declared.event.Event.{Event};
 ghost use Rattle.numa_machine.specs.declared.page_size.PageSize.{PageSize};
 ghost use Rattle.numa_requests.specs.declared.command.Command.{Command};
 ghost use Rattle.numaplan_c.specs.Border.{Answers, AnswersRead, Places, Touched, Tried};
+ghost use Rattle.numaplan_c.specs.Bound.{bound_spec, home_of, rules_in};
 ghost use Rattle.numaplan_c.specs.Codes.{answer_code, list_code, spec_code, word_code};
 ghost use Rattle.numaplan_handles.specs.Handles.{core_in};
 
+use crate::binding::{home_of, spec_for, worded};
 use crate::codes::{Code, answer_code, list_code, spec_code, word_code};
 use crate::keeping::{if_open, or_return};
 use crate::nodes::NpNodes;
@@ -91,10 +93,14 @@ pub extern "C" fn np_core_mbind(
     length: u64,
     policy: &[u8],
 ) -> u32
-    ensures { AnswersRead (policy_of policy.now) word_code (λ spec. Command.Mbind start length spec)
-        (core_in core.old) result (core_in core.new) }
+    ensures { AnswersRead (bound_spec (rules_in (core_in core.old)) length (policy_of policy.now))
+        word_code (λ spec. Command.Mbind start length spec) (core_in core.old) result
+        (core_in core.new) }
 {
-    let spec = or_return!(read_policy(policy), word_code);
+    let spec = or_return!(
+        spec_for(alloc, core, length, read_policy(policy)),
+        word_code
+    );
     accept!(alloc, core => Mbind { start, length, spec })
 }
 
@@ -108,11 +114,13 @@ pub extern "C" fn np_core_mbind_by(
     mode: u32,
     nodes: &NpNodes,
 ) -> u32
-    ensures { AnswersRead (raw_specification mode (number_of nodes.now.words)) spec_code
+    ensures { AnswersRead (bound_spec (rules_in (core_in core.old)) length
+        (spec_or_fault (raw_specification mode (number_of nodes.now.words)))) word_code
         (λ spec. Command.Mbind start length spec) (core_in core.old) result (core_in core.new) }
 {
     let asked = NodeMask::from_words(nodes.words);
-    let spec = or_return!(PolicySpec::from_raw(mode, asked), spec_code);
+    let said = worded(PolicySpec::from_raw(mode, asked));
+    let spec = or_return!(spec_for(alloc, core, length, said), word_code);
     accept!(alloc, core => Mbind { start, length, spec })
 }
 
@@ -169,6 +177,23 @@ pub extern "C" fn np_core_set_home(
     ensures { Answers (core_in core.old) (Event.Accept (Command.SetHome start length node)) result
         (core_in core.new) }
 {
+    accept!(alloc, core => SetHome { start, length, node })
+}
+
+/// The same by set_mempolicy_home_node(2)'s own words.
+#[unsafe(no_mangle)]
+pub extern "C" fn np_core_home_by(
+    alloc: Global,
+    core: &mut CoreHandle,
+    start: u64,
+    length: u64,
+    node: u64,
+    flags: u64,
+) -> u32
+    ensures { AnswersRead (home_of node flags) spec_code
+        (λ home. Command.SetHome start length home) (core_in core.old) result (core_in core.new) }
+{
+    let node = or_return!(home_of(node, flags), spec_code);
     accept!(alloc, core => SetHome { start, length, node })
 }
 

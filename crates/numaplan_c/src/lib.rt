@@ -6,6 +6,7 @@
 #![tactic(auto)]
 
 mod asking;
+mod binding;
 mod codes;
 mod core_texts;
 mod differences;
@@ -39,3 +40,4 @@ mod standing;
 mod texts;
 mod there;
 mod version;
+mod words;

@@ -110,8 +110,8 @@ static LATE_NAMES: [(u32, &[u8]); 19] = [
     (109, b"SpanUnmapped"),
 ];
 
-/// The name of a code in a table, empty if it has none.
-fn name_in(names: &[(u32, &'static [u8])], code: u32) -> &'static [u8]
+/// The text of a code in a table, empty if it has none.
+pub(crate) fn name_in(names: &[(u32, &'static [u8])], code: u32) -> &'static [u8]
     ensures { result.now ≡ name_in (map row_of names.now) code }
 {
     for row in names {

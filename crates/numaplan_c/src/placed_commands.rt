@@ -2,16 +2,22 @@
 ghost use Rattle.numa_machine.specs.declared.page_size.PageSize.{PageSize};
 ghost use Rattle.numa_mask.specs.Lists.{list_of};
 ghost use Rattle.numa_pages.specs.Changes.{Accepts, BindsStrictly};
-ghost use Rattle.numa_script.specs.Policies.{policy_of};
+ghost use Rattle.numa_mask.specs.Words.{number_of};
+ghost use Rattle.numa_mode.specs.Policy.{raw_specification};
+ghost use Rattle.numa_script.specs.Policies.{policy_of, spec_or_fault};
 ghost use Rattle.numa_requests.specs.declared.command.Command.{Command};
-ghost use Rattle.numaplan_c.specs.Codes.{list_code, word_code};
+ghost use Rattle.numaplan_c.specs.Bound.{bound_spec, home_of, page_rules_in};
+ghost use Rattle.numaplan_c.specs.Codes.{list_code, spec_code, word_code};
 ghost use Rattle.numaplan_c.specs.Placed.{PagesAnswer, PagesAnswerRead, change_code};
+ghost use Rattle.numaplan_handles.specs.Handles.{pages_in};
 
-use crate::codes::{list_code, word_code};
+use crate::binding::{home_of, spec_of_pages, worded};
+use crate::codes::{list_code, spec_code, word_code};
 use crate::keeping::{if_open, or_return};
+use crate::nodes::NpNodes;
 use crate::placed_codes::changed_code;
 use numa_machine::PageSize;
-use numa_mask::read_list;
+use numa_mask::{NodeMask, read_list};
 use numa_mode::PolicySpec;
 use numa_requests::Command;
 use numa_script::policy::read_policy;
@@ -69,10 +75,38 @@ pub extern "C" fn np_pages_mbind(
     length: u64,
     policy: &[u8],
 ) -> u32
-    ensures { PagesAnswerRead (policy_of policy.now) word_code change_code
+    ensures { PagesAnswerRead (bound_spec (page_rules_in (pages_in pages.old)) length
+        (policy_of policy.now)) word_code change_code
         (λ spec. Accepts (Command.Mbind start length spec)) pages.old result pages.new }
 {
-    let spec = or_return!(read_policy(policy), word_code);
+    let spec = or_return!(
+        spec_of_pages(alloc, pages, length, read_policy(policy)),
+        word_code
+    );
+    let command = Command::Mbind {
+        start,
+        length,
+        spec,
+    };
+    accept(alloc, pages, command)
+}
+
+/// The same by a mode word and a set of nodes.
+#[unsafe(no_mangle)]
+pub extern "C" fn np_pages_mbind_by(
+    alloc: Global,
+    pages: &mut PagesHandle,
+    start: u64,
+    length: u64,
+    mode: u32,
+    nodes: &NpNodes,
+) -> u32
+    ensures { PagesAnswerRead (bound_spec (page_rules_in (pages_in pages.old)) length
+        (spec_or_fault (raw_specification mode (number_of nodes.now.words)))) word_code change_code
+        (λ spec. Accepts (Command.Mbind start length spec)) pages.old result pages.new }
+{
+    let said = worded(PolicySpec::from_raw(mode, NodeMask::from_words(nodes.words)));
+    let spec = or_return!(spec_of_pages(alloc, pages, length, said), word_code);
     let command = Command::Mbind {
         start,
         length,
@@ -97,10 +131,33 @@ pub extern "C" fn np_pages_mbind_strictly(
     length: u64,
     policy: &[u8],
 ) -> u32
-    ensures { PagesAnswerRead (policy_of policy.now) word_code change_code
+    ensures { PagesAnswerRead (bound_spec (page_rules_in (pages_in pages.old)) length
+        (policy_of policy.now)) word_code change_code (BindsStrictly start length) pages.old result
+        pages.new }
+{
+    let spec = or_return!(
+        spec_of_pages(alloc, pages, length, read_policy(policy)),
+        word_code
+    );
+    bind(alloc, pages, start, length, spec)
+}
+
+/// The same by a mode word and a set of nodes.
+#[unsafe(no_mangle)]
+pub extern "C" fn np_pages_mbind_strictly_by(
+    alloc: Global,
+    pages: &mut PagesHandle,
+    start: u64,
+    length: u64,
+    mode: u32,
+    nodes: &NpNodes,
+) -> u32
+    ensures { PagesAnswerRead (bound_spec (page_rules_in (pages_in pages.old)) length
+        (spec_or_fault (raw_specification mode (number_of nodes.now.words)))) word_code change_code
         (BindsStrictly start length) pages.old result pages.new }
 {
-    let spec = or_return!(read_policy(policy), word_code);
+    let said = worded(PolicySpec::from_raw(mode, NodeMask::from_words(nodes.words)));
+    let spec = or_return!(spec_of_pages(alloc, pages, length, said), word_code);
     bind(alloc, pages, start, length, spec)
 }
 
@@ -116,6 +173,23 @@ pub extern "C" fn np_pages_set_task(
         (λ spec. Accepts (Command.SetTask task spec)) pages.old result pages.new }
 {
     let spec = or_return!(read_policy(policy), word_code);
+    accept(alloc, pages, Command::SetTask { task, spec })
+}
+
+/// The same by a mode word and a set of nodes.
+#[unsafe(no_mangle)]
+pub extern "C" fn np_pages_set_task_by(
+    alloc: Global,
+    pages: &mut PagesHandle,
+    task: u32,
+    mode: u32,
+    nodes: &NpNodes,
+) -> u32
+    ensures { PagesAnswerRead (raw_specification mode (number_of nodes.now.words)) spec_code
+        change_code (λ spec. Accepts (Command.SetTask task spec)) pages.old result pages.new }
+{
+    let asked = NodeMask::from_words(nodes.words);
+    let spec = or_return!(PolicySpec::from_raw(mode, asked), spec_code);
     accept(alloc, pages, Command::SetTask { task, spec })
 }
 
@@ -145,6 +219,28 @@ pub extern "C" fn np_pages_set_home(
     ensures { PagesAnswer change_code (Accepts (Command.SetHome start length node)) pages.old
         result pages.new }
 {
+    let command = Command::SetHome {
+        start,
+        length,
+        node,
+    };
+    accept(alloc, pages, command)
+}
+
+/// The same by set_mempolicy_home_node(2)'s own words.
+#[unsafe(no_mangle)]
+pub extern "C" fn np_pages_home_by(
+    alloc: Global,
+    pages: &mut PagesHandle,
+    start: u64,
+    length: u64,
+    node: u64,
+    flags: u64,
+) -> u32
+    ensures { PagesAnswerRead (home_of node flags) spec_code change_code
+        (λ home. Accepts (Command.SetHome start length home)) pages.old result pages.new }
+{
+    let node = or_return!(home_of(node, flags), spec_code);
     let command = Command::SetHome {
         start,
         length,

@@ -3,17 +3,23 @@ ghost use Rattle.std.specs.Prelude.{◌≡◌, MatchResult};
 ghost use Rattle.numa_mask.specs.Lists.{list_of};
 ghost use Rattle.numa_pages.specs.Changes.{BindsMoving, Limits, Migrates, MovesMems, MovesPage};
 ghost use Rattle.numa_pages.specs.Changes.{Places};
-ghost use Rattle.numa_script.specs.Policies.{policy_of};
+ghost use Rattle.numa_mask.specs.Words.{number_of};
+ghost use Rattle.numa_mode.specs.Policy.{raw_specification};
+ghost use Rattle.numa_script.specs.Policies.{policy_of, spec_or_fault};
+ghost use Rattle.numaplan_c.specs.Bound.{bound_spec, page_rules_in};
 ghost use Rattle.numaplan_c.specs.Codes.{list_code, word_code};
 ghost use Rattle.numaplan_c.specs.Placed.{PagesAnswer, PagesBind, PagesMove, PagesTouch};
 ghost use Rattle.numaplan_c.specs.Placed.{TellsArrived, TellsBound, TellsMoved, change_code};
 ghost use Rattle.numaplan_c.specs.Placed.{move_code, placed_code};
 ghost use Rattle.numaplan_handles.specs.Handles.{pages_in};
 
+use crate::binding::{spec_of_pages, worded};
 use crate::codes::{list_code, word_code};
 use crate::keeping::{if_open, or_return};
+use crate::nodes::NpNodes;
 use crate::placed_codes::{changed_code, moved_code, set_code};
 use numa_mask::{NodeMask, read_list};
+use numa_mode::PolicySpec;
 use numa_page_state::{Arrived, Rebinding, Toucher};
 use numa_pages::{ChangeRefusal, Rebound};
 use numa_placed::Moved;
@@ -256,13 +262,48 @@ pub extern "C" fn np_pages_mbind_moving(
     cpu: u32,
     bound: &mut NpBound,
 ) -> u32
-    ensures { MatchResult (policy_of policy.now) (λ spec. PagesBind
+    ensures { MatchResult (bound_spec (page_rules_in (pages_in pages.old)) length
+        (policy_of policy.now)) (λ spec. PagesBind
         (BindsMoving start length spec strict task cpu) pages.old result pages.new bound.old
         bound.new)
         (λ fault. (result ≡ word_code fault) × (pages_in pages.new ≡ pages_in pages.old)
         × (bound.new ≡ bound.old)) }
 {
-    let spec = or_return!(read_policy(policy), word_code);
+    let spec = or_return!(
+        spec_of_pages(alloc, pages, length, read_policy(policy)),
+        word_code
+    );
+    let said = Rebinding {
+        start,
+        length,
+        spec,
+    };
+    rebind(alloc, pages, said, strict, Toucher { task, cpu }, bound)
+}
+
+/// The same by a mode word and a set of nodes.
+#[unsafe(no_mangle)]
+pub extern "C" fn np_pages_mbind_moving_by(
+    alloc: Global,
+    pages: &mut PagesHandle,
+    start: u64,
+    length: u64,
+    mode: u32,
+    nodes: &NpNodes,
+    strict: bool,
+    task: u32,
+    cpu: u32,
+    bound: &mut NpBound,
+) -> u32
+    ensures { MatchResult (bound_spec (page_rules_in (pages_in pages.old)) length
+        (spec_or_fault (raw_specification mode (number_of nodes.now.words)))) (λ spec. PagesBind
+        (BindsMoving start length spec strict task cpu) pages.old result pages.new bound.old
+        bound.new)
+        (λ fault. (result ≡ word_code fault) × (pages_in pages.new ≡ pages_in pages.old)
+        × (bound.new ≡ bound.old)) }
+{
+    let asked = worded(PolicySpec::from_raw(mode, NodeMask::from_words(nodes.words)));
+    let spec = or_return!(spec_of_pages(alloc, pages, length, asked), word_code);
     let said = Rebinding {
         start,
         length,

@@ -2,6 +2,7 @@
 use Rattle.std.specs.Prelude.{◌≡◌, ◌≤◌, ◌<◌, ℕ, Option, Some, List, length, slice_get}
 use Rattle.std.specs.List.{AllWithin}
 use Rattle.numa_core.specs.Standing.{CoreState}
+use Rattle.numa_machine.specs.declared.rules.Rules.{Rules}
 use Rattle.numa_mode.specs.Policy.{PolicyRecord}
 use Rattle.numa_ranges.specs.Runs.{end_of}
 use Rattle.numa_ranges.specs.declared.run.Run.{Run}
@@ -43,6 +44,10 @@ HasTaskPolicy kept task found = (core : CoreState) → kept ≡ Some core →
     (found ≡ record_of core.space.tasks task)
     × ((history : List Command) → StandsFor core.space history
     → found ≡ task_record core.space.machine history task)
+
+-- these are the rules by which the core goes
+abbrev pub HasRules : Option CoreState → Rules → Type 0
+HasRules kept rules = (core : CoreState) → kept ≡ Some core → rules ≡ core.space.machine.rules
 
 -- the text lists the ranges for a task, with these placements
 abbrev pub HasListing : Option CoreState → ℕ → Kept → List ℕ → Type 0

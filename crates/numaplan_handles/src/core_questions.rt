@@ -8,7 +8,7 @@ ghost use Rattle.numa_space.specs.Standing.{StandsFor};
 ghost use Rattle.numa_requests.specs.declared.command.Command.{Command};
 ghost use Rattle.numaplan_handles.specs.Handles.{core_in};
 ghost use Rattle.numaplan_handles.specs.Asked.{HasRanges, HasRangeAt, HasListing, HasPlaceOf};
-ghost use Rattle.numaplan_handles.specs.Asked.{HasTaskPolicy};
+ghost use Rattle.numaplan_handles.specs.Asked.{HasRules, HasTaskPolicy};
 ghost use Rattle.numaplan_handles.specs.Calls.{Asks, IsShared};
 ghost use Rattle.numaplan_handles.specs.Kinds.{core_of, is_core};
 ghost use Rattle.numaplan_handles.specs.Steps.{Publishes};
@@ -19,7 +19,7 @@ use crate::kept::Kept;
 use crate::search::place_of;
 use numa_core::Core;
 use numa_lines::Watched;
-use numa_machine::NoMemory;
+use numa_machine::{NoMemory, Rules};
 use numa_maps::{Resident, write_maps};
 use numa_mode::Record;
 use numa_plan::Plan;
@@ -129,6 +129,13 @@ impl CoreHandle {
             (core_in self.new) }
     {
         of_kept!(self.handle, alloc, kept => place_of(core_kept(&kept).space(), page))
+    }
+
+    /// The rules by which the core goes. `None` if the handle is closed.
+    pub fn rules(&mut self, alloc: Global) -> Option<Rules>
+        ensures { Asks (HasRules (core_in self.old)) (core_in self.old) result (core_in self.new) }
+    {
+        of_kept!(self.handle, alloc, kept => core_kept(&kept).space().machine().rules())
     }
 
     /// The policy of a task, or no policy. `None` if the handle is closed.

@@ -9,7 +9,7 @@ ghost use Rattle.numaplan_handles.specs.Pages.{HasRuns, TellsOf};
 
 use crate::handle::of_kept;
 use crate::pages_handle::{PagesHandle, pages_kept};
-use numa_machine::NoMemory;
+use numa_machine::{NoMemory, Rules};
 use numa_pages::{PageRun, Pages, list_runs};
 use numa_placed::Placed;
 use numa_requests::PlacedRefusal;
@@ -66,6 +66,14 @@ impl PagesHandle {
             (pages_in self.old)) (pages_in self.old) result (pages_in self.new) }
     {
         of_kept!(self.handle, alloc, kept => pages_kept(&kept).core().space().version())
+    }
+
+    /// The rules by which the core goes. `None` if the handle is closed.
+    pub fn rules(&mut self, alloc: Global) -> Option<Rules>
+        ensures { Asks (λ rules. TellsOf (λ pages. rules ≡ pages.core.space.machine.rules)
+            (pages_in self.old)) (pages_in self.old) result (pages_in self.new) }
+    {
+        of_kept!(self.handle, alloc, kept => pages_kept(&kept).core().space().machine().rules())
     }
 
     /// The node on which a page lies, if it lies on one. `None` if the handle is closed.

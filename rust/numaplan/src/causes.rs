@@ -119,7 +119,7 @@ causes! {
     72 NODES_FORBIDDEN "NodesForbidden"
         "default and local take no list; leave it out";
     73 FLAGS_FORBIDDEN "FlagsForbidden"
-        "local takes no flag, nor does prefer without a list; leave it out, or name nodes";
+        "local takes no flag, nor does prefer without a list, nor a home; leave it out, or name nodes";
     74 NODES_MISSING "NodesMissing"
         "the policy wants nodes; name them after a colon";
     75 NO_POLICY "NoPolicy"

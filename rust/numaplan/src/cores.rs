@@ -172,7 +172,8 @@ impl Core {
     /// # Errors
     /// `LIST_EMPTY` to `LIST_TOO_HIGH` and `UNKNOWN_MODE` to `NODES_MISSING` for a faulty word;
     /// `COMMANDS_SPENT`, `UNALIGNED`, `OUT_OF_SPACE`, `HOLE`, `NODES_NOT_ALLOWED`,
-    /// `TOO_MANY_RANGES`, `NO_MEMORY`; by the kernel's rules `BAD_SPAN`.
+    /// `TOO_MANY_RANGES`, `NO_MEMORY`; by the kernel's rules `BAD_SPAN`, and no bytes are bound before
+    /// `NODES_FORBIDDEN` to `NODES_MISSING` are looked for.
     pub fn mbind(&mut self, start: u64, length: u64, policy: &str) -> Result<(), Refused> {
         let text = policy.as_bytes();
         done(unsafe {
@@ -246,6 +247,20 @@ impl Core {
     /// `TOO_MANY_RANGES`, `NO_MEMORY`; by the kernel's rules `BAD_SPAN` and `NO_POLICY_THERE`.
     pub fn set_home(&mut self, start: u64, length: u64, node: u32) -> Result<(), Refused> {
         done(unsafe { raw::np_core_set_home(&mut self.0, start, length, node) })
+    }
+
+    /// The same by set_mempolicy_home_node(2)'s own words.
+    ///
+    /// # Errors
+    /// `FLAGS_FORBIDDEN` where `flags` isn't 0, else as [`Core::set_home`].
+    pub fn home_by(
+        &mut self,
+        start: u64,
+        length: u64,
+        node: u64,
+        flags: u64,
+    ) -> Result<(), Refused> {
+        done(unsafe { raw::np_core_home_by(&mut self.0, start, length, node, flags) })
     }
 
     /// Publishes all accepted commands.

@@ -2,6 +2,7 @@
 
 use crate::calls::done;
 use crate::raw::{self, Counts, Handle, ToldArrived, ToldBound, ToldMoves};
+use crate::values::set_of;
 use crate::{Core, PageRun, Refused};
 
 /// The room of a node that never fills (NP_ENDLESS).
@@ -161,6 +162,36 @@ impl Pages {
         })
     }
 
+    /// `mbind` by mbind(2)'s own words, as [`Core::mbind_by`] takes them.
+    ///
+    /// # Errors
+    /// As [`Core::mbind_by`].
+    pub fn mbind_by(
+        &mut self,
+        start: u64,
+        length: u64,
+        mode: u32,
+        nodes: &[u8],
+    ) -> Result<(), Refused> {
+        let nodes = set_of(nodes);
+        done(unsafe { raw::np_pages_mbind_by(&mut self.0, start, length, mode, &nodes) })
+    }
+
+    /// `mbind_strictly` by mbind(2)'s own words, as [`Core::mbind_by`] takes them.
+    ///
+    /// # Errors
+    /// `ASTRAY`, else as [`Core::mbind_by`].
+    pub fn mbind_strictly_by(
+        &mut self,
+        start: u64,
+        length: u64,
+        mode: u32,
+        nodes: &[u8],
+    ) -> Result<(), Refused> {
+        let nodes = set_of(nodes);
+        done(unsafe { raw::np_pages_mbind_strictly_by(&mut self.0, start, length, mode, &nodes) })
+    }
+
     /// Gives a task its policy.
     ///
     /// # Errors
@@ -168,6 +199,15 @@ impl Pages {
     pub fn set_task(&mut self, task: u32, policy: &str) -> Result<(), Refused> {
         let text = policy.as_bytes();
         done(unsafe { raw::np_pages_set_task(&mut self.0, task, text.as_ptr(), text.len()) })
+    }
+
+    /// The same by set_mempolicy(2)'s own words, as [`Core::mbind_by`] takes them.
+    ///
+    /// # Errors
+    /// As [`Core::set_task_by`].
+    pub fn set_task_by(&mut self, task: u32, mode: u32, nodes: &[u8]) -> Result<(), Refused> {
+        let nodes = set_of(nodes);
+        done(unsafe { raw::np_pages_set_task_by(&mut self.0, task, mode, &nodes) })
     }
 
     /// Gives a task the policy that another has, or none, as a new thread has its maker's.
@@ -184,6 +224,20 @@ impl Pages {
     /// As [`Core::set_home`].
     pub fn set_home(&mut self, start: u64, length: u64, node: u32) -> Result<(), Refused> {
         done(unsafe { raw::np_pages_set_home(&mut self.0, start, length, node) })
+    }
+
+    /// The same by set_mempolicy_home_node(2)'s own words.
+    ///
+    /// # Errors
+    /// As [`Core::home_by`].
+    pub fn home_by(
+        &mut self,
+        start: u64,
+        length: u64,
+        node: u64,
+        flags: u64,
+    ) -> Result<(), Refused> {
+        done(unsafe { raw::np_pages_home_by(&mut self.0, start, length, node, flags) })
     }
 
     /// Gives a node its weight for weighted interleaving.
@@ -362,6 +416,38 @@ impl Pages {
                 length,
                 text.as_ptr(),
                 text.len(),
+                strict,
+                task,
+                cpu,
+                &mut told,
+            )
+        })?;
+        Ok(Bound { moved: told.moved, left: told.left, errno: told.error })
+    }
+
+    /// `mbind_moving` by mbind(2)'s own words, as [`Core::mbind_by`] takes them.
+    ///
+    /// # Errors
+    /// As [`Core::mbind_by`]; `TOO_MANY_RUNS`.
+    #[allow(clippy::too_many_arguments)]
+    pub fn mbind_moving_by(
+        &mut self,
+        start: u64,
+        length: u64,
+        mode: u32,
+        nodes: &[u8],
+        strict: bool,
+        task: u32,
+        cpu: u32,
+    ) -> Result<Bound, Refused> {
+        let (mut told, nodes) = (ToldBound::default(), set_of(nodes));
+        done(unsafe {
+            raw::np_pages_mbind_moving_by(
+                &mut self.0,
+                start,
+                length,
+                mode,
+                &nodes,
                 strict,
                 task,
                 cpu,

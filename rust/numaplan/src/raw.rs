@@ -239,6 +239,7 @@ extern "C" {
     pub(crate) fn np_core_set_task_by(core: &mut Handle, task: u32, mode: u32, nodes: &Nodes) -> u32;
     pub(crate) fn np_core_inherit(core: &mut Handle, task: u32, from: u32) -> u32;
     pub(crate) fn np_core_set_home(core: &mut Handle, start: u64, length: u64, node: u32) -> u32;
+    pub(crate) fn np_core_home_by(core: &mut Handle, start: u64, length: u64, node: u64, flags: u64) -> u32;
     pub(crate) fn np_core_set_weight(core: &mut Handle, node: u32, weight: u32) -> u32;
     pub(crate) fn np_core_set_mems(core: &mut Handle, nodes: *const u8, nodes_length: usize) -> u32;
     pub(crate) fn np_core_publish(core: &mut Handle) -> u32;
@@ -330,6 +331,11 @@ extern "C" {
     pub(crate) fn np_pages_unmap(pages: &mut Handle, start: u64, length: u64) -> u32;
     pub(crate) fn np_pages_mbind(pages: &mut Handle, start: u64, length: u64, policy: *const u8, policy_length: usize) -> u32;
     pub(crate) fn np_pages_mbind_strictly(pages: &mut Handle, start: u64, length: u64, policy: *const u8, policy_length: usize) -> u32;
+    pub(crate) fn np_pages_mbind_by(pages: &mut Handle, start: u64, length: u64, mode: u32, nodes: &Nodes) -> u32;
+    pub(crate) fn np_pages_mbind_strictly_by(pages: &mut Handle, start: u64, length: u64, mode: u32, nodes: &Nodes) -> u32;
+    pub(crate) fn np_pages_mbind_moving_by(pages: &mut Handle, start: u64, length: u64, mode: u32, nodes: &Nodes, strict: bool, task: u32, cpu: u32, bound: &mut ToldBound) -> u32;
+    pub(crate) fn np_pages_set_task_by(pages: &mut Handle, task: u32, mode: u32, nodes: &Nodes) -> u32;
+    pub(crate) fn np_pages_home_by(pages: &mut Handle, start: u64, length: u64, node: u64, flags: u64) -> u32;
     pub(crate) fn np_pages_set_task(pages: &mut Handle, task: u32, policy: *const u8, policy_length: usize) -> u32;
     pub(crate) fn np_pages_inherit(pages: &mut Handle, task: u32, from: u32) -> u32;
     pub(crate) fn np_pages_set_home(pages: &mut Handle, start: u64, length: u64, node: u32) -> u32;

@@ -1,0 +1,39 @@
+-- The policies of calls of mbind.
+use Rattle.std.specs.Prelude.{ℕ, ◌==◌, ◌&&◌, min, if◌then◌else◌, Option, Some, None, Result, Ok, Err}
+use Rattle.numa_core.specs.Standing.{CoreState}
+use Rattle.numa_machine.specs.Rules.{is_linux}
+use Rattle.numa_machine.specs.declared.rules.Rules.{Rules}
+use Rattle.numa_machine.specs.declared.rules.Rules.TheVariants.{Document}
+use Rattle.numa_mode.specs.Policy.{Specification}
+use Rattle.numa_mode.specs.declared.modes.Mode.TheVariants.{Default}
+use Rattle.numa_mode.specs.declared.modes.NodeFlag.TheVariants.{Plain}
+use Rattle.numa_mode.specs.declared.specification.SpecError.{SpecError}
+use Rattle.numa_mode.specs.declared.specification.SpecError.TheVariants.{FlagsForbidden}
+use Rattle.numa_pages.specs.Changes.{PagesState}
+use Rattle.numa_script.specs.Policies.{waits_for_pages}
+use Rattle.numa_script.specs.declared.policy.WordError.{WordError}
+
+-- no policy
+abbrev pub default_spec : Specification
+default_spec = record { mode = Default; flag = Plain; mask = 0 }
+
+-- what an mbind of so many bytes sets for a policy that was read: by the kernel's rules a length of
+-- 0 is judged before mode, flag and nodes together are, and then nothing is bound
+abbrev pub bound_spec : Rules → ℕ → Result Specification WordError → Result Specification WordError
+bound_spec rules bytes (Ok spec) = Ok spec
+bound_spec rules bytes (Err fault) =
+    if bytes == 0 && waits_for_pages fault && is_linux rules then Ok default_spec else Err fault
+
+-- the node that a set_mempolicy_home_node(2) asks for, which takes no flags: numbers that don't fit
+-- are those of no node
+abbrev pub home_of : ℕ → ℕ → Result ℕ SpecError
+home_of node flags = if flags == 0 then Ok (min node 4294967295) else Err FlagsForbidden
+
+-- the rules of what a handle keeps; a closed one has none of its own
+abbrev pub rules_in : Option CoreState → Rules
+rules_in None = Document
+rules_in (Some core) = core.space.machine.rules
+
+abbrev pub page_rules_in : Option PagesState → Rules
+page_rules_in None = Document
+page_rules_in (Some pages) = pages.core.space.machine.rules
