@@ -33,8 +33,7 @@
  * What a call takes and answers, a struct's fields and what a number means change by a major number
  * alone, but for faults, which CHANGELOG tells.
  *
- * Memory comes from malloc, realloc and free by three functions in libnumaplan.a, which a program
- * that is linked with it can supply itself: numaplan_memory.h declares them. */
+ * Memory comes from malloc, realloc and free, or by np_config from functions of the caller's. */
 #ifndef NUMAPLAN_H
 #define NUMAPLAN_H
 
@@ -274,6 +273,25 @@ _Static_assert(sizeof(np_limits) == 12 && sizeof(np_placement) == 32, "a struct"
 _Static_assert(sizeof(np_counts) == 2048 && sizeof(np_range) == 24, "a struct");
 _Static_assert(sizeof(np_options) == 40 && sizeof(np_policy) == 72, "a struct");
 #endif
+
+/* ---- memory. A call that doesn't name NP_NO_MEMORY among its answers wants none; a command that
+ * never answers that needs none */
+
+/* By which functions the library gets memory and gives it back. Each is given `context`. The first
+ * two answer a null pointer where they refuse, and else memory that is aligned as malloc's is;
+ * realloc keeps what is there, and where it refuses leaves it; no length is 0. Threads call them at
+ * once, as they call the library, which they don't call themselves. */
+typedef struct np_memory {
+    void *(*alloc)(void *context, size_t length);
+    void *(*realloc)(void *context, void *at, size_t length);
+    void (*free)(void *context, void *at);
+    void *context;
+} np_memory;
+
+/* Takes these in place of malloc, realloc and free, for all handles. It is to come before any other
+ * call, and before threads make some: NP_OPEN where memory was wanted already, and nothing has
+ * changed. (Not proved.) */
+uint32_t np_config(const np_memory *memory);
 
 /* ---- opening and closing */
 

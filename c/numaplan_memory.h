@@ -1,6 +1,7 @@
 /* numaplan_memory.h: the three functions by which the library gets memory and gives it back, for C99
- * and C++. It has them over malloc, realloc and free. A program that is linked with libnumaplan.a and
- * defines all three has its own in their place; libnumaplan.so keeps the library's.
+ * and C++. It has them over those of np_config, or malloc, realloc and free. A program that is linked
+ * with libnumaplan.a, never calls np_config and defines all three has its own in their place;
+ * libnumaplan.so keeps the library's.
  *
  * `align` is 1, 2, 4, 8 or 16, and a length is below 2^63. Threads call them at once, since the
  * library has no lock. Where one refuses, the call of the library that wanted memory answers

@@ -9,14 +9,14 @@ name_library() {
     version=$(<"$top/VERSION") name=$stem.so.${version%%.*}
 }
 
-# link_library ARCHIVE FOLDER: makes archive and shared library in the folder. The archive has the
-# allocator's object of the kit. The shared library is STEM.so.0 to programs. What is proved is
+# link_library ARCHIVE FOLDER: makes archive and shared library in the folder, with c/numaplan_memory.c
+# in place of the kit's allocator. The shared library is STEM.so.0 to programs. What is proved is
 # compiled for x86-64-v2: on a processor of less the loader says so, and doesn't load it.
 link_library() {
-    local made=$1 to=$2/$stem kit needs=()
-    kit=$(dirname "$(rt doc | head -1)")
+    local made=$1 to=$2/$stem memory=$2/numaplan_memory.o needs=()
     [ "$kind" != library ] || needs=(-Wl,-z,x86-64-v2)
-    printf '%s\n' "create $to.a" "addlib $made" "addlib $kit/c/liblibc_c.a" save end | ar -M &&
+    "${CC:-cc}" -std=c11 -O2 -fPIC -c "$top/c/numaplan_memory.c" -o "$memory" &&
+        printf '%s\n' "create $to.a" "addlib $made" "addmod $memory" save end | ar -M &&
         "${CC:-cc}" -shared -o "$to.so" -Wl,--whole-archive "$to.a" -Wl,--no-whole-archive \
             "${needs[@]}" -Wl,-z,defs -Wl,--version-script="$top/c/exports.map" -Wl,-soname,"$name"
 }
