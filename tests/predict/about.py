@@ -65,7 +65,7 @@ def rows_of(text, form):
     return page.rows.splitlines()
 
 
-def wrapped(line, wide=116):
+def wrapped(line, wide=110):
     """The rows of a line that is added: a word that fits in a row isn't cut."""
     rows, row = [], ""
     for word in re.findall(r"[^ ]* |[^ ]+$", line):

@@ -16,7 +16,7 @@ const NODES: u32 = 16;
 /// The most lines that are told, and the most bytes in a row.
 const LINES: usize = 12;
 
-const WIDE: usize = 116;
+const WIDE: usize = 110;
 
 /// What an answer is of.
 #[derive(Clone, Copy)]
