@@ -75,11 +75,13 @@ pub enum ScriptJob {
         names: bool,
     },
     /// Replay the trace of the file `trace` after them, leniently. With `free` pages take room:
-    /// these nodes have so much, and the others never fill.
+    /// these nodes have so much, and the others never fill. With `mean` the mean distance is told
+    /// too.
     Replay {
         trace: Vec<String>,
         free: Vec<FreePages>,
         format: Format,
+        mean: bool,
         lenient: bool,
     },
     /// Play them, and answer the lines that are typed then.

@@ -1,5 +1,6 @@
 pub mod Closing
 pub mod Counted
+pub mod Farther
 pub mod Freed
 pub mod Hosts
 pub mod Phased

@@ -1,6 +1,7 @@
 pub mod Accesses
 pub mod Hosting
 pub mod HostReading
+pub mod Means
 pub mod Phases
 pub mod Placing
 pub mod PlanReading

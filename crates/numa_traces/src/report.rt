@@ -1,4 +1,5 @@
 //! The report of a replay, as text or JSON.
+use crate::form::ReplayForm;
 use crate::moments::{Moment, TakeRoute, has_between, moment_before, take_between};
 use crate::records::records_text;
 use crate::summary::Summary;
@@ -7,6 +8,7 @@ use numa_machine::Machine;
 use numa_sheets::{Format, Object, Written};
 use serde_json::Value;
 use std::alloc::{AllocError, Global};
+use std::num::nearest_u64_to_f64;
 
 /// Writes the parts of a summary. After it ran out of memory nothing more is written.
 trait Tell {
@@ -16,13 +18,19 @@ trait Tell {
     /// Writes each count that isn't 0, with its index: under the names of the list and of an entry,
     /// or in a format with both.
     fn tell_counts(&mut self, all: &str, one: &str, form: &[u8], counts: &[u64; 256]);
+
+    /// Writes the mean distance, in thousandths, if there is one.
+    fn tell_mean(&mut self, mean: Option<u64>);
 }
 
-/// Writes the summary of a task, or the total.
-fn tell_summary<T: Tell>(teller: &mut T, said: &Summary) {
+/// Writes the summary of a task, or the total, with the mean distance or without.
+fn tell_summary<T: Tell>(teller: &mut T, said: &Summary, has_mean: bool) {
     teller.tell_number("accesses", said.accesses);
     teller.tell_counts("nodes", "node", b" N$=$", &said.nodes);
     teller.tell_counts("distances", "distance", b" D$=$", &said.distances);
+    if has_mean {
+        teller.tell_mean(said.mean());
+    }
     teller.tell_number("placed", said.placed);
     teller.tell_number("exhausted", said.exhausted);
     teller.tell_number("unserved", said.unserved);
@@ -42,6 +50,15 @@ impl Tell for Written {
                 self.put_form(form, &[number as u64, counts[number]]);
             }
         }
+    }
+
+    fn tell_mean(&mut self, mean: Option<u64>) {
+        let Some(mean) = mean else {
+            return;
+        };
+        let part = mean % 1000;
+        let digits = [mean / 1000, part / 100, part / 10 % 10, part % 10];
+        self.put_form(b" mean=$.$$$", &digits);
     }
 }
 
@@ -88,15 +105,28 @@ impl Tell for Object {
     fn tell_counts(&mut self, all: &str, one: &str, _form: &[u8], counts: &[u64; 256]) {
         self.put(all, count_values(self.alloc(), one, counts));
     }
+
+    fn tell_mean(&mut self, mean: Option<u64>) {
+        let value = match mean {
+            Some(mean) => Value::from(nearest_u64_to_f64(mean) / 1000.0),
+            None => Value::Null,
+        };
+        self.put("mean", Ok(value));
+    }
 }
 
 /// The object of a task, or of the total.
-fn summary_text(alloc: Global, task: Option<u32>, said: &Summary) -> Result<Vec<u8>, AllocError> {
+fn summary_text(
+    alloc: Global,
+    task: Option<u32>,
+    said: &Summary,
+    has_mean: bool,
+) -> Result<Vec<u8>, AllocError> {
     let mut object = Object::new(alloc);
     if let Some(task) = task {
         object.put_number("task", task as u64);
     }
-    tell_summary(&mut object, said);
+    tell_summary(&mut object, said, has_mean);
     match object.made() {
         Ok(value) => value.to_vec(alloc),
         Err(fault) => Err(fault),
@@ -104,16 +134,16 @@ fn summary_text(alloc: Global, task: Option<u32>, said: &Summary) -> Result<Vec<
 }
 
 /// Writes the object of a task, or of the total.
-fn say_object(written: &mut Written, task: Option<u32>, said: &Summary) {
-    match summary_text(written.alloc(), task, said) {
+fn say_object(written: &mut Written, task: Option<u32>, said: &Summary, has_mean: bool) {
+    match summary_text(written.alloc(), task, said, has_mean) {
         Ok(object) => written.put(object.as_slice()),
         Err(_) => written.lack(),
     }
 }
 
 /// Writes the rest of the line of a task, or of the total.
-fn say_line(written: &mut Written, said: &Summary) {
-    tell_summary(written, said);
+fn say_line(written: &mut Written, said: &Summary, has_mean: bool) {
+    tell_summary(written, said, has_mean);
     written.put(b"\n");
 }
 
@@ -146,7 +176,7 @@ fn begin_phase(written: &mut Written, text: Option<&[u8]>) {
 #[derive(Drop)]
 struct Sheet<'a> {
     machine: &'a Machine,
-    format: Format,
+    form: ReplayForm,
     // Whether accesses are told by task.
     by_task: bool,
     written: Written,
@@ -173,10 +203,10 @@ impl TakeRoute for Sheet<'_> {
 
 impl<'a> Sheet<'a> {
     /// The state before the first phase.
-    fn new(alloc: Global, machine: &'a Machine, format: Format, by_task: bool) -> Sheet<'a> {
+    fn new(alloc: Global, machine: &'a Machine, form: ReplayForm, by_task: bool) -> Sheet<'a> {
         Sheet {
             machine,
-            format,
+            form,
             by_task,
             written: Written::new(alloc),
             task: None,
@@ -188,7 +218,7 @@ impl<'a> Sheet<'a> {
 
     /// Whether the report is of objects.
     fn has_objects(&self) -> bool {
-        match self.format {
+        match self.form.format {
             Format::Json | Format::Html(_) => true,
             _ => false,
         }
@@ -199,16 +229,16 @@ impl<'a> Sheet<'a> {
         let Some(task) = self.task else {
             return;
         };
-        let has_objects = self.has_objects();
+        let (has_objects, has_mean) = (self.has_objects(), self.form.has_mean);
         let written = &mut self.written;
         if has_objects {
             written.put(self.before.as_bytes());
             self.before = ",\n";
-            say_object(written, Some(task), &self.of_task);
+            say_object(written, Some(task), &self.of_task, has_mean);
             return;
         }
         written.put_form(b"task $", &[task as u64]);
-        say_line(written, &self.of_task);
+        say_line(written, &self.of_task, has_mean);
     }
 
     /// Begins a phase, or all of them, before the first task.
@@ -224,18 +254,18 @@ impl<'a> Sheet<'a> {
     /// Writes the total.
     fn end(&mut self) {
         self.end_task();
-        let has_objects = self.has_objects();
+        let (has_objects, has_mean) = (self.has_objects(), self.form.has_mean);
         let written = &mut self.written;
         if !has_objects {
             written.put(b"total");
-            say_line(written, &self.of_all);
+            say_line(written, &self.of_all, has_mean);
             return;
         }
         if self.by_task {
             written.put(b"\n],");
         }
         written.put(b"\"total\":");
-        say_object(written, None, &self.of_all);
+        say_object(written, None, &self.of_all, has_mean);
     }
 
     /// Writes what was counted between two moments.
@@ -342,8 +372,9 @@ pub(crate) fn place_of(machine: &Machine, cpu: u32, node: Option<u8>) -> Option<
 
 /// The report of what was counted of one process, by phase where a trace has marks, by task and in
 /// total: the accesses by the page's node and by its distance from the CPU's node, the faults that
-/// placed a page and those that found no frame, and the accesses that therefore went nowhere. As
-/// CSV it has a record for each route of each phase. The machine is that of the replay.
+/// placed a page and those that found no frame, and the accesses that therefore went nowhere, and
+/// the mean distance if it is wanted. As CSV it has a record for each route of each phase. The
+/// machine is that of the replay.
 ///
 /// # Errors
 /// `AllocError`: out of memory.
@@ -351,12 +382,12 @@ pub fn report_text(
     alloc: Global,
     machine: &Machine,
     moments: &[Moment<'_>],
-    format: Format,
+    form: ReplayForm,
 ) -> Result<Vec<u8>, AllocError> {
-    if let Format::Csv = format {
+    if let Format::Csv = form.format {
         return records_text(alloc, machine, moments);
     }
-    let mut sheet = Sheet::new(alloc, machine, format, true);
+    let mut sheet = Sheet::new(alloc, machine, form, true);
     sheet.say(moments);
     sheet.written.take()
 }
@@ -371,12 +402,12 @@ pub fn total_text(
     alloc: Global,
     machine: &Machine,
     moments: &[Moment<'_>],
-    format: Format,
+    form: ReplayForm,
 ) -> Result<Vec<u8>, AllocError> {
-    if let Format::Csv = format {
+    if let Format::Csv = form.format {
         return Ok(Vec::new(alloc));
     }
-    let mut sheet = Sheet::new(alloc, machine, format, false);
+    let mut sheet = Sheet::new(alloc, machine, form, false);
     sheet.say_all(moments);
     sheet.written.take()
 }

@@ -1,4 +1,5 @@
 //! Sums of the accesses of a task, or of all.
+use crate::mean::mean_of;
 use crate::tallies::AccessCounts;
 
 /// The accesses of a task, or of all.
@@ -43,5 +44,10 @@ impl Summary {
         self.nodes[node] = self.nodes[node].saturating_add(tally.accesses);
         self.distances[far] = self.distances[far].saturating_add(tally.accesses);
         self.placed = self.placed.saturating_add(tally.faults);
+    }
+
+    /// The mean distance of the accesses that went to a page, in thousandths; `None` without any.
+    pub(crate) fn mean(&self) -> Option<u64> {
+        mean_of(&self.distances)
     }
 }

@@ -7,7 +7,8 @@ use numa_sheets::{Format, Touch};
 use numa_space::Space;
 use numa_subjects::{Halt, Subject};
 use numa_traces::{
-    Moment, PlanReplay, Replay, Replaying, Tallies, moments_of, placed_text, report_text,
+    Moment, PlanReplay, Replay, ReplayForm, Replaying, Tallies, moments_of, placed_text,
+    report_text,
 };
 use std::alloc::Global;
 
@@ -57,11 +58,11 @@ pub(crate) fn report_in(
     planned: Planned<'_>,
     replay: &Replay,
     moments: &[Moment<'_>],
-    format: Format,
+    form: ReplayForm,
 ) -> Result<Vec<u8>, Halt> {
     let (space, plan) = (planned.space, planned.plan);
-    let text = report_text(alloc, space.machine(), moments, format)?;
-    let Format::Html(number) = format else {
+    let text = report_text(alloc, space.machine(), moments, form)?;
+    let Format::Html(number) = form.format else {
         return Ok(text);
     };
     let data = data_of(alloc, space, plan, replay, text.as_slice(), number);
@@ -78,7 +79,7 @@ pub(crate) fn met(
     alloc: Global,
     planned: Planned<'_>,
     replaying: &Replaying<PlanReplay<'_>>,
-    format: Format,
+    form: ReplayForm,
 ) -> Result<Vec<u8>, Halt> {
     if let Some((place, fault)) = replaying.fault() {
         return Err(Halt::BadAccess(place, fault));
@@ -88,8 +89,9 @@ pub(crate) fn met(
         return Err(Halt::NothingServed);
     }
     let moments = moments_of(alloc, &trace.replay, trace.marks.as_slice())?;
-    let text = report_in(alloc, planned, &trace.replay, moments.as_slice(), format);
+    let text = report_in(alloc, planned, &trace.replay, moments.as_slice(), form);
     drop(moments);
+    let format = form.format;
     let text = shown_as(alloc, format, "replay", text?)?;
     let about = About::of(Subject::One(planned.space), None, &[]);
     told_of(alloc, format, &about, text)

@@ -9,7 +9,8 @@ use numa_sheets::Format;
 use numa_space::Space;
 use numa_subjects::{Halt, Subject, differ, host_in};
 use numa_traces::{
-    HostReplay, HostTrace, PlanReplay, Replaying, moments_in, moments_of_all, read_by, total_text,
+    HostReplay, HostTrace, PlanReplay, ReplayForm, Replaying, moments_in, moments_of_all, read_by,
+    total_text,
 };
 use std::alloc::{AllocError, Global};
 use std::io::Read;
@@ -118,15 +119,15 @@ fn replayed_by<S: Read + Drop>(
     other: Option<Planned<'_>>,
     process: Option<u32>,
     trace: Vec<(String, S)>,
-    format: Format,
+    form: ReplayForm,
 ) -> Result<Replayed, Halt> {
     let begun = both_begun(alloc, planned, other, process);
     let both = read_whole(alloc, begun, trace)?;
-    let text = met(alloc, planned, &both.first, format);
+    let text = met(alloc, planned, &both.first, form);
     let is_other = match (other, &both.other) {
         (Some(other), Some(replaying)) => {
-            let own = met(alloc, planned, &both.first, Format::Text);
-            differ(own, met(alloc, other, replaying, Format::Text))
+            let own = met(alloc, planned, &both.first, form.with(Format::Text));
+            differ(own, met(alloc, other, replaying, form.with(Format::Text)))
         }
         _ => false,
     };
@@ -141,10 +142,10 @@ fn replayed_beside<S: Read + Drop>(
     other: Option<Unplanned<'_>>,
     process: Option<u32>,
     trace: Vec<(String, S)>,
-    format: Format,
+    form: ReplayForm,
 ) -> Result<Replayed, Halt> {
     let Some(Unplanned { space, ground }) = other else {
-        return replayed_by(alloc, planned, None, process, trace, format);
+        return replayed_by(alloc, planned, None, process, trace, form);
     };
     let plan = match plan_of(alloc, space) {
         Ok(plan) => plan,
@@ -158,7 +159,7 @@ fn replayed_beside<S: Read + Drop>(
         plan: &plan,
         ground,
     };
-    let replayed = replayed_by(alloc, planned, Some(other), process, trace, format);
+    let replayed = replayed_by(alloc, planned, Some(other), process, trace, form);
     drop(plan);
     replayed
 }
@@ -171,7 +172,7 @@ fn replayed_in<S: Read + Drop>(
     other: Option<Unplanned<'_>>,
     process: Option<u32>,
     trace: Vec<(String, S)>,
-    format: Format,
+    form: ReplayForm,
 ) -> Result<Replayed, Halt> {
     let Unplanned { space, ground } = own;
     let plan = match plan_of(alloc, space) {
@@ -186,7 +187,7 @@ fn replayed_in<S: Read + Drop>(
         plan: &plan,
         ground,
     };
-    let replayed = replayed_beside(alloc, planned, other, process, trace, format);
+    let replayed = replayed_beside(alloc, planned, other, process, trace, form);
     drop(plan);
     replayed
 }
@@ -227,7 +228,7 @@ fn add_report<'a>(
     alloc: Global,
     process: &'a Process,
     trace: &'a HostTrace,
-    format: Format,
+    form: ReplayForm,
     answers: &mut ByProcess,
 ) -> Result<(), Halt> {
     let Some(one) = trace.replay.process(process.id) else {
@@ -239,7 +240,7 @@ fn add_report<'a>(
         plan: &one.plan,
         ground: FRAMES,
     };
-    let text = report_in(alloc, planned, &one.replay, moments.as_slice(), format);
+    let text = report_in(alloc, planned, &one.replay, moments.as_slice(), form);
     drop(moments);
     add_answer(answers, process, text)
 }
@@ -249,11 +250,11 @@ fn add_reports(
     alloc: Global,
     processes: &[Process],
     trace: &HostTrace,
-    format: Format,
+    form: ReplayForm,
     answers: &mut ByProcess,
 ) -> Result<(), Halt> {
     for process in processes {
-        add_report(alloc, process, trace, format, answers)?;
+        add_report(alloc, process, trace, form, answers)?;
     }
     Ok(())
 }
@@ -263,10 +264,10 @@ fn total_of(
     alloc: Global,
     host: &Host,
     trace: &HostTrace,
-    format: Format,
+    form: ReplayForm,
 ) -> Result<Vec<u8>, AllocError> {
     let moments = moments_of_all(alloc, trace)?;
-    let total = total_text(alloc, host.machine(), moments.as_slice(), format);
+    let total = total_text(alloc, host.machine(), moments.as_slice(), form);
     drop(moments);
     total
 }
@@ -276,14 +277,15 @@ fn reports(
     alloc: Global,
     host: &Host,
     trace: &HostTrace,
-    format: Format,
+    form: ReplayForm,
     answers: &mut ByProcess,
 ) -> Result<Vec<u8>, Halt> {
-    add_reports(alloc, host.processes(), trace, format, answers)?;
-    let total = total_of(alloc, host, trace, format)?;
+    add_reports(alloc, host.processes(), trace, form, answers)?;
+    let total = total_of(alloc, host, trace, form)?;
     answers.end_trace(total.as_slice());
     drop(total);
     let text = answers.take()?;
+    let format = form.format;
     let text = shown_as(alloc, format, "replay", text)?;
     let about = About::of(Subject::Each(host), None, &[]);
     told_of(alloc, format, &about, text)
@@ -308,7 +310,7 @@ fn met_in_each(
     host: &Host,
     ground: Ground<'_>,
     replaying: &Replaying<HostTrace>,
-    format: Format,
+    form: ReplayForm,
 ) -> Result<Vec<u8>, Halt> {
     if let Some((place, fault)) = replaying.fault() {
         return Err(Halt::BadAccess(place, fault));
@@ -316,8 +318,8 @@ fn met_in_each(
     if ground.room.is_some() && serve_nothing(replaying.replay()) {
         return Err(Halt::NothingServed);
     }
-    let mut answers = ByProcess::of_trace(alloc, format);
-    let text = reports(alloc, host, replaying.replay(), format, &mut answers);
+    let mut answers = ByProcess::of_trace(alloc, form.format);
+    let text = reports(alloc, host, replaying.replay(), form, &mut answers);
     drop(answers);
     text
 }
@@ -353,17 +355,17 @@ fn replayed_in_each<S: Read + Drop>(
     other: Option<&Host>,
     ground: Ground<'_>,
     trace: Vec<(String, S)>,
-    format: Format,
+    form: ReplayForm,
 ) -> Result<Replayed, Halt> {
     let begun = both_hosts_begun(alloc, host, other, ground);
     let both = read_whole(alloc, begun, trace)?;
-    let text = met_in_each(alloc, host, ground, &both.first, format);
+    let text = met_in_each(alloc, host, ground, &both.first, form);
     let is_other = match (other, &both.other) {
         (Some(other), Some(replaying)) => {
-            let own = met_in_each(alloc, host, ground, &both.first, Format::Text);
+            let own = met_in_each(alloc, host, ground, &both.first, form.with(Format::Text));
             differ(
                 own,
-                met_in_each(alloc, other, ground, replaying, Format::Text),
+                met_in_each(alloc, other, ground, replaying, form.with(Format::Text)),
             )
         }
         _ => false,
@@ -390,16 +392,16 @@ pub fn replayed_of<S: Read + Drop>(
     other: Option<Stage<'_>>,
     process: Option<u32>,
     trace: Vec<(String, S)>,
-    format: Format,
+    form: ReplayForm,
 ) -> Result<Replayed, Halt> {
     let ground = stage.ground;
     match stage.subject {
         Subject::One(space) => {
             let own = Unplanned { space, ground };
-            replayed_in(alloc, own, space_on(other), process, trace, format)
+            replayed_in(alloc, own, space_on(other), process, trace, form)
         }
         Subject::Each(host) => {
-            replayed_in_each(alloc, host, host_on(other), ground, trace, format)
+            replayed_in_each(alloc, host, host_on(other), ground, trace, form)
         }
     }
 }
@@ -420,6 +422,6 @@ pub fn replay_space<S: Read + Drop>(
         space,
         ground: FRAMES,
     };
-    let replayed = replayed_in(alloc, own, None, None, trace, format)?;
+    let replayed = replayed_in(alloc, own, None, None, trace, ReplayForm::plain(format))?;
     Ok(replayed.text)
 }

@@ -7,7 +7,7 @@ use numa_placed::Rooms;
 use numa_play::{Findings, Scripts, answer, other_subject, plain_by, play, subject_of};
 use numa_sheets::{Format, FreePages};
 use numa_subjects::{Ended, Halt, Subject, Twin};
-use numa_traces::{Before, has_frames, room_before};
+use numa_traces::{Before, ReplayForm, has_frames, room_before};
 use numa_what_if::{FRAMES, Ground, Replayed, Stage, replayed_of};
 use std::alloc::{AllocError, Global};
 use std::io::{Read, Write};
@@ -21,6 +21,8 @@ pub struct Traced<'a, S> {
     /// none are named pages take frames, or as much room as lines say if no node has a frame.
     pub free: &'a [FreePages],
     pub format: Format,
+    /// Whether the mean distance is told too, but in CSV.
+    pub has_mean: bool,
 }
 
 /// Where pages lie after the script of one process, if a machine is ready.
@@ -83,7 +85,7 @@ fn replayed_on_frames<S: Read + Drop, T: Write>(
     subject: Subject<'_>,
     process: Option<u32>,
     texts: Vec<(String, S)>,
-    format: Format,
+    form: ReplayForm,
 ) -> Result<Replayed, Halt> {
     let other = match other_subject(findings.other(), process) {
         Some(subject) => Some(Stage {
@@ -96,7 +98,7 @@ fn replayed_on_frames<S: Read + Drop, T: Write>(
         subject,
         ground: FRAMES,
     };
-    replayed_of(alloc, stage, other, process, texts, format)
+    replayed_of(alloc, stage, other, process, texts, form)
 }
 
 /// How much room nodes have before a trace, by the one and by the other rules.
@@ -131,7 +133,7 @@ fn replayed_in_room<'a, S: Read + Drop, T: Write>(
     process: Option<u32>,
     rooms: &'a BothRooms,
     texts: Vec<(String, S)>,
-    format: Format,
+    form: ReplayForm,
 ) -> Result<Replayed, Halt> {
     let other = Ground {
         before: before_other(findings.other()),
@@ -148,7 +150,7 @@ fn replayed_in_room<'a, S: Read + Drop, T: Write>(
         other,
         process,
         texts,
-        format,
+        form,
     )
 }
 
@@ -165,16 +167,18 @@ fn replayed_over<S: Read + Drop, T: Write>(
         texts,
         free,
         format,
+        has_mean,
     } = traced;
+    let form = ReplayForm { format, has_mean };
     let machine = machine_of(&subject);
     if free.is_empty() && has_frames(machine) {
-        return replayed_on_frames(alloc, findings, subject, process, texts, format);
+        return replayed_on_frames(alloc, findings, subject, process, texts, form);
     }
     let Ok(rooms) = rooms_of_both(alloc, machine, findings, free) else {
         drop(texts);
         return Err(Halt::Stopped(RunFault::Memory));
     };
-    let replayed = replayed_in_room(alloc, findings, subject, process, &rooms, texts, format);
+    let replayed = replayed_in_room(alloc, findings, subject, process, &rooms, texts, form);
     drop(rooms);
     replayed
 }

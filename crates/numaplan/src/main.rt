@@ -158,12 +158,14 @@ where
             trace,
             free,
             format,
+            mean,
             lenient,
         } => {
             let asked = TraceAsked {
                 files: trace.as_slice(),
                 free: free.as_slice(),
                 format: *format,
+                has_mean: *mean,
                 lenient: *lenient,
                 tells,
             };

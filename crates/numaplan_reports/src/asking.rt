@@ -189,6 +189,7 @@ pub fn replay(
         texts: traces,
         free: &[],
         format,
+        has_mean: false,
     };
     let ended = numa_words::replay(alloc, scripts, traced, Twin::None, &mut answer, &mut told);
     replay_of(alloc, answer, told, ended)

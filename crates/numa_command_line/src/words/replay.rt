@@ -1,4 +1,5 @@
-//! `numaplan replay --trace TRACE [--free NODE=PAGES,..] [FILE]..`: replays a trace of accesses.
+//! `numaplan replay --trace TRACE [--free NODE=PAGES,..] [--mean] [FILE]..`: replays a trace of
+//! accesses.
 ghost use Rattle.std.specs.Prelude.{codes};
 ghost use Rattle.numa_command_line.specs.Grammar.{IsReader, replay_arguments};
 ghost use Rattle.numa_command_line.specs.Grammar.{replay_formats};
@@ -36,6 +37,15 @@ number is in bytes",
     takes: Takes::Text,
 };
 
+/// The option `--mean`.
+const MEAN: Argument = Argument {
+    name: "mean",
+    value: "",
+    help: "Tells the mean distance of accesses too",
+    is_required: false,
+    takes: Takes::Nothing,
+};
+
 /// The help of the subcommand.
 static WORD: SubcommandHelp = SubcommandHelp {
     name: "replay",
@@ -49,10 +59,12 @@ examples/replayed.trace examples/interleaved-range.numaplan\n  ./numaplan replay
 page is placed yet: the first touch of a page places it on the first node of its list that \
 has a frame left, and later accesses go to where it lies. By task, and in total, it counts \
 the accesses by node (N0=) and by distance (D10=), the faults that placed a page (placed=) or \
-found no frame (exhausted=), and the accesses that these left unserved (unserved=).\n\nWith \
---free, and where no node has a frame (FRAMES 0), pages take room instead, as those of \
-`populate` do: the named nodes have so much and the others never fill, or nodes have what \
-lines `room` of the scripts left. Pages that lie somewhere after the scripts stay there.\n\nA \
+found no frame (exhausted=), and the accesses that these left unserved (unserved=). With \
+--mean it tells the mean distance of accesses that went to a page (mean=), to a \
+thousandth.\n\nWith --free, and where no node has a frame (FRAMES 0), pages take room \
+instead, as those of `populate` do: the named nodes have so much and the others never fill, \
+or nodes have what lines `room` of the scripts left. Pages that lie somewhere after the \
+scripts stay there.\n\nA \
 line of the trace is TASK ADDRESS CPU [COUNT], in decimal or 0x; empty lines and those that \
 begin with # are skipped. A line mark TEXT closes a phase: totals are given by phase and in \
 all. Of a host a line is in P TASK ADDRESS CPU [COUNT]: each process is answered for, and \
@@ -64,7 +76,9 @@ can't be replayed, and if pages take room and none finds any. If neither --rules
 says whose rules count, and a kernel's would give another answer, a line on standard error \
 says so.",
     reads_lines: true,
-    arguments: &[TRACE, FREE, PROCESS, REPLAYED, LARGEST, LENIENT, FILES],
+    arguments: &[
+        TRACE, FREE, MEAN, PROCESS, REPLAYED, LARGEST, LENIENT, FILES,
+    ],
 };
 
 /// The subcommand.
@@ -87,6 +101,7 @@ pub fn work(alloc: Global, matches: &ArgMatches<'_>) -> Result<ScriptJob, JobFau
         trace,
         free,
         format: format_in(matches),
+        mean: is_on(matches, "mean"),
         lenient: is_on(matches, "lenient"),
     })
 }

@@ -18,6 +18,8 @@ pub struct TraceAsked<'a> {
     /// For how many more pages nodes have room, where pages take room.
     pub free: &'a [FreePages],
     pub format: Format,
+    /// Whether the mean distance is told too.
+    pub has_mean: bool,
     /// Whether malformed and refused lines of scripts are no error.
     pub lenient: bool,
     /// Whether standard error shows how far reading is.
@@ -42,6 +44,7 @@ where
         texts: traces,
         free: asked.free,
         format: asked.format,
+        has_mean: asked.has_mean,
     };
     let answer = numa_words::replay(
         rt.alloc(),

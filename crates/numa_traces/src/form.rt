@@ -1,0 +1,36 @@
+//! How what a trace met is told.
+ghost use Rattle.std.specs.Prelude.{◌≡◌, false};
+
+use numa_sheets::Format;
+
+/// How what a trace met is told.
+#[derive(Clone, Copy)]
+pub struct ReplayForm {
+    pub format: Format,
+    /// Whether the mean distance is told too, in text, objects and pages.
+    pub has_mean: bool,
+}
+
+impl ReplayForm {
+    /// In this format, without the mean distance.
+    pub fn plain(format: Format) -> ReplayForm
+        ensures format { result.format ≡ format }
+        ensures mean { result.has_mean ≡ false }
+    {
+        ReplayForm {
+            format,
+            has_mean: false,
+        }
+    }
+
+    /// The same in another format.
+    pub fn with(self, format: Format) -> ReplayForm
+        ensures format { result.format ≡ format }
+        ensures mean { result.has_mean ≡ self.has_mean }
+    {
+        ReplayForm {
+            format,
+            has_mean: self.has_mean,
+        }
+    }
+}
