@@ -28,7 +28,7 @@ _numaplan() {
                 moves) words='--at --task --node --then --free --process --format --largest --names --lenient --rules --help --machine' files=yes ;;
                 explain) words='--task --node --at --pages --process --format --names --lenient --rules --help --machine' files=yes ;;
                 report) words='--task --node --then --process --lenient --rules --help --machine' files=yes ;;
-                replay) words='--trace --free --process --format --largest --lenient --rules --help --machine' files=yes ;;
+                replay) words='--trace --free --mean --ranges --process --format --largest --lenient --rules --help --machine' files=yes ;;
                 shell) words='--process --rules --help --machine' files=yes ;;
                 storm) words='--workers --help' ;;
                 help) words='run check expect predict diff moves explain report replay shell storm help' ;;

@@ -132,6 +132,8 @@ _numaplan() {
             _arguments \
                 '(--trace)--trace[The file of the trace; - is standard input]:TRACE:_files' \
                 '(--free)--free[Pages take room, not frames\: these nodes have so much; with K, M, G or T after it a number is in bytes]:NODE=PAGES,..: ' \
+                '(--mean)--mean[Tells the mean distance of accesses too]' \
+                '(--ranges)--ranges[Tells by range too, the busiest first]' \
                 '(--process)--process[Asks about process P of a host only; without it, or with all, about each process]:P: ' \
                 '(--format)--format[How the answer is written]:FORMAT:(text json csv html)' \
                 '(--largest)--largest[Shows the N largest ranges by themselves, and the others as a sum; without it 40 in a picture, 400 in a page]:N: ' \

@@ -1,6 +1,7 @@
 """The mean distance of accesses, from what is counted at each, and what it is told as."""
 
 import json
+import os
 import re
 from decimal import ROUND_HALF_UP, Decimal, getcontext
 
@@ -60,3 +61,14 @@ def json_mean(mean):
         return "None"
     text = str(mean).rstrip("0")
     return text + "0" if text.endswith(".") else text
+
+
+def wrong_of_all(call, folder, names, lines_met):
+    """What is wrong with the means of the traces that were tried: those in phases, and one of a host."""
+    names = [name for name in names if os.path.exists(f"{folder}/{name}.phases")]
+    asked = [["--lenient", "--trace", f"{folder}/{name}.phases", f"{folder}/{name}"] for name in names]
+    for words in [*asked, ["--trace", f"{folder}/marks.trace", f"{folder}/marks"]]:
+        wrong = wrong_means(call, ["replay", *words], lambda line: next(iter(lines_met([line]).values())))
+        if wrong:
+            return wrong
+    return None if len(names) > 20 else f"only {len(names)} traces were tried"

@@ -398,7 +398,8 @@ function replays({ total }) {
   const [all, placed, exhausted, unserved] = [total.accesses, total.placed, total.exhausted,
     total.unserved].map(grouped);
   say('What ' + all + ' accesses met: ' + placed + ' faults placed a page, ' + exhausted
-    + ' found no frame, ' + unserved + ' accesses went nowhere');
+    + ' found no frame, ' + unserved + ' accesses went nowhere'
+    + (total.mean ? '; the mean distance is ' + total.mean : ''));
   const most = Math.max(1, ...total.nodes.map((it) => it.accesses));
   table('Nodes', ['node', 'accesses', 'in proportion'], total.nodes.map((it) => ({
     cells: [
@@ -426,6 +427,7 @@ function replay(from) {
   const { task, cpu } = before.prediction;
   const views = [['by the rules, for task ' + task + ' on node ' + cpu, before],
     ['after the trace', placedView(before, from.placed.runs)]];
+  busiestPart(from.replay.ranges, (it) => open(views, it));
   rangesPart('Ranges', before, views);
   if (from.placed.others) {
     const pages = pagesText(from.placed.others);

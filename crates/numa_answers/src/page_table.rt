@@ -170,6 +170,15 @@ function table(title, heads, rows, chosen, nodes) {
   }).observe(rest);
 }
 
+// What accesses met by range, if that is told, the busiest first.
+function busiestPart(ranges, chosen) {
+  const rows = (ranges || []).map((it) => ({ value: it, cells: [
+    { key: it.start, text: hex(it.start) }, { key: it.end, text: hex(it.end) },
+    countCell(it.accesses), nodesText(it.nodes, 'accesses'), countCell(it.unserved)] }));
+  const heads = ['start', 'end', 'accesses', 'nodes', 'unserved'];
+  if (ranges) table('Accesses by range', heads, rows, chosen);
+}
+
 // Keys: Enter is a click, arrows go on among rows and cells, and / begins a filter.
 document.addEventListener('keydown', (pressed) => {
   const it = pressed.target;

@@ -120,7 +120,8 @@ work_asked word.Explain rows = asked_in rows (option_and_then (explain_by
     (address_in rows))
 work_asked word.Report rows = asked_in rows (Some (report (texts_at (codes "then") rows)))
 work_asked word.Replay rows = option_map (λ free. replay (texts_at (codes "trace") rows) free
-    (format_in rows) (is_on (codes "mean") rows) (is_on (codes "lenient") rows)) (frees_in rows)
+    (format_in rows) (is_on (codes "mean") rows) (is_on (codes "ranges") rows)
+    (is_on (codes "lenient") rows)) (frees_in rows)
 work_asked word.Shell rows = Some shell
 
 abbrev pub scripts_asked : List Row → Subcommand → Option Doings
@@ -162,7 +163,7 @@ doing_name (check format) = codes "check"
 doing_name (expect format any_version update) = codes "expect"
 doing_name (ask touch what lenient names) = asking_name what
 doing_name (moves at lines touch free format lenient names) = codes "moves"
-doing_name (replay trace free format mean lenient) = codes "replay"
+doing_name (replay trace free format mean ranges lenient) = codes "replay"
 doing_name shell = codes "shell"
 
 abbrev pub name_of : Doings → Text

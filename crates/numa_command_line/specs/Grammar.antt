@@ -108,8 +108,8 @@ report_arguments =
 
 abbrev pub replay_arguments : Names → List Rule
 replay_arguments formats =
-    needed true (option (codes "trace")) ∷ option (codes "free") ∷ flag (codes "mean") ∷ process
-    ∷ format formats ∷ largest ∷ lenient ∷ files ∷ []
+    needed true (option (codes "trace")) ∷ option (codes "free") ∷ flag (codes "mean")
+    ∷ flag (codes "ranges") ∷ process ∷ format formats ∷ largest ∷ lenient ∷ files ∷ []
 
 abbrev pub shell_arguments : List Rule
 shell_arguments = process ∷ files ∷ []

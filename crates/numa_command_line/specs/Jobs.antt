@@ -41,7 +41,7 @@ pub data Doing : Type 0 where
   expect : Format → Bool → Bool → Doing
   ask : TouchAsked → Asking → Bool → Bool → Doing
   moves : List Text → List Text → Option TouchAsked → List FreePages → Format → Bool → Bool → Doing
-  replay : List Text → List FreePages → Format → Bool → Bool → Doing
+  replay : List Text → List FreePages → Format → Bool → Bool → Bool → Doing
   shell : Doing
 
 pub data Doings : Type 0 where
@@ -64,8 +64,8 @@ work_of (Ask asked question lenient names) = ask asked (question_of question) le
 work_of (Moves at lines asked free format lenient names) =
     moves (map string_bytes at.items) (map string_bytes lines.items) asked free.items format lenient
     names
-work_of (Replay trace free format mean lenient) =
-    replay (map string_bytes trace.items) free.items format mean lenient
+work_of (Replay trace free format mean ranges lenient) =
+    replay (map string_bytes trace.items) free.items format mean ranges lenient
 work_of Shell = shell
 
 abbrev pub doings_of : Job → Doings

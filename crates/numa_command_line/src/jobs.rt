@@ -76,12 +76,13 @@ pub enum ScriptJob {
     },
     /// Replay the trace of the file `trace` after them, leniently. With `free` pages take room:
     /// these nodes have so much, and the others never fill. With `mean` the mean distance is told
-    /// too.
+    /// too, with `ranges` what each range meets.
     Replay {
         trace: Vec<String>,
         free: Vec<FreePages>,
         format: Format,
         mean: bool,
+        ranges: bool,
         lenient: bool,
     },
     /// Play them, and answer the lines that are typed then.

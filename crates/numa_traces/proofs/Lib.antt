@@ -1,9 +1,11 @@
+pub mod ByRange
 pub mod Closing
 pub mod Counted
 pub mod Farther
 pub mod Freed
 pub mod Hosts
 pub mod Phased
+pub mod RangeCounted
 pub mod Replays
 pub mod Reversed
 pub mod Sharing

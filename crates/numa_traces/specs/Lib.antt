@@ -5,6 +5,7 @@ pub mod Means
 pub mod Phases
 pub mod Placing
 pub mod PlanReading
+pub mod Ranging
 pub mod Reading
 pub mod Replaying
 pub mod Resting

@@ -1,11 +1,11 @@
 -- Lines of a trace of one space, or of one process of a host, and their replay.
-use Rattle.std.specs.Prelude.{◌≡◌, ◌==◌, ◌⊎◌, ⊤, ℕ, List, [], ◌∷◌, Option, None, Some, Result, Ok}
+use Rattle.std.specs.Prelude.{◌≡◌, ◌==◌, ⊤, ℕ, List, [], ◌∷◌, Option, None, Some, Result, Ok}
 use Rattle.std.specs.Prelude.{Err, if◌then◌else◌}
 use Rattle.numa_plan.specs.Meaning.{PlanData, place_refusal}
 use Rattle.numa_traces.specs.Accesses.{access_of, mark_of}
-use Rattle.numa_traces.specs.Phases.{Closes, IsTrace, Step, Touches}
+use Rattle.numa_traces.specs.Phases.{Closes, IsTrace, Step, Touches, accesses_in}
 use Rattle.numa_traces.specs.Placing.{Frames}
-use Rattle.numa_traces.specs.Replaying.{EndsReplay}
+use Rattle.numa_traces.specs.Ranging.{AreRanged, AreSameRanges, EndsCounted, HasNone, Ranged}
 use Rattle.numa_traces.specs.Resting.{found, lies_where}
 use Rattle.numa_traces.specs.declared.access.Access.{Access}
 use Rattle.numa_traces.specs.declared.access.TraceLine.{TraceLine}
@@ -49,24 +49,26 @@ step_of own line = step_by (mark_of line) own line
 -- ---- what a line does
 
 -- steps were replayed, which met what a replay has met
-abbrev pub HasMet : Frames → List (Step Access) → PlanReplay → Type 0
-HasMet start steps at = IsTrace at.plan.now (lies_where at.before) start steps at.replay
-    at.marks.items
+pub record HasMet (start : Frames) (steps : List (Step Access)) (at : PlanReplay) : Type 0 where
+  pub trace : IsTrace at.plan.now (lies_where at.before) start steps at.replay at.marks.items
+  pub ranges : AreRanged at.plan.now (lies_where at.before) start (accesses_in steps) at.ranges
 
 -- before the first line, by this plan, with these pages before, for this process: no page is placed
--- by an access, and nodes have so much room
+-- by an access, and nodes have so much room; it counts by these ranges, if by any
 pub record IsBegun (rule : PlanData) (there : Option Before) (own : Option ℕ) (room : List ℕ)
-    (begun : PlanReplay) : Type 0 where
+    (by : Option Ranged) (begun : PlanReplay) : Type 0 where
   pub plan : begun.plan.now ≡ rule
   pub before : begun.before ≡ there
   pub process : begun.process ≡ own
-  pub met : HasMet (record { pages = []; free = room }) [] begun
+  pub ranges : begun.ranges ≡ by
+  pub met : HasNone by → HasMet (record { pages = []; free = room }) [] begun
 
--- the plan, the process and where pages lay before stay the same
+-- the plan, the process, the ranges and where pages lay before stay the same
 pub record IsSame (old new : PlanReplay) : Type 0 where
   pub plan : new.plan.now ≡ old.plan.now
   pub before : new.before ≡ old.before
   pub process : new.process ≡ old.process
+  pub ranges : AreSameRanges old.ranges new.ranges
 
 -- the plan doesn't refuse a step
 abbrev pub Allows : PlanData → Step Access → Type 0
@@ -88,5 +90,5 @@ abbrev pub EndsAtStep : Result (Option (Step Access)) ReplayError → PlanReplay
 EndsAtStep (Err fault) old why = why ≡ fault
 EndsAtStep (Ok None) old why = ⊥
 EndsAtStep (Ok (Some (Closes text))) old why = why ≡ NoMemory
-EndsAtStep (Ok (Some (Touches access))) old why = (why ≡ NoMemory)
-    ⊎ EndsReplay old.plan.now (found (lies_where old.before) old.replay access.page) access why
+EndsAtStep (Ok (Some (Touches access))) old why = EndsCounted old.plan.now
+    (found (lies_where old.before) old.replay access.page) old.ranges access why

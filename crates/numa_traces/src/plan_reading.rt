@@ -11,6 +11,7 @@ use crate::access::{Access, TraceLine, mark_in, read_access};
 use crate::before::{Before, lies_where};
 use crate::fault::ReplayError;
 use crate::mark::{Mark, close};
+use crate::ranges::{RangeTallies, take_counted};
 use crate::reading::ReplayLine;
 use crate::replay::Replay;
 use numa_plan::Plan;
@@ -57,6 +58,8 @@ pub struct PlanReplay<'a> {
     pub replay: Replay,
     /// The marks so far, in order.
     pub marks: Vec<Mark>,
+    /// What they met by range, if that is counted.
+    pub ranges: Option<RangeTallies>,
 }
 
 /// A page lies where it lay before the trace, if it lay anywhere and no access touched it yet.
@@ -76,15 +79,17 @@ fn find(replay: &mut Replay, before: &Option<Before<'_>>, page: u64) -> Result<(
 impl<'a> PlanReplay<'a> {
     /// The state before the first line where nodes have so much room, or so many frames. The plan
     /// is for the machine; pages that lie somewhere before stay there. Lines that name another
-    /// process than this one are left out; without one no line may name any. It doesn't allocate.
+    /// process than this one are left out; without one no line may name any. With ranges accesses
+    /// are counted by these too. It doesn't allocate.
     pub fn new(
         alloc: Global,
         plan: &'a Plan,
         before: Option<Before<'a>>,
         process: Option<u32>,
         room: Vec<u64>,
+        ranges: Option<RangeTallies>,
     ) -> PlanReplay<'a>
-        ensures { IsBegun plan.now before.entry process room.items result }
+        ensures { IsBegun plan.now before.entry process room.items ranges result }
     {
         PlanReplay {
             alloc,
@@ -93,14 +98,15 @@ impl<'a> PlanReplay<'a> {
             process,
             replay: Replay::with_room(alloc, room),
             marks: Vec::new(alloc),
+            ranges,
         }
     }
 
     /// Replays an access.
     ///
     /// # Errors
-    /// As [`Replay::take`]; or `NoMemory` before, for a page that lies somewhere before the trace.
-    /// Then the replay has ended.
+    /// As [`Replay::take`]; `NoMemory` before, for a page that lies somewhere before the trace; or
+    /// what counting by ranges ends with. Then the replay has ended.
     fn touch(&mut self, access: Access) -> Result<(), ReplayError>
         ensures ok { OnOk result (ReplaysStep (Ok (Some (Touches access))) self.old self.new) }
         ensures err { IfErr result (EndsAtStep (Ok (Some (Touches access))) self.old) }
@@ -108,7 +114,7 @@ impl<'a> PlanReplay<'a> {
         if let Err(why) = find(&mut self.replay, &self.before, access.page) {
             return Err(why);
         }
-        self.replay.take(self.plan, access)
+        take_counted(&mut self.replay, self.plan, &mut self.ranges, access)
     }
 
     /// Closes a phase.

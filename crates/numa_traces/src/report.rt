@@ -1,151 +1,15 @@
 //! The report of a replay, as text or JSON.
 use crate::form::ReplayForm;
 use crate::moments::{Moment, TakeRoute, has_between, moment_before, take_between};
-use crate::records::records_text;
+use crate::range_parts::RangesMet;
+use crate::range_report::say_ranges;
+use crate::records::{range_records_text, records_text};
 use crate::summary::Summary;
 use crate::tallies::{AccessCounts, Route};
+use crate::telling::{Of, say_line, say_object};
 use numa_machine::Machine;
 use numa_sheets::{Format, Object, Written};
-use serde_json::Value;
 use std::alloc::{AllocError, Global};
-use std::num::nearest_u64_to_f64;
-
-/// Writes the parts of a summary. After it ran out of memory nothing more is written.
-trait Tell {
-    /// Writes a number under its name.
-    fn tell_number(&mut self, name: &str, number: u64);
-
-    /// Writes each count that isn't 0, with its index: under the names of the list and of an entry,
-    /// or in a format with both.
-    fn tell_counts(&mut self, all: &str, one: &str, form: &[u8], counts: &[u64; 256]);
-
-    /// Writes the mean distance, in thousandths, if there is one.
-    fn tell_mean(&mut self, mean: Option<u64>);
-}
-
-/// Writes the summary of a task, or the total, with the mean distance or without.
-fn tell_summary<T: Tell>(teller: &mut T, said: &Summary, has_mean: bool) {
-    teller.tell_number("accesses", said.accesses);
-    teller.tell_counts("nodes", "node", b" N$=$", &said.nodes);
-    teller.tell_counts("distances", "distance", b" D$=$", &said.distances);
-    if has_mean {
-        teller.tell_mean(said.mean());
-    }
-    teller.tell_number("placed", said.placed);
-    teller.tell_number("exhausted", said.exhausted);
-    teller.tell_number("unserved", said.unserved);
-}
-
-impl Tell for Written {
-    fn tell_number(&mut self, name: &str, number: u64) {
-        self.put(b" ");
-        self.put(name.as_bytes());
-        self.put(b"=");
-        self.put_number(number);
-    }
-
-    fn tell_counts(&mut self, _all: &str, _one: &str, form: &[u8], counts: &[u64; 256]) {
-        for number in 0..256 {
-            if counts[number] > 0 {
-                self.put_form(form, &[number as u64, counts[number]]);
-            }
-        }
-    }
-
-    fn tell_mean(&mut self, mean: Option<u64>) {
-        let Some(mean) = mean else {
-            return;
-        };
-        let part = mean % 1000;
-        let digits = [mean / 1000, part / 100, part / 10 % 10, part % 10];
-        self.put_form(b" mean=$.$$$", &digits);
-    }
-}
-
-/// A count, with its index under this name.
-fn count_value(alloc: Global, name: &str, number: usize, count: u64) -> Result<Value, AllocError> {
-    let mut object = Object::new(alloc);
-    object.put_number(name, number as u64);
-    object.put_number("accesses", count);
-    object.made()
-}
-
-/// Appends each count that isn't 0, with its index under this name.
-fn push_values(
-    alloc: Global,
-    items: &mut Vec<Value>,
-    name: &str,
-    counts: &[u64; 256],
-) -> Result<(), AllocError> {
-    for number in 0..256 {
-        if counts[number] > 0 {
-            items.push(count_value(alloc, name, number, counts[number])?)?;
-        }
-    }
-    Ok(())
-}
-
-/// The counts that aren't 0, each with its index under this name.
-fn count_values(alloc: Global, name: &str, counts: &[u64; 256]) -> Result<Value, AllocError> {
-    let mut items = Vec::new(alloc);
-    match push_values(alloc, &mut items, name, counts) {
-        Ok(()) => Ok(Value::from(items)),
-        Err(fault) => {
-            drop(items);
-            Err(fault)
-        }
-    }
-}
-
-impl Tell for Object {
-    fn tell_number(&mut self, name: &str, number: u64) {
-        self.put_number(name, number);
-    }
-
-    fn tell_counts(&mut self, all: &str, one: &str, _form: &[u8], counts: &[u64; 256]) {
-        self.put(all, count_values(self.alloc(), one, counts));
-    }
-
-    fn tell_mean(&mut self, mean: Option<u64>) {
-        let value = match mean {
-            Some(mean) => Value::from(nearest_u64_to_f64(mean) / 1000.0),
-            None => Value::Null,
-        };
-        self.put("mean", Ok(value));
-    }
-}
-
-/// The object of a task, or of the total.
-fn summary_text(
-    alloc: Global,
-    task: Option<u32>,
-    said: &Summary,
-    has_mean: bool,
-) -> Result<Vec<u8>, AllocError> {
-    let mut object = Object::new(alloc);
-    if let Some(task) = task {
-        object.put_number("task", task as u64);
-    }
-    tell_summary(&mut object, said, has_mean);
-    match object.made() {
-        Ok(value) => value.to_vec(alloc),
-        Err(fault) => Err(fault),
-    }
-}
-
-/// Writes the object of a task, or of the total.
-fn say_object(written: &mut Written, task: Option<u32>, said: &Summary, has_mean: bool) {
-    match summary_text(written.alloc(), task, said, has_mean) {
-        Ok(object) => written.put(object.as_slice()),
-        Err(_) => written.lack(),
-    }
-}
-
-/// Writes the rest of the line of a task, or of the total.
-fn say_line(written: &mut Written, said: &Summary, has_mean: bool) {
-    tell_summary(written, said, has_mean);
-    written.put(b"\n");
-}
 
 /// The object with the text of a phase.
 fn phase_text(alloc: Global, text: Option<&[u8]>) -> Result<Vec<u8>, AllocError> {
@@ -234,11 +98,10 @@ impl<'a> Sheet<'a> {
         if has_objects {
             written.put(self.before.as_bytes());
             self.before = ",\n";
-            say_object(written, Some(task), &self.of_task, has_mean);
+            say_object(written, Of::Task(task), &self.of_task, has_mean);
             return;
         }
-        written.put_form(b"task $", &[task as u64]);
-        say_line(written, &self.of_task, has_mean);
+        say_line(written, Of::Task(task), &self.of_task, has_mean);
     }
 
     /// Begins a phase, or all of them, before the first task.
@@ -257,15 +120,14 @@ impl<'a> Sheet<'a> {
         let (has_objects, has_mean) = (self.has_objects(), self.form.has_mean);
         let written = &mut self.written;
         if !has_objects {
-            written.put(b"total");
-            say_line(written, &self.of_all, has_mean);
+            say_line(written, Of::All, &self.of_all, has_mean);
             return;
         }
         if self.by_task {
             written.put(b"\n],");
         }
         written.put(b"\"total\":");
-        say_object(written, None, &self.of_all, has_mean);
+        say_object(written, Of::All, &self.of_all, has_mean);
     }
 
     /// Writes what was counted between two moments.
@@ -311,8 +173,16 @@ impl<'a> Sheet<'a> {
         }
     }
 
-    /// Writes what was counted of one process: by phase, if there are marks, and in all.
-    fn say(&mut self, moments: &[Moment<'_>]) {
+    /// Writes what ranges met, if that is known.
+    fn say_met(&mut self, met: Option<RangesMet<'_>>) {
+        if let Some(met) = met {
+            say_ranges(&mut self.written, self.machine, met, self.form);
+        }
+    }
+
+    /// Writes what was counted of one process: by phase, if there are marks, in all, and by range,
+    /// if that is known.
+    fn say(&mut self, moments: &[Moment<'_>], met: Option<RangesMet<'_>>) {
         let Some(last) = moments.last() else {
             return;
         };
@@ -325,6 +195,7 @@ impl<'a> Sheet<'a> {
                 self.written.put(b"\n],");
             }
             self.say_between(None, last);
+            self.say_met(met);
             self.written.put(b"}\n");
             return;
         }
@@ -333,6 +204,7 @@ impl<'a> Sheet<'a> {
             self.written.put(b"all phases\n");
         }
         self.say_between(None, last);
+        self.say_met(met);
     }
 
     /// The same of all processes of a host. Objects go on with the members of one that has begun.
@@ -373,8 +245,8 @@ pub(crate) fn place_of(machine: &Machine, cpu: u32, node: Option<u8>) -> Option<
 /// The report of what was counted of one process, by phase where a trace has marks, by task and in
 /// total: the accesses by the page's node and by its distance from the CPU's node, the faults that
 /// placed a page and those that found no frame, and the accesses that therefore went nowhere, and
-/// the mean distance if it is wanted. As CSV it has a record for each route of each phase. The
-/// machine is that of the replay.
+/// the mean distance if it is wanted; then by range, if `met` says it. As CSV it has a record for
+/// each route of each phase, or of each range. The machine is that of the replay.
 ///
 /// # Errors
 /// `AllocError`: out of memory.
@@ -382,13 +254,16 @@ pub fn report_text(
     alloc: Global,
     machine: &Machine,
     moments: &[Moment<'_>],
+    met: Option<RangesMet<'_>>,
     form: ReplayForm,
 ) -> Result<Vec<u8>, AllocError> {
-    if let Format::Csv = form.format {
-        return records_text(alloc, machine, moments);
+    match (form.format, met) {
+        (Format::Csv, Some(met)) => return range_records_text(alloc, machine, met),
+        (Format::Csv, None) => return records_text(alloc, machine, moments),
+        _ => (),
     }
     let mut sheet = Sheet::new(alloc, machine, form, true);
-    sheet.say(moments);
+    sheet.say(moments, met);
     sheet.written.take()
 }
 

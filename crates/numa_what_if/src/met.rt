@@ -1,5 +1,5 @@
 //! The report of what a trace met, as a text or as a page.
-use crate::stage::Planned;
+use crate::stage::{Planned, spans_of};
 use numa_answers::{About, PageData, reported, shown_as, told_of, view_text};
 use numa_plan::Plan;
 use numa_reports::{PredictionRequest, ReportError};
@@ -7,10 +7,10 @@ use numa_sheets::{Format, Touch};
 use numa_space::Space;
 use numa_subjects::{Halt, Subject};
 use numa_traces::{
-    Moment, PlanReplay, Replay, ReplayForm, Replaying, Tallies, moments_of, placed_text,
-    report_text,
+    Moment, PlanReplay, RangeTallies, RangesMet, Replay, ReplayForm, Replaying, Tallies,
+    moments_of, placed_text, report_text,
 };
-use std::alloc::Global;
+use std::alloc::{AllocError, Global};
 
 /// The most runs of pages on one node that a page shows.
 const RUNS: u64 = 20_000;
@@ -51,17 +51,40 @@ fn data_of(
     Ok(data.end()?)
 }
 
+/// The report of a replay in a space, which tells by range what is counted so.
+fn text_of(
+    alloc: Global,
+    space: &Space,
+    moments: &[Moment<'_>],
+    ranges: &Option<RangeTallies>,
+    form: ReplayForm,
+) -> Result<Vec<u8>, AllocError> {
+    let machine = space.machine();
+    let Some(tallies) = ranges else {
+        return report_text(alloc, machine, moments, None, form);
+    };
+    let spans = spans_of(alloc, space)?;
+    let met = RangesMet {
+        tallies,
+        spans: spans.as_slice(),
+    };
+    let text = report_text(alloc, machine, moments, Some(met), form);
+    drop(spans);
+    text
+}
+
 /// The report of a replay on the machine of a space, with what was counted at the marks and the end
-/// of its trace, as a text, or as the data of a page.
+/// of its trace, and by range if it was, as a text, or as the data of a page.
 pub(crate) fn report_in(
     alloc: Global,
     planned: Planned<'_>,
     replay: &Replay,
     moments: &[Moment<'_>],
+    ranges: &Option<RangeTallies>,
     form: ReplayForm,
 ) -> Result<Vec<u8>, Halt> {
     let (space, plan) = (planned.space, planned.plan);
-    let text = report_text(alloc, space.machine(), moments, form)?;
+    let text = text_of(alloc, space, moments, ranges, form)?;
     let Format::Html(number) = form.format else {
         return Ok(text);
     };
@@ -89,7 +112,14 @@ pub(crate) fn met(
         return Err(Halt::NothingServed);
     }
     let moments = moments_of(alloc, &trace.replay, trace.marks.as_slice())?;
-    let text = report_in(alloc, planned, &trace.replay, moments.as_slice(), form);
+    let text = report_in(
+        alloc,
+        planned,
+        &trace.replay,
+        moments.as_slice(),
+        &trace.ranges,
+        form,
+    );
     drop(moments);
     let format = form.format;
     let text = shown_as(alloc, format, "replay", text?)?;

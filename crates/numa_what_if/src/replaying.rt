@@ -1,6 +1,8 @@
 //! Replaying traces in a space, or in each process of a host.
 use crate::met::{met, report_in};
-use crate::stage::{FRAMES, Ground, Planned, Stage, Unplanned, plan_of, room_of, space_on};
+use crate::stage::{
+    FRAMES, Ground, Planned, Stage, Unplanned, plan_of, ranges_of, room_of, space_on,
+};
 use numa_answers::{About, add_answer, shown_as, told_of};
 use numa_host::{Host, Process};
 use numa_lines::{RunFault, TakeLine};
@@ -72,19 +74,27 @@ fn replayed_as(text: Result<Vec<u8>, Halt>, is_other: bool) -> Result<Replayed, 
     }
 }
 
-/// What a trace meets before its first line in a space by its plan.
+/// What a trace meets before its first line in a space by its plan, by range too if that is wanted.
 fn begun_in<'a>(
     alloc: Global,
     planned: Planned<'a>,
     process: Option<u32>,
+    by_range: bool,
 ) -> Result<Replaying<PlanReplay<'a>>, Halt> {
     let Planned {
         space,
         plan,
         ground,
     } = planned;
-    let room = room_of(alloc, space.machine(), ground)?;
-    let replay = PlanReplay::new(alloc, plan, ground.before, process, room);
+    let ranges = ranges_of(alloc, space, by_range)?;
+    let room = match room_of(alloc, space.machine(), ground) {
+        Ok(room) => room,
+        Err(lack) => {
+            drop(ranges);
+            return Err(Halt::from(lack));
+        }
+    };
+    let replay = PlanReplay::new(alloc, plan, ground.before, process, room, ranges);
     Ok(Replaying::new(replay))
 }
 
@@ -94,12 +104,13 @@ fn both_begun<'a>(
     planned: Planned<'a>,
     other: Option<Planned<'a>>,
     process: Option<u32>,
+    by_range: bool,
 ) -> Result<ByBoth<Replaying<PlanReplay<'a>>>, Halt> {
-    let first = begun_in(alloc, planned, process)?;
+    let first = begun_in(alloc, planned, process, by_range)?;
     let Some(other) = other else {
         return Ok(ByBoth { first, other: None });
     };
-    match begun_in(alloc, other, process) {
+    match begun_in(alloc, other, process, by_range) {
         Ok(other) => Ok(ByBoth {
             first,
             other: Some(other),
@@ -121,7 +132,7 @@ fn replayed_by<S: Read + Drop>(
     trace: Vec<(String, S)>,
     form: ReplayForm,
 ) -> Result<Replayed, Halt> {
-    let begun = both_begun(alloc, planned, other, process);
+    let begun = both_begun(alloc, planned, other, process, form.by_range);
     let both = read_whole(alloc, begun, trace)?;
     let text = met(alloc, planned, &both.first, form);
     let is_other = match (other, &both.other) {
@@ -240,7 +251,7 @@ fn add_report<'a>(
         plan: &one.plan,
         ground: FRAMES,
     };
-    let text = report_in(alloc, planned, &one.replay, moments.as_slice(), form);
+    let text = report_in(alloc, planned, &one.replay, moments.as_slice(), &None, form);
     drop(moments);
     add_answer(answers, process, text)
 }
@@ -384,8 +395,9 @@ fn host_on(stage: Option<Stage<'_>>) -> Option<&Host> {
 /// what others do is left out. All processes of a host take the same frames, or the same room.
 ///
 /// # Errors
-/// `BadAccess`: the first line of the trace that can't be replayed; `NothingServed`: pages take
-/// room, and none found any; or `Stopped`: a read failed, or out of memory.
+/// `ManyProcesses`: all processes of a host are asked for by range; `BadAccess`: the first line of
+/// the trace that can't be replayed; `NothingServed`: pages take room, and none found any; or
+/// `Stopped`: a read failed, or out of memory.
 pub fn replayed_of<S: Read + Drop>(
     alloc: Global,
     stage: Stage<'_>,
@@ -401,6 +413,10 @@ pub fn replayed_of<S: Read + Drop>(
             replayed_in(alloc, own, space_on(other), process, trace, form)
         }
         Subject::Each(host) => {
+            if form.by_range {
+                drop(trace);
+                return Err(Halt::ManyProcesses);
+            }
             replayed_in_each(alloc, host, host_on(other), ground, trace, form)
         }
     }

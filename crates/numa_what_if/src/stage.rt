@@ -5,7 +5,7 @@ use numa_machine::Machine;
 use numa_plan::Plan;
 use numa_space::Space;
 use numa_subjects::{Halt, Subject};
-use numa_traces::{Before, all_frames};
+use numa_traces::{Before, PageSpan, RangeTallies, all_frames};
 use std::alloc::{AllocError, Global};
 
 /// Where pages lie before a trace, and for how many more each node has room: for 2^64 - 1 it never
@@ -74,4 +74,38 @@ pub(crate) fn room_of(
         Some(room) => Vec::from_slice(alloc, room),
         None => all_frames(alloc, machine),
     }
+}
+
+/// The ranges of a space, the lowest first.
+pub(crate) fn spans_of(alloc: Global, space: &Space) -> Result<Vec<PageSpan>, AllocError> {
+    let mut spans = Vec::new(alloc);
+    for range in space.range_iter() {
+        spans.push(PageSpan {
+            first: range.first,
+            pages: range.pages,
+        })?;
+    }
+    Ok(spans)
+}
+
+/// The first page of each range of a space.
+fn firsts_of(alloc: Global, space: &Space) -> Result<Vec<u64>, AllocError> {
+    let mut firsts = Vec::new(alloc);
+    for range in space.range_iter() {
+        firsts.push(range.first)?;
+    }
+    Ok(firsts)
+}
+
+/// No accesses by the ranges of a space, if they are counted.
+pub(crate) fn ranges_of(
+    alloc: Global,
+    space: &Space,
+    is_counted: bool,
+) -> Result<Option<RangeTallies>, AllocError> {
+    if !is_counted {
+        return Ok(None);
+    }
+    let firsts = firsts_of(alloc, space)?;
+    Ok(Some(RangeTallies::new(alloc, firsts)))
 }

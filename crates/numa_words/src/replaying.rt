@@ -23,6 +23,8 @@ pub struct Traced<'a, S> {
     pub format: Format,
     /// Whether the mean distance is told too, but in CSV.
     pub has_mean: bool,
+    /// Whether it is told by range too, the busiest first.
+    pub by_range: bool,
 }
 
 /// Where pages lie after the script of one process, if a machine is ready.
@@ -168,8 +170,13 @@ fn replayed_over<S: Read + Drop, T: Write>(
         free,
         format,
         has_mean,
+        by_range,
     } = traced;
-    let form = ReplayForm { format, has_mean };
+    let form = ReplayForm {
+        format,
+        has_mean,
+        by_range,
+    };
     let machine = machine_of(&subject);
     if free.is_empty() && has_frames(machine) {
         return replayed_on_frames(alloc, findings, subject, process, texts, form);

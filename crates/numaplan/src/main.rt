@@ -159,6 +159,7 @@ where
             free,
             format,
             mean,
+            ranges,
             lenient,
         } => {
             let asked = TraceAsked {
@@ -166,6 +167,7 @@ where
                 free: free.as_slice(),
                 format: *format,
                 has_mean: *mean,
+                by_range: *ranges,
                 lenient: *lenient,
                 tells,
             };

@@ -190,6 +190,7 @@ pub fn replay(
         free: &[],
         format,
         has_mean: false,
+        by_range: false,
     };
     let ended = numa_words::replay(alloc, scripts, traced, Twin::None, &mut answer, &mut told);
     replay_of(alloc, answer, told, ended)

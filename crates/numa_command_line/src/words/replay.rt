@@ -1,5 +1,5 @@
-//! `numaplan replay --trace TRACE [--free NODE=PAGES,..] [--mean] [FILE]..`: replays a trace of
-//! accesses.
+//! `numaplan replay --trace TRACE [--free NODE=PAGES,..] [--mean] [--ranges] [FILE]..`: replays
+//! a trace of accesses.
 ghost use Rattle.std.specs.Prelude.{codes};
 ghost use Rattle.numa_command_line.specs.Grammar.{IsReader, replay_arguments};
 ghost use Rattle.numa_command_line.specs.Grammar.{replay_formats};
@@ -46,6 +46,15 @@ const MEAN: Argument = Argument {
     takes: Takes::Nothing,
 };
 
+/// The option `--ranges`.
+const RANGES: Argument = Argument {
+    name: "ranges",
+    value: "",
+    help: "Tells by range too, the busiest first",
+    is_required: false,
+    takes: Takes::Nothing,
+};
+
 /// The help of the subcommand.
 static WORD: SubcommandHelp = SubcommandHelp {
     name: "replay",
@@ -61,9 +70,10 @@ has a frame left, and later accesses go to where it lies. By task, and in total,
 the accesses by node (N0=) and by distance (D10=), the faults that placed a page (placed=) or \
 found no frame (exhausted=), and the accesses that these left unserved (unserved=). With \
 --mean it tells the mean distance of accesses that went to a page (mean=), to a \
-thousandth.\n\nWith --free, and where no node has a frame (FRAMES 0), pages take room \
-instead, as those of `populate` do: the named nodes have so much and the others never fill, \
-or nodes have what lines `room` of the scripts left. Pages that lie somewhere after the \
+thousandth, and with --ranges the same by range, the busiest first.\n\nWith --free, and where \
+no node has a frame (FRAMES 0), pages take room instead, as those of `populate` do: the named \
+nodes have so much and the others never fill, or nodes have what lines `room` of the scripts \
+left. Pages that lie somewhere after the \
 scripts stay there.\n\nA \
 line of the trace is TASK ADDRESS CPU [COUNT], in decimal or 0x; empty lines and those that \
 begin with # are skipped. A line mark TEXT closes a phase: totals are given by phase and in \
@@ -77,7 +87,7 @@ says whose rules count, and a kernel's would give another answer, a line on stan
 says so.",
     reads_lines: true,
     arguments: &[
-        TRACE, FREE, MEAN, PROCESS, REPLAYED, LARGEST, LENIENT, FILES,
+        TRACE, FREE, MEAN, RANGES, PROCESS, REPLAYED, LARGEST, LENIENT, FILES,
     ],
 };
 
@@ -102,6 +112,7 @@ pub fn work(alloc: Global, matches: &ArgMatches<'_>) -> Result<ScriptJob, JobFau
         free,
         format: format_in(matches),
         mean: is_on(matches, "mean"),
+        ranges: is_on(matches, "ranges"),
         lenient: is_on(matches, "lenient"),
     })
 }

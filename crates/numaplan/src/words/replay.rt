@@ -20,6 +20,8 @@ pub struct TraceAsked<'a> {
     pub format: Format,
     /// Whether the mean distance is told too.
     pub has_mean: bool,
+    /// Whether what it meets is told by range too.
+    pub by_range: bool,
     /// Whether malformed and refused lines of scripts are no error.
     pub lenient: bool,
     /// Whether standard error shows how far reading is.
@@ -45,6 +47,7 @@ where
         free: asked.free,
         format: asked.format,
         has_mean: asked.has_mean,
+        by_range: asked.by_range,
     };
     let answer = numa_words::replay(
         rt.alloc(),

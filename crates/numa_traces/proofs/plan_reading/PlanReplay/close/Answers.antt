@@ -1,6 +1,7 @@
 use Rattle.std.proofs.Common.{refl}
 use Rattle.numa_traces.specs.Resting.{lies_where}
 use Rattle.numa_traces.specs.declared.plan_reading.PlanReplay.{PlanReplay}
+use Rattle.numa_traces.proofs.ByRange.{all-same}
 use Rattle.numa_traces.proofs.Replays.{on-ok}
 use Rattle.numa_traces.proofs.Stepped.{closed}
 use Rattle.numa_traces.proofs.plan_reading.PlanReplay.close.Goals as goal
@@ -9,9 +10,12 @@ pub returns-clause-ok : goal.returns-clause-ok
 returns-clause-ok c =
     let old : PlanReplay = c.args.self.now in
     on-ok c.close.result (λ more. (
-      record { plan = refl; before = refl; process = refl },
+      record { plan = refl; before = refl; process = refl; ranges = all-same old.ranges },
       tt,
-      λ start steps was. closed old.plan.now (lies_where old.before) start steps c.args.text.now
-          old.replay old.marks.items c.close.new.marks.items c.tallies.result.now
-          c.tallies.ensures more was,
+      λ start steps was. record {
+        trace = closed old.plan.now (lies_where old.before) start steps c.args.text.now old.replay
+            old.marks.items c.close.new.marks.items c.tallies.result.now c.tallies.ensures more
+            was.trace;
+        ranges = was.ranges;
+      },
     )) c.close.ensures.marks
