@@ -134,9 +134,25 @@ def try_hostile(call, tell, example):
         words = ["moves", "--at", example + ".at", "--then", line, "--lenient", "--format", "svg"]
         text = call(*words, example + ".numaplan")[1]
         heads = ["".join(it.itertext()) for it in nested(ElementTree.fromstring(text), "step")]
-        good &= tell(heads == [f"After: {shown or line}"] and "<script" not in text,
+        good &= tell(heads == [f"Refused: {shown or line}"] and "<script" not in text,
                      f"a picture with the line {line!r}")
     return good
+
+
+def try_refused(call, tell, example):
+    """A line that is refused doesn't stand in a picture as if it had been accepted."""
+    words = ["moves", "--at", example + ".at", "--then", "mems 7", "--then", "mems 0", "--then", "migrate 0 9",
+             "--format", "svg"]
+    status, text, errors = call(*words, example + ".numaplan")
+    root = ElementTree.fromstring(text)
+    heads = ["".join(it.itertext()) for it in nested(root, "step")]
+    told = {it[1]: it[2] for it in re.finditer(r"--then:(\d+): refused (.+)", errors)}
+    about = [it.text for it in next(iter(nested(root, "about"))) if (it.text or "").startswith("Added line")]
+    want = [f"Added line, refused: mems 7 ({told['1']})", "Added line: mems 0",
+            f"Added line, refused: migrate 0 9 ({told['3']})"]
+    return tell(status == 3 and heads == ["Refused: mems 7", "After: mems 0", "Refused: migrate 0 9"]
+                and [it.text for it in nested(root, "fault")] == [told["1"], told["3"]] and about == want,
+                f"a picture with lines that are refused: {status}, {heads}, {about}, {errors!r}")
 
 
 def try_rooms(call, tell, example):

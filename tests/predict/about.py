@@ -65,9 +65,9 @@ def rows_of(text, form):
     return page.rows.splitlines()
 
 
-def wrapped(line, wide=110):
+def wrapped(front, line):
     """The rows of a line that is added: a word that fits in a row isn't cut."""
-    rows, row = [], ""
+    wide, rows, row = 122 - len(front), [], ""
     for word in re.findall(r"[^ ]* |[^ ]+$", line):
         if len(word) <= wide < len(row) + len(word):
             rows, row = [*rows, row], ""
@@ -75,7 +75,17 @@ def wrapped(line, wide=110):
         while len(row) > wide:
             rows, row = [*rows, row[:wide]], row[wide:]
     first, *others = [*rows, row]
-    return ["Added line: " + first, *("            " + it for it in others)]
+    return [front + first, *(" " * len(front) + it for it in others)]
+
+
+def rows_of_lines(lines, errors):
+    """The rows of lines that are added; of those that are refused also why, which standard error says."""
+    faults, rows = dict(re.findall(r"^--then:(\d+)\b[^ ]* (?:refused )?(.*)$", errors, re.M)), []
+    for place, line in enumerate(lines, 1):
+        fault = faults.get(str(place))
+        rows += (wrapped("Added line, refused: ", f"{line} ({fault})") if fault
+                 else wrapped("Added line: ", line))
+    return rows
 
 
 def try_about(call, tell, folder):
@@ -85,18 +95,20 @@ def try_about(call, tell, folder):
         name = f"{folder}/about-{kind}"
         with open(name, "w", encoding="utf-8") as file:
             file.write(script)
-        added = [HOSTILE, LONG, SPACED] if allowed else ["cgroup-mems 5 1"]
-        shown = [row for it in ([SHOWN, LONG, SPACED] if allowed else added) for row in wrapped(it)]
+        added = [HOSTILE, LONG, SPACED, "mems 7", "mems 0"] if allowed else ["cgroup-mems 5 1", "cgroup-mems 9 1"]
         then = [word for it in added for word in ("--then", it)]
         ends = [*rows, version]
         now = [f"Allowed nodes: {allowed}"] * bool(allowed)
-        after = [f"Allowed nodes after the added lines: {allowed}"] * bool(allowed)
+        after = ["Allowed nodes after the added lines: 0"] * bool(allowed)
         asked = ["--task", "1", "--node", "0", "--lenient"]
         for form in "svg", "html":
             for words, want in ((["predict", *asked], [TOUCH, *now, *ends]),
-                                (["diff", *asked, *then], [*shown, TOUCH, *after, *ends])):
-                got = rows_of(call(*words, "--format", form, name)[1], form)
-                good &= tell(got == want, f"what a {form} of {words[0]} is of, {kind}"
+                                (["diff", *asked, *then], [TOUCH, *after, *ends])):
+                _, text, errors = call(*words, "--format", form, name)
+                shown = rows_of_lines([SHOWN if it == HOSTILE else it for it in added], errors)
+                got, want = rows_of(text, form), [*(shown if words[0] == "diff" else []), *want]
+                good &= tell(got == want and len(shown) > len(added) - 1,
+                             f"what a {form} of {words[0]} is of, {kind}"
                              + ("" if got == want else f": {got}, not {want}"))
         lies = "at 0x10000 0x1000 0\n" if allowed else "in 1 at 0x10000 0x1000 0\n"
         with open(name + ".at", "w", encoding="utf-8") as file:
@@ -108,7 +120,33 @@ def try_about(call, tell, folder):
         good &= tell(got == [*shown, TOUCH, *after, *ends], f"what a report is of, {kind}: {got}")
         words = ["moves", *asked[:4], "--lenient", "--then", added[0], "--format", "svg"]
         if allowed:
-            want = [*wrapped(SHOWN), TOUCH, *after, *ends]
-            got = rows_of(call(*words, name)[1], "svg")
+            _, text, errors = call(*words, name)
+            got = rows_of(text, "svg")
+            want = [*rows_of_lines([SHOWN], errors), TOUCH, now[0].replace(":", " after the added lines:"), *ends]
             good &= tell(got == want, "what a picture of moves is of" + ("" if got == want else f": {got}"))
+    return good & try_process(call, tell, f"{folder}/about-host", version)
+
+
+def try_process(call, tell, name, version):
+    """With --process each picture and page says of which process it is."""
+    asked, then, good = ["--task", "1", "--node", "0", "--process", "1"], ["--then", "cgroup-mems 5 1"], True
+    trace = name + ".trace"
+    with open(trace, "w", encoding="utf-8") as file:
+        file.write("in 1 1 0x10000 0\n")
+    for form in "svg", "html":
+        for words, lines, allowed in (
+                (["predict", *asked], [], "Allowed nodes: 0-1"),
+                (["explain", *asked, "0x10000"], [], "Allowed nodes: 0-1"),
+                (["diff", *asked, *then], then[1:], "Allowed nodes after the added lines: 1"),
+                (["moves", *asked, *then], then[1:], "Allowed nodes after the added lines: 1"),
+                (["report", *asked, *then], then[1:], "Allowed nodes after the added lines: 1"),
+                (["replay", "--process", "1", "--trace", trace], [], "Allowed nodes: 0-1")):
+            kind = words[0]
+            if form == ("html" if kind in ("explain", "moves") else "svg" if kind in ("report", "replay") else ""):
+                continue
+            some = [] if kind == "report" else ["--format", form]
+            got = rows_of(call(*words, *some, name)[1], "report" if kind == "report" else form)
+            want = [*("Added line: " + it for it in lines), "Process 1, group 5", *[TOUCH] * (kind != "replay"),
+                    allowed, *HOST_ROWS, version]
+            good &= tell(got == want, f"of which process a {form} of {kind} is" + ("" if got == want else f": {got}"))
     return good

@@ -212,7 +212,7 @@ def total_difference(root, group, rows, nodes, left):
     lacks = f" exhausted={lacking:,}" if lacking else ""
     want = [f"total anon={amount(anon)}{lacks}"]
     for node in range(nodes):
-        behind = f", {amount(left[node])} left" if node in left else ""
+        behind = f", {amount(left[node])} left" if node in left else ", never fills" * bool(left)
         pages = counts.get(node, 0)
         want.append(f"N{node}={amount(pages)}{behind}")
     told = [it.text for it in group.findall(SVG + "text")]

@@ -7,22 +7,24 @@ use numa_lines::RunFault;
 use numa_machine::{Fallback, Machine};
 use numa_mask::{NodeMask, list_text};
 use numa_sheets::{Format, Touch, VERSION, Written};
-use numa_subjects::{Halt, Subject};
+use numa_subjects::{Added, Halt, InGroup, Subject};
 use std::alloc::{AllocError, Global};
 
 /// The most nodes whose distances are told one by one.
 const NODES: u32 = 16;
 
-/// The most lines that are told, and the most bytes in a row.
+/// The most lines that are told, and the most letters of a row, with those before a line's rows.
 const LINES: usize = 12;
 
-const WIDE: usize = 110;
+const WIDE: usize = 122;
 
 /// What an answer is of.
 #[derive(Clone, Copy)]
 pub struct About<'a> {
     /// The machine.
     pub machine: &'a Machine,
+    /// The one process of a host, if it is about one.
+    pub member: Option<InGroup>,
     /// The nodes that the one process is allowed, behind added lines.
     pub allowed: Option<NodeMask>,
     /// How pages are touched, if they are.
@@ -30,22 +32,23 @@ pub struct About<'a> {
     /// Whether pages that are there stay where they lie.
     pub stay: bool,
     /// The lines that were added.
-    pub lines: &'a [String],
+    pub added: Added<'a>,
 }
 
 impl<'a> About<'a> {
     /// What an answer about a space, or about all processes of a host, is of.
-    pub fn of(subject: Subject<'a>, touch: Option<Touch>, lines: &'a [String]) -> About<'a> {
-        let (machine, allowed) = match subject {
-            Subject::One(space) => (space.machine(), Some(space.allowed())),
-            Subject::Each(host) => (host.machine(), None),
+    pub fn of(subject: Subject<'a>, touch: Option<Touch>, added: Added<'a>) -> About<'a> {
+        let (machine, member, allowed) = match subject {
+            Subject::One(space, member) => (space.machine(), member, Some(space.allowed())),
+            Subject::Each(host) => (host.machine(), None, None),
         };
         About {
             machine,
+            member,
             allowed,
             touch,
             stay: false,
-            lines,
+            added,
         }
     }
 
@@ -53,17 +56,19 @@ impl<'a> About<'a> {
     pub fn staying(self, stay: bool) -> About<'a> {
         let About {
             machine,
+            member,
             allowed,
             touch,
             stay: _,
-            lines,
+            added,
         } = self;
         About {
             machine,
+            member,
             allowed,
             touch,
             stay,
-            lines,
+            added,
         }
     }
 }
@@ -153,6 +158,12 @@ fn put_distances(text: &mut Written, machine: &Machine) {
     }
 }
 
+/// Writes of which process of a host it is.
+fn put_member(text: &mut Written, member: InGroup) {
+    let numbers = [u64::from(member.process), u64::from(member.group)];
+    text.put_form(b"Process $, group $\n", &numbers);
+}
+
 /// Writes how pages are touched, and the nodes that the process is allowed.
 fn put_touch(text: &mut Written, about: &About<'_>) {
     if let Some(touch) = about.touch {
@@ -166,7 +177,7 @@ fn put_touch(text: &mut Written, about: &About<'_>) {
         text.put(b"\n");
     }
     if let Some(allowed) = about.allowed {
-        text.put(if about.lines.is_empty() {
+        text.put(if about.added.lines.is_empty() {
             b"Allowed nodes: ".as_slice()
         } else {
             b"Allowed nodes after the added lines: "
@@ -190,24 +201,25 @@ fn word_length(line: &[u8]) -> usize {
 
 /// Whether a row with so many bytes ends before the rest of its line: it has no room, or a word
 /// begins that fits in a row, and not in this one.
-fn ends_before(column: usize, rest: &[u8], begins_word: bool) -> bool {
-    if column == WIDE {
+fn ends_before(column: usize, rest: &[u8], begins_word: bool, wide: usize) -> bool {
+    if column >= wide {
         return true;
     }
     if !begins_word {
         return false;
     }
     let length = word_length(rest);
-    length <= WIDE && column.saturating_add(length) > WIDE
+    length <= wide && column.saturating_add(length) > wide
 }
 
 /// Writes a line as rows of text, which end behind a space where words fit; those behind its first
 /// begin with `next`.
 pub(crate) fn put_wrapped(text: &mut Written, line: &[u8], next: &[u8]) {
+    let wide = WIDE.saturating_sub(next.len());
     let mut column = 0usize;
     let mut begins_word = false;
     for place in 0..line.len() {
-        if ends_before(column, &line[place..], begins_word) {
+        if ends_before(column, &line[place..], begins_word, wide) {
             text.put(b"\n");
             text.put(next);
             column = 0;
@@ -220,16 +232,34 @@ pub(crate) fn put_wrapped(text: &mut Written, line: &[u8], next: &[u8]) {
     text.put(b"\n");
 }
 
-/// Writes an added line, in rows of text.
-fn put_line(text: &mut Written, line: &[u8]) {
+/// Writes a line that was refused, and why, in rows of text.
+fn put_refused(text: &mut Written, line: &[u8], fault: &[u8]) {
+    let mut row = Written::new(text.alloc());
+    row.put(line);
+    row.put(b" (");
+    row.put(fault.strip_prefix(b"refused ").unwrap_or(fault));
+    row.put(b")");
+    text.put(b"Added line, refused: ");
+    match row.take() {
+        Ok(row) => put_wrapped(text, row.as_slice(), b"                     "),
+        Err(_) => text.lack(),
+    }
+}
+
+/// Writes an added line, in rows of text; and why it was refused, if it was.
+fn put_line(text: &mut Written, line: &[u8], fault: &[u8]) {
+    if !fault.is_empty() {
+        return put_refused(text, line, fault);
+    }
     text.put(b"Added line: ");
     put_wrapped(text, line, b"            ");
 }
 
 /// Writes the added lines.
-fn put_lines(text: &mut Written, lines: &[String]) {
-    for line in lines.get(..lines.len().min(LINES)).unwrap_or(&[]) {
-        put_line(text, line.as_bytes());
+fn put_lines(text: &mut Written, added: Added<'_>) {
+    let lines = added.lines;
+    for place in 0..lines.len().min(LINES) {
+        put_line(text, lines[place].as_bytes(), added.fault(place));
     }
     let others = lines.len().saturating_sub(LINES);
     if others > 0 {
@@ -240,7 +270,10 @@ fn put_lines(text: &mut Written, lines: &[String]) {
 /// What an answer is of, in rows of text that stand as they are in a picture and in a page.
 fn rows_of(alloc: Global, about: &About<'_>) -> Result<Vec<u8>, AllocError> {
     let mut text = Written::new(alloc);
-    put_lines(&mut text, about.lines);
+    put_lines(&mut text, about.added);
+    if let Some(member) = about.member {
+        put_member(&mut text, member);
+    }
     put_touch(&mut text, about);
     put_machine(&mut text, about.machine);
     put_distances(&mut text, about.machine);

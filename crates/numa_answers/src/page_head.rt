@@ -17,7 +17,7 @@ section h1 { font-size: 20px; }
 table { border-collapse: collapse; font-family: monospace; }
 td, th { padding: 2px 10px; text-align: left; border-bottom: 1px solid #ddd; }
 td.number { text-align: right; }
-td.number, td.one { white-space: nowrap; }
+td.number, td.one, .whole { white-space: nowrap; }
 th { cursor: pointer; background: #eee; position: sticky; top: 0; }
 tbody tr { cursor: pointer; }
 tbody tr:hover, tr.chosen { background: #eef4ff; }
@@ -34,6 +34,7 @@ pre { background: #f6f6f6; padding: 8px; max-width: 1184px; white-space: pre-wra
 @media (max-width: 600px) {
   body { margin: 0.5em; font-size: 13px; }
   td, th { padding: 2px 5px; }
+  td.name { min-width: 9em; white-space: normal; overflow-wrap: anywhere; }
   .cell { border-right-width: 0; }
 }
 @media print {
@@ -44,7 +45,7 @@ pre { background: #f6f6f6; padding: 8px; max-width: 1184px; white-space: pre-wra
   tr, .strip { break-inside: avoid; }
   table { font-size: 11px; }
   td, th { padding: 1px 6px; }
-  td:not(.one, .number), td.one:last-child { white-space: normal; overflow-wrap: anywhere; }
+  td:not(.one, .number), td.name { white-space: normal; overflow-wrap: anywhere; }
   body, .bar, .mark, .cell { print-color-adjust: exact; }
 }
 </style>

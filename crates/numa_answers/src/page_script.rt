@@ -232,16 +232,6 @@ function explain(views, address) {
   views.told.words.textContent = lines.join('\\n');
 }
 
-// The pages of a range by node: a column for each of few nodes, else all in one.
-const countOf = (range, node) => (range.nodes.find((it) => it.node === node) || { pages: 0 }).pages;
-const countCell = (count) => ({ key: count, text: String(count), isNumber: true, isCount: true });
-const someCell = (pages) => (pages ? countCell(pages) : { key: 0, text: '', isNumber: true });
-const nodeHeads = (nodes) => (nodes.length > FEW ? ['nodes'] : nodes.map((node) => 'N' + node));
-const nodeCells = (range, nodes) => (nodes.length > FEW ? [nodesText(range.nodes, 'pages')]
-  : nodes.map((node) => someCell(countOf(range, node))));
-const nameHeads = () => (areas.length ? ['name'] : []);
-const nameCells = (range) => (areas.length ? [namesOf(range, ofProcess)] : []);
-
 // Shows a range's pages, and has the page's address name it.
 function open(views, range) {
   strips(views, range.start, range.end, []);
@@ -272,14 +262,14 @@ function rangesPart(title, view, views) {
     cells: [
       { key: it.start, text: hex(it.start) },
       { key: it.end, text: hex(it.end) },
+      ...nameCells(it),
       countCell(it.anon),
       sizeCell(it.anon),
       it.policy,
       ...nodeCells(it, nodes),
-      ...nameCells(it),
     ],
   }));
-  const heads = ['start', 'end', 'pages', 'size', 'policy', ...nodeHeads(nodes), ...nameHeads()];
+  const heads = ['start', 'end', ...nameHeads(), 'pages', 'size', 'policy', ...nodeHeads(nodes)];
   table(title, heads, rows, (it) => open(views, it), nodes);
   const rest = view.others;
   if (rest) {
@@ -322,7 +312,8 @@ function pagesPart(views, isUntold) {
 // ---- the kinds of pages, of one process and of all together
 
 function say(text) {
-  said.textContent = text;
+  said.textContent = '';
+  putWords(said, text);
 }
 
 const pairsText = (list) => list.map((m) => 'N' + m.from + '->N' + m.to + '=' + m.pages).join(' ');
@@ -336,6 +327,7 @@ function leftPart(left) {
   table('Left', ['node', 'pages', 'size'], left.map(({ node, pages }) => ({
     cells: [{ key: node, text: String(node), mark: true }, countCell(pages), sizeCell(pages)],
   })));
+  make('p', page, 'Nodes that this table lacks never fill.', 'others');
 }
 
 function prediction(from) {
@@ -368,15 +360,15 @@ function difference(from) {
   totals('After', changed, most);
   table(
     'Differences',
-    ['start', 'end', 'differs', 'from and to', ...nameHeads()],
+    ['start', 'end', ...nameHeads(), 'differs', 'from and to'],
     spans.map((it) => ({
       value: it,
       cells: [
         { key: it.start, text: hex(it.start) },
         { key: it.end, text: hex(it.end) },
+        ...nameCells(it),
         countCell(it.differs),
         pairsText(it.differences),
-        ...nameCells(it),
       ],
     })),
     (it) => open(views, it),

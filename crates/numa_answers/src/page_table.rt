@@ -71,11 +71,23 @@ function pictureOf(rows) {
   return new XMLSerializer().serializeToString(root);
 }
 
+// Writes words, of which those with an arrow don't break, as `N0->N1=4` would behind its hyphen. (Of
+// very many words that isn't worth an element each.)
+function putWords(parent, text) {
+  const words = text.split(' ');
+  words.forEach((word, place) => {
+    if (place) parent.append(' ');
+    if (word.includes('->') && words.length < 50) make('span', parent, word, 'whole');
+    else parent.append(word);
+  });
+}
+
 // Fills a cell.
 function fillCell(line, it) {
   const isNumber = typeof it === 'number' || (it && it.isNumber);
-  const kind = shown(it).length < 60 ? 'one' : '';
-  const cell = make('td', line, seen(it), isNumber ? 'number' : kind);
+  const kind = (shown(it).length < 60 ? 'one' : '') + (it && it.isName ? ' name' : '');
+  const cell = make('td', line, undefined, isNumber ? 'number' : kind);
+  putWords(cell, seen(it));
   if (it && it.bar !== undefined) cell.textContent = '';
   if (it && it.bar > 0) {
     const bar = make('span', cell, undefined, 'bar');
@@ -88,6 +100,19 @@ function fillCell(line, it) {
     paint(make('span', cell, it.text, 'mark'), it.key);
   }
 }
+
+// The pages of a range by node: a column for each of few nodes, else all in one.
+const countOf = (range, node) => (range.nodes.find((it) => it.node === node) || { pages: 0 }).pages;
+const countCell = (count) => ({ key: count, text: String(count), isNumber: true, isCount: true });
+const someCell = (pages) => (pages ? countCell(pages) : { key: 0, text: '', isNumber: true });
+const nodeHeads = (nodes) => (nodes.length > FEW ? ['nodes'] : nodes.map((node) => 'N' + node));
+const nodeCells = (range, nodes) => (nodes.length > FEW ? [nodesText(range.nodes, 'pages')]
+  : nodes.map((node) => someCell(countOf(range, node))));
+
+// A column of names, if areas have some.
+const nameHeads = () => (areas.length ? ['name'] : []);
+const nameCell = (name) => ({ key: name, text: name, isName: true });
+const nameCells = (range) => (areas.length ? [nameCell(namesOf(range, ofProcess))] : []);
 
 // The choice of a node, all of whose rows have pages on it.
 function pickOf(tools, nodes) {

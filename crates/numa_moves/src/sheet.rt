@@ -23,6 +23,8 @@ use std::alloc::{AllocError, Global};
 pub struct Asked<'a> {
     /// The lines, one for each step.
     pub lines: &'a [String],
+    /// What is wrong with each: nothing where it was accepted.
+    pub faults: &'a [Vec<u8>],
     /// Whether it is about all processes of a host.
     pub is_each: bool,
     /// The process of a host that it is about alone, if it is about one.
@@ -33,6 +35,16 @@ pub struct Asked<'a> {
     pub free: &'a [FreePages],
     /// Text, JSON or SVG.
     pub format: Format,
+}
+
+impl<'a> Asked<'a> {
+    /// What is wrong with the line at a place; nothing where it was accepted.
+    fn fault(&self, place: usize) -> &'a [u8] {
+        match self.faults.get(place) {
+            Some(fault) => fault.as_slice(),
+            None => &[],
+        }
+    }
 }
 
 /// What was told of a process, or of the one space.
@@ -227,7 +239,8 @@ impl Sheet {
             Format::Json => objects::begin_step(&mut self.text, line, asked.is_each, place == 0),
             Format::Svg(_) => {
                 let text = &mut self.text;
-                self.drawing.begin_step(text, line, asked.free, &step.rooms);
+                self.drawing.begin_line(text, line, asked.fault(place));
+                self.drawing.put_left(text, asked.free, &step.rooms);
             }
             _ if asked.lines.len() > 1 => lines::begin_step(&mut self.text, line),
             _ => (),

@@ -2,7 +2,7 @@
 ghost use Rattle.std.specs.Prelude.{◌≡◌};
 ghost use Rattle.numa_subjects.specs.Faults.{ended_by, has_faults};
 
-use crate::found_objects::{Message, Said, put_message, put_unjudged, say_message};
+use crate::found_objects::{Message, Said, put_message, put_unjudged, say_message, words_of};
 use crate::judging::{judge, judge_by_other};
 use crate::named::{Named, TasksNamed};
 use numa_diagnose::{Detail, Finding, HostHint, LineAt, hint_in, hint_of, say_unjudged};
@@ -174,6 +174,22 @@ impl<W: Write> Findings<W> {
         } else {
             Ended::Clean
         }
+    }
+
+    /// How many lines have a message so far.
+    pub fn told(&self) -> u64
+        ensures { result ≡ self.now.told }
+    {
+        self.told
+    }
+
+    /// What the message about the last line says of it, if that isn't one of the first `before`
+    /// lines with a message.
+    pub fn fault_behind(&self, before: u64) -> &[u8] {
+        if self.told == before {
+            return &[];
+        }
+        words_of(self.text.as_slice())
     }
 
     /// Writes a message about a line.

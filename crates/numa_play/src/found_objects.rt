@@ -38,6 +38,16 @@ pub(crate) fn say_message(text: &mut Vec<u8>, message: Message<'_>) -> Result<()
     }
 }
 
+/// What a message says of a line, behind where that stands.
+pub(crate) fn words_of(message: &[u8]) -> &[u8] {
+    for place in 0..message.len() {
+        if let Some(words) = message[place..].strip_prefix(b": ") {
+            return words.strip_suffix(b"\n").unwrap_or(words);
+        }
+    }
+    message
+}
+
 /// The number of bytes before the first `: `, or all.
 fn answer_end(text: &[u8]) -> usize
     ensures { result ≤ length text.now }

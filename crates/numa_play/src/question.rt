@@ -3,10 +3,20 @@ ghost use Rattle.std.specs.Prelude.{◌≡◌, IfOk};
 ghost use Rattle.numa_subjects.specs.Faults.{ended_by, has_faults};
 
 use crate::findings::Findings;
+use numa_host::Process;
 use numa_host_script::HostScript;
 use numa_lines::RunFault;
-use numa_subjects::{Ended, Halt, Subject};
+use numa_subjects::{Ended, Halt, InGroup, Subject, member};
 use std::io::Write;
+
+/// What an answer about a process of a host is about.
+fn subject_in(one: &Process) -> Subject<'_> {
+    let member = InGroup {
+        process: one.id,
+        group: one.group,
+    };
+    Subject::One(&one.space, Some(member))
+}
 
 /// What an answer is about after a script, if this process is asked for.
 pub fn subject_of(script: &HostScript, process: Option<u32>) -> Result<Subject<'_>, Halt> {
@@ -14,8 +24,8 @@ pub fn subject_of(script: &HostScript, process: Option<u32>) -> Result<Subject<'
         let Some(process) = process else {
             return Ok(Subject::Each(host));
         };
-        return match host.process(process) {
-            Some(space) => Ok(Subject::One(space)),
+        return match member(host, process) {
+            Some(one) => Ok(subject_in(one)),
             None => Err(Halt::NoProcess(process)),
         };
     }
@@ -25,7 +35,7 @@ pub fn subject_of(script: &HostScript, process: Option<u32>) -> Result<Subject<'
     match script.core() {
         None => Err(Halt::NoMachine),
         Some(_) if process.is_some() => Err(Halt::NoHost),
-        Some(core) => Ok(Subject::One(core.space())),
+        Some(core) => Ok(Subject::One(core.space(), None)),
     }
 }
 

@@ -48,7 +48,7 @@ fn touch_each(
 /// The machine of what an answer is about.
 fn machine_of<'a>(subject: &Subject<'a>) -> &'a Machine {
     match subject {
-        Subject::One(space) => space.machine(),
+        Subject::One(space, _) => space.machine(),
         Subject::Each(host) => host.machine(),
     }
 }
@@ -101,7 +101,7 @@ fn has_mapped(processes: &[Process], address: u64) -> bool {
 /// Whether the page of an address is mapped, in a host by some process.
 fn is_mapped_in(subject: &Subject<'_>, address: u64) -> bool {
     match subject {
-        Subject::One(space) => is_mapped(space, address),
+        Subject::One(space, _) => is_mapped(space, address),
         Subject::Each(host) => has_mapped(host.processes(), address),
     }
 }

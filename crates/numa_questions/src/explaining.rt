@@ -9,7 +9,7 @@ use numa_reports::{ByProcess, Coming, comings};
 use numa_rules::{Explanation, ReasonError, by_other_rules, say_by_other};
 use numa_sheets::{Format, Touch};
 use numa_space::Space;
-use numa_subjects::{Halt, PagePlace, Subject, host_in, nodes_with, space_in};
+use numa_subjects::{Added, Halt, PagePlace, Subject, host_in, nodes_with, space_in};
 use std::alloc::Global;
 
 /// The pages to be explained: one, or from it on as many as `pages`.
@@ -245,7 +245,10 @@ fn told_reasons(
     text: Result<Vec<u8>, Halt>,
 ) -> Result<Vec<u8>, Halt> {
     match text {
-        Ok(text) => told_of(alloc, format, &About::of(subject, Some(touch), &[]), text),
+        Ok(text) => {
+            let about = About::of(subject, Some(touch), Added::fine(&[]));
+            told_of(alloc, format, &about, text)
+        }
         Err(halt) => Err(halt),
     }
 }
@@ -263,7 +266,7 @@ pub fn reasons_of<'a>(
     asked: ReasonsAsked<'_>,
 ) -> Result<Vec<u8>, Halt> {
     let text = match subject {
-        Subject::One(space) => {
+        Subject::One(space, _) => {
             let other = space_in(other);
             let place = place_of(asked.there, 0);
             reasons(alloc, ByRules { space, other }, asked, place)
@@ -288,5 +291,5 @@ pub fn explain_space(
     let spaces = ByRules { space, other: None };
     let text = reasons_in(alloc, spaces, asked, &said, None, format);
     drop(said);
-    told_reasons(alloc, Subject::One(space), asked, format, text)
+    told_reasons(alloc, Subject::One(space, None), asked, format, text)
 }

@@ -4,7 +4,7 @@ use numa_answers::{About, shown_as, told_of};
 use numa_reports::Account;
 use numa_sheets::{Format, FreePages, Touch, Watch};
 use numa_space::Space;
-use numa_subjects::{Halt, Subject};
+use numa_subjects::{Added, Halt, Subject};
 use std::alloc::Global;
 
 /// Where all mapped pages of a space would go, if they were touched now, as a text, or as a page.
@@ -35,7 +35,7 @@ fn lacking_node(free: &[FreePages], nodes: u32) -> Option<u8> {
 /// The nodes of the machine of one space or of all processes.
 fn nodes_of(subject: Subject<'_>) -> u32 {
     match subject {
-        Subject::One(space) => space.machine().nodes(),
+        Subject::One(space, _) => space.machine().nodes(),
         Subject::Each(host) => host.machine().nodes(),
     }
 }
@@ -56,13 +56,13 @@ pub fn prediction_of<P: Watch>(
         return Err(Halt::NoFreeNode(node, nodes));
     }
     let text = match subject {
-        Subject::One(space) => prediction_in(alloc, space, asked, watch),
+        Subject::One(space, _) => prediction_in(alloc, space, asked, watch),
         Subject::Each(host) => predict_each(alloc, host, asked, watch),
     };
     match text {
         Ok(text) => {
             let stay = !asked.there.is_empty();
-            let about = About::of(subject, Some(asked.touch), &[]).staying(stay);
+            let about = About::of(subject, Some(asked.touch), Added::fine(&[])).staying(stay);
             told_of(alloc, asked.format, &about, text)
         }
         Err(halt) => Err(halt),
@@ -87,5 +87,5 @@ pub fn predict_space(
         free,
         there: &[],
     };
-    prediction_of(alloc, Subject::One(space), asked, &mut ())
+    prediction_of(alloc, Subject::One(space, None), asked, &mut ())
 }

@@ -6,14 +6,16 @@
 //! malformed and refused lines.
 #![tactic(auto)]
 
+mod added;
 mod ended;
 mod faults;
 mod halt;
 mod page_place;
 mod subject;
 
+pub use added::Added;
 pub use ended::{Ended, Twin};
 pub use faults::tells_fault;
 pub use halt::{Halt, NOTHING_SERVED};
 pub use page_place::PagePlace;
-pub use subject::{Subject, differ, host_in, member, nodes_with, space_in};
+pub use subject::{InGroup, Subject, differ, host_in, member, nodes_with, space_in};

@@ -6,11 +6,18 @@ use crate::halt::Halt;
 use numa_host::{Host, Process};
 use numa_space::Space;
 
+/// A process of a host and its group, by their numbers.
+#[derive(Clone, Copy)]
+pub struct InGroup {
+    pub process: u32,
+    pub group: u32,
+}
+
 /// What an answer is about.
 #[derive(Clone, Copy)]
 pub enum Subject<'a> {
-    /// The space of the script, or of the chosen process of a host.
-    One(&'a Space),
+    /// The space of the script, or of the chosen process of a host, which this is.
+    One(&'a Space, Option<InGroup>),
     /// All processes of a host.
     Each(&'a Host),
 }
@@ -18,7 +25,7 @@ pub enum Subject<'a> {
 /// The one space of what an answer is about, if it is one.
 pub fn space_in(subject: Option<Subject<'_>>) -> Option<&Space> {
     match subject {
-        Some(Subject::One(space)) => Some(space),
+        Some(Subject::One(space, _)) => Some(space),
         _ => None,
     }
 }

@@ -8,7 +8,7 @@ use numa_reports::{
 };
 use numa_sheets::{Format, Touch, Watch};
 use numa_space::Space;
-use numa_subjects::{Halt, Subject, member, nodes_with};
+use numa_subjects::{Added, Halt, Subject, member, nodes_with};
 use std::alloc::{AllocError, Global};
 
 /// The state of a space.
@@ -45,7 +45,7 @@ pub struct DiffAsked<'a> {
     /// Text, JSON, SVG or HTML.
     pub format: Format,
     /// The lines that make the difference.
-    pub lines: &'a [String],
+    pub added: Added<'a>,
 }
 
 /// The object of a state, if a page is asked for.
@@ -301,7 +301,7 @@ pub(crate) fn told_of_difference(
 ) -> Result<Vec<u8>, Halt> {
     match text {
         Ok(text) => {
-            let about = About::of(subject, Some(asked.touch), asked.lines);
+            let about = About::of(subject, Some(asked.touch), asked.added);
             told_of(alloc, asked.format, &about, text)
         }
         Err(halt) => Err(halt),
@@ -319,7 +319,7 @@ pub fn states_of(
 ) -> Result<StatesBefore, Halt> {
     let mut outlooks = Vec::new(alloc);
     let added = match subject {
-        Subject::One(space) => add_outlook(alloc, &mut outlooks, None, space, asked),
+        Subject::One(space, _) => add_outlook(alloc, &mut outlooks, None, space, asked),
         Subject::Each(host) => add_outlooks(alloc, host.processes(), &mut outlooks, asked),
     };
     match added {
@@ -343,7 +343,7 @@ pub fn difference_since<P: Watch>(
     watch: &mut P,
 ) -> Result<Vec<u8>, Halt> {
     let text = match subject {
-        Subject::One(space) => difference_of_one(alloc, before, space, asked, watch),
+        Subject::One(space, _) => difference_of_one(alloc, before, space, asked, watch),
         Subject::Each(host) => {
             let begun = Differences::new(alloc, host.machine().nodes(), asked, watch);
             difference_of_each(alloc, begun, before, host)

@@ -5,7 +5,7 @@ use numa_plan::Plan;
 use numa_reports::{PredictionRequest, ReportError};
 use numa_sheets::{Format, Touch};
 use numa_space::Space;
-use numa_subjects::{Halt, Subject};
+use numa_subjects::{Added, Halt, Subject};
 use numa_traces::{
     Moment, PlanReplay, RangeTallies, RangesMet, Replay, ReplayForm, Replaying, Tallies,
     moments_of, placed_text, report_text,
@@ -123,6 +123,7 @@ pub(crate) fn met(
     drop(moments);
     let format = form.format;
     let text = shown_as(alloc, format, "replay", text?)?;
-    let about = About::of(Subject::One(planned.space), None, &[]);
+    let subject = Subject::One(planned.space, planned.member);
+    let about = About::of(subject, None, Added::fine(&[]));
     told_of(alloc, format, &about, text)
 }

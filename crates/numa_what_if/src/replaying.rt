@@ -9,7 +9,7 @@ use numa_lines::{RunFault, TakeLine};
 use numa_reports::ByProcess;
 use numa_sheets::Format;
 use numa_space::Space;
-use numa_subjects::{Halt, Subject, differ, host_in};
+use numa_subjects::{Added, Halt, Subject, differ, host_in};
 use numa_traces::{
     HostReplay, HostTrace, PlanReplay, ReplayForm, Replaying, moments_in, moments_of_all, read_by,
     total_text,
@@ -85,6 +85,7 @@ fn begun_in<'a>(
         space,
         plan,
         ground,
+        ..
     } = planned;
     let ranges = ranges_of(alloc, space, by_range)?;
     let room = match room_of(alloc, space.machine(), ground) {
@@ -155,7 +156,14 @@ fn replayed_beside<S: Read + Drop>(
     trace: Vec<(String, S)>,
     form: ReplayForm,
 ) -> Result<Replayed, Halt> {
-    let Some(Unplanned { space, ground }) = other else {
+    let Some(
+        Unplanned {
+            space,
+            member,
+            ground,
+        },
+    ) = other
+    else {
         return replayed_by(alloc, planned, None, process, trace, form);
     };
     let plan = match plan_of(alloc, space) {
@@ -167,6 +175,7 @@ fn replayed_beside<S: Read + Drop>(
     };
     let other = Planned {
         space,
+        member,
         plan: &plan,
         ground,
     };
@@ -185,7 +194,11 @@ fn replayed_in<S: Read + Drop>(
     trace: Vec<(String, S)>,
     form: ReplayForm,
 ) -> Result<Replayed, Halt> {
-    let Unplanned { space, ground } = own;
+    let Unplanned {
+        space,
+        member,
+        ground,
+    } = own;
     let plan = match plan_of(alloc, space) {
         Ok(plan) => plan,
         Err(halt) => {
@@ -195,6 +208,7 @@ fn replayed_in<S: Read + Drop>(
     };
     let planned = Planned {
         space,
+        member,
         plan: &plan,
         ground,
     };
@@ -248,6 +262,7 @@ fn add_report<'a>(
     let moments = moments_in(alloc, trace, process.id)?;
     let planned = Planned {
         space: &process.space,
+        member: None,
         plan: &one.plan,
         ground: FRAMES,
     };
@@ -298,7 +313,7 @@ fn reports(
     let text = answers.take()?;
     let format = form.format;
     let text = shown_as(alloc, format, "replay", text)?;
-    let about = About::of(Subject::Each(host), None, &[]);
+    let about = About::of(Subject::Each(host), None, Added::fine(&[]));
     told_of(alloc, format, &about, text)
 }
 
@@ -408,8 +423,12 @@ pub fn replayed_of<S: Read + Drop>(
 ) -> Result<Replayed, Halt> {
     let ground = stage.ground;
     match stage.subject {
-        Subject::One(space) => {
-            let own = Unplanned { space, ground };
+        Subject::One(space, member) => {
+            let own = Unplanned {
+                space,
+                member,
+                ground,
+            };
             replayed_in(alloc, own, space_on(other), process, trace, form)
         }
         Subject::Each(host) => {
@@ -436,6 +455,7 @@ pub fn replay_space<S: Read + Drop>(
 ) -> Result<Vec<u8>, Halt> {
     let own = Unplanned {
         space,
+        member: None,
         ground: FRAMES,
     };
     let replayed = replayed_in(alloc, own, None, None, trace, ReplayForm::plain(format))?;

@@ -3,7 +3,7 @@ use crate::differing::{DiffAsked, difference_to, outlook_in, told_of_difference,
 use numa_reports::Outlook;
 use numa_sheets::{Format, Touch};
 use numa_space::Space;
-use numa_subjects::{Halt, Subject, nodes_with};
+use numa_subjects::{Added, Halt, Subject, nodes_with};
 use std::alloc::Global;
 
 /// The difference from a state to a space, on machines with up to so many nodes.
@@ -53,10 +53,10 @@ pub fn diff_spaces(
     let asked = DiffAsked {
         touch,
         format,
-        lines: &[],
+        added: Added::fine(&[]),
     };
     let outlook = outlook_in(alloc, before)?;
     let text = difference_between(alloc, before, &outlook, after, nodes.max(others), asked);
     drop(outlook);
-    told_of_difference(alloc, Subject::One(after), asked, text)
+    told_of_difference(alloc, Subject::One(after, None), asked, text)
 }

@@ -4,7 +4,7 @@ use numa_lines::RunFault;
 use numa_machine::Machine;
 use numa_plan::Plan;
 use numa_space::Space;
-use numa_subjects::{Halt, Subject};
+use numa_subjects::{Halt, InGroup, Subject};
 use numa_traces::{Before, PageSpan, RangeTallies, all_frames};
 use std::alloc::{AllocError, Global};
 
@@ -29,10 +29,11 @@ pub struct Stage<'a> {
     pub ground: Ground<'a>,
 }
 
-/// A space, its plan, and where its pages lie before a trace.
+/// A space, of which process of a host it is, its plan, and where its pages lie before a trace.
 #[derive(Clone, Copy)]
 pub(crate) struct Planned<'a> {
     pub(crate) space: &'a Space,
+    pub(crate) member: Option<InGroup>,
     pub(crate) plan: &'a Plan,
     pub(crate) ground: Ground<'a>,
 }
@@ -41,6 +42,7 @@ pub(crate) struct Planned<'a> {
 #[derive(Clone, Copy)]
 pub(crate) struct Unplanned<'a> {
     pub(crate) space: &'a Space,
+    pub(crate) member: Option<InGroup>,
     pub(crate) ground: Ground<'a>,
 }
 
@@ -48,8 +50,9 @@ pub(crate) struct Unplanned<'a> {
 pub(crate) fn space_on(stage: Option<Stage<'_>>) -> Option<Unplanned<'_>> {
     let stage = stage?;
     match stage.subject {
-        Subject::One(space) => Some(Unplanned {
+        Subject::One(space, member) => Some(Unplanned {
             space,
+            member,
             ground: stage.ground,
         }),
         Subject::Each(_) => None,

@@ -1,9 +1,10 @@
 //! Differences after scripts.
+use crate::there::LineFaults;
 use numa_host_script::HostScript;
 use numa_lines::{RunFault, TakeLine};
 use numa_play::{Findings, subject_of};
 use numa_sheets::Watch;
-use numa_subjects::Halt;
+use numa_subjects::{Added, Halt};
 use numa_what_if::{DiffAsked, StatesBefore, difference_since, states_of};
 use std::alloc::Global;
 use std::io::Write;
@@ -11,14 +12,36 @@ use std::io::Write;
 /// The name of the added lines in messages.
 const ADDED: &str = "--then";
 
-/// Plays added lines, whose messages have the name `--then` and numbers from 1 on.
+/// Plays an added line, whose messages have the name `--then`, and notes what is wrong with it.
 ///
 /// # Errors
 /// `Write` or `Memory`, as [`Findings`] takes lines.
-pub fn play_added<T: Write>(findings: &mut Findings<T>, lines: &[String]) -> Result<(), RunFault> {
+pub(crate) fn play_one<T: Write>(
+    findings: &mut Findings<T>,
+    place: u64,
+    line: &[u8],
+    faults: &mut LineFaults,
+) -> Result<(), RunFault> {
+    let told = findings.told();
+    if let Err(why) = findings.take(ADDED, place, line, &mut ()) {
+        return Err(why);
+    }
+    faults.note(findings.fault_behind(told))
+}
+
+/// Plays added lines, whose messages have the name `--then` and numbers from 1 on, and notes what
+/// is wrong with each.
+///
+/// # Errors
+/// `Write` or `Memory`, as [`Findings`] takes lines.
+pub fn play_added<T: Write>(
+    findings: &mut Findings<T>,
+    lines: &[String],
+    faults: &mut LineFaults,
+) -> Result<(), RunFault> {
     let mut place = 1u64;
     for line in lines {
-        if let Err(why) = findings.take(ADDED, place, line.as_str().as_bytes(), &mut ()) {
+        if let Err(why) = play_one(findings, place, line.as_str().as_bytes(), faults) {
             return Err(why);
         }
         place = place.saturating_add(1);
@@ -27,8 +50,12 @@ pub fn play_added<T: Write>(findings: &mut Findings<T>, lines: &[String]) -> Res
 }
 
 /// Plays the added lines, and finishes the messages.
-fn play_lines<T: Write>(findings: &mut Findings<T>, lines: &[String]) -> Result<(), RunFault> {
-    if let Err(why) = play_added(findings, lines) {
+fn play_lines<T: Write>(
+    findings: &mut Findings<T>,
+    lines: &[String],
+    faults: &mut LineFaults,
+) -> Result<(), RunFault> {
+    if let Err(why) = play_added(findings, lines, faults) {
         return Err(why);
     }
     findings.end()
@@ -65,6 +92,33 @@ fn states_before<T: Write>(
 }
 
 /// Plays the lines, and returns which pages go elsewhere after them, as a text.
+fn difference_by<T: Write, P: Watch>(
+    alloc: Global,
+    before: &StatesBefore,
+    findings: &mut Findings<T>,
+    process: Option<u32>,
+    asked: DiffAsked<'_>,
+    faults: &mut LineFaults,
+    watch: &mut P,
+) -> Result<Vec<u8>, Halt> {
+    let lines = asked.added.lines;
+    if let Err(why) = play_lines(findings, lines, faults) {
+        return Err(Halt::Stopped(why));
+    }
+    let asked = DiffAsked {
+        added: Added {
+            lines,
+            faults: faults.of_lines(),
+        },
+        ..asked
+    };
+    match subject_of(findings.script(), process) {
+        Ok(subject) => difference_since(alloc, before, subject, asked, watch),
+        Err(halt) => Err(halt),
+    }
+}
+
+/// The same, where nothing is known yet of what is wrong with the lines.
 fn difference_from<T: Write, P: Watch>(
     alloc: Global,
     before: &StatesBefore,
@@ -73,13 +127,10 @@ fn difference_from<T: Write, P: Watch>(
     asked: DiffAsked<'_>,
     watch: &mut P,
 ) -> Result<Vec<u8>, Halt> {
-    if let Err(why) = play_lines(findings, asked.lines) {
-        return Err(Halt::Stopped(why));
-    }
-    match subject_of(findings.script(), process) {
-        Ok(subject) => difference_since(alloc, before, subject, asked, watch),
-        Err(halt) => Err(halt),
-    }
+    let mut faults = LineFaults::new(alloc);
+    let text = difference_by(alloc, before, findings, process, asked, &mut faults, watch);
+    drop(faults);
+    text
 }
 
 /// Which pages go elsewhere after the lines, which are played, as a text.

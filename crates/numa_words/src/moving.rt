@@ -1,15 +1,16 @@
 //! Playing lines that move pages that are there, and telling what becomes of these.
+use crate::differing::play_one;
 use crate::there::{LineFaults, Played, scene_of};
 use numa_answers::{About, told_of};
 use numa_host_script::HostScript;
-use numa_lines::{RunFault, TakeLine};
+use numa_lines::RunFault;
 use numa_mask::NodeMask;
 use numa_moves::{Asked, Holdings, MoveLine, Origin, Step, moves_text, read_move};
 use numa_placed::Rooms;
 use numa_play::{Findings, subject_of};
 use numa_reports::ReportError;
 use numa_sheets::{Format, FreePages, Touch};
-use numa_subjects::Halt;
+use numa_subjects::{Added, Halt};
 use std::alloc::{AllocError, Global};
 use std::io::Write;
 
@@ -237,6 +238,7 @@ fn told_of_moves(
     script: &HostScript,
     origin: Origin,
     playing: Playing<'_>,
+    faults: &LineFaults,
     answer: Answer,
 ) -> Result<Answer, Halt> {
     let Answer { text, is_other } = answer;
@@ -247,7 +249,11 @@ fn told_of_moves(
         Origin::Touched(touch) => Some(touch),
         Origin::Left => None,
     };
-    let about = About::of(subject, touch, playing.lines);
+    let added = Added {
+        lines: playing.lines,
+        faults: faults.of_lines(),
+    };
+    let about = About::of(subject, touch, added);
     let text = told_of(alloc, playing.format, &about, text)?;
     Ok(Answer { text, is_other })
 }
@@ -266,23 +272,23 @@ fn limits_of(alloc: Global, rooms: &Rooms) -> Result<Vec<FreePages>, AllocError>
 
 impl<T: Write> Play<'_, T> {
     /// Plays a line in the scripts, if it is one of theirs, and tells what is wrong with it.
-    fn play_line(&mut self, holdings: &Holdings, place: u64, line: &str) -> Result<(), Halt> {
+    fn play_line(&mut self, holdings: &Holdings, place: u64, line: &str) -> Result<(), RunFault> {
         let moving = read_move(line.as_bytes());
         if let Some(why) = why_passed(&moving, self.playing.plays_all) {
-            self.faults.tell(ADDED, place, why);
-            return Ok(());
+            return self.faults.tell(ADDED, place, why);
         }
         let MoveLine::Migrate { process, to, .. } = moving else {
-            let taken = self.findings.take(ADDED, place, line.as_bytes(), &mut ());
-            return match taken {
-                Ok(()) => Ok(()),
-                Err(why) => Err(Halt::Stopped(why)),
-            };
+            return play_one(
+                &mut *self.findings,
+                place,
+                line.as_bytes(),
+                &mut *self.faults,
+            );
         };
-        if let Some(why) = why_not(holdings, process_of(process, self.playing.process), &to) {
-            self.faults.tell(ADDED, place, why);
+        match why_not(holdings, process_of(process, self.playing.process), &to) {
+            Some(why) => self.faults.tell(ADDED, place, why),
+            None => self.faults.note(b""),
         }
-        Ok(())
     }
 
     /// Plays these lines, and notes what each did to the pages that are there.
@@ -296,7 +302,9 @@ impl<T: Write> Play<'_, T> {
         let mut place = 1u64;
         for line in lines {
             let line = line.as_str();
-            self.play_line(&courses.own.holdings, place, line)?;
+            if let Err(why) = self.play_line(&courses.own.holdings, place, line) {
+                return Err(Halt::Stopped(why));
+            }
             let findings = &*self.findings;
             courses.own.go_on(alloc, findings.script(), playing, line)?;
             go_on_beside(alloc, &mut courses.other, findings.other(), playing, line);
@@ -315,18 +323,21 @@ impl<T: Write> Play<'_, T> {
     ) -> Result<Answer, Halt> {
         let playing = self.playing;
         let scene = scene_of(self.findings.script(), playing.process, playing.format)?;
+        let is_each = scene.is_each() && playing.process.is_none();
+        let nodes = scene.nodes();
+        if let Err(halt) = self.play_lines(alloc, courses, playing.lines) {
+            return Err(halt);
+        }
         let told = Asked {
             lines: playing.lines,
-            is_each: scene.is_each() && playing.process.is_none(),
+            faults: self.faults.of_lines(),
+            is_each,
             process: playing.process,
-            nodes: scene.nodes(),
+            nodes,
             free: limits,
             format: playing.format,
         };
-        match self.play_lines(alloc, courses, playing.lines) {
-            Ok(()) => answer_of(alloc, courses, told),
-            Err(halt) => Err(halt),
-        }
+        answer_of(alloc, courses, told)
     }
 
     /// The same, where it is told what is left of the nodes whose free pages are asked for, or else
@@ -366,7 +377,7 @@ pub fn moves_of<T: Write>(
     let answer = play.moves_left(alloc, &mut courses);
     drop(play);
     drop(courses);
-    told_of_moves(alloc, findings.script(), origin, playing, answer?)
+    told_of_moves(alloc, findings.script(), origin, playing, &*faults, answer?)
 }
 
 /// What becomes of pages by lines, as a text.

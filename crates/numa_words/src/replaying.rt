@@ -46,7 +46,7 @@ fn rooms_of(script: &HostScript) -> Option<&Rooms> {
 /// The machine of what an answer is about.
 fn machine_of<'a>(subject: &Subject<'a>) -> &'a Machine {
     match subject {
-        Subject::One(space) => space.machine(),
+        Subject::One(space, _) => space.machine(),
         Subject::Each(host) => host.machine(),
     }
 }

@@ -52,11 +52,13 @@ pub(crate) fn scene_of(
     Ok(Scene::Own(core.space(), script.pages()))
 }
 
-/// What is wrong with added lines: a message on each, and how many.
+/// What is wrong with added lines: a message on each that scripts don't judge, and how many.
 #[derive(Drop)]
 pub struct LineFaults {
     messages: Written,
     count: u64,
+    // What is wrong with each line that was played; nothing where it was accepted.
+    of_lines: Vec<Vec<u8>>,
 }
 
 impl LineFaults {
@@ -65,17 +67,35 @@ impl LineFaults {
         LineFaults {
             messages: Written::new(alloc),
             count: 0,
+            of_lines: Vec::new(alloc),
         }
     }
 
-    /// Adds what is wrong with a line.
-    pub(crate) fn tell(&mut self, name: &str, place: u64, why: &str) {
+    /// What is wrong with each line that was played: nothing where it was accepted.
+    pub fn of_lines(&self) -> &[Vec<u8>] {
+        self.of_lines.as_slice()
+    }
+
+    /// Notes what is wrong with the next line, or that nothing is.
+    pub(crate) fn note(&mut self, why: &[u8]) -> Result<(), RunFault> {
+        let Ok(why) = Vec::from_slice(self.messages.alloc(), why) else {
+            return Err(RunFault::Memory);
+        };
+        match self.of_lines.push(why) {
+            Ok(()) => Ok(()),
+            Err(_) => Err(RunFault::Memory),
+        }
+    }
+
+    /// Adds what is wrong with the next line.
+    pub(crate) fn tell(&mut self, name: &str, place: u64, why: &str) -> Result<(), RunFault> {
         self.count = self.count.saturating_add(1);
         let messages = &mut self.messages;
         messages.put(name.as_bytes());
         messages.put_form(b":$: ", &[place]);
         messages.put(why.as_bytes());
         messages.put(b"\n");
+        self.note(why.as_bytes())
     }
 }
 
@@ -328,7 +348,12 @@ pub fn play_there<S: Read + Drop, A: Read + Drop, T: Write + Drop>(
 
 /// Writes what is wrong with lines: first with added ones.
 fn tell_all<T: Write>(findings: &mut Findings<T>, faults: LineFaults) -> Result<(), RunFault> {
-    let LineFaults { messages, .. } = faults;
+    let LineFaults {
+        messages,
+        of_lines,
+        ..
+    } = faults;
+    drop(of_lines);
     let mut messages = messages;
     let text = messages.take();
     drop(messages);

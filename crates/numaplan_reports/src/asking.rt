@@ -6,7 +6,7 @@ use crate::sources::{ScriptText, first_of, named, scripts_of};
 use numa_play::Scripts;
 use numa_questions::{AskedPages, EachAsked};
 use numa_sheets::{Format, FreePages, Touch, Written};
-use numa_subjects::{Ended, Halt, NOTHING_SERVED, Twin};
+use numa_subjects::{Added, Ended, Halt, NOTHING_SERVED, Twin};
 use numa_traces::ReplayError;
 use numa_what_if::DiffAsked;
 use numa_words::{ExplainAsked, Question, Traced, answer_after};
@@ -85,7 +85,7 @@ pub fn diff(
     let asked = DiffAsked {
         touch,
         format,
-        lines: lines.as_slice(),
+        added: Added::fine(lines.as_slice()),
     };
     let report = diff_by(alloc, script, asked);
     drop(lines);

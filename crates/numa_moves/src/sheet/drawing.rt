@@ -119,19 +119,27 @@ impl Drawing {
         text.put_form(b"\" x=\"16\" y=\"$\">", &[self.row.saturating_sub(6)]);
     }
 
-    /// Begins a step: its line, and how many more pages named nodes take behind it.
-    pub(crate) fn begin_step(
-        &mut self,
-        text: &mut Written,
-        line: &str,
-        free: &[FreePages],
-        rooms: &Rooms,
-    ) {
+    /// Begins a step: its line and, if something is wrong with that, what.
+    pub(crate) fn begin_line(&mut self, text: &mut Written, line: &str, fault: &[u8]) {
         self.row = self.row.saturating_add(8);
         self.begin_text(text, b"step");
-        text.put(b"<tspan font-size=\"14\" font-weight=\"bold\">After: ");
+        text.put(b"<tspan font-size=\"14\" font-weight=\"bold\">");
+        text.put(if fault.is_empty() {
+            b"After: ".as_slice()
+        } else {
+            b"Refused: "
+        });
         text.put_escaped(line.as_bytes());
         text.put(b"</tspan></text>\n");
+        if !fault.is_empty() {
+            self.begin_text(text, b"fault");
+            text.put_escaped(fault.strip_prefix(b"refused ").unwrap_or(fault));
+            text.put(b"</text>\n");
+        }
+    }
+
+    /// Writes how many more pages named nodes take behind a step, if some are named.
+    pub(crate) fn put_left(&mut self, text: &mut Written, free: &[FreePages], rooms: &Rooms) {
         if !free.is_empty() {
             self.begin_text(text, b"left");
             put_rooms(text, free, rooms);

@@ -193,14 +193,19 @@ pub(crate) fn put_rest(
     text.put(b"</g>\n");
 }
 
-/// Writes the free pages left on a node, if it is named.
+/// Writes the free pages left on a node, if it is named; where others are, that it never fills.
 fn put_left(text: &mut Written, node: usize, left: &[NodePages]) {
+    let mut is_named = left.is_empty();
     for one in left {
         if one.node == node as u64 {
             text.put(b", ");
             text.put_amount(one.pages);
             text.put(b" left");
+            is_named = true;
         }
+    }
+    if !is_named {
+        text.put(b", never fills");
     }
 }
 

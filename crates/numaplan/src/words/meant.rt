@@ -7,7 +7,7 @@ use numa_lines::RunFault;
 use numa_placed::Placed;
 use numa_play::subject_of;
 use numa_sheets::{Format, FreePages, Touch, Watch};
-use numa_subjects::{Halt, differ};
+use numa_subjects::{Added, Halt, differ};
 use numa_what_if::{DiffAsked, StatesBefore, difference_since, states_of};
 use numa_words::{prediction_there, stated_in};
 use std::alloc::Global;
@@ -108,11 +108,11 @@ pub fn goes_elsewhere(
 }
 
 /// A difference that is asked for.
-fn diff_asked<'a>(meant: Meant<'_>, touch: Touch, lines: &'a [String]) -> DiffAsked<'a> {
+fn diff_asked<'a>(meant: Meant<'_>, touch: Touch, added: Added<'a>) -> DiffAsked<'a> {
     DiffAsked {
         touch,
         format: meant.asking.format,
-        lines,
+        added,
     }
 }
 
@@ -126,7 +126,10 @@ pub fn states_in(
         return Err(Halt::NoMachine);
     };
     match subject_of(script, meant.process) {
-        Ok(subject) => states_of(alloc, subject, diff_asked(meant, *touch, &[])),
+        Ok(subject) => {
+            let asked = diff_asked(meant, *touch, Added::fine(&[]));
+            states_of(alloc, subject, asked)
+        }
         Err(halt) => Err(halt),
     }
 }
@@ -137,13 +140,13 @@ pub fn difference_in<P: Watch>(
     before: &StatesBefore,
     script: &HostScript,
     meant: Meant<'_>,
-    lines: &[String],
+    added: Added<'_>,
     watch: &mut P,
 ) -> Result<Vec<u8>, Halt> {
     let subject = subject_of(script, meant.process)?;
     let mut texts = Vec::new(alloc);
     for touch in meant.touches {
-        let asked = diff_asked(meant, *touch, lines);
+        let asked = diff_asked(meant, *touch, added);
         let text = difference_since(alloc, before, subject, asked, watch)?;
         add(&mut texts, text)?;
     }
@@ -158,7 +161,8 @@ pub fn differs_elsewhere(
     meant: Meant<'_>,
 ) -> bool {
     let meant = meant.as_text();
-    let text = difference_in(alloc, own.0, own.1, meant, &[], &mut ());
-    let by_other = difference_in(alloc, other.0, other.1, meant, &[], &mut ());
+    let none = Added::fine(&[]);
+    let text = difference_in(alloc, own.0, own.1, meant, none, &mut ());
+    let by_other = difference_in(alloc, other.0, other.1, meant, none, &mut ());
     differ(text, by_other)
 }

@@ -13,7 +13,7 @@ use numa_placed::Placed;
 use numa_play::{Findings, page_places, subject_of};
 use numa_questions::AskedPages;
 use numa_sheets::{Format, Touch, Watch};
-use numa_subjects::Halt;
+use numa_subjects::{Added, Halt};
 use numa_what_if::StatesBefore;
 use numa_words::{Answer, ExplainAsked, LineFaults, Playing, explanation, moves_of, play_added};
 use std::alloc::Global;
@@ -226,7 +226,7 @@ fn play_lines<T: Write>(
     faults: &mut LineFaults,
 ) -> Result<Option<Answer>, Halt> {
     let Effect::Moves = moving.effect else {
-        return match play_added(findings, lines) {
+        return match play_added(findings, lines, faults) {
             Ok(()) => Ok(None),
             Err(why) => Err(Halt::Stopped(why)),
         };
@@ -300,12 +300,12 @@ fn put_difference<T: Write, P: Watch>(
     page: &mut ReportPage,
     findings: &Findings<T>,
     meant: Meant<'_>,
-    lines: &[String],
+    added: Added<'_>,
     before: Before<'_>,
     watch: &mut P,
 ) -> Result<bool, Halt> {
     let script = findings.script();
-    let picture = difference_in(alloc, before.own, script, meant, lines, watch)?;
+    let picture = difference_in(alloc, before.own, script, meant, added, watch)?;
     page.put_heading(
         "diff",
         "Which pages would go elsewhere after the added lines",
@@ -335,7 +335,11 @@ fn put_change<T: Write, P: Watch>(
     let (meant, areas) = (told.meant, told.areas);
     let moving = moving_of(findings.script(), told, lines);
     let moves = play_lines(alloc, findings, meant, lines, moving, faults)?;
-    let is_other = put_difference(alloc, page, findings, meant, lines, before, watch)?;
+    let added = Added {
+        lines,
+        faults: faults.of_lines(),
+    };
+    let is_other = put_difference(alloc, page, findings, meant, added, before, watch)?;
     let moves_other = put_moves(alloc, page, areas, moving, moves)?;
     Ok(is_other || moves_other)
 }
@@ -415,7 +419,11 @@ fn written<T: Write, P: Watch>(
     let lines_other = put_changes(alloc, page, findings, told, lines, faults, watch)?;
     page.take_parts(reasons)?;
     let subject = subject_of(findings.script(), told.meant.process)?;
-    let text = page.end(alloc, &About::of(subject, Some(told.touch), lines))?;
+    let added = Added {
+        lines,
+        faults: faults.of_lines(),
+    };
+    let text = page.end(alloc, &About::of(subject, Some(told.touch), added))?;
     let is_other = state_other || lines_other;
     Ok(Answer { text, is_other })
 }

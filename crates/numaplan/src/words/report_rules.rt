@@ -55,7 +55,7 @@ pub fn ranges_of(
 ) -> Result<Vec<RangeOf>, AllocError> {
     let mut ranges = Vec::new(alloc);
     match subject {
-        Subject::One(space) => add_ranges(space, process, &mut ranges)?,
+        Subject::One(space, _) => add_ranges(space, process, &mut ranges)?,
         Subject::Each(host) => add_all_ranges(host, &mut ranges)?,
     }
     Ok(ranges)

@@ -11,7 +11,7 @@ use numa_moves::Origin;
 use numa_play::{Findings, page_meant, page_places, touches};
 use numa_questions::AskedPages;
 use numa_sheets::{AddressAsked, Format, FreePages, Touch, Watch};
-use numa_subjects::{Halt, PagePlace};
+use numa_subjects::{Added, Halt, PagePlace};
 use numa_what_if::StatesBefore;
 use numa_words::{
     Answer, ExplainAsked, LineFaults, Played, Playing, Reading, explanation, moves_of, play_added,
@@ -45,7 +45,7 @@ fn play<T: Write>(
     faults: &mut LineFaults,
 ) -> Result<Option<Answer>, Halt> {
     if meant.asking.at.is_empty() {
-        return match play_added(findings, lines) {
+        return match play_added(findings, lines, faults) {
             Ok(()) => Ok(None),
             Err(why) => Err(Halt::Stopped(why)),
         };
@@ -100,7 +100,11 @@ fn difference_by<T: Write, P: Watch>(
 ) -> Result<Answer, Halt> {
     let moves = play(alloc, findings, meant, lines, faults)?;
     let script = findings.script();
-    let text = difference_in(alloc, states.0, script, meant, lines, watch)?;
+    let added = Added {
+        lines,
+        faults: faults.of_lines(),
+    };
+    let text = difference_in(alloc, states.0, script, meant, added, watch)?;
     let is_other = match (states.1, findings.other()) {
         (Some(before), Some(other)) => {
             differs_elsewhere(alloc, (states.0, script), (before, other), meant)
