@@ -1,7 +1,7 @@
 -- What the handle of each kind keeps.
 use Rattle.std.specs.Prelude.{Option}
 use Rattle.numa_core.specs.Standing.{CoreState}
-use Rattle.numa_host.specs.Standing.{HostState}
+use Rattle.numa_host_script.specs.declared.running.RunningHost.{RunningHost}
 use Rattle.numa_pages.specs.Changes.{PagesState}
 use Rattle.numa_plan.specs.Meaning.{PlanData}
 use Rattle.numa_pool.specs.Seated.{Seated}
@@ -35,8 +35,8 @@ seat_in h = seat_of h.handle.held.kept
 abbrev pub dialog_in : ScriptHandle → Option Dialog
 dialog_in h = dialog_of h.handle.held.kept
 
--- the host that a handle keeps
-abbrev pub host_in : HostHandle → Option HostState
+-- the host that a handle keeps, with the pages of its processes
+abbrev pub host_in : HostHandle → Option RunningHost
 host_in h = host_of h.handle.held.kept
 
 -- the core with its pages that a handle keeps

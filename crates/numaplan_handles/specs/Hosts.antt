@@ -1,13 +1,12 @@
--- What a handle of a host keeps, what a command does to it, and what it answers.
+-- What a handle of a host keeps, what a call does to it, and what it answers.
 use Rattle.std.specs.Prelude.{◌≡◌, ℕ, true, false, Option, Some, Result, Ok, Err, List, length}
 use Rattle.std.specs.Prelude.{take, drop, slice_get, IfOk, MatchOption}
 use Rattle.numa_compile.specs.Standing.{PlanStandsFor}
 use Rattle.numa_host.specs.Groups.{effective_mems, groups_of, is_group}
 use Rattle.numa_host.specs.Processes.{Member, commands_of, is_there, members_of}
-use Rattle.numa_host.specs.Standing.{HostState, HostStandsFor, IsHostApplied}
+use Rattle.numa_host.specs.Standing.{HostState, HostStandsFor}
 use Rattle.numa_requests.specs.declared.host_command.HostCommand.{HostCommand}
 use Rattle.numa_host.specs.declared.group.ControlGroup.{ControlGroup}
-use Rattle.numa_requests.specs.declared.host_refusal.HostRefusal.{HostRefusal}
 use Rattle.numa_machine.specs.Machine.{Hardware}
 use Rattle.numa_machine.specs.declared.no_memory.NoMemory.{NoMemory}
 use Rattle.numa_maps.specs.Listing.{AreRangesOf}
@@ -19,21 +18,39 @@ use Rattle.numa_space.specs.Policies.{task_record}
 use Rattle.numa_space.specs.Refusals.{range_count_of}
 use Rattle.numa_space.specs.Standing.{place_refusal_of}
 use Rattle.numa_requests.specs.declared.command.Command.{Command}
+use Rattle.numa_host_script.specs.Acting.{AppliesTo, IsCopyOf, told_outcome}
+use Rattle.numa_host_script.specs.Standing.{Replies}
+use Rattle.numa_host_script.specs.declared.running.RunningHost.{RunningHost}
+use Rattle.numa_script.specs.declared.reply.Reply.{Reply}
 use Rattle.numaplan_handles.specs.declared.plan_view.ChoiceRefusal.{ChoiceRefusal}
 use Rattle.numaplan_handles.specs.declared.plan_view.ChoiceRefusal.TheVariants as refused
 
+-- `told` says what the call did to the host that is kept
+abbrev pub OfRunning : {A : Type 0} → (RunningHost → A → RunningHost → Type 0)
+    → Option RunningHost → Option RunningHost → A → Type 0
+OfRunning told old new answer = (before : RunningHost) → old ≡ Some before →
+    (after : RunningHost) × (new ≡ Some after) × told before answer after
+
+-- what comes of a command: to the host alone, and to it with the pages of its processes
+pub record Commands (command : HostCommand) (before : RunningHost) (answer : Reply)
+    (after : RunningHost) : Type 0 where
+  pub host : AppliesTo before.host command answer after.host
+  pub runs : Replies before answer after (λ lack at. told_outcome lack at command)
+
 -- the command took the host that is kept from one state to another with this answer
-abbrev pub Obeys : HostCommand → Option HostState → Option HostState
-    → Result (Unit {0}) HostRefusal → Type 0
-Obeys command old new answer =
-    (before : HostState) → old ≡ Some before →
-    (after : HostState) × (new ≡ Some after) × IsHostApplied before command answer after
+abbrev pub Obeys : HostCommand → Option RunningHost → Option RunningHost → Reply → Type 0
+Obeys command = OfRunning (Commands command)
+
+-- another handle keeps a copy of the host that one keeps
+abbrev pub IsHostCopyOf : Option RunningHost → RunningHost → Type 0
+IsHostCopyOf kept copy = (running : RunningHost) → kept ≡ Some running → IsCopyOf running copy
 
 -- what is told of a host and each history that it stands for
-abbrev pub OfHost : Option HostState → (HostState → List HostCommand → Type 0) → Type 0
+abbrev pub OfHost : Option RunningHost → (HostState → List HostCommand → Type 0) → Type 0
 OfHost kept told =
-    (host : HostState) → kept ≡ Some host →
-    (history : List HostCommand) → HostStandsFor host history → told host history
+    (running : RunningHost) → kept ≡ Some running →
+    (history : List HostCommand) → HostStandsFor running.host history
+    → told running.host history
 
 -- ---- the host, its groups and its processes
 

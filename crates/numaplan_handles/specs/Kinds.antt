@@ -2,7 +2,7 @@
 use Rattle.std.specs.Prelude.{◌≡◌, Bool, true, false, Option, Some, None, Result}
 use Rattle.std.specs.Arc.{arc_value}
 use Rattle.numa_core.specs.Standing.{CoreState}
-use Rattle.numa_host.specs.Standing.{HostState}
+use Rattle.numa_host_script.specs.declared.running.RunningHost.{RunningHost}
 use Rattle.numa_pages.specs.Changes.{PagesState}
 use Rattle.numa_plan.specs.Meaning.{PlanData}
 use Rattle.numa_pool.specs.Seated.{Seated}
@@ -51,14 +51,14 @@ dialog_of (Some (kept.Script dialog)) = Some dialog
 dialog_of (Some (kept.Host host)) = None
 dialog_of (Some (kept.Pages pages)) = None
 
--- the host that is kept
-abbrev pub host_of : Option Kept → Option HostState
+-- the host that is kept, with the pages of its processes
+abbrev pub host_of : Option Kept → Option RunningHost
 host_of None = None
 host_of (Some (kept.Core core)) = None
 host_of (Some (kept.Plan plan)) = None
 host_of (Some (kept.Seat seat)) = None
 host_of (Some (kept.Script dialog)) = None
-host_of (Some (kept.Host host)) = Some host
+host_of (Some (kept.Host running)) = Some running
 host_of (Some (kept.Pages pages)) = None
 
 -- the core with its pages that is kept

@@ -3,6 +3,7 @@ pub mod Calls
 pub mod Dialogs
 pub mod Handles
 pub mod Held
+pub mod Hosted
 pub mod Hosts
 pub mod Kinds
 pub mod Ownership
@@ -12,6 +13,7 @@ pub mod Room
 pub mod Seats
 pub mod Steps
 pub use Rattle.numa_core.specs.Standing
+pub use Rattle.numa_host_script.specs.Acting
 pub use Rattle.numa_host_script.specs.Sessions
 pub use Rattle.numa_host_script.specs.Standing as SessionStanding
 pub use Rattle.numa_pages.specs.Changes

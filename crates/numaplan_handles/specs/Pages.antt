@@ -13,6 +13,7 @@ use Rattle.numa_page_state.specs.Outcomes.{rooms_of}
 use Rattle.numa_page_state.specs.Standing.{ArrivedAs, LiesAs}
 use Rattle.numa_page_state.specs.declared.arrived.Arrived.{Arrived}
 use Rattle.numa_placed.specs.Spots.{is_on, node_of, pages_where, spot_at}
+use Rattle.numa_placed.specs.declared.spot.Spot.{Spot}
 use Rattle.numa_requests.specs.declared.page_refusal.PlacedRefusal.{PlacedRefusal}
 use Rattle.numa_requests.specs.declared.page_refusal.PlacedRefusal.TheVariants.{NoSuchNode}
 
@@ -70,9 +71,11 @@ abbrev pub HasNode : ℕ → Option ℕ → PagesState → Type 0
 HasNode page found pages = found ≡ node_of (spot_at pages.state.placed page)
 
 -- this is the node on which a page lies, or the mark where it lies nowhere
+abbrev pub IsNodeOr : ℕ → (ℕ → Spot) → ℕ → ℕ → Type 0
+IsNodeOr mark spots page node = node ≡ unwrap_or (node_of (spots page)) mark
+
 abbrev pub HasNodeOr : ℕ → ℕ → ℕ → PagesState → Type 0
-HasNodeOr mark page node pages = (found : Option ℕ) → HasNode page found pages
-    → node ≡ unwrap_or found mark
+HasNodeOr mark page node pages = IsNodeOr mark (spot_at pages.state.placed) page node
 
 -- of pages in whatever order: at each one's place the node on which it lies, or the mark; there are
 -- as many places as pages, or nothing is told

@@ -2,7 +2,7 @@
 ghost use Rattle.std.specs.Prelude.{◌≡◌, Some, None, MatchOption, is_some, true};
 ghost use Rattle.std.specs.Prelude.{Ok, Err, MatchResult, OnOk, OnErr};
 ghost use Rattle.numaplan_handles.specs.Kinds.{SharesKept, core_of, is_core};
-ghost use Rattle.numaplan_handles.specs.Kinds.{host_of, is_host, is_pages, pages_of};
+ghost use Rattle.numaplan_handles.specs.Kinds.{is_pages, pages_of};
 
 use crate::held::HeapSlot;
 use crate::kept::Kept;
@@ -139,7 +139,7 @@ impl Handle {
         self.put_made(kept.on_heap(alloc).ok_or(AllocError))
     }
 
-    /// Puts a copy of the core, the host or the pages into another, closed handle. `None` if this
+    /// Puts a copy of the core or the pages into another, closed handle. `None` if this
     /// one is closed.
     ///
     /// # Errors
@@ -148,7 +148,6 @@ impl Handle {
         requires closed { other.old.held.kept ≡ None }
         ensures same { self.new.held.kept ≡ self.old.held.kept }
         ensures core { SharesKept is_core core_of self.old.held.kept result other.new.held.kept }
-        ensures host { SharesKept is_host host_of self.old.held.kept result other.new.held.kept }
         ensures pages { SharesKept is_pages pages_of self.old.held.kept result
             other.new.held.kept }
     {

@@ -1,7 +1,6 @@
 //! Questions to a handle of a host: its groups, its processes, and what each of these answers.
 ghost use Rattle.std.specs.Prelude.{◌≡◌, ◌≤◌, ◌^◌, None, Some, IfOk, IfSome, List, length};
 ghost use Rattle.std.specs.Prelude.{slice_get, true};
-ghost use Rattle.std.specs.Option.{option_map};
 ghost use Rattle.numa_compile.specs.Standing.{PlanStandsFor};
 ghost use Rattle.numa_host.specs.Standing.{HostStandsFor, member_of};
 ghost use Rattle.numa_requests.specs.declared.host_command.HostCommand.{HostCommand};
@@ -13,12 +12,10 @@ ghost use Rattle.numaplan_handles.specs.Handles.{host_in};
 ghost use Rattle.numaplan_handles.specs.Hosts.{ChoosesBy, CountsRanges, FindsPolicy, FindsRange};
 ghost use Rattle.numaplan_handles.specs.Hosts.{HasGroupAt, HasGroupNodes, HasGroups, HasProcessAt};
 ghost use Rattle.numaplan_handles.specs.Hosts.{HasProcesses, IsPlanned, OfHost, OfProcess};
-ghost use Rattle.numaplan_handles.specs.Kinds.{host_of, is_host};
 
 use crate::core_questions::range_of;
 use crate::handle::of_kept;
-use crate::host_handle::HostHandle;
-use crate::kept::Kept;
+use crate::host_handle::{HostHandle, running_kept};
 use crate::plan_view::ChoiceRefusal;
 use crate::room::copy_items;
 use numa_compile::compile;
@@ -31,17 +28,6 @@ use numa_ranges::Run;
 use numa_requests::Request;
 use numa_space::{RangeRecord, Space};
 use std::alloc::Global;
-
-/// The host that is kept.
-pub(crate) fn host_kept(kept: &Kept) -> &Host
-    requires host { is_host (Some kept.now) ≡ true }
-    ensures host { host_of (Some kept.now) ≡ Some result.now }
-{
-    match kept {
-        Kept::Host(host) => host,
-        _ => unreachable!(),
-    }
-}
 
 /// The group at a place, the newest being at 0.
 fn group_at(host: &Host, place: usize) -> Option<ControlGroup>
@@ -141,7 +127,7 @@ impl HostHandle {
         ensures { Asks (λ count. OfHost (host_in self.old) (HasGroups count)) (host_in self.old)
             result (host_in self.new) }
     {
-        of_kept!(self.handle, alloc, kept => host_kept(&kept).groups().len())
+        of_kept!(self.handle, alloc, kept => running_kept(&kept).host.groups().len())
     }
 
     /// The group at a place, the newest being at 0, or no group. `None` if the handle is closed.
@@ -149,7 +135,7 @@ impl HostHandle {
         ensures { Asks (λ found. OfHost (host_in self.old) (HasGroupAt place found))
             (host_in self.old) result (host_in self.new) }
     {
-        of_kept!(self.handle, alloc, kept => group_at(host_kept(&kept), place))
+        of_kept!(self.handle, alloc, kept => group_at(&running_kept(&kept).host, place))
     }
 
     /// The effective nodes of a group, or none if it isn't there. `None` if the handle is closed.
@@ -157,7 +143,7 @@ impl HostHandle {
         ensures { Asks (λ found. OfHost (host_in self.old) (HasGroupNodes name found))
             (host_in self.old) result (host_in self.new) }
     {
-        of_kept!(self.handle, alloc, kept => host_kept(&kept).group_nodes(name))
+        of_kept!(self.handle, alloc, kept => running_kept(&kept).host.group_nodes(name))
     }
 
     /// The number of processes. `None` if the handle is closed.
@@ -165,7 +151,7 @@ impl HostHandle {
         ensures { Asks (λ count. OfHost (host_in self.old) (HasProcesses count)) (host_in self.old)
             result (host_in self.new) }
     {
-        of_kept!(self.handle, alloc, kept => process_count(host_kept(&kept)))
+        of_kept!(self.handle, alloc, kept => process_count(&running_kept(&kept).host))
     }
 
     /// The process at a place, the first born being at 0, and its group, or none. `None` if the
@@ -174,7 +160,7 @@ impl HostHandle {
         ensures { Asks (λ found. OfHost (host_in self.old) (HasProcessAt place found))
             (host_in self.old) result (host_in self.new) }
     {
-        of_kept!(self.handle, alloc, kept => process_at(host_kept(&kept), place))
+        of_kept!(self.handle, alloc, kept => process_at(&running_kept(&kept).host, place))
     }
 
     /// The number of a process's ranges, or none if the process isn't there. `None` if the handle
@@ -183,7 +169,7 @@ impl HostHandle {
         ensures { Asks (λ answer. OfHost (host_in self.old)
             (OfProcess process CountsRanges answer)) (host_in self.old) result (host_in self.new) }
     {
-        of_kept!(self.handle, alloc, kept => ranges_in(host_kept(&kept), process))
+        of_kept!(self.handle, alloc, kept => ranges_in(&running_kept(&kept).host, process))
     }
 
     /// The range of a process at a place, counted from 0 in ascending order, or no range; no answer
@@ -200,7 +186,7 @@ impl HostHandle {
         ensures end { IfSome result (λ answer. IfSome answer (λ found. IfSome found
             (λ range. end_of range ≤ 2 ^ 35))) }
     {
-        of_kept!(self.handle, alloc, kept => range_in(host_kept(&kept), process, place))
+        of_kept!(self.handle, alloc, kept => range_in(&running_kept(&kept).host, process, place))
     }
 
     /// The policy of a process's task, or no policy; no answer if the process isn't there. `None`
@@ -215,7 +201,7 @@ impl HostHandle {
             (OfProcess process (FindsPolicy task) answer)) (host_in self.old) result
             (host_in self.new) }
     {
-        of_kept!(self.handle, alloc, kept => policy_in(host_kept(&kept), process, task))
+        of_kept!(self.handle, alloc, kept => policy_in(&running_kept(&kept).host, process, task))
     }
 
     /// The plan of all that a process has accepted; no answer if the process isn't there. `None` if
@@ -227,7 +213,9 @@ impl HostHandle {
         ensures { Asks (λ answer. OfHost (host_in self.old) (OfProcess process IsPlanned answer))
             (host_in self.old) result (host_in self.new) }
     {
-        of_kept!(self.handle, alloc, kept => plan_in_process(host_kept(&kept), alloc, process))
+        of_kept!(self.handle, alloc, kept => {
+            plan_in_process(&running_kept(&kept).host, alloc, process)
+        })
     }
 
     /// Copies the fallback list of a page of a process, and returns the number of nodes; no answer
@@ -251,6 +239,8 @@ impl HostHandle {
         ensures none { IfSome result (λ answer. answer ≡ None → nodes.new ≡ nodes.old) }
     {
         let asked = Request { task, page, cpu };
-        of_kept!(self.handle, alloc, kept => choose_in(host_kept(&kept), process, asked, nodes))
+        of_kept!(self.handle, alloc, kept => {
+            choose_in(&running_kept(&kept).host, process, asked, nodes)
+        })
     }
 }

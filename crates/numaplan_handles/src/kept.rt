@@ -3,7 +3,7 @@ ghost use Rattle.std.specs.Prelude.{◌≡◌, Some, IfSome, true};
 
 use crate::dialog::Dialog;
 use numa_core::Core;
-use numa_host::Host;
+use numa_host_script::RunningHost;
 use numa_pages::Pages;
 use numa_plan::Plan;
 use numa_pool::OwnedSeat;
@@ -21,15 +21,15 @@ pub enum Kept {
     Seat(OwnedSeat),
     /// A script, with the answer to its last line.
     Script(Dialog),
-    /// A host, which belongs to the handle alone.
-    Host(Host),
+    /// A host with the pages of its processes, which belong to the handle alone.
+    Host(RunningHost),
     /// A core with its pages, which belong to the handle alone.
     Pages(Pages),
 }
 
 impl Kept {
     ghost use Rattle.numaplan_handles.specs.Kinds.{IsCopied, core_of, is_core, is_plan, plan_of};
-    ghost use Rattle.numaplan_handles.specs.Kinds.{host_of, is_host, is_pages, pages_of};
+    ghost use Rattle.numaplan_handles.specs.Kinds.{is_pages, pages_of};
 
     /// Moves the value to the heap, if there is memory for it; else it is dropped.
     pub(crate) fn on_heap(self, alloc: Global) -> Option<Box<Kept>>
@@ -38,12 +38,10 @@ impl Kept {
         Box::new(alloc, self).ok()
     }
 
-    /// A copy of the core, the host or the pages, or the same plan shared, if there is memory for
-    /// it.
+    /// A copy of the core or the pages, or the same plan shared, if there is memory for it.
     pub(crate) fn again(&self, alloc: Global) -> Option<Box<Kept>>
         ensures core { IfSome result (λ other. IsCopied is_core core_of self.now other.value) }
         ensures plan { IfSome result (λ other. IsCopied is_plan plan_of self.now other.value) }
-        ensures host { IfSome result (λ other. IsCopied is_host host_of self.now other.value) }
         ensures pages { IfSome result (λ other. IsCopied is_pages pages_of self.now other.value) }
     {
         match self {
@@ -58,12 +56,6 @@ impl Kept {
                     return None;
                 };
                 Kept::Plan(other).on_heap(alloc)
-            }
-            Kept::Host(host) => {
-                let Ok(other) = host.copy() else {
-                    return None;
-                };
-                Kept::Host(other).on_heap(alloc)
             }
             Kept::Pages(pages) => {
                 let Ok(other) = pages.copy(alloc) else {

@@ -1,18 +1,22 @@
-//! Handles for C callers: of a core, a plan, a seat at pools of frames, a script, a host, or a core
-//! with its pages. A handle is 16 bytes, initially 0: a flag that says whether it is open, and a
-//! pointer to a value on the heap, which the handle owns. The calls that ask whether it is open and
-//! that close it are the same for all kinds: those of its `handle`. A plan is asked by a view of
-//! its handle, which threads share.
+//! Handles for C callers: of a core, a plan, a seat at pools of frames, a script, a host with the
+//! pages of its processes, or a core with its pages. A handle is 16 bytes, initially 0: a flag that
+//! says whether it is open, and a pointer to a value on the heap, which the handle owns. The calls
+//! that ask whether it is open and that close it are the same for all kinds: those of its `handle`.
+//! A plan is asked by a view of its handle, which threads share.
 #![tactic(auto)]
 
 mod core_handle;
 mod core_questions;
 mod dialog;
+mod flows;
 mod handle;
 mod held;
 mod host_handle;
+mod host_pages;
+mod host_places;
 mod host_questions;
 mod kept;
+mod nodes_there;
 mod pages_handle;
 mod pages_moves;
 mod pages_questions;
@@ -28,6 +32,7 @@ mod view;
 pub use core_handle::{CoreHandle, compile_kept};
 pub use core_questions::core_kept;
 pub use dialog::{Dialog, LineRefusal};
+pub use flows::{Flow, LastFlows};
 pub use handle::Handle;
 pub use held::HeapSlot;
 pub use host_handle::HostHandle;

@@ -1,13 +1,15 @@
 //! Questions to a handle of a core with its pages.
-ghost use Rattle.std.specs.Prelude.{◌≡◌, ◌<◌, ℕ, EachIndex, IfOk, length, slice_index};
+ghost use Rattle.std.specs.Prelude.{◌≡◌, ℕ, EachIndex, IfOk, MatchOption, length};
 ghost use Rattle.numaplan_handles.specs.Calls.{Asks};
 ghost use Rattle.numaplan_handles.specs.Handles.{pages_in};
 ghost use Rattle.numa_pages.specs.Listing.{AreListed};
 ghost use Rattle.numa_placed.specs.Spots.{spot_at};
-ghost use Rattle.numaplan_handles.specs.Pages.{HasCounts, HasNode, HasNodeOr, HasNodes, HasRoom};
+ghost use Rattle.numa_placed.specs.declared.spot.Spot.TheVariants.{Nowhere};
+ghost use Rattle.numaplan_handles.specs.Pages.{HasCounts, HasNode, HasNodes, HasRoom};
 ghost use Rattle.numaplan_handles.specs.Pages.{HasRuns, TellsOf};
 
 use crate::handle::of_kept;
+use crate::nodes_there::write_nodes;
 use crate::pages_handle::{PagesHandle, pages_kept};
 use numa_machine::{NoMemory, Rules};
 use numa_pages::{PageRun, Pages, list_runs};
@@ -25,29 +27,16 @@ fn runs_of(alloc: Global, placed: &Placed) -> Result<Vec<PageRun>, NoMemory>
     }
 }
 
-/// The node on which a page lies, or the mark.
-fn node_or(pages: &Pages, page: u64, nowhere: u8) -> u8
-    ensures { HasNodeOr nowhere page result pages.now }
+/// Where the pages lie.
+fn placed_there(pages: &Pages) -> Option<&Placed>
+    ensures { MatchOption result ((page : ℕ) → spot_at pages.now.state.placed page ≡ Nowhere)
+        (λ it. (page : ℕ) → spot_at it.now page ≡ spot_at pages.now.state.placed page) }
 {
-    match pages.placed().at(page).node() {
-        Some(node) => node,
-        None => nowhere,
-    }
+    Some(pages.placed())
 }
 
-/// Writes the node on which each of these pages lies, or the mark for one that lies nowhere.
-fn write_nodes(pages: &Pages, numbers: &[u64], nowhere: u8, nodes: &mut [u8])
-    requires { length numbers.now ≡ length nodes.old }
-    ensures long { length nodes.new ≡ length nodes.old }
-    ensures nodes { (k : ℕ) → k < length numbers.now
-        → HasNodeOr nowhere (slice_index numbers.now k) (slice_index nodes.new k) pages.now }
-{
-    for place in 0..numbers.len() {
-        nodes[place] = node_or(pages, numbers[place], nowhere);
-    }
-}
-
-/// The same, if there are as many places as pages; returns how many they are.
+/// Writes the node on which each of these pages lies, or the mark for one that lies nowhere, if
+/// there are as many places as pages; returns how many they are.
 fn tell_nodes(pages: &Pages, numbers: &[u64], nowhere: u8, nodes: &mut [u8]) -> Result<usize, usize>
     ensures { HasNodes numbers.now nowhere result nodes.old nodes.new pages.now }
 {
@@ -55,7 +44,7 @@ fn tell_nodes(pages: &Pages, numbers: &[u64], nowhere: u8, nodes: &mut [u8]) -> 
     if nodes.len() != count {
         return Err(count);
     }
-    write_nodes(pages, numbers, nowhere, nodes);
+    write_nodes(placed_there(pages), numbers, nowhere, nodes);
     Ok(count)
 }
 

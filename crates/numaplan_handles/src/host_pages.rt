@@ -1,0 +1,209 @@
+//! Stating where pages of a host's processes lie, touching them first, and moving them, through a
+//! handle.
+ghost use Rattle.std.specs.Prelude.{◌≡◌, true};
+ghost use Rattle.numa_host_script.specs.Acting.{is_change};
+ghost use Rattle.numaplan_handles.specs.Calls.{Calls};
+ghost use Rattle.numaplan_handles.specs.Handles.{host_in};
+ghost use Rattle.numaplan_handles.specs.Hosted.{Binds, ChangesPages, LetsFollow, LimitsAll};
+ghost use Rattle.numaplan_handles.specs.Hosted.{TouchesIn};
+ghost use Rattle.numaplan_handles.specs.Hosts.{OfRunning};
+ghost use Rattle.numa_script.specs.declared.page_line.PageLine.{PageLine};
+
+use crate::handle::of_kept;
+use crate::host_handle::HostHandle;
+use crate::kept::Kept;
+use numa_host_script::RunningHost;
+use numa_mask::NodeMask;
+use numa_page_state::arrived::untouched;
+use numa_page_state::{Arrived, Rebinding};
+use numa_requests::PlacedRefusal;
+use numa_script::{BoundPages, PageLine, Reply};
+use std::alloc::Global;
+
+/// Changes where the pages of a process lie.
+fn changed(running: &mut RunningHost, alloc: Global, process: u32, line: &PageLine) -> Option<Reply>
+    requires change { is_change line.now ≡ true }
+    ensures { ChangesPages process line.now running.old result running.new }
+{
+    running.change(alloc, process, line)
+}
+
+/// Sets a policy for a span of a process, by which pages are judged, or to which they go.
+fn bound(
+    running: &mut RunningHost,
+    alloc: Global,
+    process: u32,
+    said: Rebinding,
+    pages: &BoundPages,
+) -> Reply
+    ensures { Binds process said.start said.length said.spec pages.now running.old result
+        running.new }
+{
+    running.bind(alloc, process, said.start, said.length, said.spec, pages)
+}
+
+/// Says how many more pages a node takes, whichever process they are of.
+fn limited(running: &mut RunningHost, node: u32, pages: u64) -> Result<(), PlacedRefusal>
+    ensures { LimitsAll node pages running.old result running.new }
+{
+    running.limit(node, pages)
+}
+
+/// Says whether pages follow the nodes that their process is allowed.
+fn let_follow(running: &mut RunningHost, follows: bool)
+    ensures { LetsFollow follows running.old result running.new }
+{
+    running.pages.set_follows(follows);
+}
+
+/// Touches each page of a span of a process for the first time, and returns what that did.
+fn touched(
+    running: &mut RunningHost,
+    alloc: Global,
+    process: u32,
+    start: u64,
+    length: u64,
+    task: u32,
+    cpu: u32,
+) -> Result<Arrived, Reply>
+    ensures { TouchesIn process start length task cpu running.old result running.new }
+{
+    let line = PageLine::Populate {
+        start,
+        length,
+        task,
+        cpu,
+    };
+    match running.change(alloc, process, &line) {
+        Some(refusal) => Err(refusal),
+        None => match running.pages_there(process) {
+            Some(state) => Ok(*state.arrived()),
+            None => Ok(untouched()),
+        },
+    }
+}
+
+impl HostHandle {
+    /// States that the mapped pages of a span of a process lie on a node. The reply is that of
+    /// `at`. `None` if the handle is closed.
+    pub fn place(
+        &mut self,
+        alloc: Global,
+        process: u32,
+        start: u64,
+        length: u64,
+        node: u32,
+    ) -> Option<Option<Reply>>
+        ensures { Calls (OfRunning (ChangesPages process (PageLine.At start length node)))
+            (host_in self.old) result (host_in self.new) }
+    {
+        let line = PageLine::At {
+            start,
+            length,
+            node,
+        };
+        of_kept!(self.handle, alloc, Kept::Host(running) => changed(running, alloc, process, &line))
+    }
+
+    /// Touches each page of a span of a process for the first time, as a task on a CPU of node
+    /// `cpu` does that writes to it, and returns how many pages went to a node, to which, and how
+    /// many found no room. `None` if the handle is closed.
+    ///
+    /// # Errors
+    /// In the `Some`, the reply that refuses `populate`.
+    pub fn populate(
+        &mut self,
+        alloc: Global,
+        process: u32,
+        start: u64,
+        length: u64,
+        task: u32,
+        cpu: u32,
+    ) -> Option<Result<Arrived, Reply>>
+        ensures { Calls (OfRunning (TouchesIn process start length task cpu)) (host_in self.old)
+            result (host_in self.new) }
+    {
+        of_kept!(self.handle, alloc, Kept::Host(running) => {
+            touched(running, alloc, process, start, length, task, cpu)
+        })
+    }
+
+    /// Moves pages of a process from one set of nodes to the allowed nodes of another, as far as
+    /// there is room. The reply is that of `migrate`. `None` if the handle is closed.
+    pub fn migrate(
+        &mut self,
+        alloc: Global,
+        process: u32,
+        from: &NodeMask,
+        to: &NodeMask,
+    ) -> Option<Option<Reply>>
+        ensures { Calls (OfRunning (ChangesPages process (PageLine.Migrate from.now to.now)))
+            (host_in self.old) result (host_in self.new) }
+    {
+        let line = PageLine::Migrate {
+            from: *from,
+            to: *to,
+        };
+        of_kept!(self.handle, alloc, Kept::Host(running) => changed(running, alloc, process, &line))
+    }
+
+    /// Moves the page of an address of a process to a node, if it has room. The reply is that of
+    /// `move`. `None` if the handle is closed.
+    pub fn move_page(
+        &mut self,
+        alloc: Global,
+        process: u32,
+        address: u64,
+        node: u32,
+    ) -> Option<Option<Reply>>
+        ensures { Calls (OfRunning (ChangesPages process (PageLine.Move address node)))
+            (host_in self.old) result (host_in self.new) }
+    {
+        let line = PageLine::Move { address, node };
+        of_kept!(self.handle, alloc, Kept::Host(running) => changed(running, alloc, process, &line))
+    }
+
+    /// Sets a policy for a span of a process, unless pages of it lie on other nodes than it asks
+    /// for; or moves these, as far as there is room. The reply is that of `mbind .. strict` or `..
+    /// move`. `None` if the handle is closed.
+    pub fn bind(
+        &mut self,
+        alloc: Global,
+        process: u32,
+        said: Rebinding,
+        pages: &BoundPages,
+    ) -> Option<Reply>
+        ensures { Calls (OfRunning (Binds process said.start said.length said.spec pages.now))
+            (host_in self.old) result (host_in self.new) }
+    {
+        of_kept!(self.handle, alloc, Kept::Host(running) => {
+            bound(running, alloc, process, said, pages)
+        })
+    }
+
+    /// Says how many more pages a node takes, whichever process they are of; 2^64 - 1 if it never
+    /// fills. `None` if the handle is closed.
+    ///
+    /// # Errors
+    /// In the `Some`, as [`RunningHost::limit`].
+    pub fn limit(
+        &mut self,
+        alloc: Global,
+        node: u32,
+        pages: u64,
+    ) -> Option<Result<(), PlacedRefusal>>
+        ensures { Calls (OfRunning (LimitsAll node pages)) (host_in self.old) result
+            (host_in self.new) }
+    {
+        of_kept!(self.handle, alloc, Kept::Host(running) => limited(running, node, pages))
+    }
+
+    /// Says whether pages follow the nodes that their process is allowed. `None` if the handle is
+    /// closed.
+    pub fn set_follows(&mut self, alloc: Global, follows: bool) -> Option<()>
+        ensures { Calls (OfRunning (LetsFollow follows)) (host_in self.old) result
+            (host_in self.new) }
+    {
+        of_kept!(self.handle, alloc, Kept::Host(running) => let_follow(running, follows))
+    }
+}

@@ -1,0 +1,264 @@
+//! Where pages of a host's processes lie, and how many more each node takes, asked of a handle.
+ghost use Rattle.std.specs.Prelude.{◌≡◌, ℕ, IfOk, IfSome, MatchOption, None, Option, Some};
+ghost use Rattle.numa_host_script.specs.Hosts.{Hosting};
+ghost use Rattle.numa_host_script.specs.Paging.{pages_at};
+ghost use Rattle.numa_host_script.specs.Standing.{RunsAs};
+ghost use Rattle.numa_page_state.specs.Outcomes.{rooms_of};
+ghost use Rattle.numa_placed.specs.Shifts.{AreRooms};
+ghost use Rattle.numa_placed.specs.Spots.{spot_at};
+ghost use Rattle.numa_placed.specs.declared.spot.Spot.TheVariants.{Nowhere};
+ghost use Rattle.numaplan_handles.specs.Calls.{Asks};
+ghost use Rattle.numaplan_handles.specs.Handles.{host_in};
+ghost use Rattle.numaplan_handles.specs.Hosted.{HasRoomLeft, LieAt, LieOn, LieSo, LiesOn};
+ghost use Rattle.numaplan_handles.specs.Hosted.{OfLying, OfPagesIn, TellsLast, TellsSum};
+
+use crate::flows::{LastFlows, flows_of, sums_of};
+use crate::handle::of_kept;
+use crate::host_handle::{HostHandle, running_kept};
+use crate::nodes_there::{node_there, write_nodes};
+use numa_host_script::RunningHost;
+use numa_machine::NoMemory;
+use numa_page_state::Last;
+use numa_page_state::state::still;
+use numa_pages::{PageRun, list_runs};
+use numa_placed::{Placed, Rooms, lacks_node};
+use numa_requests::PlacedRefusal;
+use std::alloc::Global;
+
+/// How many more pages a node takes, of those that a host's nodes take; 2^64 - 1 if it never fills.
+fn room_on(rooms: Option<&Rooms>, node: u8) -> u64
+    ensures { (room : Option (ℕ → ℕ)) → MatchOption rooms.entry (room ≡ None)
+        (λ it. (given : ℕ → ℕ) × (room ≡ Some given) × AreRooms it.now given)
+        → result ≡ rooms_of room node }
+{
+    match rooms {
+        None => u64::MAX,
+        Some(it) => it.at(node).unwrap_or(u64::MAX),
+    }
+}
+
+/// How many more pages a node takes.
+///
+/// # Errors
+/// `NoSuchNode`: the machine lacks the node, or it has no memory.
+fn room_left(running: &RunningHost, node: u32) -> Result<u64, PlacedRefusal>
+    ensures { (at : Hosting) → RunsAs running.now at → HasRoomLeft node result at }
+{
+    if lacks_node(running.host.machine(), node) {
+        return Err(PlacedRefusal::NoSuchNode);
+    }
+    Ok(room_on(running.pages.rooms(), node as u8))
+}
+
+/// Where the pages of a process lie, once one was touched or stated to lie somewhere.
+fn placed_in(running: &RunningHost, process: u32) -> Option<&Placed>
+    ensures { (at : Hosting) → RunsAs running.now at → MatchOption result
+        ((page : ℕ) → (pages_at at process).spots page ≡ Nowhere)
+        (λ it. (page : ℕ) → spot_at it.now page ≡ (pages_at at process).spots page) }
+{
+    match running.pages_there(process) {
+        Some(state) => Some(state.placed()),
+        None => None,
+    }
+}
+
+/// The node on which a page of a process lies, if it lies on one.
+fn node_in(running: &RunningHost, process: u32, page: u64) -> Option<Option<u8>>
+    ensures { (at : Hosting) → RunsAs running.now at
+        → OfPagesIn process (LiesOn page) result at }
+{
+    let Some(_) = running.host.process(process) else {
+        return None;
+    };
+    Some(node_there(placed_in(running, process), page))
+}
+
+/// Writes the node on which each of these pages of a process lies, or the mark for one that lies
+/// nowhere, if there are as many places as pages; returns how many they are.
+fn tell_nodes(
+    running: &RunningHost,
+    process: u32,
+    numbers: &[u64],
+    nowhere: u8,
+    nodes: &mut [u8],
+) -> Option<Result<usize, usize>>
+    ensures told { (at : Hosting) → RunsAs running.now at
+        → OfPagesIn process (LieAt numbers.now nowhere nodes.old nodes.new) result at }
+    ensures none { result ≡ None → nodes.new ≡ nodes.old }
+{
+    let Some(_) = running.host.process(process) else {
+        return None;
+    };
+    let count = numbers.len();
+    if nodes.len() != count {
+        return Some(Err(count));
+    }
+    write_nodes(placed_in(running, process), numbers, nowhere, nodes);
+    Some(Ok(count))
+}
+
+/// The number of pages of a process that lie on each node.
+fn counts_in(running: &RunningHost, process: u32) -> Option<[u64; 256]>
+    ensures { (at : Hosting) → RunsAs running.now at → OfPagesIn process LieOn result at }
+{
+    let Some(_) = running.host.process(process) else {
+        return None;
+    };
+    match placed_in(running, process) {
+        Some(placed) => Some(placed.counts()),
+        None => Some([0; 256]),
+    }
+}
+
+/// The runs of pages of a process that lie on one node.
+fn runs_in(
+    running: &RunningHost,
+    alloc: Global,
+    process: u32,
+) -> Option<Result<Vec<PageRun>, NoMemory>>
+    ensures { (at : Hosting) → RunsAs running.now at → OfPagesIn process
+        (λ lying answer. IfOk answer (λ list. LieSo lying list.items)) result at }
+{
+    let Some(_) = running.host.process(process) else {
+        return None;
+    };
+    let Some(placed) = placed_in(running, process) else {
+        return Some(Ok(Vec::new(alloc)));
+    };
+    match list_runs(alloc, placed) {
+        Ok(list) => Some(Ok(list)),
+        Err(_) => Some(Err(NoMemory)),
+    }
+}
+
+/// What the last move of a process did.
+fn last_in(
+    running: &RunningHost,
+    alloc: Global,
+    process: u32,
+) -> Option<Result<LastFlows, NoMemory>>
+    ensures { (at : Hosting) → RunsAs running.now at → OfPagesIn process
+        (λ lying answer. IfOk answer (TellsLast lying)) result at }
+{
+    let Some(_) = running.host.process(process) else {
+        return None;
+    };
+    match running.pages_there(process) {
+        Some(state) => Some(flows_of(alloc, state.last())),
+        None => Some(flows_of(alloc, &Last::Nodes(still()))),
+    }
+}
+
+/// What the last move of the host did, all its processes together.
+fn last_of_all(running: &RunningHost, alloc: Global) -> Result<LastFlows, NoMemory>
+    ensures { (at : Hosting) → RunsAs running.now at
+        → IfOk result (λ told. TellsSum told at) }
+{
+    sums_of(alloc, &running.pages)
+}
+
+impl HostHandle {
+    /// How many more pages a node takes, whichever process they are of; 2^64 - 1 if it never fills.
+    /// `None` if the handle is closed.
+    ///
+    /// # Errors
+    /// In the `Some`, `NoSuchNode`: the machine lacks the node, or it has no memory.
+    pub fn room(&mut self, alloc: Global, node: u32) -> Option<Result<u64, PlacedRefusal>>
+        ensures { Asks (λ answer. OfLying (host_in self.old) (HasRoomLeft node answer))
+            (host_in self.old) result (host_in self.new) }
+    {
+        of_kept!(self.handle, alloc, kept => room_left(running_kept(&kept), node))
+    }
+
+    /// The node on which a page of a process lies, if it lies on one; no answer if the process
+    /// isn't there. `None` if the handle is closed.
+    pub fn node_at(&mut self, alloc: Global, process: u32, page: u64) -> Option<Option<Option<u8>>>
+        ensures { Asks (λ answer. OfLying (host_in self.old)
+            (OfPagesIn process (LiesOn page) answer)) (host_in self.old) result
+            (host_in self.new) }
+    {
+        of_kept!(self.handle, alloc, kept => node_in(running_kept(&kept), process, page))
+    }
+
+    /// Writes the node on which each of these pages of a process lies, and the mark `nowhere` for
+    /// those that lie nowhere; returns how many they are. No answer if the process isn't there.
+    /// `None` if the handle is closed.
+    ///
+    /// # Errors
+    /// How many places there have to be: there aren't as many as pages. Then nothing has been
+    /// written.
+    pub fn nodes_of(
+        &mut self,
+        alloc: Global,
+        process: u32,
+        numbers: &[u64],
+        nowhere: u8,
+        nodes: &mut [u8],
+    ) -> Option<Option<Result<usize, usize>>>
+        ensures told { Asks (λ answer. OfLying (host_in self.old) (OfPagesIn process
+            (LieAt numbers.now nowhere nodes.old nodes.new) answer)) (host_in self.old) result
+            (host_in self.new) }
+        ensures closed { host_in self.old ≡ None → nodes.new ≡ nodes.old }
+        ensures none { IfSome result (λ answer. answer ≡ None → nodes.new ≡ nodes.old) }
+    {
+        of_kept!(self.handle, alloc, kept => {
+            tell_nodes(running_kept(&kept), process, numbers, nowhere, nodes)
+        })
+    }
+
+    /// The number of pages of a process that lie on each node; no answer if the process isn't
+    /// there. `None` if the handle is closed.
+    pub fn page_counts(&mut self, alloc: Global, process: u32) -> Option<Option<[u64; 256]>>
+        ensures { Asks (λ answer. OfLying (host_in self.old) (OfPagesIn process LieOn answer))
+            (host_in self.old) result (host_in self.new) }
+    {
+        of_kept!(self.handle, alloc, kept => counts_in(running_kept(&kept), process))
+    }
+
+    /// The maximal runs of pages of a process that lie on one node, in ascending order; no answer
+    /// if the process isn't there. `None` if the handle is closed.
+    ///
+    /// # Errors
+    /// `NoMemory`: out of memory.
+    pub fn page_runs(
+        &mut self,
+        alloc: Global,
+        process: u32,
+    ) -> Option<Option<Result<Vec<PageRun>, NoMemory>>>
+        ensures { Asks (λ answer. OfLying (host_in self.old) (OfPagesIn process
+            (λ lying told. IfOk told (λ list. LieSo lying list.items)) answer)) (host_in self.old)
+            result (host_in self.new) }
+    {
+        of_kept!(self.handle, alloc, kept => runs_in(running_kept(&kept), alloc, process))
+    }
+
+    /// What the last move of a process did; no answer if the process isn't there. `None` if the
+    /// handle is closed.
+    ///
+    /// # Errors
+    /// `NoMemory`: out of memory.
+    pub fn last_move(
+        &mut self,
+        alloc: Global,
+        process: u32,
+    ) -> Option<Option<Result<LastFlows, NoMemory>>>
+        ensures { Asks (λ answer. OfLying (host_in self.old) (OfPagesIn process
+            (λ lying told. IfOk told (TellsLast lying)) answer)) (host_in self.old) result
+            (host_in self.new) }
+    {
+        of_kept!(self.handle, alloc, kept => last_in(running_kept(&kept), alloc, process))
+    }
+
+    /// What the last move of the host did, all its processes together. `None` if the handle is
+    /// closed.
+    ///
+    /// # Errors
+    /// `NoMemory`: out of memory.
+    pub fn last_move_of_all(&mut self, alloc: Global) -> Option<Result<LastFlows, NoMemory>>
+        ensures { Asks (λ answer. OfLying (host_in self.old)
+            (λ at. IfOk answer (λ told. TellsSum told at))) (host_in self.old) result
+            (host_in self.new) }
+    {
+        of_kept!(self.handle, alloc, kept => last_of_all(running_kept(&kept), alloc))
+    }
+}
