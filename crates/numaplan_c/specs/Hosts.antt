@@ -2,7 +2,10 @@
 use Rattle.std.specs.Prelude.{◌≡◌, ℕ, true, Option, Some, None, Result, Ok, Err, List, []}
 use Rattle.std.specs.Prelude.{MatchResult, unwrap_or}
 use Rattle.numa_host.specs.Processes.{Member}
-use Rattle.numa_host.specs.Standing.{HostState, HostStandsFor}
+use Rattle.numa_host.specs.Standing.{HostStandsFor}
+use Rattle.numa_host_pages.specs.Homes.{empty_host}
+use Rattle.numa_host_pages.specs.Standing.{HostLies}
+use Rattle.numa_host_script.specs.declared.running.RunningHost.{RunningHost}
 use Rattle.numa_requests.specs.declared.host_command.HostCommand.{HostCommand}
 use Rattle.numa_host.specs.declared.group.ControlGroup.{ControlGroup}
 use Rattle.numa_requests.specs.declared.host_refusal.HostRefusal.{HostRefusal}
@@ -17,7 +20,10 @@ use Rattle.numa_space.specs.Limited.{Bounds}
 use Rattle.numaplan_handles.specs.Hosts.{Obeys}
 use Rattle.numaplan_handles.specs.declared.plan_view.ChoiceRefusal.{ChoiceRefusal}
 use Rattle.numaplan_c.specs.Border.{IsMachineOf, is_done}
+use Rattle.numa_script.specs.declared.reply.Reply.{Reply}
+use Rattle.numa_script.specs.declared.reply.Reply.TheVariants as reply
 use Rattle.numaplan_c.specs.Codes.{refusal_code}
+use Rattle.numaplan_c.specs.Placed.{move_code, placed_code}
 use Rattle.numaplan_c.specs.Questions.{AreTold, choice_code}
 use Rattle.numaplan_c.specs.Ranges.{TellsRange}
 use Rattle.numaplan_c.specs.Standing.{TellsPolicy}
@@ -46,32 +52,42 @@ host_cause_code cause.GroupMems = 98
 host_cause_code (cause.OfSpace refusal) = refusal_code refusal
 host_cause_code cause.NoMemory = 3
 
-abbrev pub host_code : Result (Unit {0}) HostRefusal → ℕ
-host_code (Ok done) = 0
-host_code (Err cause) = host_cause_code cause
+-- 0, but for a reply that refuses
+abbrev pub reply_code : Reply → ℕ
+reply_code (reply.HostRefused cause) = host_cause_code cause
+reply_code (reply.PlacedRefused cause) = placed_code cause
+reply_code (reply.MoveRefused cause) = move_code cause
+reply_code _ = 0
+
+-- where there is no reply, nothing is refused
+abbrev pub told_code : Option Reply → ℕ
+told_code None = 0
+told_code (Some answer) = reply_code answer
 
 -- the call gave the kept host the command and answered by its number; a closed handle answers 1 and
 -- stays closed
-abbrev pub HostAnswers : Option HostState → HostCommand → ℕ → Option HostState → Type 0
+abbrev pub HostAnswers : Option RunningHost → HostCommand → ℕ → Option RunningHost → Type 0
 HostAnswers old command code new = (old ≡ None → (code ≡ 1) × (new ≡ None))
-    × ((host : HostState) → old ≡ Some host → (answer : Result (Unit {0}) HostRefusal)
-    × (code ≡ host_code answer) × Obeys command old new answer)
+    × ((running : RunningHost) → old ≡ Some running → (answer : Reply)
+    × (code ≡ reply_code answer) × Obeys command old new answer)
 
 -- the same for a command with a word that is read first: a faulty word is told, by `code_of` its
 -- fault, and changes nothing
 abbrev pub HostAnswersRead : {A F : Type 0} → Result A F → (F → ℕ) → (A → HostCommand)
-    → Option HostState → ℕ → Option HostState → Type 0
+    → Option RunningHost → ℕ → Option RunningHost → Type 0
 HostAnswersRead word code_of command old code new = MatchResult word
     (λ it. HostAnswers old (command it) code new) (λ fault. (code ≡ code_of fault) × (new ≡ old))
 
 -- ---- opening
 
--- a host of that machine and these limits, before its first command
-abbrev pub IsHostSetUp : Result ℕ ListFault → List ℕ → List ℕ → Options → Bounds → HostState
+-- a host of that machine and these limits, before its first command; no node ever fills, and pages
+-- follow
+abbrev pub IsHostSetUp : Result ℕ ListFault → List ℕ → List ℕ → Options → Bounds → RunningHost
     → Type 0
-IsHostSetUp list frames distances options bounds host =
-    IsMachineOf list frames distances options host.blank.machine × (host.blank.bounds ≡ bounds)
-    × HostStandsFor host []
+IsHostSetUp list frames distances options bounds running =
+    IsMachineOf list frames distances options running.host.blank.machine
+    × (running.host.blank.bounds ≡ bounds) × HostStandsFor running.host []
+    × HostLies running.pages empty_host
 
 -- ---- questions
 

@@ -3,6 +3,7 @@ pub mod Compared
 pub mod Explanations
 pub mod Border
 pub mod Bound
+pub mod Hosted
 pub mod Hosts
 pub mod Options
 pub mod Questions

@@ -82,7 +82,7 @@ PagesAnswerRead word fault_code code_of told old code new = MatchResult word
     (λ fault. (code ≡ fault_code fault) × (pages_in new ≡ pages_in old))
 
 -- what first touches did is told; where they are refused, what stood there stays
-abbrev pub TellsArrived : NpArrived → NpArrived → Result Arrived PlacedRefusal → Type 0
+abbrev pub TellsArrived : {E : Type 0} → NpArrived → NpArrived → Result Arrived E → Type 0
 TellsArrived old new (Ok arrived) = (new.placed ≡ arrived.placed)
     × (new.exhausted ≡ arrived.exhausted) × (new.nodes ≡ arrived.on)
 TellsArrived old new (Err cause) = new ≡ old

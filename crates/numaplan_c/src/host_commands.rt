@@ -10,7 +10,7 @@ ghost use Rattle.numaplan_c.specs.Hosts.{HostAnswers, HostAnswersRead};
 ghost use Rattle.numaplan_handles.specs.Handles.{host_in};
 
 use crate::codes::{list_code, word_code};
-use crate::host_codes::host_code;
+use crate::host_codes::reply_code;
 use crate::keeping::{if_open, or_return};
 use numa_machine::PageSize;
 use numa_mask::read_list;
@@ -23,7 +23,7 @@ use std::alloc::Global;
 fn obey(alloc: Global, host: &mut HostHandle, command: HostCommand) -> u32
     ensures { HostAnswers (host_in host.old) command result (host_in host.new) }
 {
-    if_open!(host.apply(alloc, &command), answer => host_code(answer))
+    if_open!(host.obey(alloc, &command), answer => reply_code(&answer))
 }
 
 /// Carries out a command of one process.
@@ -165,6 +165,24 @@ pub extern "C" fn np_host_map(
         (host_in host.new) }
 {
     let size = PageSize::Small;
+    tell!(alloc, host, process => Map { start, length, offset, size })
+}
+
+/// Maps a span of a process as pages of 2 MiB.
+#[unsafe(no_mangle)]
+pub extern "C" fn np_host_map_huge(
+    alloc: Global,
+    host: &mut HostHandle,
+    process: u32,
+    start: u64,
+    length: u64,
+    offset: u64,
+) -> u32
+    ensures { HostAnswers (host_in host.old)
+        (HostCommand.In process (Command.Map start length offset PageSize.Huge)) result
+        (host_in host.new) }
+{
+    let size = PageSize::Huge;
     tell!(alloc, host, process => Map { start, length, offset, size })
 }
 

@@ -2,7 +2,7 @@
 ghost use Rattle.std.specs.Prelude.{◌≡◌, ◌≢◌, ℕ, Option, Some, None, Result, Ok, is_some, true};
 ghost use Rattle.std.specs.Prelude.{IfSome};
 ghost use Rattle.numa_host.specs.Processes.{Member};
-ghost use Rattle.numa_host.specs.Standing.{HostState};
+ghost use Rattle.numa_host_script.specs.declared.running.RunningHost.{RunningHost};
 ghost use Rattle.numa_host.specs.declared.group.ControlGroup.{ControlGroup};
 ghost use Rattle.numa_machine.specs.declared.no_memory.NoMemory.{NoMemory};
 ghost use Rattle.numa_mode.specs.Policy.{PolicyRecord};
@@ -276,7 +276,7 @@ pub extern "C" fn np_host_compile(
         OfHost (host_in host.old) (OfProcess process IsPlanned (Some (Ok made)))) }
     ensures open { is_some (plan_in plan.old) ≡ true → result ≡ 2 }
     ensures closed { plan_in plan.old ≡ None → host_in host.old ≡ None → result ≡ 1 }
-    ensures answered { plan_in plan.old ≡ None → (kept : HostState) → host_in host.old ≡ Some kept
+    ensures answered { plan_in plan.old ≡ None → (kept : RunningHost) → host_in host.old ≡ Some kept
         → (answer : Option (Result PlanData NoMemory))
         × OfHost (host_in host.old) (OfProcess process IsPlanned answer)
         × AnswersPlan answer result }

@@ -14,6 +14,8 @@ mod events;
 mod explanations;
 mod host_codes;
 mod host_commands;
+mod host_pages;
+mod host_places;
 mod host_questions;
 mod keeping;
 mod listings;

@@ -4,11 +4,13 @@ ghost use Rattle.std.specs.Prelude.{IfOk, IfErr, IfSome, MatchOption, MatchResul
 ghost use Rattle.numaplan_handles.specs.Handles.{core_in, host_in};
 ghost use Rattle.numa_core.specs.Standing.{LeadsTo, setup_of};
 ghost use Rattle.numa_mask.specs.Lists.{list_of};
-ghost use Rattle.numaplan_c.specs.Border.{Asked, IsMachineOf, IsSetUp, Opens, Shares, bounds_of};
+ghost use Rattle.numaplan_c.specs.Border.{Asked, IsMachineOf, IsSetUp, Makes, Opens, Shares};
+ghost use Rattle.numaplan_c.specs.Border.{bounds_of};
 ghost use Rattle.numaplan_c.specs.Border.{limits_cause, opening_cause};
 ghost use Rattle.numa_machine.specs.declared.fallback.Fallback.{Fallback};
 ghost use Rattle.numaplan_c.specs.Hosts.{IsHostSetUp};
 ghost use Rattle.numaplan_c.specs.Options.{documents, options_of};
+ghost use Rattle.numaplan_handles.specs.Hosts.{IsHostCopyOf};
 
 use crate::codes::Code;
 use crate::keeping::{ensure_closed, if_open, memory_code, open_from, or_return};
@@ -16,6 +18,7 @@ use crate::machines::machine_of;
 use crate::options::{NpOptions, Options, documents, options_of};
 use numa_core::Core;
 use numa_host::Host;
+use numa_host_script::RunningHost;
 use numa_machine::Machine;
 use numa_requests::Limits;
 use numaplan_handles::{CoreHandle, HostHandle};
@@ -210,7 +213,10 @@ pub extern "C" fn np_host_open(
     let options = or_return!(options_of(options));
     let made = set_up(alloc, memory, frames, distances, options, *limits, 1);
     let (machine, limits) = or_return!(made);
-    memory_code(host.open(alloc, Host::new(alloc, machine, limits)))
+    match RunningHost::new(alloc, Host::new(alloc, machine, limits)) {
+        Ok(running) => memory_code(host.open(alloc, running)),
+        Err(_) => Code::NoMemory as u32,
+    }
 }
 
 /// Returns the number of accepted commands, and of those that are published.
@@ -257,10 +263,12 @@ pub extern "C" fn np_host_close(alloc: Global, host: &mut HostHandle)
     host.handle.close(alloc)
 }
 
-/// Opens another handle with a copy of a host.
+/// Opens another handle with a copy of a host, with the pages of its processes.
 #[unsafe(no_mangle)]
 pub extern "C" fn np_host_copy(alloc: Global, host: &mut HostHandle, copy: &mut HostHandle) -> u32
-    ensures { Shares host_in host.old copy.old result host.new copy.new }
+    ensures same { host_in host.new ≡ host_in host.old }
+    ensures opens { Makes IsHostCopyOf (host_in host.old) (host_in copy.old) result
+        (host_in copy.new) }
 {
     open_from!(copy, host.copy(alloc, copy))
 }

@@ -23,7 +23,6 @@ use numa_mode::PolicySpec;
 use numa_page_state::{Arrived, Rebinding, Toucher};
 use numa_pages::{ChangeRefusal, Rebound};
 use numa_placed::Moved;
-use numa_requests::PlacedRefusal;
 use numa_script::policy::read_policy;
 use numaplan_handles::PagesHandle;
 use std::alloc::Global;
@@ -66,7 +65,7 @@ pub struct NpArrived {
 const _: () = prove!(size_of::<NpArrived>() == 2064);
 
 /// Writes what first touches of a span did, if they weren't refused.
-fn tell_arrived(answer: &Result<Arrived, PlacedRefusal>, arrived: &mut NpArrived)
+pub(crate) fn tell_arrived<E>(answer: &Result<Arrived, E>, arrived: &mut NpArrived)
     ensures { TellsArrived arrived.old arrived.new answer.now }
 {
     if let Ok(done) = answer {
