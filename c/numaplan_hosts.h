@@ -12,11 +12,19 @@
  * memory. There are at most 1,024 groups below it, and 4,096 processes. A change that concerns
  * several processes happens in all of them or in none.
  *
+ * The pages of a process lie where it was stated (np_host_place) or where a task of it touched them
+ * first (np_host_populate), and go where Linux moves them, as those of an np_pages do
+ * (numaplan_placed.h). All processes take the same rooms of nodes (np_host_set_room). Where a
+ * process comes to be allowed other nodes, its pages follow as far as there is room (cgroup v2, or
+ * v1 with memory_migrate), unless np_host_set_follows says otherwise. Pages that find no room stay:
+ * that refuses no call.
+ *
  * This is the language's part `host` (docs/SCRIPT.md), call by call. */
 #ifndef NUMAPLAN_HOSTS_H
 #define NUMAPLAN_HOSTS_H
 
 #include "numaplan.h"
+#include "numaplan_placed.h"
 
 #ifdef __cplusplus
 extern "C" {
@@ -43,11 +51,17 @@ typedef struct np_process {
     uint32_t process, group;
 } np_process;
 
+/* Pages that went from one node to another: how many, and from which to which. */
+typedef struct np_flow {
+    uint64_t pages;
+    uint8_t from, to;
+} np_flow;
+
 #if defined(__cplusplus) && __cplusplus >= 201103L
-static_assert(sizeof(np_host) == 16, "a handle");
+static_assert(sizeof(np_host) == 16 && sizeof(np_flow) == 16, "a handle, a struct");
 static_assert(sizeof(np_group) == 48 && sizeof(np_process) == 8, "a struct");
 #elif defined(__STDC_VERSION__) && __STDC_VERSION__ >= 201112L
-_Static_assert(sizeof(np_host) == 16, "a handle");
+_Static_assert(sizeof(np_host) == 16 && sizeof(np_flow) == 16, "a handle, a struct");
 _Static_assert(sizeof(np_group) == 48 && sizeof(np_process) == 8, "a struct");
 #endif
 
@@ -64,9 +78,9 @@ uint32_t np_host_open(np_host *host, const uint8_t *memory, size_t memory_length
 /* Frees the host, if there is one. */
 void np_host_close(np_host *host);
 
-/* Keeps a copy of the host in `copy`, to be asked "what if": what is then done to one of the two
- * doesn't change the other. NP_OPEN where `copy` keeps a host, NP_CLOSED where `host` keeps none,
- * NP_NO_MEMORY. */
+/* Keeps a copy of the host in `copy`, with its processes' pages, to be asked "what if": what is then
+ * done to one of the two doesn't change the other. NP_OPEN where `copy` keeps a host, NP_CLOSED
+ * where `host` keeps none, NP_NO_MEMORY. */
 uint32_t np_host_copy(np_host *host, np_host *copy);
 
 /* How many commands are accepted. NP_CLOSED. */
@@ -82,7 +96,9 @@ uint32_t np_host_new_group(np_host *host, uint32_t group, uint32_t parent);
 /* Gives a group a list of its own, as "0-1". Its effective nodes are those of its list that its
  * parent has effectively; the parent's, where none of these is left. A faulty list is answered
  * first, even for a closed handle: 60 to 63. NP_NO_SUCH_GROUP, NP_ROOT_GROUP, NP_NO_SUCH_NODE.
- * Needs no memory. */
+ * Needs no memory. The pages of each process follow whose allowed nodes change: group by group from
+ * the top down, siblings as they were made, in each group the processes as they came to it; where
+ * memory lacks for the move of a process's pages, they stay (np_host_moves). */
 uint32_t np_host_set_group_mems(np_host *host, uint32_t group, const uint8_t *nodes,
                                 size_t nodes_length);
 
@@ -90,22 +106,23 @@ uint32_t np_host_set_group_mems(np_host *host, uint32_t group, const uint8_t *no
  * and a process is in it or below it. Needs no memory. */
 uint32_t np_host_unset_group_mems(np_host *host, uint32_t group);
 
-/* Makes a process in a group: nothing is mapped, no task has a policy. NP_PROCESS_EXISTS,
- * NP_NO_SUCH_GROUP, NP_TOO_MANY_PROCESSES. */
+/* Makes a process in a group: nothing is mapped, no page lies anywhere, no task has a policy.
+ * NP_PROCESS_EXISTS, NP_NO_SUCH_GROUP, NP_TOO_MANY_PROCESSES. */
 uint32_t np_host_new_process(np_host *host, uint32_t process, uint32_t group);
 
 /* Makes the process `child` a copy of `parent`, in its group; then its task `task` has the policy
  * that the task `from` has in the parent (fork(2)). It keeps the policies of all tasks, where Linux
- * keeps one thread's. NP_PROCESS_EXISTS, NP_NO_SUCH_PROCESS, NP_TOO_MANY_PROCESSES,
- * NP_TOO_MANY_TASKS. */
+ * keeps one thread's. Its pages lie nowhere until it writes to them (np_host_populate).
+ * NP_PROCESS_EXISTS, NP_NO_SUCH_PROCESS, NP_TOO_MANY_PROCESSES, NP_TOO_MANY_TASKS. */
 uint32_t np_host_fork(np_host *host, uint32_t parent, uint32_t child, uint32_t from,
                       uint32_t task);
 
-/* Moves a process to another group (cgroup.procs). NP_NO_SUCH_PROCESS, NP_NO_SUCH_GROUP. Needs no
- * memory. */
+/* Moves a process to another group (cgroup.procs), where it is the last that came; its pages follow.
+ * NP_NO_SUCH_PROCESS, NP_NO_SUCH_GROUP. Needs no memory. */
 uint32_t np_host_attach(np_host *host, uint32_t process, uint32_t group);
 
-/* Ends a process; its number is free. NP_NO_SUCH_PROCESS. Needs no memory. */
+/* Ends a process; its number is free, and its pages give their room back. NP_NO_SUCH_PROCESS. Needs
+ * no memory. */
 uint32_t np_host_exit(np_host *host, uint32_t process);
 
 /* Gives a node its weight for weighted interleaving, for every process, also those to come.
@@ -118,6 +135,11 @@ uint32_t np_host_set_weight(np_host *host, uint32_t node, uint32_t weight);
 
 uint32_t np_host_map(np_host *host, uint32_t process, uint64_t start, uint64_t length,
                      uint64_t offset);
+uint32_t np_host_map_huge(np_host *host, uint32_t process, uint64_t start, uint64_t length,
+                          uint64_t offset);
+
+/* As np_pages_unmap: then the pages of the span lie nowhere any more. First of all, where one of
+ * them lies somewhere: NP_TOO_MANY_RUNS, NP_NO_MEMORY. */
 uint32_t np_host_unmap(np_host *host, uint32_t process, uint64_t start, uint64_t length);
 uint32_t np_host_mbind(np_host *host, uint32_t process, uint64_t start, uint64_t length,
                        const uint8_t *policy, size_t policy_length);
@@ -126,6 +148,75 @@ uint32_t np_host_set_task(np_host *host, uint32_t process, uint32_t task, const 
 uint32_t np_host_inherit(np_host *host, uint32_t process, uint32_t task, uint32_t from);
 uint32_t np_host_set_home(np_host *host, uint32_t process, uint64_t start, uint64_t length,
                           uint32_t node);
+
+/* ---- pages: how many more a node takes, and whether they follow. NP_CLOSED first */
+
+/* Says how many more pages a node takes from now on, whichever process they are of; as
+ * np_pages_set_room. NP_ENDLESS, as at first: it never fills. NP_NO_SUCH_NODE. Needs no memory. */
+uint32_t np_host_set_room(np_host *host, uint32_t node, uint64_t room);
+
+/* Writes how many more pages a node takes. NP_NO_SUCH_NODE. */
+uint32_t np_host_room(np_host *host, uint32_t node, uint64_t *room);
+
+/* Says whether pages follow the nodes that their process is allowed: at first they do; where not,
+ * as in cgroup v1 without memory_migrate, they stay where they lie. Needs no memory. */
+uint32_t np_host_set_follows(np_host *host, bool follows);
+
+/* ---- pages of one process: as the calls of an np_pages (np_pages_place and so on), with a number
+ * of a process, and no command: the version stays. NP_CLOSED; NP_NO_SUCH_PROCESS; NP_NO_MEMORY where
+ * none of its pages was stated or touched yet; then as there, NP_NO_MEMORY too */
+
+uint32_t np_host_place(np_host *host, uint32_t process, uint64_t start, uint64_t length,
+                       uint32_t node);
+uint32_t np_host_populate(np_host *host, uint32_t process, uint64_t start, uint64_t length,
+                          uint32_t task, uint32_t cpu, np_arrived *arrived);
+
+/* A faulty list is answered first, that of `from` before that of `to`: 60 to 63. Writes to `bound`
+ * how many pages moved, and how many had to and stayed (and error number 0); np_host_moves tells
+ * from where to where. */
+uint32_t np_host_migrate(np_host *host, uint32_t process, const uint8_t *from, size_t from_length,
+                         const uint8_t *to, size_t to_length, np_bound *bound);
+uint32_t np_host_move(np_host *host, uint32_t process, uint64_t address, uint32_t node);
+
+/* These two are commands of the process, and answered as np_host_mbind, but for what
+ * np_pages_mbind_strictly and np_pages_mbind_moving say of pages. */
+uint32_t np_host_mbind_strictly(np_host *host, uint32_t process, uint64_t start, uint64_t length,
+                                const uint8_t *policy, size_t policy_length);
+uint32_t np_host_mbind_moving(np_host *host, uint32_t process, uint64_t start, uint64_t length,
+                              const uint8_t *policy, size_t policy_length, bool strict,
+                              uint32_t task, uint32_t cpu, np_bound *bound);
+
+/* ---- where pages of one process lie: NP_CLOSED, NP_NO_SUCH_PROCESS, and what is named */
+
+/* Writes the node on which the page of an address lies. NP_NOT_PLACED where it lies nowhere. */
+uint32_t np_host_node(np_host *host, uint32_t process, uint64_t address, uint32_t *node);
+
+/* The same for an array of pages, as np_pages_nodes. NP_NO_ROOM. Needs no memory. */
+uint32_t np_host_nodes(np_host *host, uint32_t process, const uint64_t *numbers, size_t count,
+                       uint8_t *nodes, size_t places, uint8_t nowhere);
+
+/* Counts, for each node, the pages that lie on it. */
+uint32_t np_host_counts(np_host *host, uint32_t process, np_counts *counts);
+
+/* Writes the runs of pages that lie on one node, as np_pages_runs. NP_NO_ROOM, NP_NO_MEMORY. */
+uint32_t np_host_runs(np_host *host, uint32_t process, np_page_run *runs, size_t room,
+                      size_t *count);
+
+/* What the last move of the process did: of np_host_migrate, np_host_move, np_host_mbind_moving, or
+ * of np_host_set_group_mems, np_host_unset_group_mems or np_host_attach where it came to be allowed
+ * other nodes by one. Writes to `bound` how many pages went and how many had to and stayed (and
+ * error number 0), and from which node how many went to which, in ascending order of both, at the
+ * start of `flows`, and how many of these there are to `count`. NP_NO_ROOM where `room` is less:
+ * then `count` is what is needed, and `flows` is as it was. NP_NO_MEMORY. */
+uint32_t np_host_moves(np_host *host, uint32_t process, np_flow *flows, size_t room, size_t *count,
+                       np_bound *bound);
+
+/* The same of the host: what the last of these calls did, all processes together that went along
+ * and are still there. np_host_attach, np_host_migrate, np_host_move and np_host_mbind_moving take
+ * one along; np_host_set_group_mems and np_host_unset_group_mems those that came to be allowed other
+ * nodes. No sum is told above 2^64 - 1. NP_CLOSED, NP_NO_ROOM, NP_NO_MEMORY. */
+uint32_t np_host_moves_of_all(np_host *host, np_flow *flows, size_t room, size_t *count,
+                              np_bound *bound);
 
 /* ---- questions about groups and processes */
 

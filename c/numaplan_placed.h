@@ -14,10 +14,10 @@
  * itself; a kernel's comes and moves whole.
  * There are at most 1,048,576 runs of pages that lie on one node. Pages that one policy puts on
  * nodes in turn (np_pages_populate) count as one run. */
+#include "numaplan.h" /* (which includes numaplan_hosts.h, and that this file, for its structs) */
+
 #ifndef NUMAPLAN_PLACED_H
 #define NUMAPLAN_PLACED_H
-
-#include "numaplan.h"
 
 #ifdef __cplusplus
 extern "C" {

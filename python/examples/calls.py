@@ -48,6 +48,9 @@ with Host(frames=[8] * 4, distances=DISTANCES) as host:
     host.new_process(7, 1)
     host.map(7, HEAP, PAGE)
     print("process 7's list:", host.choice(7, TASK, HEAP // PAGE, CPU))
+    host.populate(7, HEAP, PAGE, TASK, CPU)
+    host.set_group_mems(1, "0-1")
+    print("its page followed:", host.moves(7).flows)
 
 # scripts: line by line, or whole, with the answers of the program in its formats
 with Script() as script:

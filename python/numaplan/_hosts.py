@@ -1,17 +1,23 @@
-"""Hosts: processes in control groups. Not proved."""
+"""Hosts: processes in control groups, and where their pages lie. Not proved."""
 
 from __future__ import annotations
 
-from ctypes import byref, c_size_t, c_uint8, c_uint64
-from typing import Iterable, Iterator, NamedTuple
+from ctypes import byref, c_size_t, c_uint8, c_uint32, c_uint64
+from typing import TYPE_CHECKING, Iterable, Iterator, NamedTuple, overload
 
 from ._calls import encoded, members
-from ._cores import Policy, Range, policy_of
-from ._judged import Nodes, Numbers, list_of, u32, u64
-from ._library import Limits, NodeSet, Span, StandingPolicy, ToldGroup, ToldProcess
+from ._causes import NoRoom, NotPlaced
+from ._cores import Policy, Range, by_node, policy_of
+from ._judged import Nodes, Numbers, list_of, places_for, u8, u32, u64, u64s_to_read
+from ._library import Limits, NodeSet, PagesInRow, Span, StandingPolicy, ToldArrived, ToldBound
+from ._library import ToldFlow, ToldGroup, ToldProcess
 from ._machines import description, options_of, read_hardware
 from ._owners import Owner, counted
+from ._pages import ENDLESS, Arrived, Bound, Moved, PageRun
 from ._plans import Plan
+
+if TYPE_CHECKING:
+    from ._buffers import AnyBuffer, Buffer
 
 
 class Group(NamedTuple):
@@ -33,7 +39,9 @@ class Process(NamedTuple):
 class Host(Owner):
     """A host: processes in a tree of control groups, on one machine. A process answers as a core
     does that is given the commands which the process has accepted: its own, its parent's up to the
-    fork, each weight, and a change of the allowed nodes whenever its group's have changed."""
+    fork, each weight, and a change of the allowed nodes whenever its group's have changed. Its pages
+    lie where it is stated, or a task of it touches them first, and follow the allowed nodes; all
+    processes take the same rooms of nodes."""
 
     _kind = "host"
 
@@ -91,7 +99,8 @@ class Host(Owner):
 
     def set_group_mems(self, group: int, nodes: "Nodes | None") -> None:
         """Gives a group a list of its own, as "0-1" or [0, 1] (cpuset.mems); None takes it away.
-        The policies of each process whose allowed nodes change follow, in all or in none."""
+        The policies of each process whose allowed nodes change follow, in all or in none, and its
+        pages as far as there is room (`moves`)."""
         if nodes is None:
             self._call("host_unset_group_mems", u32("group", group))
         else:
@@ -129,11 +138,11 @@ class Host(Owner):
              u32("from_task", from_task), u32("task", task))
 
     def attach(self, process: int, group: int) -> None:
-        """Moves a process to another group (cgroup.procs); its policies follow."""
+        """Moves a process to another group (cgroup.procs); its policies and its pages follow."""
         self._call("host_attach", u32("process", process), u32("group", group))
 
     def exit(self, process: int) -> None:
-        """Ends a process; its number is free."""
+        """Ends a process; its number is free, and its pages give their room back."""
         self._call("host_exit", u32("process", process))
 
     def processes(self) -> list[Process]:
@@ -164,23 +173,28 @@ class Host(Owner):
         """Gives a node its weight for weighted interleaving, for every process, from 1 to 255."""
         self._call("host_set_weight", u32("node", node), u32("weight", weight))
 
-    def map(self, process: int, start: int, length: int, offset: "int | None" = None) -> None:
-        """Maps `length` bytes of unmapped pages of a process from address `start` on; as
-        Core.map."""
-        start = u64("start", start)
-        offset = start // 4096 if offset is None else u64("offset", offset)
-        self._call("host_map", u32("process", process), start, u64("length", length), offset)
+    def map(self, process: int, start: int, length: int, offset: "int | None" = None, *,
+            huge: bool = False) -> None:
+        """Maps `length` bytes of unmapped pages of a process from address `start` on, with `huge`
+        as pages of 2 MiB; as Core.map."""
+        number, start = u32("process", process), u64("start", start)
+        if offset is None:
+            offset = 0 if huge else start // 4096
+        call = "host_map_huge" if huge else "host_map"
+        self._call(call, number, start, u64("length", length), u64("offset", offset))
 
     def unmap(self, process: int, start: int, length: int) -> None:
         """Unmaps the pages of `length` bytes of a process from address `start` on, those that are
-        mapped."""
+        mapped; then they lie nowhere, and give back the room that they took."""
         self._call("host_unmap", u32("process", process), u64("start", start),
              u64("length", length))
 
-    def mbind(self, process: int, start: int, length: int, policy: str) -> None:
+    def mbind(self, process: int, start: int, length: int, policy: str, *,
+              strict: bool = False) -> None:
         """Gives the pages of `length` bytes of a process from address `start` on a policy of their
-        own, as "bind:0-1" (mbind(2)); "default" takes it away."""
-        self._call("host_mbind", u32("process", process), u64("start", start),
+        own, as "bind:0-1" (mbind(2)); "default" takes it away. If `strict`, as Pages.mbind."""
+        name = "host_mbind_strictly" if strict else "host_mbind"
+        self._call(name, u32("process", process), u64("start", start),
              u64("length", length), *encoded("policy", policy))
 
     def set_task(self, process: int, task: int, policy: str) -> None:
@@ -199,6 +213,128 @@ class Host(Owner):
         home node (set_mempolicy_home_node(2))."""
         self._call("host_set_home", u32("process", process), u64("start", start),
              u64("length", length), u32("node", node))
+
+    # ---- pages: how many more a node takes, and where those of a process lie
+
+    def set_room(self, node: int, pages: "int | None") -> None:
+        """Says how many more pages a node takes from now on, whichever process they are of; as
+        Pages.set_room. None, as at first: it never fills."""
+        room = ENDLESS if pages is None else u64("pages", pages)
+        self._call("host_set_room", u32("node", node), room)
+
+    def room(self, node: int) -> "int | None":
+        """How many more pages a node takes; None where it never fills."""
+        room = c_uint64()
+        self._call("host_room", u32("node", node), byref(room))
+        return None if room.value == ENDLESS else room.value
+
+    def set_follows(self, follows: bool) -> None:
+        """Says whether pages follow the nodes that their process is allowed: at first they do;
+        where not, as in cgroup v1 without memory_migrate, they stay where they lie."""
+        self._call("host_set_follows", follows)
+
+    def place(self, process: int, start: int, length: int, node: int) -> None:
+        """States that the mapped pages of `length` bytes of a process from address `start` on lie
+        on a node; as Pages.place."""
+        self._call("host_place", u32("process", process), u64("start", start),
+             u64("length", length), u32("node", node))
+
+    def populate(self, process: int, start: int, length: int, task: int = 0,
+                 cpu: int = 0) -> Arrived:
+        """Touches each page of `length` bytes of a process from address `start` on for the first
+        time, as a task on the node `cpu` does that writes to it; as Pages.populate."""
+        told = ToldArrived()
+        self._call("host_populate", u32("process", process), u64("start", start),
+             u64("length", length), u32("task", task), u32("cpu", cpu), byref(told))
+        return Arrived(told.placed, told.exhausted, by_node(told.nodes))
+
+    def migrate(self, process: int, old: Nodes, new: Nodes) -> Moved:
+        """Moves pages of a process from the nodes of one list to the allowed nodes of another
+        (migrate_pages(2))."""
+        number, told = u32("process", process), ToldBound()
+        before, after = list_of("old", old), list_of("new", new)
+        with self._alone():
+            self._call("host_migrate", number, before, len(before), after, len(after), byref(told))
+            return self.moves(process)
+
+    def move(self, process: int, address: int, node: int) -> None:
+        """Moves the page of an address of a process to a node (move_pages(2)); a page that lies
+        there stays."""
+        self._call("host_move", u32("process", process), u64("address", address),
+             u32("node", node))
+
+    def mbind_moving(self, process: int, start: int, length: int, policy: str, task: int,
+                     cpu: int, *, strict: bool = False) -> Bound:
+        """Gives pages of a process a policy as `mbind`, and moves those that lie on nodes that
+        aren't in the policy's list as it is written (MPOL_MF_MOVE); as Pages.mbind_moving."""
+        told = ToldBound()
+        self._call("host_mbind_moving", u32("process", process), u64("start", start),
+             u64("length", length), *encoded("policy", policy), strict, u32("task", task),
+             u32("cpu", cpu), byref(told))
+        return Bound(told.moved, told.left, told.error)
+
+    def node_of(self, process: int, address: int) -> "int | None":
+        """The node on which the page of an address of a process lies; None where it lies
+        nowhere."""
+        node = c_uint32()
+        try:
+            self._call("host_node", u32("process", process), u64("address", address), byref(node))
+        except NotPlaced:
+            return None
+        return node.value
+
+    @overload
+    def nodes(self, process: int, pages: Numbers, nodes: None = None,
+              nowhere: int = 255) -> bytearray: ...
+
+    @overload
+    def nodes(self, process: int, pages: Numbers, nodes: AnyBuffer,
+              nowhere: int = 255) -> AnyBuffer: ...
+
+    def nodes(self, process: int, pages: Numbers, nodes: "Buffer | None" = None,
+              nowhere: int = 255) -> Buffer:
+        """The node on which each of these pages of a process lies, a byte each; as Pages.nodes."""
+        numbers, count = u64s_to_read("pages", pages)
+        into, place = places_for(count, nodes)
+        self._call("host_nodes", u32("process", process), byref(numbers), count, place, count,
+             u8("nowhere", nowhere))
+        return into
+
+    def counts(self, process: int) -> dict[int, int]:
+        """How many pages of a process lie on each node that has some."""
+        counts = (c_uint64 * 256)()
+        self._call("host_counts", u32("process", process), byref(counts))
+        return by_node(counts)
+
+    def runs(self, process: int) -> list[PageRun]:
+        """The runs of pages of a process that lie on one node, in order of address and as long as
+        they can be."""
+        number, count, room = u32("process", process), c_size_t(), 64
+        while True:
+            found = (PagesInRow * room)()
+            try:
+                self._call("host_runs", number, found, room, byref(count))
+            except NoRoom:
+                room = count.value
+                continue
+            return [PageRun(run.first, run.pages, run.node) for run in found[:count.value]]
+
+    def moves(self, process: "int | None" = None) -> Moved:
+        """What the last move of a process did: `migrate`, `move`, `mbind_moving`, or a change of
+        its allowed nodes by `set_group_mems` or `attach`. Without a process: what the last of these
+        did in the host, all processes together that went along and are still there."""
+        name = "host_moves_of_all" if process is None else "host_moves"
+        asked = () if process is None else (u32("process", process),)
+        count, room, bound = c_size_t(), 64, ToldBound()
+        while True:
+            found = (ToldFlow * room)()
+            try:
+                self._call(name, *asked, found, room, byref(count), byref(bound))
+            except NoRoom:
+                room = count.value
+                continue
+            flows = {(flow.source, flow.target): flow.pages for flow in found[:count.value]}
+            return Moved(bound.moved, bound.left, flows)
 
     # ---- questions to one process
 

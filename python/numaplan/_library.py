@@ -61,6 +61,12 @@ class PagesInRow(ctypes.Structure):
     _fields_ = [("first", c_uint64), ("pages", c_uint64), ("node", c_uint8)]
 
 
+class ToldFlow(ctypes.Structure):
+    """np_flow."""
+
+    _fields_ = [("pages", c_uint64), ("source", c_uint8), ("target", c_uint8)]
+
+
 class PagesInTurns(ctypes.Structure):
     """np_plan_run."""
 
@@ -236,11 +242,30 @@ _SIGNATURES = {
     "host_process": [_HANDLE, c_size_t, POINTER(ToldProcess)],
     "host_set_weight": [_HANDLE, _U32, _U32],
     "host_map": [_HANDLE, _U32, _U64, _U64, _U64],
+    "host_map_huge": [_HANDLE, _U32, _U64, _U64, _U64],
     "host_unmap": [_HANDLE, _U32, _U64, _U64],
     "host_mbind": [_HANDLE, _U32, _U64, _U64, _TEXT, c_size_t],
     "host_set_task": [_HANDLE, _U32, _U32, _TEXT, c_size_t],
     "host_inherit": [_HANDLE, _U32, _U32, _U32],
     "host_set_home": [_HANDLE, _U32, _U64, _U64, _U32],
+    "host_set_room": [_HANDLE, _U32, _U64],
+    "host_room": [_HANDLE, _U32, POINTER(_U64)],
+    "host_set_follows": [_HANDLE, c_bool],
+    "host_place": [_HANDLE, _U32, _U64, _U64, _U32],
+    "host_populate": [_HANDLE, _U32, _U64, _U64, _U32, _U32, POINTER(ToldArrived)],
+    "host_migrate": [_HANDLE, _U32, _TEXT, c_size_t, _TEXT, c_size_t, POINTER(ToldBound)],
+    "host_move": [_HANDLE, _U32, _U64, _U32],
+    "host_mbind_strictly": [_HANDLE, _U32, _U64, _U64, _TEXT, c_size_t],
+    "host_mbind_moving": [_HANDLE, _U32, _U64, _U64, _TEXT, c_size_t, c_bool, _U32, _U32,
+                          POINTER(ToldBound)],
+    "host_node": [_HANDLE, _U32, _U64, POINTER(_U32)],
+    "host_nodes": [_HANDLE, _U32, c_void_p, c_size_t, POINTER(c_uint8), c_size_t, c_uint8],
+    "host_counts": [_HANDLE, _U32, POINTER(_U64 * 256)],
+    "host_runs": [_HANDLE, _U32, POINTER(PagesInRow), c_size_t, POINTER(c_size_t)],
+    "host_moves": [_HANDLE, _U32, POINTER(ToldFlow), c_size_t, POINTER(c_size_t),
+                   POINTER(ToldBound)],
+    "host_moves_of_all": [_HANDLE, POINTER(ToldFlow), c_size_t, POINTER(c_size_t),
+                          POINTER(ToldBound)],
     "host_choice": [_HANDLE, _U32, _U32, _U64, _U32, *_ROOM],
     "host_compile": [_HANDLE, _U32, _HANDLE],
     "host_ranges": [_HANDLE, _U32, POINTER(c_size_t)],

@@ -37,7 +37,9 @@ impl Iterator for Processes<'_> {
 
 /// A host: processes in a tree of control groups, on one machine. A process answers as a core does that is
 /// given the commands which the process has accepted: its own, its parent's up to the fork, each weight,
-/// and a change of the allowed nodes whenever those of its group have changed.
+/// and a change of the allowed nodes whenever those of its group have changed. Its pages lie where it is
+/// stated, or a task of it touches them first, and follow the allowed nodes; all processes take the same rooms
+/// of nodes.
 ///
 /// ```
 /// use numaplan::{Host, Options, Refused};
@@ -52,6 +54,9 @@ impl Iterator for Processes<'_> {
 /// host.fork(1, 2, 7, 9)?;
 /// host.set_group_mems(5, "2-3")?;
 /// assert_eq!(host.choice(1, 7, 0x10, 0)?, [3]); // the second of 1 to 2, now of 2 to 3
+/// assert_eq!(host.populate(1, 0x10000, 0x1000, 7, 0)?.placed, 1);
+/// host.set_group_mems(5, "0-1")?;
+/// assert_eq!((host.node_of(1, 0x10000)?, host.moves(1)?.moved), (Some(1), 1)); // and now of 0 to 1
 /// assert_eq!(host.new_process(1, 0), Err(Refused::PROCESS_EXISTS));
 /// # Ok::<(), Refused>(())
 /// ```
@@ -126,7 +131,8 @@ impl Host {
     }
 
     /// Gives a group a list of its own, as "0-1" (cpuset.mems). The policies of each process whose
-    /// allowed nodes change follow, in all of them or in none.
+    /// allowed nodes change follow, in all of them or in none, and its pages as far as there is room
+    /// ([`Host::moves`]).
     ///
     /// # Errors
     /// `LIST_EMPTY` to `LIST_TOO_HIGH` for a faulty list; `COMMANDS_SPENT`, `NO_SUCH_GROUP`,
@@ -194,7 +200,7 @@ impl Host {
         done(unsafe { raw::np_host_fork(&mut self.0, parent, child, from, task) })
     }
 
-    /// Moves a process to another group (cgroup.procs); its policies follow.
+    /// Moves a process to another group (cgroup.procs); its policies and its pages follow.
     ///
     /// # Errors
     /// `COMMANDS_SPENT`, `NO_SUCH_PROCESS`, `NO_SUCH_GROUP`.
@@ -202,7 +208,7 @@ impl Host {
         done(unsafe { raw::np_host_attach(&mut self.0, process, group) })
     }
 
-    /// Ends a process; its number is free.
+    /// Ends a process; its number is free, and its pages give their room back.
     ///
     /// # Errors
     /// `COMMANDS_SPENT`, `NO_SUCH_PROCESS`.
@@ -245,10 +251,25 @@ impl Host {
         done(unsafe { raw::np_host_map(&mut self.0, process, start, length, offset) })
     }
 
-    /// Unmaps the pages of a process's span.
+    /// Maps a span of unmapped pages of a process as pages of 2 MiB; as
+    /// [`Core::map_huge`](crate::Core::map_huge).
     ///
     /// # Errors
-    /// As [`Core::unmap`](crate::Core::unmap), and `NO_SUCH_PROCESS`.
+    /// As [`Host::map`].
+    pub fn map_huge(
+        &mut self,
+        process: u32,
+        start: u64,
+        length: u64,
+        offset: u64,
+    ) -> Result<(), Refused> {
+        done(unsafe { raw::np_host_map_huge(&mut self.0, process, start, length, offset) })
+    }
+
+    /// Unmaps the pages of a process's span; then they lie nowhere, and give back the room that they took.
+    ///
+    /// # Errors
+    /// `TOO_MANY_RUNS` first, else as [`Core::unmap`](crate::Core::unmap), and `NO_SUCH_PROCESS`.
     pub fn unmap(&mut self, process: u32, start: u64, length: u64) -> Result<(), Refused> {
         done(unsafe { raw::np_host_unmap(&mut self.0, process, start, length) })
     }

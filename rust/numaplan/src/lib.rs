@@ -24,6 +24,7 @@ mod causes;
 mod core_reports;
 mod cores;
 mod explanations;
+mod host_pages;
 mod hosts;
 mod options;
 mod pages;

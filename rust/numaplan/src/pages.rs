@@ -6,7 +6,7 @@ use crate::values::set_of;
 use crate::{Core, PageRun, Refused};
 
 /// The room of a node that never fills (NP_ENDLESS).
-const ENDLESS: u64 = u64::MAX;
+pub(crate) const ENDLESS: u64 = u64::MAX;
 
 /// Pages that went from one node to another.
 #[derive(Clone, Copy, Debug, PartialEq, Eq, Hash)]

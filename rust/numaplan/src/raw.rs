@@ -141,6 +141,14 @@ pub(crate) struct ToldBound {
 }
 
 #[repr(C)]
+#[derive(Clone, Copy, Default)]
+pub(crate) struct ToldFlow {
+    pub pages: u64,
+    pub from: u8,
+    pub to: u8,
+}
+
+#[repr(C)]
 pub(crate) struct ToldMoves {
     pub moved: u64,
     pub left: u64,
@@ -220,7 +228,7 @@ const _: () = assert!(size_of::<ToldReport>() == 24 && size_of::<ToldExplanation
 
 const _: () = assert!(size_of::<ToldGroup>() == 48 && size_of::<Process>() == 8);
 const _: () = assert!(size_of::<PageRun>() == 24 && size_of::<ToldMoves>() == 2320);
-const _: () = assert!(size_of::<ToldRun>() == 24);
+const _: () = assert!(size_of::<ToldRun>() == 24 && size_of::<ToldFlow>() == 16);
 const _: () = assert!(size_of::<ToldBound>() == 24 && size_of::<ToldArrived>() == 2064);
 
 #[rustfmt::skip]
@@ -312,11 +320,27 @@ extern "C" {
     pub(crate) fn np_host_process(host: &mut Handle, index: usize, process: &mut Process) -> u32;
     pub(crate) fn np_host_set_weight(host: &mut Handle, node: u32, weight: u32) -> u32;
     pub(crate) fn np_host_map(host: &mut Handle, process: u32, start: u64, length: u64, offset: u64) -> u32;
+    pub(crate) fn np_host_map_huge(host: &mut Handle, process: u32, start: u64, length: u64, offset: u64) -> u32;
     pub(crate) fn np_host_unmap(host: &mut Handle, process: u32, start: u64, length: u64) -> u32;
     pub(crate) fn np_host_mbind(host: &mut Handle, process: u32, start: u64, length: u64, policy: *const u8, policy_length: usize) -> u32;
     pub(crate) fn np_host_set_task(host: &mut Handle, process: u32, task: u32, policy: *const u8, policy_length: usize) -> u32;
     pub(crate) fn np_host_inherit(host: &mut Handle, process: u32, task: u32, from: u32) -> u32;
     pub(crate) fn np_host_set_home(host: &mut Handle, process: u32, start: u64, length: u64, node: u32) -> u32;
+    pub(crate) fn np_host_set_room(host: &mut Handle, node: u32, room: u64) -> u32;
+    pub(crate) fn np_host_room(host: &mut Handle, node: u32, room: &mut u64) -> u32;
+    pub(crate) fn np_host_set_follows(host: &mut Handle, follows: bool) -> u32;
+    pub(crate) fn np_host_place(host: &mut Handle, process: u32, start: u64, length: u64, node: u32) -> u32;
+    pub(crate) fn np_host_populate(host: &mut Handle, process: u32, start: u64, length: u64, task: u32, cpu: u32, arrived: &mut ToldArrived) -> u32;
+    pub(crate) fn np_host_migrate(host: &mut Handle, process: u32, from: *const u8, from_length: usize, to: *const u8, to_length: usize, bound: &mut ToldBound) -> u32;
+    pub(crate) fn np_host_move(host: &mut Handle, process: u32, address: u64, node: u32) -> u32;
+    pub(crate) fn np_host_mbind_strictly(host: &mut Handle, process: u32, start: u64, length: u64, policy: *const u8, policy_length: usize) -> u32;
+    pub(crate) fn np_host_mbind_moving(host: &mut Handle, process: u32, start: u64, length: u64, policy: *const u8, policy_length: usize, strict: bool, task: u32, cpu: u32, bound: &mut ToldBound) -> u32;
+    pub(crate) fn np_host_node(host: &mut Handle, process: u32, address: u64, node: &mut u32) -> u32;
+    pub(crate) fn np_host_nodes(host: &mut Handle, process: u32, numbers: *const u64, count: usize, nodes: *mut u8, places: usize, nowhere: u8) -> u32;
+    pub(crate) fn np_host_counts(host: &mut Handle, process: u32, counts: &mut Counts) -> u32;
+    pub(crate) fn np_host_runs(host: &mut Handle, process: u32, runs: *mut PageRun, room: usize, count: &mut usize) -> u32;
+    pub(crate) fn np_host_moves(host: &mut Handle, process: u32, flows: *mut ToldFlow, room: usize, count: &mut usize, bound: &mut ToldBound) -> u32;
+    pub(crate) fn np_host_moves_of_all(host: &mut Handle, flows: *mut ToldFlow, room: usize, count: &mut usize, bound: &mut ToldBound) -> u32;
     pub(crate) fn np_host_choice(host: &mut Handle, process: u32, task: u32, page: u64, cpu: u32, nodes: *mut u8, room: usize, count: &mut usize) -> u32;
     pub(crate) fn np_host_compile(host: &mut Handle, process: u32, plan: &mut Handle) -> u32;
     pub(crate) fn np_host_ranges(host: &mut Handle, process: u32, count: &mut usize) -> u32;
