@@ -42,7 +42,7 @@ void rattle_dealloc(void *at) {
 static np_host host, copy;
 static np_plan plan;
 
-enum { GROUPS = 4, PROCESSES = 4, RANGES = 6 };
+enum { GROUPS = 4, PROCESSES = 4, RANGES = 6, RUNS = 8 };
 
 /* What is seen of a host. */
 struct seen {
@@ -57,6 +57,13 @@ struct seen {
         size_t length, count;
     } each[PROCESSES][RANGES];
     np_policy policy[PROCESSES];
+    size_t runs[PROCESSES], flows[PROCESSES];
+    np_page_run run[PROCESSES][RUNS];
+    np_flow flow[PROCESSES][RUNS];
+    np_bound bound[PROCESSES], all;
+    size_t flows_of_all;
+    np_flow flow_of_all[RUNS];
+    uint64_t room[4];
 };
 
 static void see(np_host *one, struct seen *seen) {
@@ -69,12 +76,17 @@ static void see(np_host *one, struct seen *seen) {
         np_host_group(one, k, &seen->group[k]);
         np_host_group_nodes(one, seen->group[k].group, &seen->nodes[k]);
     }
+    for (uint32_t node = 0; node < 4; node++)
+        np_host_room(one, node, &seen->room[node]);
+    np_host_moves_of_all(one, seen->flow_of_all, RUNS, &seen->flows_of_all, &seen->all);
     np_host_processes(one, &seen->processes);
     for (size_t k = 0; k < seen->processes && k < PROCESSES; k++) {
         np_host_process(one, k, &seen->process[k]);
         uint32_t number = seen->process[k].process;
         np_host_ranges(one, number, &seen->ranges[k]);
         np_host_task_policy(one, number, 7, &seen->policy[k]);
+        np_host_runs(one, number, seen->run[k], RUNS, &seen->runs[k]);
+        np_host_moves(one, number, seen->flow[k], RUNS, &seen->flows[k], &seen->bound[k]);
         for (size_t r = 0; r < seen->ranges[k] && r < RANGES; r++) {
             np_host_range(one, number, r, &seen->each[k][r].range, seen->each[k][r].word, 32,
                           &seen->each[k][r].length);
@@ -91,6 +103,11 @@ static uint32_t call(int which) {
     static const uint8_t far[16] = {10, 20, 20, 20, 20, 10, 20, 20, 20, 20, 10, 20, 20, 20, 20, 10};
     static const np_limits limits = {64, 8, 1000};
     static const np_options options = {NP_RULES_DOCUMENT, NP_ORDERS_KERNEL, {{0, 0, 0, 0}}};
+    np_arrived arrived;
+    np_bound bound;
+    np_flow flows[RUNS];
+    np_page_run runs[RUNS];
+    size_t count;
     switch (which) {
     case 0: return np_host_open(&host, TEXT("0-3"), frames, 4, far, 16, &limits, &options);
     case 1: return np_host_new_group(&host, 5, 0);
@@ -105,20 +122,35 @@ static uint32_t call(int which) {
     case 10: return np_host_set_weight(&host, 1, 3);
     case 11: return np_host_fork(&host, 1, 2, 8, 7);
     case 12: return np_host_unmap(&host, 2, 0x12000, 0x1000);
-    case 13: return np_host_copy(&host, &copy);
-    case 14: return np_host_compile(&host, 2, &plan);
-    case 15: return np_host_set_group_mems(&host, 6, TEXT("2-3"));
-    case 16: return np_host_attach(&host, 2, 0);
-    case 17: return np_host_exit(&host, 1);
-    case 18: return np_host_unset_group_mems(&host, 6);
+    case 13: return np_host_place(&host, 1, 0x10000, 0x2000, 1);
+    case 14: return np_host_populate(&host, 1, 0x10000, 0x4000, 7, 0, &arrived);
+    case 15: return np_host_mbind_strictly(&host, 1, 0x10000, 0x1000, TEXT("bind:1"));
+    case 16: return np_host_mbind_moving(&host, 1, 0x10000, 0x4000, TEXT("interleave:1-2"), true, 7,
+                                         0, &bound);
+    case 17: return np_host_migrate(&host, 1, TEXT("1"), TEXT("2"), &bound);
+    case 18: return np_host_move(&host, 1, 0x11000, 1);
+    case 19: return np_host_runs(&host, 1, runs, RUNS, &count);
+    case 20: return np_host_moves(&host, 1, flows, RUNS, &count, &bound);
+    case 21: return np_host_moves_of_all(&host, flows, RUNS, &count, &bound);
+    case 22: return np_host_map_huge(&host, 1, 0x200000, 0x400000, 0);
+    case 23: return np_host_populate(&host, 2, 0x10000, 0x2000, 7, 0, &arrived);
+    case 24: return np_host_unmap(&host, 1, 0x12000, 0x1000);
+    case 25: return np_host_copy(&host, &copy);
+    case 26: return np_host_compile(&host, 2, &plan);
+    case 27: return np_host_set_group_mems(&host, 6, TEXT("2-3"));
+    case 28: return np_host_set_room(&host, 0, 5);
+    case 29: return np_host_set_follows(&host, true);
+    case 30: return np_host_attach(&host, 2, 0);
+    case 31: return np_host_exit(&host, 1);
+    case 32: return np_host_unset_group_mems(&host, 6);
     default: return NP_UNKNOWN;
     }
 }
-enum { CALLS = 19 };
+enum { CALLS = 33 };
 
 /* Whether the header says that a call needs no memory. */
 static bool is_free(int which) {
-    return which == 3 || which == 10 || which >= 15;
+    return which == 3 || which == 10 || which >= 27;
 }
 
 /* Makes the calls of a round; each is first refused each of its growths. How many were refused, -1

@@ -1,7 +1,7 @@
 #!/usr/bin/env python3
 """Hosts by the Python module: the lines of docs/SCRIPT.md, and then the module against the program:
-seeded commands of groups and processes, refused ones among them, and questions, each asked of both. The
-program's path is the argument. Not proved."""
+seeded commands of groups and processes and changes of pages, refused ones among them, and questions, each
+asked of both. The program's path is the argument. Not proved."""
 
 import random
 import subprocess
@@ -10,9 +10,9 @@ from functools import partial
 from itertools import zip_longest
 
 import numaplan
-from numaplan import Group, Host, Process, Range
+from numaplan import Arrived, Bound, Group, Host, Moved, PageRun, Process, Range
 
-SEED, ROUNDS, STEPS, NODES = 11, 8, 150, 4
+SEED, ROUNDS, STEPS, NODES = 11, 16, 150, 4
 FLAT = [[10 if a == b else 20 for b in range(NODES)] for a in range(NODES)]
 MODES = ["prefer", "bind", "interleave", "many", "weighted"]
 
@@ -50,6 +50,48 @@ def worked():
         host.exit(1)
         host.exit(2)
         assert host and list(host) == []
+
+
+def paged():
+    """Pages of processes: the lines of docs/SCRIPT.md, and rows by hand."""
+    with Host([0] * 4, FLAT, memory="0-3") as host:
+        host.new_group(5)
+        host.set_group_mems(5, "2-3")
+        for process, group in ((1, 5), (2, 0)):
+            host.new_process(process, group)
+            host.map(process, 0x10000, 0x4000)
+        host.set_task(1, 7, "bind:3")
+        host.set_task(2, 9, "bind:1")
+        assert host.populate(1, 0x10000, 0x1000, 7) == Arrived(1, 0, {3: 1})
+        assert host.populate(2, 0x10000, 0x1000, 9) == Arrived(1, 0, {1: 1})
+        with host.copy() as copy:
+            copy.set_group_mems(5, "0-1")
+            assert copy.moves(1) == Moved(1, 0, {(3, 1): 1}) and copy.moves(2) == Moved(0, 0, {})
+            assert copy.moves() == Moved(1, 0, {(3, 1): 1})
+            assert (copy.node_of(1, 0x10000), copy.node_of(2, 0x10005)) == (1, 1)
+        assert (host.node_of(1, 0x10000), host.node_of(1, 0x11000)) == (3, None)
+        assert host.nodes(1, [17, 16]) == bytes([255, 3]) and host.counts(1) == {3: 1}
+        assert host.runs(1) == [PageRun(16, 1, 3)] and host.runs(2) == [PageRun(16, 1, 1)]
+        # all processes take the same room, and one that ends gives it back
+        host.set_room(3, 1)
+        host.place(2, 0x11000, 0x1000, 3)
+        assert (host.room(3), host.room(0)) == (0, None)
+        assert host.populate(1, 0x10000, 0x4000, 7) == Arrived(0, 3, {})
+        host.exit(2)
+        assert host.populate(1, 0x10000, 0x4000, 7) == Arrived(1, 2, {3: 1})
+        assert host.migrate(1, "3", "2") == Moved(2, 0, {(3, 2): 2})
+        host.move(1, 0x10000, 3)
+        assert host.moves(1) == Moved(1, 0, {(2, 3): 1})
+        try:
+            host.mbind(1, 0x10000, 0x2000, "bind:2", strict=True)
+        except numaplan.Astray as cause:
+            assert cause.errno == 5
+        else:
+            raise AssertionError("a page lay astray")
+        assert host.mbind_moving(1, 0x10000, 0x2000, "bind:2", 7, 0, strict=True) == Bound(1, 0, 0)
+        host.set_follows(False)
+        host.set_group_mems(5, "0")
+        assert host.counts(1) == {2: 2}
 
 
 def policy(dice):
@@ -103,13 +145,85 @@ def of_a_process(dice):
     return f"inherit {task} 1", lambda host: host.inherit(process, task, 1), process
 
 
-def answer_of(host, call):
+def of_pages(dice):
+    """A line about pages, of the host where no process is named, and the same call."""
+    process, task, node = dice.randrange(6), dice.randrange(3), dice.randrange(NODES + 1)
+    start, length, word = 4096 * dice.randrange(24), 4096 * dice.randrange(9), policy(dice)
+    old, new, kind = dice.randrange(NODES), dice.randrange(NODES), dice.randrange(11)
+    if kind == 0:
+        room = dice.randrange(12)
+        return f"room {node} {room}", lambda host: host.set_room(node, room), None
+    if kind == 1:
+        follows = dice.random() < 0.7
+        return (f"memory-migrate {'on' if follows else 'off'}",
+                lambda host: host.set_follows(follows), None)
+    if kind == 2:
+        return f"at {start} {length} {node}", lambda host: host.place(process, start, length, node), process
+    if kind == 3:
+        return f"migrate {old} {new}", lambda host: host.migrate(process, [old], [new]), process
+    if kind == 4:
+        return f"move {start} {node}", lambda host: host.move(process, start, node), process
+    if kind == 5:
+        return (f"mbind {start} {length} {word} strict",
+                lambda host: host.mbind(process, start, length, word, strict=True), process)
+    if kind == 6:
+        strict = dice.random() < 0.5
+        return (f"mbind {start} {length} {word} {'strict ' if strict else ''}move {task} {old}",
+                lambda host: host.mbind_moving(process, start, length, word, task, old, strict=strict),
+                process)
+    if kind == 7 and dice.random() < 0.5:
+        return "moved", lambda host: host.moves(), None
+    if kind == 7:
+        return "moved", lambda host: host.moves(process), process
+    return (f"populate {start} {length} {task} {node}",
+            lambda host: host.populate(process, start, length, task, node), process)
+
+
+def told_of(line, told, version):
+    """What the program says where a call told this."""
+    word, *rest = line.split()
+    if word == "in":
+        word, *rest = rest[1:]
+    if isinstance(told, Arrived):
+        counts = "".join(f" N{node}={pages}" for node, pages in told.nodes.items())
+        return f"v{version}: placed {told.placed} exhausted {told.exhausted}{counts}"
+    if isinstance(told, Bound):
+        return f"ok {version} moved {told.moved} left {told.left}{' EIO' if told.errno else ''}"
+    if word == "moved":
+        flows = "".join(f" N{a}->N{b}={pages}" for (a, b), pages in sorted(told.flows.items()))
+        return f"v{version}: moved {told.moved} left {told.left}{flows}"
+    if word == "migrate":
+        return f"moved {told.moved} left {told.left}"
+    if word == "move":
+        return f"node {rest[1]}"
+    return f"{word} ok" if word in ("at", "room", "memory-migrate") else f"ok {version}"
+
+
+# what the module names otherwise, by the line's word
+OTHERWISE = {
+    "at": {"NoRoom": "NodeFull"},
+    "move": {"NoSuchNode": "NoSuchTarget", "NodesNotAllowed": "TargetNotAllowed",
+             "Unmapped": "PageUnmapped", "NoRoom": "NodeFull"},
+    "populate": {"BadCpu": "NoSuchCpu", "Unmapped": "SpanUnmapped"},
+}
+
+
+def renamed(line, said):
+    """What the program says, by the module's names."""
+    if said is None or not said.startswith("refused "):
+        return said
+    words = line.split()
+    name = said.split()[1]
+    return f"refused {OTHERWISE.get(words[2] if words[0] == 'in' else words[0], {}).get(name, name)}"
+
+
+def answer_of(host, line, call):
     """What the program says of the same command."""
     try:
-        call(host)
+        told = call(host)
     except numaplan.Refused as cause:
         return f"refused {type(cause).__name__}"
-    return f"ok {host.version}"
+    return told_of(line, told, host.version)
 
 
 def place(host, process, task, page, cpu):
@@ -124,7 +238,8 @@ def place(host, process, task, page, cpu):
 
 
 def opening():
-    """Lines that make groups and processes with memory, and the same calls."""
+    """Lines that make groups and processes with memory, of which some was touched, and the same
+    calls; nodes fill soon."""
     for group in (1, 2, 3):
         yield f"cgroup {group} {group - 1}", partial(Host.new_group, group=group, parent=group - 1)
     for process in range(5):
@@ -132,6 +247,10 @@ def opening():
                                                           group=process % 4)
         yield f"in {process} map 0 {24 * 4096} 7", partial(Host.map, process=process, start=0,
                                                            length=24 * 4096, offset=7)
+        yield f"in {process} populate 0 {8 * 4096} 0 0", partial(Host.populate, process=process,
+                                                                 start=0, length=8 * 4096)
+    for node in range(NODES):
+        yield f"room {node} 9", partial(Host.set_room, node=node, pages=9)
 
 
 def play(dice):
@@ -140,15 +259,15 @@ def play(dice):
     with Host([0] * 4, FLAT, memory="0-3", max_ranges=64, max_tasks=2, max_commands=1000) as host:
         for line, call in opening():
             lines.append(line)
-            answers.append(answer_of(host, call))
+            answers.append(answer_of(host, line, call))
         for _ in range(STEPS):
-            if dice.random() < 0.4:
+            if dice.random() < 0.2:
                 line, call = of_the_host(dice)
             else:
-                line, call, process = of_a_process(dice)
-                line = f"in {process} {line}"
+                line, call, process = (of_a_process if dice.random() < 0.25 else of_pages)(dice)
+                line = line if process is None else f"in {process} {line}"
             lines.append(line)
-            answers.append(answer_of(host, call))
+            answers.append(answer_of(host, line, call))
             asked = [dice.randrange(6), dice.randrange(3), dice.randrange(24), dice.randrange(5)]
             lines.append("in {} place {} {} {}".format(*asked[:2], asked[2] * 4096, asked[3]))
             answers.append(place(host, *asked))
@@ -164,15 +283,19 @@ def said(program, lines):
 
 
 worked()
+paged()
 dice = random.Random(SEED)
-refused = placed = 0
+refused = placed = moved = full = 0
 for number in range(ROUNDS):
     lines, answers = play(dice)
     of_program = said(sys.argv[1], lines)
     for line, ours, theirs in zip_longest(lines[3:], answers, of_program):
+        theirs = renamed(line, theirs)
         if ours != theirs:
             sys.exit(f"round {number}: {line}: {ours}, and the program: {theirs}")
     refused += sum(answer.startswith("refused") for answer in answers)
     placed += sum(answer.startswith("v") for answer in answers)
+    moved += sum("moved" in answer and "moved 0" not in answer for answer in answers)
+    full += sum("exhausted" in answer and "exhausted 0" not in answer for answer in answers)
 # (so that the seed asks something)
-assert refused > 200 and placed > 200, (refused, placed)
+assert refused > 200 and placed > 200 and moved > 40 and full > 10, (refused, placed, moved, full)

@@ -1,5 +1,5 @@
 //! Hosts by the Rust wrapper: the lines of docs/SCRIPT.md. Not proved.
-use numaplan::{Group, Host, Options, Process, Refused};
+use numaplan::{Bound, Flow, Group, Host, Options, PageRun, Process, Refused};
 
 const FLAT: [u8; 16] = [10, 20, 20, 20, 20, 10, 20, 20, 20, 20, 10, 20, 20, 20, 20, 10];
 
@@ -35,6 +35,36 @@ fn main() -> Result<(), Refused> {
     host.inherit(1, 8, 7)?;
     assert_eq!(host.task_policy(1, 8)?.map(|it| (it.mode, it.nodes)), Some((2, vec![3])));
     assert_eq!(host.task_policy(1, 9)?, None);
+    // pages: the lines of docs/SCRIPT.md, on a copy
+    let mut there = host.copy()?;
+    assert_eq!(there.populate(1, 0x10000, 0x1000, 7, 0)?.nodes[3], 1);
+    assert_eq!(there.populate(2, 0x10000, 0x1000, 9, 0)?.nodes[1], 1);
+    there.set_group_mems(5, "0-1")?;
+    let told = there.moves(1)?;
+    assert_eq!((told.moved, told.left), (1, 0));
+    assert_eq!(told.flows, [Flow { from: 3, to: 1, pages: 1 }]);
+    assert_eq!(there.moves_of_all()?.flows, told.flows);
+    assert_eq!(there.map_huge(1, 0x1000, 1, 0), Err(Refused::UNALIGNED));
+    assert_eq!((there.node_of(1, 0x10000)?, there.node_of(2, 0x10000)?), (Some(1), Some(1)));
+    assert_eq!((there.counts(1)?[1], host.counts(1)?[1]), (1, 0));
+    there.set_room(0, Some(1))?;
+    there.place(1, 0x20000, 0x1000, 0)?;
+    assert_eq!(there.place(1, 0x21000, 0x1000, 0), Err(Refused::NODE_FULL));
+    assert_eq!((there.room(0)?, there.room(1)?), (Some(0), None));
+    assert_eq!(there.move_page(1, 0x10000, 3), Err(Refused::TARGET_NOT_ALLOWED));
+    assert_eq!(there.mbind_strictly(1, 0x20000, 0x1000, "bind:1"), Err(Refused::ASTRAY));
+    let bound = there.mbind_moving(1, 0x20000, 0x1000, "bind:1", false, 7, 0)?;
+    assert_eq!(bound, Bound { moved: 1, left: 0, errno: 0 });
+    assert_eq!(there.migrate(1, "1", "0")?.left, 1);
+    let run = |first, node| PageRun { first, pages: 1, node };
+    assert_eq!(there.runs(1)?, [run(16, 0), run(32, 1)]);
+    let mut nodes = [0; 3];
+    there.nodes(1, &[32, 17, 16], &mut nodes, 9)?;
+    assert_eq!(nodes, [1, 9, 0]);
+    there.set_follows(false);
+    there.attach(1, 0)?;
+    there.exit(1)?;
+    assert_eq!((there.room(0)?, there.runs(1)), (Some(1), Err(Refused::NO_SUCH_PROCESS)));
     // a plan goes to another thread, and so does a host
     let plan = host.compile(1)?;
     let first = std::thread::spawn(move || plan.choice(8, 16, 0)).join().unwrap()?;
