@@ -129,9 +129,10 @@ uint32_t np_host_exit(np_host *host, uint32_t process);
  * NP_NO_SUCH_NODE, NP_BAD_WEIGHT. Needs no memory. */
 uint32_t np_host_set_weight(np_host *host, uint32_t node, uint32_t weight);
 
-/* ---- commands of one process: as those of a core (np_core_map and so on), with a number of a
- * process. NP_CLOSED; NP_COMMANDS_SPENT; NP_NO_SUCH_PROCESS; then 11 to 25; NP_NO_MEMORY. A faulty
- * policy word is answered first: 60 to 63, 70 to 74 */
+/* ---- commands of one process: as those of a core (np_core_map, np_core_mbind_by and so on), with a
+ * number of a process. NP_CLOSED; NP_COMMANDS_SPENT; NP_NO_SUCH_PROCESS; then 11 to 25; NP_NO_MEMORY.
+ * A faulty policy, by a word or by mode and nodes, is answered first, and flags of
+ * np_host_home_by: as by the calls of a core, 60 to 63, 70 to 74 */
 
 uint32_t np_host_map(np_host *host, uint32_t process, uint64_t start, uint64_t length,
                      uint64_t offset);
@@ -143,11 +144,17 @@ uint32_t np_host_map_huge(np_host *host, uint32_t process, uint64_t start, uint6
 uint32_t np_host_unmap(np_host *host, uint32_t process, uint64_t start, uint64_t length);
 uint32_t np_host_mbind(np_host *host, uint32_t process, uint64_t start, uint64_t length,
                        const uint8_t *policy, size_t policy_length);
+uint32_t np_host_mbind_by(np_host *host, uint32_t process, uint64_t start, uint64_t length,
+                          uint32_t mode, const np_nodes *nodes);
 uint32_t np_host_set_task(np_host *host, uint32_t process, uint32_t task, const uint8_t *policy,
                           size_t policy_length);
+uint32_t np_host_set_task_by(np_host *host, uint32_t process, uint32_t task, uint32_t mode,
+                             const np_nodes *nodes);
 uint32_t np_host_inherit(np_host *host, uint32_t process, uint32_t task, uint32_t from);
 uint32_t np_host_set_home(np_host *host, uint32_t process, uint64_t start, uint64_t length,
                           uint32_t node);
+uint32_t np_host_home_by(np_host *host, uint32_t process, uint64_t start, uint64_t length,
+                         uint64_t node, uint64_t flags);
 
 /* ---- pages: how many more a node takes, and whether they follow. NP_CLOSED first */
 
@@ -178,13 +185,18 @@ uint32_t np_host_migrate(np_host *host, uint32_t process, const uint8_t *from, s
                          const uint8_t *to, size_t to_length, np_bound *bound);
 uint32_t np_host_move(np_host *host, uint32_t process, uint64_t address, uint32_t node);
 
-/* These two are commands of the process, and answered as np_host_mbind, but for what
- * np_pages_mbind_strictly and np_pages_mbind_moving say of pages. */
+/* These are commands of the process, and answered as np_host_mbind and np_host_mbind_by, but for
+ * what np_pages_mbind_strictly and np_pages_mbind_moving say of pages. */
 uint32_t np_host_mbind_strictly(np_host *host, uint32_t process, uint64_t start, uint64_t length,
                                 const uint8_t *policy, size_t policy_length);
+uint32_t np_host_mbind_strictly_by(np_host *host, uint32_t process, uint64_t start,
+                                   uint64_t length, uint32_t mode, const np_nodes *nodes);
 uint32_t np_host_mbind_moving(np_host *host, uint32_t process, uint64_t start, uint64_t length,
                               const uint8_t *policy, size_t policy_length, bool strict,
                               uint32_t task, uint32_t cpu, np_bound *bound);
+uint32_t np_host_mbind_moving_by(np_host *host, uint32_t process, uint64_t start, uint64_t length,
+                                 uint32_t mode, const np_nodes *nodes, bool strict, uint32_t task,
+                                 uint32_t cpu, np_bound *bound);
 
 /* ---- where pages of one process lie: NP_CLOSED, NP_NO_SUCH_PROCESS, and what is named */
 

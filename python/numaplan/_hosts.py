@@ -5,7 +5,7 @@ from __future__ import annotations
 from ctypes import byref, c_size_t, c_uint8, c_uint32, c_uint64
 from typing import TYPE_CHECKING, Iterable, Iterator, NamedTuple, overload
 
-from ._calls import encoded, members
+from ._calls import encoded, members, node_set
 from ._causes import NoRoom, NotPlaced
 from ._cores import Policy, Range, by_node, policy_of
 from ._judged import Nodes, Numbers, list_of, places_for, u8, u32, u64, u64s_to_read
@@ -197,10 +197,22 @@ class Host(Owner):
         self._call(name, u32("process", process), u64("start", start),
              u64("length", length), *encoded("policy", policy))
 
+    def mbind_by(self, process: int, start: int, length: int, mode: int, nodes: Nodes = (), *,
+                 strict: bool = False) -> None:
+        """The same by mbind(2)'s own words, a mode with its flag in it and nodes; as Core.mbind_by."""
+        name = "host_mbind_strictly_by" if strict else "host_mbind_by"
+        self._call(name, u32("process", process), u64("start", start), u64("length", length),
+                   u32("mode", mode), byref(node_set("nodes", nodes)))
+
     def set_task(self, process: int, task: int, policy: str) -> None:
         """Gives a task of a process its policy (set_mempolicy(2)); "default" takes it away."""
         self._call("host_set_task", u32("process", process), u32("task", task),
              *encoded("policy", policy))
+
+    def set_task_by(self, process: int, task: int, mode: int, nodes: Nodes = ()) -> None:
+        """The same by set_mempolicy(2)'s own words, as mbind_by takes them."""
+        self._call("host_set_task_by", u32("process", process), u32("task", task),
+                   u32("mode", mode), byref(node_set("nodes", nodes)))
 
     def inherit(self, process: int, task: int, from_task: int) -> None:
         """Gives a task of a process the policy that another has, or none, as a new thread has its
@@ -213,6 +225,11 @@ class Host(Owner):
         home node (set_mempolicy_home_node(2))."""
         self._call("host_set_home", u32("process", process), u64("start", start),
              u64("length", length), u32("node", node))
+
+    def home_by(self, process: int, start: int, length: int, node: int, flags: int = 0) -> None:
+        """The same by set_mempolicy_home_node(2)'s own words; as Core.home_by."""
+        self._call("host_home_by", u32("process", process), u64("start", start),
+                   u64("length", length), u64("node", node), u64("flags", flags))
 
     # ---- pages: how many more a node takes, and where those of a process lie
 
@@ -271,6 +288,15 @@ class Host(Owner):
         self._call("host_mbind_moving", u32("process", process), u64("start", start),
              u64("length", length), *encoded("policy", policy), strict, u32("task", task),
              u32("cpu", cpu), byref(told))
+        return Bound(told.moved, told.left, told.error)
+
+    def mbind_moving_by(self, process: int, start: int, length: int, mode: int, nodes: Nodes,
+                        task: int, cpu: int, *, strict: bool = False) -> Bound:
+        """The same by mbind(2)'s own words, as mbind_by takes them."""
+        told = ToldBound()
+        self._call("host_mbind_moving_by", u32("process", process), u64("start", start),
+             u64("length", length), u32("mode", mode), byref(node_set("nodes", nodes)), strict,
+             u32("task", task), u32("cpu", cpu), byref(told))
         return Bound(told.moved, told.left, told.error)
 
     def node_of(self, process: int, address: int) -> "int | None":

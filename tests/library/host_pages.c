@@ -25,10 +25,14 @@ static const uint8_t distances[25] = {10, 20, 20, 20, 20, 20, 10, 20, 20, 20, 20
                                       20, 20, 20, 20, 20, 10, 20, 20, 20, 20, 20, 10};
 
 /* Five nodes, of which 4 has no memory, each as far from each other, and so many commands. */
-static void open_host(np_host *host, uint32_t commands) {
+static void open_host_by(np_host *host, uint32_t commands, uint32_t rules) {
     const np_limits limits = {64, 4, commands};
-    const np_options options = {0};
+    const np_options options = {.rules = rules};
     WANT(np_host_open(host, TEXT("0-3"), frames, 5, distances, 25, &limits, &options), NP_OK);
+}
+
+static void open_host(np_host *host, uint32_t commands) {
+    open_host_by(host, commands, NP_RULES_DOCUMENT);
 }
 
 /* A process of a group with four mapped pages from 16 on, whose task 1 takes a node alone. */
@@ -338,7 +342,58 @@ static void refusals(void) {
     WANT(np_host_map_huge(&host, 1, 0, 1, 0), NP_CLOSED);
 }
 
+/* Commands by the system calls' own words do what those by text do; and an mbind of no bytes whose
+ * mode, flag and nodes don't go together is refused by the documents alone, whatever way it is told. */
+static void by_words(uint32_t rules) {
+    static const np_nodes none = {{0, 0, 0, 0}}, one = {{2, 0, 0, 0}}, two = {{6, 0, 0, 0}};
+    const uint32_t bind = 2, local = 4, relative = 0x4000;
+    const uint32_t code = rules == NP_RULES_LINUX ? NP_OK : NP_FLAGS_FORBIDDEN;
+    np_host host = {0};
+    np_policy policy;
+    np_bound bound = {9, 9, 9};
+    WANT(np_host_mbind_by(&host, 1, BASE, 0x1000, bind, &none), NP_NODES_MISSING);
+    WANT(np_host_home_by(&host, 1, BASE, 0x1000, 1, 2), NP_FLAGS_FORBIDDEN);
+    WANT(np_host_mbind_by(&host, 1, BASE, 0x1000, bind, &one), NP_CLOSED);
+    WANT(np_host_mbind(&host, 1, BASE, 0, TEXT("local=relative")), NP_FLAGS_FORBIDDEN);
+    open_host_by(&host, UINT32_MAX, rules);
+    add_process(&host, 1, 0, "bind:0");
+    WANT(np_host_place(&host, 1, BASE, 0x2000, 1), NP_OK);
+    WANT(np_host_place(&host, 1, BASE + 0x2000, 0x1000, 2), NP_OK);
+    WANT(np_host_mbind_by(&host, 7, BASE, 0x4000, bind, &two), NP_NO_SUCH_PROCESS);
+    WANT(np_host_mbind_by(&host, 1, BASE, 0x4000, bind, &two), NP_OK);
+    WANT(np_host_mbind_strictly_by(&host, 1, BASE, 0x3000, bind, &one), NP_ASTRAY);
+    WANT(np_host_mbind_strictly_by(&host, 1, BASE, 0x3000, bind, &two), NP_OK);
+    WANT(np_host_mbind_moving_by(&host, 1, BASE, 0x3000, bind, &none, false, 1, 0, &bound),
+         NP_NODES_MISSING);
+    WANT(bound.moved, 9);
+    WANT(np_host_mbind_moving_by(&host, 1, BASE, 0x3000, bind, &one, false, 1, 0, &bound), NP_OK);
+    WANT(bound.moved, 1);
+    WANT(nodes_of(&host, 1), 71119);
+    WANT(np_host_home_by(&host, 1, BASE, 0x3000, 1, 0), NP_OK);
+    WANT(np_host_set_task_by(&host, 1, 2, bind, &none), NP_NODES_MISSING);
+    WANT(np_host_set_task_by(&host, 1, 2, bind | relative, &one), NP_OK);
+    WANT(np_host_mbind(&host, 1, BASE, 0, TEXT("local=relative")), code);
+    WANT(np_host_mbind_by(&host, 1, BASE, 0, local | relative, &none), code);
+    WANT(np_host_mbind_strictly(&host, 1, BASE, 0, TEXT("local=relative")), code);
+    WANT(np_host_mbind_strictly_by(&host, 1, BASE, 0, local | relative, &none), code);
+    WANT(np_host_mbind_moving(&host, 1, BASE, 0, TEXT("local=relative"), true, 1, 0, &bound), code);
+    WANT(np_host_mbind_moving_by(&host, 1, BASE, 0, local | relative, &none, true, 1, 0, &bound),
+         code);
+    /* a process that isn't there is looked for after that */
+    WANT(np_host_mbind(&host, 7, BASE, 0, TEXT("local=relative")),
+         code ? code : NP_NO_SUCH_PROCESS);
+    WANT(np_host_mbind(&host, 1, BASE, 1, TEXT("local=relative")), NP_FLAGS_FORBIDDEN);
+    WANT(nodes_of(&host, 1), 71119);
+    WANT(np_host_task_policy(&host, 1, 2, &policy), NP_OK);
+    WANT(policy.mode, bind | relative);
+    /* (process, map, task; three of mbind, a home, a task; six of no bytes) */
+    WANT(version_of(&host), rules == NP_RULES_LINUX ? 14 : 8);
+    np_host_close(&host);
+}
+
 int main(void) {
+    by_words(NP_RULES_DOCUMENT);
+    by_words(NP_RULES_LINUX);
     worked();
     rooms();
     follows();

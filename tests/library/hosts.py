@@ -89,9 +89,34 @@ def paged():
         else:
             raise AssertionError("a page lay astray")
         assert host.mbind_moving(1, 0x10000, 0x2000, "bind:2", 7, 0, strict=True) == Bound(1, 0, 0)
+        by_words(host)
         host.set_follows(False)
         host.set_group_mems(5, "0")
         assert host.counts(1) == {2: 2}
+
+
+def refused(cause, call, *asked, **said):
+    """Whether a call is refused for this cause."""
+    try:
+        call(*asked, **said)
+    except cause:
+        return True
+    return False
+
+
+def by_words(host):
+    """By the system calls' own words, as by text: 2 is MPOL_BIND, 1 is MPOL_PREFERRED. The two pages
+    lie on node 2."""
+    with host.copy() as copy:
+        copy.mbind_by(1, 0x10000, 0x2000, 2, "2-3")
+        assert refused(numaplan.Astray, copy.mbind_by, 1, 0x10000, 0x2000, 2, [3], strict=True)
+        assert refused(numaplan.NodesMissing, copy.mbind_by, 1, 0x10000, 0x2000, 2)
+        copy.mbind_by(1, 0x10000, 0x2000, 2, [2], strict=True)
+        assert copy.mbind_moving_by(1, 0x10000, 0x2000, 2, [3], 7, 0) == Bound(2, 0, 0)
+        copy.home_by(1, 0x10000, 0x2000, 3)
+        assert refused(numaplan.FlagsForbidden, copy.home_by, 1, 0x10000, 0x2000, 3, 1)
+        copy.set_task_by(1, 8, 1, [2])
+        assert copy.task_policy(1, 8).nodes == [2] and copy.counts(1) == {3: 2}
 
 
 def policy(dice):

@@ -61,10 +61,21 @@ fn main() -> Result<(), Refused> {
     let mut nodes = [0; 3];
     there.nodes(1, &[32, 17, 16], &mut nodes, 9)?;
     assert_eq!(nodes, [1, 9, 0]);
+    // by the system calls' own words: 2 is MPOL_BIND
+    assert_eq!(there.mbind_by(1, 0x20000, 0x1000, 2, &[]), Err(Refused::NODES_MISSING));
+    there.mbind_by(1, 0x20000, 0x1000, 2, &[0])?;
+    assert_eq!(there.mbind_strictly_by(1, 0x20000, 0x1000, 2, &[0]), Err(Refused::ASTRAY));
+    there.set_room(0, Some(1))?;
+    let bound = there.mbind_moving_by(1, 0x20000, 0x1000, 2, &[0], true, 7, 0)?;
+    assert_eq!(bound, Bound { moved: 1, left: 0, errno: 0 });
+    there.home_by(1, 0x20000, 0x1000, 0, 0)?;
+    assert_eq!(there.home_by(1, 0x20000, 0x1000, 0, 1), Err(Refused::FLAGS_FORBIDDEN));
+    there.set_task_by(1, 9, 1, &[1])?;
+    assert_eq!(there.task_policy(1, 9)?.map(|it| (it.mode, it.nodes)), Some((1, vec![1])));
     there.set_follows(false);
     there.attach(1, 0)?;
     there.exit(1)?;
-    assert_eq!((there.room(0)?, there.runs(1)), (Some(1), Err(Refused::NO_SUCH_PROCESS)));
+    assert_eq!((there.room(0)?, there.runs(1)), (Some(2), Err(Refused::NO_SUCH_PROCESS)));
     // a plan goes to another thread, and so does a host
     let plan = host.compile(1)?;
     let first = std::thread::spawn(move || plan.choice(8, 16, 0)).join().unwrap()?;

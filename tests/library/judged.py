@@ -64,6 +64,16 @@ CALLS = [
     (lambda start=0, length=0, mode=0, task=0, cpu=0:
      pages.mbind_moving_by(start, length, mode, (), task, cpu),
      {"start": 64, "length": 64, "mode": 32, "task": 32, "cpu": 32}),
+    (lambda process=0, start=0, length=0, mode=0: host.mbind_by(process, start, length, mode),
+     {"process": 32, "start": 64, "length": 64, "mode": 32}),
+    (lambda process=0, task=0, mode=0: host.set_task_by(process, task, mode),
+     {"process": 32, "task": 32, "mode": 32}),
+    (lambda process=0, start=0, length=0, node=0, flags=0:
+     host.home_by(process, start, length, node, flags),
+     {"process": 32, "start": 64, "length": 64, "node": 64, "flags": 64}),
+    (lambda process=0, start=0, length=0, mode=0, task=0, cpu=0:
+     host.mbind_moving_by(process, start, length, mode, (), task, cpu),
+     {"process": 32, "start": 64, "length": 64, "mode": 32, "task": 32, "cpu": 32}),
     (lambda node=0, weight=1: core.set_weight(node, weight), {"node": 32, "weight": 32}),
     (lambda start=0, length=0, task=0, cpu=0: pages.populate(start, length, task, cpu),
      {"start": 64, "length": 64, "task": 32, "cpu": 32}),

@@ -1,6 +1,7 @@
 -- The policies of calls of mbind.
 use Rattle.std.specs.Prelude.{ℕ, ◌==◌, ◌&&◌, min, if◌then◌else◌, Option, Some, None, Result, Ok, Err}
 use Rattle.numa_core.specs.Standing.{CoreState}
+use Rattle.numa_host_script.specs.declared.running.RunningHost.{RunningHost}
 use Rattle.numa_machine.specs.Rules.{is_linux}
 use Rattle.numa_machine.specs.declared.rules.Rules.{Rules}
 use Rattle.numa_machine.specs.declared.rules.Rules.TheVariants.{Document}
@@ -37,3 +38,7 @@ rules_in (Some core) = core.space.machine.rules
 abbrev pub page_rules_in : Option PagesState → Rules
 page_rules_in None = Document
 page_rules_in (Some pages) = pages.core.space.machine.rules
+
+abbrev pub host_rules_in : Option RunningHost → Rules
+host_rules_in None = Document
+host_rules_in (Some running) = running.host.blank.machine.rules

@@ -1,9 +1,9 @@
 //! The policies of calls of mbind.
 ghost use Rattle.std.specs.Prelude.{◌≡◌};
 ghost use Rattle.numa_script.specs.Policies.{spec_or_fault};
-ghost use Rattle.numaplan_c.specs.Bound.{bound_spec, default_spec, home_of, page_rules_in};
-ghost use Rattle.numaplan_c.specs.Bound.{rules_in};
-ghost use Rattle.numaplan_handles.specs.Handles.{core_in, pages_in};
+ghost use Rattle.numaplan_c.specs.Bound.{bound_spec, default_spec, home_of, host_rules_in};
+ghost use Rattle.numaplan_c.specs.Bound.{page_rules_in, rules_in};
+ghost use Rattle.numaplan_handles.specs.Handles.{core_in, host_in, pages_in};
 
 use numa_machine::Rules;
 use numa_mode::{PolicySpec, SpecError};
@@ -11,7 +11,7 @@ use numa_requests::Command;
 use numa_script::WordError;
 use numa_script::commands::empty_bind;
 use numa_script::policy::waits_for_pages;
-use numaplan_handles::{CoreHandle, PagesHandle};
+use numaplan_handles::{CoreHandle, HostHandle, PagesHandle};
 use std::alloc::Global;
 
 /// No policy.
@@ -90,6 +90,22 @@ pub(crate) fn spec_of_pages(
     ensures spec { result ≡ bound_spec (page_rules_in (pages_in pages.old)) length policy }
 {
     match pages.rules(alloc) {
+        None => bound_spec(Rules::Document, length, policy),
+        Some(rules) => bound_spec(rules, length, policy),
+    }
+}
+
+/// The policy that an mbind of a process of a host sets.
+pub(crate) fn spec_in_host(
+    alloc: Global,
+    host: &mut HostHandle,
+    length: u64,
+    policy: Result<PolicySpec, WordError>,
+) -> Result<PolicySpec, WordError>
+    ensures same { host_in host.new ≡ host_in host.old }
+    ensures spec { result ≡ bound_spec (host_rules_in (host_in host.old)) length policy }
+{
+    match host.rules(alloc) {
         None => bound_spec(Rules::Document, length, policy),
         Some(rules) => bound_spec(rules, length, policy),
     }

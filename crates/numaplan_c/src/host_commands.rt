@@ -3,17 +3,23 @@ ghost use Rattle.std.specs.Prelude.{None, Some};
 ghost use Rattle.numa_requests.specs.declared.host_command.HostCommand.{HostCommand};
 ghost use Rattle.numa_machine.specs.declared.page_size.PageSize.{PageSize};
 ghost use Rattle.numa_mask.specs.Lists.{list_of};
-ghost use Rattle.numa_script.specs.Policies.{policy_of};
+ghost use Rattle.numa_mask.specs.Words.{number_of};
+ghost use Rattle.numa_mode.specs.Policy.{raw_specification};
+ghost use Rattle.numa_script.specs.Policies.{policy_of, spec_or_fault};
 ghost use Rattle.numa_requests.specs.declared.command.Command.{Command};
-ghost use Rattle.numaplan_c.specs.Codes.{list_code, word_code};
+ghost use Rattle.numaplan_c.specs.Bound.{bound_spec, home_of, host_rules_in};
+ghost use Rattle.numaplan_c.specs.Codes.{list_code, spec_code, word_code};
 ghost use Rattle.numaplan_c.specs.Hosts.{HostAnswers, HostAnswersRead};
 ghost use Rattle.numaplan_handles.specs.Handles.{host_in};
 
-use crate::codes::{list_code, word_code};
+use crate::binding::{home_of, spec_in_host, worded};
+use crate::codes::{list_code, spec_code, word_code};
 use crate::host_codes::reply_code;
 use crate::keeping::{if_open, or_return};
+use crate::nodes::NpNodes;
 use numa_machine::PageSize;
-use numa_mask::read_list;
+use numa_mask::{NodeMask, read_list};
+use numa_mode::PolicySpec;
 use numa_requests::{Command, HostCommand};
 use numa_script::policy::read_policy;
 use numaplan_handles::HostHandle;
@@ -211,11 +217,36 @@ pub extern "C" fn np_host_mbind(
     length: u64,
     policy: &[u8],
 ) -> u32
-    ensures { HostAnswersRead (policy_of policy.now) word_code
+    ensures { HostAnswersRead (bound_spec (host_rules_in (host_in host.old)) length
+        (policy_of policy.now)) word_code
         (λ spec. HostCommand.In process (Command.Mbind start length spec)) (host_in host.old)
         result (host_in host.new) }
 {
-    let spec = or_return!(read_policy(policy), word_code);
+    let spec = or_return!(
+        spec_in_host(alloc, host, length, read_policy(policy)),
+        word_code
+    );
+    tell!(alloc, host, process => Mbind { start, length, spec })
+}
+
+/// The same by a mode word and a set of nodes.
+#[unsafe(no_mangle)]
+pub extern "C" fn np_host_mbind_by(
+    alloc: Global,
+    host: &mut HostHandle,
+    process: u32,
+    start: u64,
+    length: u64,
+    mode: u32,
+    nodes: &NpNodes,
+) -> u32
+    ensures { HostAnswersRead (bound_spec (host_rules_in (host_in host.old)) length
+        (spec_or_fault (raw_specification mode (number_of nodes.now.words)))) word_code
+        (λ spec. HostCommand.In process (Command.Mbind start length spec)) (host_in host.old)
+        result (host_in host.new) }
+{
+    let said = worded(PolicySpec::from_raw(mode, NodeMask::from_words(nodes.words)));
+    let spec = or_return!(spec_in_host(alloc, host, length, said), word_code);
     tell!(alloc, host, process => Mbind { start, length, spec })
 }
 
@@ -233,6 +264,25 @@ pub extern "C" fn np_host_set_task(
         (host_in host.new) }
 {
     let spec = or_return!(read_policy(policy), word_code);
+    tell!(alloc, host, process => SetTask { task, spec })
+}
+
+/// The same by a mode word and a set of nodes.
+#[unsafe(no_mangle)]
+pub extern "C" fn np_host_set_task_by(
+    alloc: Global,
+    host: &mut HostHandle,
+    process: u32,
+    task: u32,
+    mode: u32,
+    nodes: &NpNodes,
+) -> u32
+    ensures { HostAnswersRead (raw_specification mode (number_of nodes.now.words)) spec_code
+        (λ spec. HostCommand.In process (Command.SetTask task spec)) (host_in host.old) result
+        (host_in host.new) }
+{
+    let asked = NodeMask::from_words(nodes.words);
+    let spec = or_return!(PolicySpec::from_raw(mode, asked), spec_code);
     tell!(alloc, host, process => SetTask { task, spec })
 }
 
@@ -264,5 +314,24 @@ pub extern "C" fn np_host_set_home(
     ensures { HostAnswers (host_in host.old)
         (HostCommand.In process (Command.SetHome start length node)) result (host_in host.new) }
 {
+    tell!(alloc, host, process => SetHome { start, length, node })
+}
+
+/// The same by set_mempolicy_home_node(2)'s own words.
+#[unsafe(no_mangle)]
+pub extern "C" fn np_host_home_by(
+    alloc: Global,
+    host: &mut HostHandle,
+    process: u32,
+    start: u64,
+    length: u64,
+    node: u64,
+    flags: u64,
+) -> u32
+    ensures { HostAnswersRead (home_of node flags) spec_code
+        (λ home. HostCommand.In process (Command.SetHome start length home)) (host_in host.old)
+        result (host_in host.new) }
+{
+    let node = or_return!(home_of(node, flags), spec_code);
     tell!(alloc, host, process => SetHome { start, length, node })
 }

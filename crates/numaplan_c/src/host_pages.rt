@@ -1,9 +1,12 @@
 //! Stating where pages of a host's processes lie, touching them first, and moving them.
 ghost use Rattle.std.specs.Prelude.{◌≡◌, MatchResult};
 ghost use Rattle.numa_mask.specs.Lists.{list_of};
-ghost use Rattle.numa_script.specs.Policies.{policy_of};
+ghost use Rattle.numa_mask.specs.Words.{number_of};
+ghost use Rattle.numa_mode.specs.Policy.{raw_specification};
+ghost use Rattle.numa_script.specs.Policies.{policy_of, spec_or_fault};
 ghost use Rattle.numa_script.specs.declared.page_line.BoundPages.{BoundPages};
 ghost use Rattle.numa_script.specs.declared.page_line.PageLine.{PageLine};
+ghost use Rattle.numaplan_c.specs.Bound.{bound_spec, host_rules_in};
 ghost use Rattle.numaplan_c.specs.Codes.{list_code, word_code};
 ghost use Rattle.numaplan_c.specs.Hosted.{HostBind, HostDoes, HostMigrate, HostTouch, PagesChange};
 ghost use Rattle.numaplan_c.specs.Hosted.{TellsSent, TellsShift, late_number};
@@ -12,12 +15,15 @@ ghost use Rattle.numaplan_c.specs.Placed.{done_code, placed_code};
 ghost use Rattle.numaplan_handles.specs.Handles.{host_in};
 ghost use Rattle.numaplan_handles.specs.Hosted.{Binds, LetsFollow, LimitsAll};
 
+use crate::binding::{spec_in_host, worded};
 use crate::codes::{list_code, word_code};
 use crate::host_codes::{done_code, reply_code, told_code};
 use crate::keeping::{if_open, or_return};
+use crate::nodes::NpNodes;
 use crate::placed_codes::set_code;
 use crate::placed_moves::{NpArrived, NpBound, tell_arrived};
 use numa_mask::{NodeMask, read_list};
+use numa_mode::PolicySpec;
 use numa_page_state::Rebinding;
 use numa_script::policy::read_policy;
 use numa_script::{BoundPages, MoveWords, Reply};
@@ -167,11 +173,41 @@ pub extern "C" fn np_host_mbind_strictly(
     length: u64,
     policy: &[u8],
 ) -> u32
-    ensures { MatchResult (policy_of policy.now) (λ spec. HostDoes reply_code
+    ensures { MatchResult (bound_spec (host_rules_in (host_in host.old)) length
+        (policy_of policy.now)) (λ spec. HostDoes reply_code
         (Binds process start length spec BoundPages.Strict) host.old result host.new)
         (λ fault. (result ≡ word_code fault) × (host_in host.new ≡ host_in host.old)) }
 {
-    let spec = or_return!(read_policy(policy), word_code);
+    let spec = or_return!(
+        spec_in_host(alloc, host, length, read_policy(policy)),
+        word_code
+    );
+    let said = Rebinding {
+        start,
+        length,
+        spec,
+    };
+    bind_strictly(alloc, host, process, said)
+}
+
+/// The same by a mode word and a set of nodes.
+#[unsafe(no_mangle)]
+pub extern "C" fn np_host_mbind_strictly_by(
+    alloc: Global,
+    host: &mut HostHandle,
+    process: u32,
+    start: u64,
+    length: u64,
+    mode: u32,
+    nodes: &NpNodes,
+) -> u32
+    ensures { MatchResult (bound_spec (host_rules_in (host_in host.old)) length
+        (spec_or_fault (raw_specification mode (number_of nodes.now.words)))) (λ spec. HostDoes
+        reply_code (Binds process start length spec BoundPages.Strict) host.old result host.new)
+        (λ fault. (result ≡ word_code fault) × (host_in host.new ≡ host_in host.old)) }
+{
+    let asked = worded(PolicySpec::from_raw(mode, NodeMask::from_words(nodes.words)));
+    let spec = or_return!(spec_in_host(alloc, host, length, asked), word_code);
     let said = Rebinding {
         start,
         length,
@@ -243,25 +279,56 @@ pub extern "C" fn np_host_mbind_moving(
     cpu: u32,
     bound: &mut NpBound,
 ) -> u32
-    ensures { MatchResult (policy_of policy.now) (λ spec. HostBind
+    ensures { MatchResult (bound_spec (host_rules_in (host_in host.old)) length
+        (policy_of policy.now)) (λ spec. HostBind (Binds process start length spec
+        (BoundPages.Move (record { strict = strict; task = task; cpu = cpu }))) host.old result
+        host.new bound.old bound.new)
+        (λ fault. (result ≡ word_code fault) × (host_in host.new ≡ host_in host.old)
+        × (bound.new ≡ bound.old)) }
+{
+    let spec = or_return!(
+        spec_in_host(alloc, host, length, read_policy(policy)),
+        word_code
+    );
+    let said = Rebinding {
+        start,
+        length,
+        spec,
+    };
+    let words = MoveWords { strict, task, cpu };
+    rebind(alloc, host, process, said, words, bound)
+}
+
+/// The same by a mode word and a set of nodes.
+#[unsafe(no_mangle)]
+pub extern "C" fn np_host_mbind_moving_by(
+    alloc: Global,
+    host: &mut HostHandle,
+    process: u32,
+    start: u64,
+    length: u64,
+    mode: u32,
+    nodes: &NpNodes,
+    strict: bool,
+    task: u32,
+    cpu: u32,
+    bound: &mut NpBound,
+) -> u32
+    ensures { MatchResult (bound_spec (host_rules_in (host_in host.old)) length
+        (spec_or_fault (raw_specification mode (number_of nodes.now.words)))) (λ spec. HostBind
         (Binds process start length spec
         (BoundPages.Move (record { strict = strict; task = task; cpu = cpu }))) host.old result
         host.new bound.old bound.new)
         (λ fault. (result ≡ word_code fault) × (host_in host.new ≡ host_in host.old)
         × (bound.new ≡ bound.old)) }
 {
-    let spec = or_return!(read_policy(policy), word_code);
+    let asked = worded(PolicySpec::from_raw(mode, NodeMask::from_words(nodes.words)));
+    let spec = or_return!(spec_in_host(alloc, host, length, asked), word_code);
     let said = Rebinding {
         start,
         length,
         spec,
     };
-    rebind(
-        alloc,
-        host,
-        process,
-        said,
-        MoveWords { strict, task, cpu },
-        bound,
-    )
+    let words = MoveWords { strict, task, cpu };
+    rebind(alloc, host, process, said, words, bound)
 }

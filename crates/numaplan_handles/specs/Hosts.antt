@@ -9,6 +9,7 @@ use Rattle.numa_requests.specs.declared.host_command.HostCommand.{HostCommand}
 use Rattle.numa_host.specs.declared.group.ControlGroup.{ControlGroup}
 use Rattle.numa_machine.specs.Machine.{Hardware}
 use Rattle.numa_machine.specs.declared.no_memory.NoMemory.{NoMemory}
+use Rattle.numa_machine.specs.declared.rules.Rules.{Rules}
 use Rattle.numa_maps.specs.Listing.{AreRangesOf}
 use Rattle.numa_mode.specs.Policy.{PolicyRecord}
 use Rattle.numa_plan.specs.Meaning.{PlanData}
@@ -57,6 +58,11 @@ OfHost kept told =
 -- this many commands are accepted
 abbrev pub HasHostVersion : ℕ → HostState → List HostCommand → Type 0
 HasHostVersion version host history = (version ≡ host.version) × (version ≡ length history)
+
+-- these are the rules by which the host goes
+abbrev pub HasHostRules : Option RunningHost → Rules → Type 0
+HasHostRules kept rules =
+    (running : RunningHost) → kept ≡ Some running → rules ≡ running.host.blank.machine.rules
 
 -- there are this many groups below the root
 abbrev pub HasGroups : ℕ → HostState → List HostCommand → Type 0

@@ -11,7 +11,8 @@ ghost use Rattle.numaplan_handles.specs.Calls.{Asks};
 ghost use Rattle.numaplan_handles.specs.Handles.{host_in};
 ghost use Rattle.numaplan_handles.specs.Hosts.{ChoosesBy, CountsRanges, FindsPolicy, FindsRange};
 ghost use Rattle.numaplan_handles.specs.Hosts.{HasGroupAt, HasGroupNodes, HasGroups, HasProcessAt};
-ghost use Rattle.numaplan_handles.specs.Hosts.{HasProcesses, IsPlanned, OfHost, OfProcess};
+ghost use Rattle.numaplan_handles.specs.Hosts.{HasHostRules, HasProcesses, IsPlanned, OfHost};
+ghost use Rattle.numaplan_handles.specs.Hosts.{OfProcess};
 
 use crate::core_questions::range_of;
 use crate::handle::of_kept;
@@ -20,7 +21,7 @@ use crate::plan_view::ChoiceRefusal;
 use crate::room::copy_items;
 use numa_compile::compile;
 use numa_host::{ControlGroup, Host};
-use numa_machine::NoMemory;
+use numa_machine::{NoMemory, Rules};
 use numa_mask::NodeMask;
 use numa_mode::Record;
 use numa_plan::Plan;
@@ -122,6 +123,14 @@ fn choose_in(
 }
 
 impl HostHandle {
+    /// The rules by which the host goes. `None` if the handle is closed.
+    pub fn rules(&mut self, alloc: Global) -> Option<Rules>
+        ensures { Asks (HasHostRules (host_in self.old)) (host_in self.old) result
+            (host_in self.new) }
+    {
+        of_kept!(self.handle, alloc, kept => running_kept(&kept).host.machine().rules())
+    }
+
     /// The number of groups below the root. `None` if the handle is closed.
     pub fn groups(&mut self, alloc: Global) -> Option<usize>
         ensures { Asks (λ count. OfHost (host_in self.old) (HasGroups count)) (host_in self.old)

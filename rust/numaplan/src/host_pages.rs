@@ -3,6 +3,7 @@
 use crate::calls::done;
 use crate::pages::ENDLESS;
 use crate::raw::{self, Counts, ToldArrived, ToldBound, ToldFlow};
+use crate::values::set_of;
 use crate::{Arrived, Bound, Flow, Host, Moved, PageRun, Refused};
 
 impl Host {
@@ -119,6 +120,24 @@ impl Host {
         })
     }
 
+    /// `mbind_strictly` by mbind(2)'s own words, as [`Core::mbind_by`](crate::Core::mbind_by) takes them.
+    ///
+    /// # Errors
+    /// `ASTRAY`, else as [`Host::mbind_by`].
+    pub fn mbind_strictly_by(
+        &mut self,
+        process: u32,
+        start: u64,
+        length: u64,
+        mode: u32,
+        nodes: &[u8],
+    ) -> Result<(), Refused> {
+        let nodes = set_of(nodes);
+        done(unsafe {
+            raw::np_host_mbind_strictly_by(&mut self.0, process, start, length, mode, &nodes)
+        })
+    }
+
     /// Gives the pages of a process's span a policy as [`Host::mbind`], and moves those that lie on nodes
     /// that aren't in the policy's list as it is written (MPOL_MF_MOVE); as
     /// [`Pages::mbind_moving`](crate::Pages::mbind_moving).
@@ -145,6 +164,40 @@ impl Host {
                 length,
                 text.as_ptr(),
                 text.len(),
+                strict,
+                task,
+                cpu,
+                &mut told,
+            )
+        })?;
+        Ok(Bound { moved: told.moved, left: told.left, errno: told.error })
+    }
+
+    /// `mbind_moving` by mbind(2)'s own words, as [`Core::mbind_by`](crate::Core::mbind_by) takes them.
+    ///
+    /// # Errors
+    /// As [`Host::mbind_by`], and `TOO_MANY_RUNS`.
+    #[allow(clippy::too_many_arguments)]
+    pub fn mbind_moving_by(
+        &mut self,
+        process: u32,
+        start: u64,
+        length: u64,
+        mode: u32,
+        nodes: &[u8],
+        strict: bool,
+        task: u32,
+        cpu: u32,
+    ) -> Result<Bound, Refused> {
+        let (mut told, nodes) = (ToldBound::default(), set_of(nodes));
+        done(unsafe {
+            raw::np_host_mbind_moving_by(
+                &mut self.0,
+                process,
+                start,
+                length,
+                mode,
+                &nodes,
                 strict,
                 task,
                 cpu,

@@ -3,7 +3,7 @@
 use crate::calls::{done, text_of};
 use crate::cores::untold;
 use crate::raw::{self, Handle, Limits, Nodes, Process, Span, ToldGroup};
-use crate::values::members;
+use crate::values::{members, set_of};
 use crate::{Options, Plan, Policy, Range, Refused};
 
 /// A control group below the root: its number, its parent's (the root is 0), and the nodes of a list of
@@ -291,6 +291,22 @@ impl Host {
         })
     }
 
+    /// `mbind` by mbind(2)'s own words, as [`Core::mbind_by`](crate::Core::mbind_by) takes them.
+    ///
+    /// # Errors
+    /// As [`Core::mbind_by`](crate::Core::mbind_by), and `NO_SUCH_PROCESS`.
+    pub fn mbind_by(
+        &mut self,
+        process: u32,
+        start: u64,
+        length: u64,
+        mode: u32,
+        nodes: &[u8],
+    ) -> Result<(), Refused> {
+        let nodes = set_of(nodes);
+        done(unsafe { raw::np_host_mbind_by(&mut self.0, process, start, length, mode, &nodes) })
+    }
+
     /// Gives a task of a process its policy.
     ///
     /// # Errors
@@ -300,6 +316,21 @@ impl Host {
         done(unsafe {
             raw::np_host_set_task(&mut self.0, process, task, text.as_ptr(), text.len())
         })
+    }
+
+    /// The same by set_mempolicy(2)'s own words, as [`Core::mbind_by`](crate::Core::mbind_by) takes them.
+    ///
+    /// # Errors
+    /// As [`Core::set_task_by`](crate::Core::set_task_by), and `NO_SUCH_PROCESS`.
+    pub fn set_task_by(
+        &mut self,
+        process: u32,
+        task: u32,
+        mode: u32,
+        nodes: &[u8],
+    ) -> Result<(), Refused> {
+        let nodes = set_of(nodes);
+        done(unsafe { raw::np_host_set_task_by(&mut self.0, process, task, mode, &nodes) })
     }
 
     /// Gives a task of a process the policy that another has, or none, as a new thread has its maker's.
@@ -322,6 +353,21 @@ impl Host {
         node: u32,
     ) -> Result<(), Refused> {
         done(unsafe { raw::np_host_set_home(&mut self.0, process, start, length, node) })
+    }
+
+    /// The same by set_mempolicy_home_node(2)'s own words.
+    ///
+    /// # Errors
+    /// As [`Core::home_by`](crate::Core::home_by), and `NO_SUCH_PROCESS`.
+    pub fn home_by(
+        &mut self,
+        process: u32,
+        start: u64,
+        length: u64,
+        node: u64,
+        flags: u64,
+    ) -> Result<(), Refused> {
+        done(unsafe { raw::np_host_home_by(&mut self.0, process, start, length, node, flags) })
     }
 
     /// The nodes on which memory for a page of a process is looked for, the first first.

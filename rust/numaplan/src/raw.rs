@@ -323,9 +323,12 @@ extern "C" {
     pub(crate) fn np_host_map_huge(host: &mut Handle, process: u32, start: u64, length: u64, offset: u64) -> u32;
     pub(crate) fn np_host_unmap(host: &mut Handle, process: u32, start: u64, length: u64) -> u32;
     pub(crate) fn np_host_mbind(host: &mut Handle, process: u32, start: u64, length: u64, policy: *const u8, policy_length: usize) -> u32;
+    pub(crate) fn np_host_mbind_by(host: &mut Handle, process: u32, start: u64, length: u64, mode: u32, nodes: &Nodes) -> u32;
     pub(crate) fn np_host_set_task(host: &mut Handle, process: u32, task: u32, policy: *const u8, policy_length: usize) -> u32;
+    pub(crate) fn np_host_set_task_by(host: &mut Handle, process: u32, task: u32, mode: u32, nodes: &Nodes) -> u32;
     pub(crate) fn np_host_inherit(host: &mut Handle, process: u32, task: u32, from: u32) -> u32;
     pub(crate) fn np_host_set_home(host: &mut Handle, process: u32, start: u64, length: u64, node: u32) -> u32;
+    pub(crate) fn np_host_home_by(host: &mut Handle, process: u32, start: u64, length: u64, node: u64, flags: u64) -> u32;
     pub(crate) fn np_host_set_room(host: &mut Handle, node: u32, room: u64) -> u32;
     pub(crate) fn np_host_room(host: &mut Handle, node: u32, room: &mut u64) -> u32;
     pub(crate) fn np_host_set_follows(host: &mut Handle, follows: bool) -> u32;
@@ -334,6 +337,8 @@ extern "C" {
     pub(crate) fn np_host_migrate(host: &mut Handle, process: u32, from: *const u8, from_length: usize, to: *const u8, to_length: usize, bound: &mut ToldBound) -> u32;
     pub(crate) fn np_host_move(host: &mut Handle, process: u32, address: u64, node: u32) -> u32;
     pub(crate) fn np_host_mbind_strictly(host: &mut Handle, process: u32, start: u64, length: u64, policy: *const u8, policy_length: usize) -> u32;
+    pub(crate) fn np_host_mbind_strictly_by(host: &mut Handle, process: u32, start: u64, length: u64, mode: u32, nodes: &Nodes) -> u32;
+    pub(crate) fn np_host_mbind_moving_by(host: &mut Handle, process: u32, start: u64, length: u64, mode: u32, nodes: &Nodes, strict: bool, task: u32, cpu: u32, bound: &mut ToldBound) -> u32;
     pub(crate) fn np_host_mbind_moving(host: &mut Handle, process: u32, start: u64, length: u64, policy: *const u8, policy_length: usize, strict: bool, task: u32, cpu: u32, bound: &mut ToldBound) -> u32;
     pub(crate) fn np_host_node(host: &mut Handle, process: u32, address: u64, node: &mut u32) -> u32;
     pub(crate) fn np_host_nodes(host: &mut Handle, process: u32, numbers: *const u64, count: usize, nodes: *mut u8, places: usize, nowhere: u8) -> u32;
