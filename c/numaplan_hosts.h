@@ -78,9 +78,9 @@ uint32_t np_host_open(np_host *host, const uint8_t *memory, size_t memory_length
 /* Frees the host, if there is one. */
 void np_host_close(np_host *host);
 
-/* Keeps a copy of the host in `copy`, with its processes' pages, to be asked "what if": what is then
- * done to one of the two doesn't change the other. NP_OPEN where `copy` keeps a host, NP_CLOSED
- * where `host` keeps none, NP_NO_MEMORY. */
+/* Keeps a copy of the host in `copy`, with its processes' pages, to be asked "what if": what is
+ * then done to one of the two doesn't change the other. NP_OPEN where `copy` keeps a host,
+ * NP_CLOSED where `host` keeps none, NP_NO_MEMORY. */
 uint32_t np_host_copy(np_host *host, np_host *copy);
 
 /* How many commands are accepted. NP_CLOSED. */
@@ -117,8 +117,8 @@ uint32_t np_host_new_process(np_host *host, uint32_t process, uint32_t group);
 uint32_t np_host_fork(np_host *host, uint32_t parent, uint32_t child, uint32_t from,
                       uint32_t task);
 
-/* Moves a process to another group (cgroup.procs), where it is the last that came; its pages follow.
- * NP_NO_SUCH_PROCESS, NP_NO_SUCH_GROUP. Needs no memory. */
+/* Moves a process to another group (cgroup.procs), where it is the last that came; its pages
+ * follow. NP_NO_SUCH_PROCESS, NP_NO_SUCH_GROUP. Needs no memory. */
 uint32_t np_host_attach(np_host *host, uint32_t process, uint32_t group);
 
 /* Ends a process; its number is free, and its pages give their room back. NP_NO_SUCH_PROCESS. Needs
@@ -129,10 +129,10 @@ uint32_t np_host_exit(np_host *host, uint32_t process);
  * NP_NO_SUCH_NODE, NP_BAD_WEIGHT. Needs no memory. */
 uint32_t np_host_set_weight(np_host *host, uint32_t node, uint32_t weight);
 
-/* ---- commands of one process: as those of a core (np_core_map, np_core_mbind_by and so on), with a
- * number of a process. NP_CLOSED; NP_COMMANDS_SPENT; NP_NO_SUCH_PROCESS; then 11 to 25; NP_NO_MEMORY.
- * A faulty policy, by a word or by mode and nodes, is answered first, and flags of
- * np_host_home_by: as by the calls of a core, 60 to 63, 70 to 74 */
+/* ---- commands of one process: as those of a core (np_core_map, np_core_mbind_by and so on), with
+ * a number of a process. NP_CLOSED; NP_COMMANDS_SPENT; NP_NO_SUCH_PROCESS; then 11 to 25;
+ * NP_NO_MEMORY. A faulty policy (by its word, or by mode and nodes) and the flags of
+ * np_host_home_by are answered first, as by the calls of a core: 60 to 63, 70 to 74 */
 
 uint32_t np_host_map(np_host *host, uint32_t process, uint64_t start, uint64_t length,
                      uint64_t offset);
@@ -170,8 +170,8 @@ uint32_t np_host_room(np_host *host, uint32_t node, uint64_t *room);
 uint32_t np_host_set_follows(np_host *host, bool follows);
 
 /* ---- pages of one process: as the calls of an np_pages (np_pages_place and so on), with a number
- * of a process, and no command: the version stays. NP_CLOSED; NP_NO_SUCH_PROCESS; NP_NO_MEMORY where
- * none of its pages was stated or touched yet; then as there, NP_NO_MEMORY too */
+ * of a process, and no command: the version stays. NP_CLOSED; NP_NO_SUCH_PROCESS; NP_NO_MEMORY
+ * where none of its pages was stated or touched yet; then as there, NP_NO_MEMORY too */
 
 uint32_t np_host_place(np_host *host, uint32_t process, uint64_t start, uint64_t length,
                        uint32_t node);
@@ -225,8 +225,8 @@ uint32_t np_host_moves(np_host *host, uint32_t process, np_flow *flows, size_t r
 
 /* The same of the host: what the last of these calls did, all processes together that went along
  * and are still there. np_host_attach, np_host_migrate, np_host_move and np_host_mbind_moving take
- * one along; np_host_set_group_mems and np_host_unset_group_mems those that came to be allowed other
- * nodes. No sum is told above 2^64 - 1. NP_CLOSED, NP_NO_ROOM, NP_NO_MEMORY. */
+ * one along; np_host_set_group_mems and np_host_unset_group_mems those that came to be allowed
+ * other nodes. No sum is told above 2^64 - 1. NP_CLOSED, NP_NO_ROOM, NP_NO_MEMORY. */
 uint32_t np_host_moves_of_all(np_host *host, np_flow *flows, size_t room, size_t *count,
                               np_bound *bound);
 
