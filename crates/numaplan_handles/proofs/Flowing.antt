@@ -138,9 +138,9 @@ flows-departed gone last done is tells found did items empty none so are =
         → IfOk it (λ it. items ≡ empty ++ all_flows (flow_between (spot_at gone.before)
         (spot_at gone.after)))
         → IfOk it (λ it. items ≡ empty ++ all_flows sent.flow)
-    with-items sent same (Err lack) added = tt
-    with-items sent same (Ok it) added = added ∙ all-alike (flow_between (spot_at gone.before)
-        (spot_at gone.after)) sent.flow same.flow
+    with-items sent same (Err lack) so' = tt
+    with-items sent same (Ok it) so' = so' ∙ ap (λ (l : List Flow). empty ++ l)
+        (all-alike (flow_between (spot_at gone.before) (spot_at gone.after)) sent.flow same.flow)
 
     by : (at : LastMove) → LastAs (went.Pages gone) at → IfOk found (TellsSent (sent_last at))
     by (OfNodes told) tells' = absurd tells'
