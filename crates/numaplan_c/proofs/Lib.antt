@@ -1,3 +1,4 @@
 pub mod NameLemmas
+mod Hosting
 mod Made
 mod Placing

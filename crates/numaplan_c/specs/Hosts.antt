@@ -1,5 +1,5 @@
 -- What the exported calls of hosts answer and do.
-use Rattle.std.specs.Prelude.{◌≡◌, ℕ, true, Option, Some, None, Result, Ok, Err, List, []}
+use Rattle.std.specs.Prelude.{◌≡◌, ℕ, true, Option, Some, None, Result, List, []}
 use Rattle.std.specs.Prelude.{MatchResult, unwrap_or}
 use Rattle.numa_host.specs.Processes.{Member}
 use Rattle.numa_host.specs.Standing.{HostStandsFor}

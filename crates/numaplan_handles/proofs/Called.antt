@@ -1,7 +1,7 @@
 -- What a call did to the host that a handle keeps.
 use Rattle.std.proofs.Common.{◌≡◌, ◌∙◌, ap, refl, subst, sym, true}
 use Rattle.std.proofs.lemmas.Bool.{both_ways}
-use Rattle.std.specs.Prelude.{Option, Some, None, is_some, unwrap_or}
+use Rattle.std.specs.Prelude.{Option, Some, is_some, unwrap_or}
 use Rattle.numa_host_script.specs.declared.running.RunningHost.{RunningHost}
 use Rattle.numaplan_handles.specs.Calls.{Calls}
 use Rattle.numaplan_handles.specs.Hosts.{OfRunning}

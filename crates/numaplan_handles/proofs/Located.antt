@@ -1,5 +1,5 @@
 -- Where pages of a process lie, and what is told where none was touched or stated to lie anywhere.
-use Rattle.std.proofs.Common.{◌≡◌, ℕ, ◌^◌, ◌<◌, ◌≤◌, false, List, [], refl, ap, sym, ◌∙◌}
+use Rattle.std.proofs.Common.{◌≡◌, ℕ, ◌^◌, ◌<◌, ap, sym, ◌∙◌}
 use Rattle.std.proofs.lemmas.Simd.{get_or-replicate}
 use Rattle.std.specs.Prelude.{replicate, slice_index}
 use Rattle.numa_placed.specs.Spots.{is_on, pages_where}

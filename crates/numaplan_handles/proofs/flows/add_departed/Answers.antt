@@ -1,8 +1,7 @@
-use Rattle.std.proofs.Common.{ℕ, List, arith}
+use Rattle.std.proofs.Common.{ℕ, arith}
 use Rattle.numa_page_state.specs.Sending.{flow_between}
 use Rattle.numa_placed.specs.Spots.{spot_at}
 use Rattle.numaplan_handles.specs.Hosted.{flows_from}
-use Rattle.numaplan_handles.specs.declared.flows.Flow.{Flow}
 use Rattle.numaplan_handles.proofs.Flowing.{added, begun, ended, from-alike}
 use Rattle.numaplan_handles.proofs.flows.add_departed.Goals as goal
 

@@ -1,4 +1,4 @@
-use Rattle.std.proofs.Common.{ℕ, arith}
+use Rattle.std.proofs.Common.{arith}
 use Rattle.numa_host_pages.specs.Summed.{flow_told}
 use Rattle.numaplan_handles.specs.Hosted.{flows_from}
 use Rattle.numaplan_handles.proofs.Flowing.{added, begun, ended, to-one}

@@ -1,4 +1,4 @@
-use Rattle.std.proofs.Common.{None, Option, subst, sym}
+use Rattle.std.proofs.Common.{Option, subst, sym}
 use Rattle.numa_host_pages.specs.Homes.{lent}
 use Rattle.numa_host_script.specs.Acting.{changed_outcome}
 use Rattle.numa_host_script.specs.Paging.{pages_at}

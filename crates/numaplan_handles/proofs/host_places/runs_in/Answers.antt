@@ -1,5 +1,4 @@
 use Rattle.std.proofs.Common.{ℕ, subst}
-use Rattle.numa_host_script.specs.Paging.{pages_at}
 use Rattle.numa_pages.specs.Listing.{AreListed}
 use Rattle.numa_placed.specs.declared.spot.Spot.{Spot}
 use Rattle.numaplan_handles.proofs.host_places.runs_in.Goals as goal

@@ -1,5 +1,3 @@
-use Rattle.std.proofs.Common.{◌∙◌, arith, refl, sym}
-use Rattle.numa_host_script.specs.Paging.{pages_at}
 use Rattle.numaplan_handles.proofs.host_places.tell_nodes.Goals as goal
 
 pub returns-in_default-clause-told : goal.returns-in_default-clause-told

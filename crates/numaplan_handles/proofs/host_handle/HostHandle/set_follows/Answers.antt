@@ -8,6 +8,6 @@ pub returns : goal.returns
 returns c =
     called (LetsFollow c.args.follows) c.args.self.now.handle.held.kept
     c.put.new.self.held.kept c.deref_mut.result.now c.in-Host.running
-    c.let_follow-answer.new.running _
+    c.let_follow.new.running _
     (c.in_ok-kept.ensures.taken ∙ ap Some (sym c.deref_mut.ensures.value)) c.in-Host.is
-    (ap host_of c.put.ensures.kept) c.let_follow-answer.ensures
+    (ap host_of c.put.ensures.kept) c.let_follow.ensures
