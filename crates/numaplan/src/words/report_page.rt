@@ -24,7 +24,7 @@ pre { background: #f6f6f6; padding: 8px; overflow-x: auto; font-size: 12px; }
 @media (max-width: 600px) {
   body { margin: 0.5em; }
   .wide > svg { min-width: 700px; }
-  pre { white-space: pre-wrap; }
+  pre { white-space: pre-wrap; font-size: 11px; }
 }
 @media print {
   body { margin: 0; max-width: none; }
