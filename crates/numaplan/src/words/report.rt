@@ -13,7 +13,7 @@ use numa_placed::Placed;
 use numa_play::{Findings, page_places, subject_of};
 use numa_questions::AskedPages;
 use numa_sheets::{Format, Touch, Watch};
-use numa_subjects::{Added, Halt};
+use numa_subjects::{Added, Halt, Subject};
 use numa_what_if::StatesBefore;
 use numa_words::{Answer, ExplainAsked, LineFaults, Playing, explanation, moves_of, play_added};
 use std::alloc::Global;
@@ -404,6 +404,17 @@ fn put_state<T: Write, P: Watch>(
     Ok(is_other(alloc, findings, told.meant))
 }
 
+/// Ends the page, which says what it is about.
+fn ended(
+    alloc: Global,
+    page: &mut ReportPage,
+    subject: Subject<'_>,
+    touch: Touch,
+    added: Added<'_>,
+) -> Result<Vec<u8>, Halt> {
+    page.end(alloc, &About::of(subject, Some(touch), added))
+}
+
 /// Writes the parts in their order, and returns the page.
 fn written<T: Write, P: Watch>(
     alloc: Global,
@@ -423,7 +434,7 @@ fn written<T: Write, P: Watch>(
         lines,
         faults: faults.of_lines(),
     };
-    let text = page.end(alloc, &About::of(subject, Some(told.touch), added))?;
+    let text = ended(alloc, page, subject, told.touch, added)?;
     let is_other = state_other || lines_other;
     Ok(Answer { text, is_other })
 }
