@@ -1,0 +1,16 @@
+pub mod Rows
+pub mod TurnRows
+pub mod Each
+pub mod Walked
+pub mod Turning
+pub mod Ringing
+pub mod Narrowing
+pub mod Taking
+pub mod Keeping
+pub mod Moving
+pub mod Resizing
+pub mod LawLemmas
+pub mod Carrying
+pub mod Serving
+pub mod Asked
+pub mod Using

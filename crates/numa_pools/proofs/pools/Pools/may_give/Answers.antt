@@ -1,0 +1,7 @@
+use Rattle.std.proofs.Common.{arith}
+use Rattle.numa_pools.proofs.Keeping.{frees-fit, totals-fit}
+use Rattle.numa_pools.proofs.pools.Pools.may_give.Goals as goal
+
+pub sum_of-requires : goal.sum_of-requires
+sum_of-requires c =
+    omega (arith, totals-fit _ c.self.invariant, frees-fit _ c.self.invariant)
