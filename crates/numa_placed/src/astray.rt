@@ -28,7 +28,7 @@ fn is_other(list: &NodeMask, counts: &[u64; 256], node: u8) -> bool
 }
 
 /// A node that isn't in the list, and has pages.
-fn other_node(list: &NodeMask, counts: &[u64; 256]) -> Option<u8>
+pub fn other_node(list: &NodeMask, counts: &[u64; 256]) -> Option<u8>
     ensures some { IfSome result (λ node. is_other list.now (slice_index counts.now) node ≡ true) }
     ensures none { IfNone result ((node : ℕ) → node < 256
         → is_other list.now (slice_index counts.now) node ≡ false) }

@@ -30,7 +30,7 @@ fn flag(so: bool) -> u8
 }
 
 /// 1 for each node of a set.
-fn waiting(set: &NodeMask) -> [u8; 256]
+pub fn waiting(set: &NodeMask) -> [u8; 256]
     ensures { AreWaiting result (has set.now) }
 {
     let mut waits = [0; 256];
@@ -68,7 +68,7 @@ fn later_of(passes: bool, node: u8, last: Option<u8>) -> Option<u8>
 }
 
 /// The node whose pages go next: the first whose target isn't still to go, else the last.
-fn next_source(targets: &[u8; 256], waits: &[u8; 256]) -> Option<u8>
+pub fn next_source(targets: &[u8; 256], waits: &[u8; 256]) -> Option<u8>
     ensures { (go : ℕ → ℕ) (still : ℕ → Bool) → AreTargets targets.now go
         → AreWaiting waits.now still → result ≡ source_from go still None 0 256 }
 {

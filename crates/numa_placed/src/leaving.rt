@@ -1,10 +1,14 @@
 //! How many pages of each node go, where it is known only how many there are.
-ghost use Rattle.std.specs.Prelude.{ℕ};
+ghost use Rattle.std.specs.Prelude.{◌≡◌, ◌<◌, ◌≤◌, ◌^◌, ℕ, slice_index};
 ghost use Rattle.numa_placed.specs.Moves.{AreTargets, moved_node};
-ghost use Rattle.numa_placed.specs.Shifts.{ArePages, AreRooms, counted_shift};
+ghost use Rattle.numa_placed.specs.Shifts.{ArePages, AreRooms, counted_shift, sum_below};
+ghost use Rattle.numa_placed.specs.Tallies.{leave_on};
 
 use crate::course::course_of;
+use crate::filling::sum;
+use crate::moved::Moved;
 use crate::rooms::Rooms;
+use crate::tally::leaving;
 use crate::targets::targets;
 use numa_mask::NodeMask;
 
@@ -33,4 +37,24 @@ pub fn departures(there: &[u64; 256], old: &NodeMask, new: &NodeMask, rooms: &mu
     *rooms = course.rooms;
     let gone = course.gone;
     Leaving { gone, to }
+}
+
+/// What a move of pages from one set of nodes to another does that never lacks room, where so many lie
+/// on each node.
+pub fn all_departures(there: &[u64; 256], old: &NodeMask, new: &NodeMask) -> Moved
+    requires { (node : ℕ) → node < 256 → slice_index there.now node ≤ 2 ^ 35 }
+    ensures to { AreTargets result.to (moved_node old.now new.now) }
+    ensures from { ArePages result.from
+        (leave_on (slice_index result.to) (slice_index there.now)) }
+    ensures moved { result.moved ≡ sum_below 256 (slice_index result.from) }
+    ensures left { result.left ≡ 0 }
+{
+    let to = targets(old, new);
+    let from = leaving(&to, there);
+    Moved {
+        moved: sum(&from),
+        left: 0,
+        from,
+        to,
+    }
 }

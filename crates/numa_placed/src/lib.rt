@@ -66,10 +66,12 @@ mod turn;
 mod wants;
 
 pub use areas::judged_pages;
+pub use astray::other_node;
 pub use bind::node_with_room;
 pub use bound::Bound;
+pub use course::{next_source, waiting};
 pub use judge::{judge_move, lacks_node};
-pub use leaving::{Leaving, departures};
+pub use leaving::{Leaving, all_departures, departures};
 pub use moved::Moved;
 pub use period::period_in;
 pub use placed::Placed;

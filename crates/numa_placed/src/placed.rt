@@ -2,14 +2,13 @@
 ghost use Rattle.std.specs.Prelude.{◌≡◌, ◌≢◌, ◌≤◌, ◌<◌, ◌+◌, ◌^◌, ℕ, OnOk, OnErr, IfOk, IfErr};
 ghost use Rattle.std.specs.Prelude.{Some, None, is_some, slice_index};
 ghost use Rattle.numa_mask.specs.NodeSet.{both};
+ghost use Rattle.numa_ranges.specs.Maps.{IsSpan};
 ghost use Rattle.numa_ranges.specs.Runs.{page_at};
 ghost use Rattle.numa_space.specs.History.{page_of, page_count};
 ghost use Rattle.numa_placed.specs.Binds.{IsBound, asked_of, bound_spots};
 ghost use Rattle.numa_placed.specs.Moves.{IsMove, moved_node};
 ghost use Rattle.numa_placed.specs.Refusals.{IsLack, IsRefusal, IsMoveRefusal, LacksForBytes};
-ghost use Rattle.numa_placed.specs.Refusals.{state_cause};
-ghost use Rattle.numa_placed.specs.Refusals.{span_cause};
-ghost use Rattle.numa_placed.specs.Refusals.{migrate_cause, move_cause};
+ghost use Rattle.numa_placed.specs.Refusals.{state_cause, span_cause, migrate_cause, move_cause};
 ghost use Rattle.numa_placed.specs.Spots.{is_on, pages_where, pages_within, spot_at};
 ghost use Rattle.numa_placed.specs.Spots.{stated_beside};
 ghost use Rattle.numa_placed.specs.Spots.{changed_spots, stated_spots, stated_spot, forgotten_spot};
@@ -205,6 +204,27 @@ impl Placed {
             return Ok(());
         }
         state_others(&mut self.places, space, said, resident)
+    }
+
+    /// States that the `pages` pages from `first` on lie on a node, mapped or not: the caller
+    /// knows.
+    ///
+    /// # Errors
+    /// `TooManyRuns`, `NoMemory`, as [`PlacedRefusal`] says; nothing has changed.
+    pub fn set(&mut self, first: u64, pages: u64, node: u8) -> Result<(), PlacedRefusal>
+        requires { IsSpan first pages }
+        ensures ok { OnOk result ((page : ℕ) → spot_at self.new page
+            ≡ changed_spots first pages (stated_spot node) (spot_at self.old) page) }
+        ensures err { IfErr result (IsLack
+            (changed_spots first pages (stated_spot node) (spot_at self.old))) }
+        ensures unchanged { OnErr result (self.new ≡ self.old) }
+    {
+        let change = SpanChange {
+            first,
+            pages,
+            change: Change::State(node),
+        };
+        edit_places(&mut self.places, change)
     }
 
     /// Takes away what was stated of the pages of a span, as is done when they are unmapped.

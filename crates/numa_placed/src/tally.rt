@@ -21,7 +21,7 @@ fn leave_on(targets: &[u8; 256], counts: &[u64; 256], node: u8) -> u64
 }
 
 /// How many pages of each node have another to go to.
-fn leaving(targets: &[u8; 256], counts: &[u64; 256]) -> [u64; 256]
+pub(crate) fn leaving(targets: &[u8; 256], counts: &[u64; 256]) -> [u64; 256]
     ensures { ArePages result (leave_on (slice_index targets.now) (slice_index counts.now)) }
 {
     let mut sent = [0; 256];
