@@ -1,0 +1,16 @@
+pub mod Astray
+pub mod Changed
+pub mod Flowing
+pub mod Found
+pub mod Keeping
+pub mod Leaving
+pub mod Left
+pub mod Own
+pub mod Passing
+pub mod Pooled
+pub mod Sending
+pub mod Sent
+pub mod Sourcing
+pub mod Touched
+pub mod Where
+mod Rows

@@ -1,0 +1,24 @@
+use Rattle.std.proofs.Common.{ap, arith, not, sym, ◌∙◌}
+use Rattle.numa_huge.specs.Huge.{huge_at}
+use Rattle.numa_huge.proofs.Keeping.{fits-far, fits-is, fits-none}
+use Rattle.numa_huge.proofs.places.HugePlaces.fits.Goals as goal
+
+pub returns-then-pages-eq0 : goal.returns-then-pages-eq0
+returns-then-pages-eq0 c =
+    sym (fits-none (huge_at c.args.self.now.runs) c.args.first c.args.pages c.if-pages-eq0.true)
+
+pub returns-then-first-gt-MOST_PAGES : goal.returns-then-first-gt-MOST_PAGES
+returns-then-first-gt-MOST_PAGES c =
+    sym (fits-far (huge_at c.args.self.now.runs) c.args.first c.args.pages
+    (omega (arith, c.if-first-gt-MOST_PAGES.true)))
+
+pub returns-then-pages-first : goal.returns-then-pages-first
+returns-then-pages-first c =
+    sym (fits-far (huge_at c.args.self.now.runs) c.args.first c.args.pages
+    (omega (arith, c.if-pages-first.true)))
+
+pub returns : goal.returns
+returns c =
+    ap not c.has_huge.ensures
+    ∙ sym (fits-is (huge_at c.args.self.now.runs) c.args.first c.args.pages
+    (c.if-pages-eq0.false) (omega (arith, c.if-pages-first.false, c.if-first-gt-MOST_PAGES.false)))
