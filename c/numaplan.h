@@ -334,11 +334,11 @@ uint32_t np_core_map(np_core *core, uint64_t start, uint64_t length, uint64_t of
  * also where another call would change a part of one alone.
  *
  * All calls name and count pages of 4 KiB, of which such a page is 512, its parts; only
- * np_core_explain and its text count the index in pages of 2 MiB. Each part has the list of nodes
- * that a kernel goes by for its page. But there are no pools, and where pages are placed each part
- * goes by itself, as in no kernel: np_core_touch and all that workers do, np_core_fill and other
- * calls with free pages, np_core_replay, and what an np_pages of this core says of its pages. Texts
- * show parts too (kernelpagesize_kB=4). */
+ * np_core_explain and its text count the index in pages of 2 MiB, and np_core_maps counts these.
+ * Each part has the list of nodes that a kernel goes by for its page. But there are no pools, and
+ * where pages are placed each part goes by itself, as in no kernel: np_core_touch and all that
+ * workers do, np_core_fill and other calls with free pages, np_core_replay, and what an np_pages of
+ * this core says of its pages. */
 uint32_t np_core_map_huge(np_core *core, uint64_t start, uint64_t length, uint64_t offset);
 
 /* Unmaps the pages of a span, those among them that are mapped. */
@@ -431,10 +431,12 @@ uint32_t np_core_task_policy(np_core *core, uint32_t task, np_policy *policy);
 /* Writes one line for each range, in order of address, as /proc/PID/numa_maps has it (numa(7)):
  * "00010000 bind:0-1 anon=2 N0=1 N1=1 kernelpagesize_kB=4" and a line feed. These are its address
  * in hexadecimal, the policy by which a fault of this task is served, and of the placements' pages
- * how many are in it, in all and on each node. Placements come from np_core_touch and np_core_try,
- * or are the caller's own; those of pages that aren't mapped are left out. The text stands at the
- * start of `text`, its length in `length`. NP_NO_ROOM where `room` is less: then `length` is what
- * is needed, and `text` is as it was. NP_CLOSED, NP_PLACED_TWICE, NP_NO_MEMORY. */
+ * how many are in it, in all and on each node. Pages of 2 MiB are counted as such, each on the node
+ * of the lowest of its parts that have placements, and end in kernelpagesize_kB=2048. Placements
+ * come from np_core_touch and np_core_try, or are the caller's own; those of pages that aren't
+ * mapped are left out. The text stands at the start of `text`, its length in `length`. NP_NO_ROOM
+ * where `room` is less: then `length` is what is needed, and `text` is as it was. NP_CLOSED,
+ * NP_PLACED_TWICE, NP_NO_MEMORY. */
 uint32_t np_core_maps(np_core *core, uint32_t task, const np_placement *placements, size_t count,
                       uint8_t *text, size_t room, size_t *length);
 

@@ -186,9 +186,9 @@ class Core(CoreReports):
     def map(self, start: int, length: int, offset: "int | None" = None, *, huge: bool = False) -> None:
         """Maps `length` bytes of unmapped pages from address `start` on. The first page has the
         index `offset`, in pages; without one start / 4096, as private anonymous memory has. With
-        `huge` they are pages of 2 MiB (MAP_HUGETLB), whose offset without one is 0. All else counts
-        each as 512 pages of 4 KiB; there are no pools, and where pages are placed each 4 KiB goes
-        by itself, as in no kernel."""
+        `huge` they are pages of 2 MiB (MAP_HUGETLB), whose offset without one is 0. All else but
+        `maps` counts each as 512 pages of 4 KiB; there are no pools, and where pages are placed each
+        4 KiB goes by itself, as in no kernel."""
         start = u64("start", start)
         if offset is None:
             offset = 0 if huge else start // 4096
@@ -347,7 +347,8 @@ class Core(CoreReports):
 
     def maps(self, task: int, placements: Sequence[Placement] = ()) -> str:
         """The ranges as /proc/PID/numa_maps shows them, with the policy by which a fault of this
-        task is served, and with the pages of these placements."""
+        task is served, and with the pages of these placements. A page of 2 MiB counts as one, on the
+        node of the lowest of its parts that have placements."""
         placed = (PlacedPage * max(len(placements), 1))(*map(_placed, placements))
         number = u32("task", task)
         with self._alone():

@@ -3,4 +3,5 @@ mod Examples
 mod Hexes
 mod Lines
 mod Listed
+mod Lowest
 mod Placed

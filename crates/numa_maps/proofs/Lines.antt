@@ -2,9 +2,11 @@
 use Rattle.std.proofs.Common.{◌≡◌, ℕ, zero, suc, refl, ◌+◌, ◌<◌, Bool, cond, List, [], ◌++◌, codes}
 use Rattle.std.proofs.Common.{decimal, length, sym, ap, ◌∙◌, arith, append_assoc}
 use Rattle.std.specs.List.{flat_map, range_with_len}
+use Rattle.std.specs.Prelude.{◌==◌, if◌then◌else◌}
 use Rattle.numa_machine.proofs.Nodes.{flat_map-range_more}
 use Rattle.std.proofs.lemmas.Bool.{ne_eqb}
 use Rattle.numa_maps.specs.Listing.{counted_text, node_text, nodes_text, pages_on, placed_text}
+use Rattle.numa_maps.specs.Listing.{size_text}
 use Rattle.numa_maps.specs.Residents.{Kept}
 
 -- the nodes below a number, in a loop over them
@@ -42,40 +44,27 @@ texts-same p q same = sym (nodes-all p 256 refl) ∙ nodes-same p q 256 same ∙
 
 -- ---- the placed pages of a range
 
--- the words of placed pages, written one after another
-pub placed-some : (old : List ℕ) (placed : Kept) (count : ℕ) (pages : ℕ → ℕ) → count ≡ length placed
-    → 0 < count → ((node : ℕ) → node < 256 → pages node ≡ pages_on placed node)
-    → old ++ codes " anon=" ++ decimal count ++ nodes_text pages ++ codes " kernelpagesize_kB=4"
-    ≡ old ++ placed_text placed
-placed-some old placed count pages is some by_node =
+-- counts that are those of placements make the text of these
+pub counted-same : (huge : Bool) (count : ℕ) (pages : ℕ → ℕ) (placed : Kept) → count ≡ length placed
+    → ((node : ℕ) → node < 256 → pages node ≡ pages_on placed node)
+    → counted_text huge count pages ≡ placed_text huge placed
+counted-same huge count pages placed is by_node =
     let nodes : nodes_text pages ≡ nodes_text (pages_on placed) =
     texts-same pages (pages_on placed) by_node in
-    let first : List ℕ = codes " anon=" ++ decimal (length placed) in
-    let named : List ℕ = first ++ nodes_text (pages_on placed) in
-    let whole : List ℕ = named ++ codes " kernelpagesize_kB=4" in
-    let text : placed_text placed ≡ whole =
-    ap (λ (b : Bool). cond b [] whole)
-    (ne_eqb (length placed) 0 (λ e. omega (arith, is, some, e))) in
-    (λ i. old ++ codes " anon=" ++ decimal (is i) ++ nodes i ++ codes " kernelpagesize_kB=4")
-    ∙ ap (λ x. x ++ nodes_text (pages_on placed) ++ codes " kernelpagesize_kB=4")
-    (append_assoc old (codes " anon=") (decimal (length placed)))
-    ∙ ap (λ x. x ++ codes " kernelpagesize_kB=4")
-    (append_assoc old first (nodes_text (pages_on placed)))
-    ∙ append_assoc old named (codes " kernelpagesize_kB=4")
-    ∙ ap (λ x. old ++ x) (sym text)
+    λ i. if is i == 0 then [] else codes " anon=" ++ decimal (is i) ++ nodes i ++ size_text huge
 
 -- the words of counted pages, written one after another
-pub counted-some : (old : List ℕ) (count : ℕ) (pages : ℕ → ℕ) → 0 < count
-    → old ++ codes " anon=" ++ decimal count ++ nodes_text pages ++ codes " kernelpagesize_kB=4"
-    ≡ old ++ counted_text count pages
-counted-some old count pages some =
+pub counted-some : (huge : Bool) (old : List ℕ) (count : ℕ) (pages : ℕ → ℕ) → 0 < count
+    → old ++ codes " anon=" ++ decimal count ++ nodes_text pages ++ size_text huge
+    ≡ old ++ counted_text huge count pages
+counted-some huge old count pages some =
     let first : List ℕ = codes " anon=" ++ decimal count in
     let named : List ℕ = first ++ nodes_text pages in
-    let whole : List ℕ = named ++ codes " kernelpagesize_kB=4" in
-    let text : counted_text count pages ≡ whole =
+    let whole : List ℕ = named ++ size_text huge in
+    let text : counted_text huge count pages ≡ whole =
     ap (λ (b : Bool). cond b [] whole) (ne_eqb count 0 (λ e. omega (arith, some, e))) in
-    ap (λ x. x ++ nodes_text pages ++ codes " kernelpagesize_kB=4")
+    ap (λ x. x ++ nodes_text pages ++ size_text huge)
     (append_assoc old (codes " anon=") (decimal count))
-    ∙ ap (λ x. x ++ codes " kernelpagesize_kB=4") (append_assoc old first (nodes_text pages))
-    ∙ append_assoc old named (codes " kernelpagesize_kB=4")
+    ∙ ap (λ x. x ++ size_text huge) (append_assoc old first (nodes_text pages))
+    ∙ append_assoc old named (size_text huge)
     ∙ ap (λ x. old ++ x) (sym text)

@@ -42,7 +42,7 @@ on-first node at rest = sum_by-cons (λ (at : ℕ × Placement). cond {A = ℕ} 
     at rest
 
 -- the counts so far, and those of what is left, are those of all
-pub CountsTo : List ℕ → Kept → Kept → Type 0
+unfoldable pub CountsTo : List ℕ → Kept → Kept → Type 0
 CountsTo pages left all = (node : ℕ) → node < 256 → get_or pages node 0 + pages_on left node
     ≡ pages_on all node
 

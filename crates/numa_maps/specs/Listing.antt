@@ -2,10 +2,11 @@
 -- /proc/PID/numa_maps).
 use Rattle.std.specs.Prelude.{◌≡◌, ℕ, ◌*◌, ◌-◌, ◌==◌, Bool, Option, Some, None, List, [], ◌++◌}
 use Rattle.std.specs.Prelude.{Contains, ◌↔◌, codes, count_by, decimal, filter, length, replicate}
-use Rattle.std.specs.Prelude.{if◌then◌else◌, false}
+use Rattle.std.specs.Prelude.{if◌then◌else◌, false, true, ◌∷◌, ◌+◌, ◌/◌, nat_le}
 use Rattle.std.specs.Fmt.{digits}
 use Rattle.std.specs.List.{flat_map}
 use Rattle.numa_machine.specs.Machine.{Hardware}
+use Rattle.numa_machine.specs.Sizes.{is_part}
 use Rattle.numa_requests.specs.declared.placement.Placement.{Placement}
 use Rattle.numa_mode.specs.Policy.{PolicyRecord, policy_text}
 use Rattle.numa_ranges.specs.Counts.{IsRange}
@@ -25,6 +26,19 @@ use Rattle.numa_maps.specs.Residents.{Kept}
 abbrev pub placed_in : Kept → Run (Option PolicyRecord) → Kept
 placed_in kept range = filter (λ at. in_pages range.first range.pages at.0) kept
 
+-- of placements on the parts of pages of 2 MiB, rising, the lowest of each page, of the pages from
+-- this one on, counted in 2 MiB
+unfoldable pub lowest_from : ℕ → Kept → Kept
+lowest_from next [] = []
+lowest_from next (at ∷ rest) = if nat_le next (at.0 / 512)
+    then at ∷ lowest_from (at.0 / 512 + 1) rest else lowest_from next rest
+
+-- the placements that the line of a range counts: one for each of its pages that is placed, a page
+-- of 2 MiB by the lowest of its parts that are
+abbrev pub counted_in : Kept → Run (Option PolicyRecord) → Kept
+counted_in kept range =
+    if is_part range.index then lowest_from 0 (placed_in kept range) else placed_in kept range
+
 -- how many of these placements are on a node
 abbrev pub pages_on : Kept → ℕ → ℕ
 pages_on placed node = count_by (λ at. at.1.node == node) placed
@@ -34,15 +48,20 @@ abbrev pub is_on : ℕ → Option Placement → Bool
 is_on node None = false
 is_on node (Some placement) = placement.node == node
 
+-- the size of a page, of 2 MiB or of 4 KiB
+abbrev pub size_text : Bool → List ℕ
+size_text true = codes " kernelpagesize_kB=2048"
+size_text false = codes " kernelpagesize_kB=4"
+
 -- the pages of a range that lie somewhere, where there are some: how many, how many on each node,
 -- and the size of a page
-abbrev pub counted_text : ℕ → (ℕ → ℕ) → List ℕ
-counted_text count pages =
+abbrev pub counted_text : Bool → ℕ → (ℕ → ℕ) → List ℕ
+counted_text huge count pages =
     if count == 0 then [] else codes " anon=" ++ decimal count
-    ++ nodes_text pages ++ codes " kernelpagesize_kB=4"
+    ++ nodes_text pages ++ size_text huge
 
-abbrev pub placed_text : Kept → List ℕ
-placed_text placed = counted_text (length placed) (pages_on placed)
+abbrev pub placed_text : Bool → Kept → List ℕ
+placed_text huge placed = counted_text huge (length placed) (pages_on placed)
 
 -- ---- a line
 
@@ -63,14 +82,20 @@ policy_or_default (Some policy) = policy_text policy
 abbrev pub range_line : Option PolicyRecord → Kept → Run (Option PolicyRecord) → List ℕ
 range_line policy kept range =
     address_text range.first ++ codes " " ++ policy_or_default policy
-    ++ placed_text (placed_in kept range) ++ codes "\n"
+    ++ placed_text (is_part range.index) (counted_in kept range) ++ codes "\n"
 
--- the line of a range that begins at this page, whose pages have this policy, and of which so many
--- lie somewhere
+-- the line of a range of pages of 4 KiB that begins at this one, whose pages have this policy, and
+-- of which so many lie somewhere
 abbrev pub counted_line : Option PolicyRecord → ℕ → ℕ → (ℕ → ℕ) → List ℕ
 counted_line policy first count pages =
     address_text first ++ codes " " ++ policy_or_default policy
-    ++ counted_text count pages ++ codes "\n"
+    ++ counted_text false count pages ++ codes "\n"
+
+-- the same of a range of pages of 2 MiB
+abbrev pub huge_line : Option PolicyRecord → ℕ → ℕ → (ℕ → ℕ) → List ℕ
+huge_line policy first count pages =
+    address_text first ++ codes " " ++ policy_or_default policy ++ codes " huge"
+    ++ counted_text true count pages ++ codes "\n"
 
 -- ---- the listing
 

@@ -8,6 +8,6 @@ mod line;
 pub mod listing;
 pub mod resident;
 
-pub use counted::say_counted;
+pub use counted::{say_counted, say_huge};
 pub use listing::{WriteFault, say_maps, write_maps};
 pub use resident::{RecordRefusal, Resident};

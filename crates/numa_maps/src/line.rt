@@ -2,22 +2,25 @@
 ghost use Rattle.std.specs.Prelude.{◌≡◌, ℕ, ◌+◌, ◌<◌, ◌≤◌, ◌^◌, ◌++◌, [], decimal, length};
 ghost use Rattle.std.specs.Prelude.{slice_index};
 ghost use Rattle.arrayvec.specs.ArrayString.{array_string_len};
-ghost use Rattle.numa_maps.specs.Listing.{address_text, node_text, nodes_text, placed_in};
+ghost use Rattle.numa_machine.specs.Sizes.{is_part};
+ghost use Rattle.numa_maps.specs.Listing.{address_text, counted_in, node_text, nodes_text};
 ghost use Rattle.numa_maps.specs.Listing.{placed_text, policy_or_default, range_line};
 ghost use Rattle.numa_ranges.specs.Runs.{end_of};
 
+use crate::counted::push_counts;
 use crate::hex::push_hex;
 use crate::resident::Resident;
 use arrayvec::ArrayString;
 use itoa::Buffer;
+use numa_machine::is_part;
 use numa_mode::Record;
 use numa_ranges::Run;
 use numa_requests::PAGE_BYTES;
 use numa_space::RangeRecord;
 
-/// The text of a line. It has room for an address of 16 digits, a space, a policy of 1024 bytes,
-/// the number of placed pages in 26 bytes, 256 nodes of 26 bytes each, the size of a page in 20
-/// bytes, and a line feed.
+/// The text of a line. It has room for an address of 16 digits, a space, a policy of 1024 bytes, a
+/// word of 5 bytes, the number of placed pages in 26 bytes, 256 nodes of 26 bytes each, the size of
+/// a page in 23 bytes, and a line feed.
 pub(crate) type LineText = ArrayString<8192>;
 
 /// Appends a word and a number.
@@ -76,20 +79,22 @@ pub(crate) fn push_nodes(text: &mut LineText, pages: &[u64; 256])
     }
 }
 
-/// Appends the placed pages of a range, if there are any.
+/// Appends the placed pages of a range, if there are any; a page of 2 MiB lies where the lowest of
+/// its placed parts does.
 fn push_placed(text: &mut LineText, resident: &Resident, range: &Run<RangeRecord>)
     requires range { end_of range.now ≤ 2 ^ 35 }
-    requires room { array_string_len text.old + 6702 ≤ 8192 }
+    requires room { array_string_len text.old + 6705 ≤ 8192 }
     ensures bytes { text.new.bytes ≡ text.old.bytes
-        ++ placed_text (placed_in resident.now range.now) }
-    ensures short { array_string_len text.new ≤ array_string_len text.old + 6702 }
+        ++ placed_text (is_part range.now.index) (counted_in resident.now range.now) }
+    ensures short { array_string_len text.new ≤ array_string_len text.old + 6705 }
 {
-    let count = resident.count_in(range);
-    if count > 0 {
-        push_number(text, " anon=", count as u64);
-        push_nodes(text, &resident.pages_by_node(range));
-        text.push_str(" kernelpagesize_kB=4");
+    if is_part(range.index) {
+        let count = resident.huge_in(range);
+        push_counts(text, count as u64, &resident.huge_by_node(range), true);
+        return;
     }
+    let count = resident.count_in(range);
+    push_counts(text, count as u64, &resident.pages_by_node(range), false);
 }
 
 /// Replaces the text by the line of a range whose pages have this policy.

@@ -1,8 +1,9 @@
 //! The placed pages.
 ghost use Rattle.std.specs.Prelude.{◌≡◌, ◌≢◌, ◌<◌, ◌≤◌, ◌^◌, ℕ, [], length, None, Some, IfSome};
 ghost use Rattle.std.specs.Prelude.{IfErr, OnOk, OnErr, MatchOption, slice_get, slice_index};
+ghost use Rattle.std.specs.Prelude.{◌+◌, ◌/◌, if◌then◌else◌, max, nat_le};
 ghost use Rattle.std.specs.Option.{option_map};
-ghost use Rattle.numa_maps.specs.Listing.{pages_on, placed_in};
+ghost use Rattle.numa_maps.specs.Listing.{lowest_from, pages_on, placed_in};
 ghost use Rattle.numa_ranges.specs.Runs.{end_of};
 ghost use Rattle.numa_maps.specs.Residents.{placed_at, with_placement, without_page, IsRefusal};
 ghost use Rattle.numa_maps.specs.Residents.{IsRising};
@@ -14,6 +15,24 @@ use std::alloc::Global;
 use std::collections::BTreeMap;
 use std::collections::btree_map::{Entry, Iter, Range};
 use std::marker::Model;
+
+/// The number of parts of a page of 2 MiB.
+const PARTS: u64 = 512;
+
+/// 1 for a part of a page of 2 MiB, of those from this one on that were not met yet, else 0.
+fn lowest_part(part: u64, next: u64) -> u64
+    ensures lowest { result ≡ (if nat_le next (part / 512) then 1 else 0) }
+    ensures one { result ≤ 1 }
+{
+    u64::from(part / PARTS >= next)
+}
+
+/// From which page of 2 MiB on none was met, once this part was.
+fn page_behind(part: u64, next: u64) -> u64
+    ensures { result ≡ max next (part / 512 + 1) }
+{
+    next.max(part / PARTS + 1)
+}
 
 /// The placements of pages that have memory, at most one for each page. They are kept by page
 /// alone: a page is placed for all tasks, whichever touched it first.
@@ -167,6 +186,41 @@ impl Resident {
         let mut pages = [0u64; 256];
         for (_, placement) in self.placed_in(range) {
             pages[usize::from(placement.node)] += 1;
+        }
+        pages
+    }
+
+    /// The number of pages of 2 MiB of a range that have placed parts.
+    pub fn huge_in(&self, range: &Run<RangeRecord>) -> usize
+        requires { end_of range.now ≤ 2 ^ 35 }
+        ensures count { result ≡ length (lowest_from 0 (placed_in self.now range.now)) }
+        ensures few { result < 2 ^ 63 }
+    {
+        let mut count = 0;
+        let mut next = 0;
+        for (page, _) in self.placed_in(range) {
+            let lowest = lowest_part(*page, next);
+            count += lowest as usize;
+            let met = page_behind(*page, next);
+            next = met;
+        }
+        count
+    }
+
+    /// The number of pages of 2 MiB of a range on each node: each that has placed parts lies where
+    /// the lowest of these does.
+    pub fn huge_by_node(&self, range: &Run<RangeRecord>) -> [u64; 256]
+        requires { end_of range.now ≤ 2 ^ 35 }
+        ensures { (node : ℕ) → node < 256 → slice_index result node
+            ≡ pages_on (lowest_from 0 (placed_in self.now range.now)) node }
+    {
+        let mut pages = [0u64; 256];
+        let mut next = 0;
+        for (page, placement) in self.placed_in(range) {
+            let lowest = lowest_part(*page, next);
+            pages[placement.node as usize] += lowest;
+            let met = page_behind(*page, next);
+            next = met;
         }
         pages
     }

@@ -148,9 +148,9 @@ impl Core {
     }
 
     /// Maps a span of unmapped pages as pages of 2 MiB, as many as the length takes, from a start and
-    /// an offset, in pages of 4 KiB, that are such a page's. All else counts each as 512 pages of
-    /// 4 KiB; there are no pools, and where pages are placed each 4 KiB goes by itself, as in no
-    /// kernel.
+    /// an offset, in pages of 4 KiB, that are such a page's. All else but [`Core::maps`] counts each
+    /// as 512 pages of 4 KiB; there are no pools, and where pages are placed each 4 KiB goes by
+    /// itself, as in no kernel.
     ///
     /// # Errors
     /// As [`Core::map`].
@@ -346,7 +346,8 @@ impl Core {
     }
 
     /// The ranges as /proc/PID/numa_maps shows them, with the policy by which a fault of this task is
-    /// served, and with the pages of these placements.
+    /// served, and with the pages of these placements. A page of 2 MiB counts as one, on the node of
+    /// the lowest of its parts that have placements.
     ///
     /// # Errors
     /// `PLACED_TWICE`, `NO_MEMORY`.

@@ -9,7 +9,7 @@ use crate::sheet::bars::put_part;
 use crate::sheet::fields::bytes;
 use crate::sheet::moved_parts::ShownSpans;
 use crate::sheet::node_moves::NodeMoves;
-use numa_sheets::{Rectangle, Scale, Touch, Written, put_frame, put_node, share};
+use numa_sheets::{Rectangle, Scale, Touch, Written, mark_at, put_frame, put_node, share};
 
 /// The first row of pixels of the spans, and the rows of a span.
 const TOP: u64 = 60;
@@ -26,7 +26,7 @@ fn below(spans: u64) -> u64 {
 
 /// Begins the picture of this many spans.
 pub(crate) fn put_head(text: &mut Written, touch: Touch, spans: u64, scale: &Scale) {
-    text.begin_picture(below(spans).saturating_add(56));
+    text.begin_picture(below(spans).saturating_add(76));
     text.put_form(
         b"<text x=\"16\" y=\"24\" font-size=\"14\">Pages that would go elsewhere, if task $ \
         touched them on node $: before, and below it after</text>\n",
@@ -110,15 +110,15 @@ pub(crate) fn put_span(text: &mut Written, span: PageSpan, counts: NodeMoves<'_>
     text.put(b"</g>\n");
 }
 
-/// Draws the nodes in their colours, in a row of pixels.
+/// Draws what a thick frame means, and the nodes in their colours, from a row of pixels on.
 fn put_legend(text: &mut Written, nodes: u32, top: u64) {
-    let mut place = Rectangle {
-        left: 16,
-        top,
-        width: 24,
-        height: 16,
-    };
-    text.put(b"<g class=\"legend\">");
+    let mut place = mark_at(16, top);
+    text.put_form(
+        b"<g class=\"legend\"><text x=\"48\" y=\"$\">would go to another node</text>",
+        &[top.saturating_add(12)],
+    );
+    put_frame(text, place, b"mark");
+    place.top = place.top.saturating_add(22);
     for node in 0..nodes.min(MARKS) {
         put_node(text, place, u64::from(node));
         place.left = place.left.saturating_add(28);

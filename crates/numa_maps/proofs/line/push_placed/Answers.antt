@@ -1,65 +1,27 @@
-use Rattle.std.proofs.Common.{ℕ, ◌+◌, ◌≤◌, ◌++◌, codes, decimal, length, slice_index, arith, ap}
-use Rattle.std.proofs.Common.{◌∙◌, length-append}
-use Rattle.std.proofs.lemmas.Fmt.{length-decimal-le}
-use Rattle.numa_maps.specs.Listing.{nodes_text, placed_in}
-use Rattle.numa_maps.proofs.Lines.{placed-some}
+use Rattle.std.proofs.Common.{ℕ, Bool, true, false, ◌++◌, slice_index, ap, cond, ◌∙◌, sym}
+use Rattle.numa_maps.specs.Listing.{counted_in, lowest_from, placed_in, placed_text}
+use Rattle.numa_maps.specs.Residents.{Kept}
+use Rattle.numa_maps.proofs.Lines.{counted-same}
 use Rattle.numa_maps.proofs.line.push_placed.Goals as goal
 
-pub push_number-requires : goal.push_number-requires
-push_number-requires c =
-    omega (
-      arith,
-      c.requires.room,
-      length-decimal-le 20 c.count_in-count.result (omega arith)
-          (omega (arith, c.count_in-count.type_inv)) c.count_in-count.type_inv,
-    )
+pub returns-then-is_part-clause-bytes : goal.returns-then-is_part-clause-bytes
+returns-then-is_part-clause-bytes c =
+    let placed : Kept = lowest_from 0 (placed_in c.args.resident.now c.args.range.now) in
+    let huge = sym (sym c.is_part.ensures ∙ c.if-is_part.true) in
+    c.push_counts.ensures.bytes
+    ∙ ap (λ x. c.args.text.now.bytes ++ x) (counted-same true c.huge_in-count.result
+    (λ node. slice_index c.huge_by_node.result node) placed c.huge_in-count.ensures.count
+    c.huge_by_node.ensures)
+    ∙ ap (λ (b : Bool). c.args.text.now.bytes
+    ++ placed_text b (cond b placed (placed_in c.args.resident.now c.args.range.now))) huge
 
-pub push_nodes-requires : goal.push_nodes-requires
-push_nodes-requires c = record {
-  room =
-      omega (
-        arith,
-        c.requires.room,
-        length-decimal-le 20 c.count_in-count.result (omega arith)
-            (omega (arith, c.count_in-count.type_inv)) c.count_in-count.type_inv,
-        ap length c.push_number.ensures,
-        length-append (c.args.text.now.bytes ++ codes " anon=") (decimal c.count_in-count.result),
-        length-append c.args.text.now.bytes (codes " anon="),
-      );
-}
-
-pub push_str-requires : goal.push_str-requires
-push_str-requires c =
-    let room : length c.push_nodes.new.text.bytes + 20 ≤ 8192 = omega (
-      arith,
-      c.requires.room,
-      length-decimal-le 20 c.count_in-count.result (omega arith)
-          (omega (arith, c.count_in-count.type_inv)) c.count_in-count.type_inv,
-      ap length c.push_number.ensures,
-      length-append (c.args.text.now.bytes ++ codes " anon=") (decimal c.count_in-count.result),
-      length-append c.args.text.now.bytes (codes " anon="),
-      c.push_nodes.ensures.short,
-    ) in
-    (omega arith, room)
-
-pub returns-then-count-gt0-clause-bytes : goal.returns-then-count-gt0-clause-bytes
-returns-then-count-gt0-clause-bytes c =
-    let pages : ℕ → ℕ = λ node. slice_index c.pages_by_node.result node in
-    c.push_str.ensures.bytes ∙ ap (λ x. x ++ codes " kernelpagesize_kB=4")
-    (c.push_nodes.ensures.bytes ∙ ap (λ x. x ++ nodes_text pages) c.push_number.ensures)
-    ∙ placed-some c.args.text.now.bytes (placed_in c.args.resident.now c.args.range.now)
-    c.count_in-count.result pages c.count_in-count.ensures.count c.if-count-gt0.true
-    c.pages_by_node.ensures
-
-pub returns-then-count-gt0-clause-short : goal.returns-then-count-gt0-clause-short
-returns-then-count-gt0-clause-short c =
-    omega (
-      arith,
-      length-decimal-le 20 c.count_in-count.result (omega arith)
-          (omega (arith, c.count_in-count.type_inv)) c.count_in-count.type_inv,
-      ap length c.push_number.ensures,
-      length-append (c.args.text.now.bytes ++ codes " anon=") (decimal c.count_in-count.result),
-      length-append c.args.text.now.bytes (codes " anon="),
-      c.push_nodes.ensures.short,
-      c.push_str.ensures.len,
-    )
+pub returns-clause-bytes : goal.returns-clause-bytes
+returns-clause-bytes c =
+    let placed : Kept = placed_in c.args.resident.now c.args.range.now in
+    let small = sym (sym c.is_part.ensures ∙ c.if-is_part.false) in
+    c.push_counts-2.ensures.bytes
+    ∙ ap (λ x. c.args.text.now.bytes ++ x) (counted-same false c.count_in-count.result
+    (λ node. slice_index c.pages_by_node.result node) placed c.count_in-count.ensures.count
+    c.pages_by_node.ensures)
+    ∙ ap (λ (b : Bool). c.args.text.now.bytes
+    ++ placed_text b (cond b (lowest_from 0 placed) placed)) small
