@@ -2,12 +2,13 @@
 -- looked for only where a list, a policy or a part of a machine may stand.
 use Rattle.std.specs.Prelude.{◌≡◌, ℕ, ◌&&◌, ◌||◌, Bool, true, false, List, []}
 use Rattle.std.specs.Prelude.{◌∷◌, length, nat_lt, is_some, unwrap_or, if◌then◌else◌, Option, Some}
-use Rattle.std.specs.Prelude.{None, option_and_then, refl}
+use Rattle.std.specs.Prelude.{None, option_and_then, refl, codes, drop}
+use Rattle.std.specs.Str.{bytes_eq}
 use Rattle.std.specs.Option.{option_map}
 use Rattle.std.proofs.Common.{sym, ◌∙◌, ap, arith}
 use Rattle.std.proofs.lemmas.Bool.Decides.{nat_tests}
-use Rattle.numa_script.specs.Causes.{fault_behind, form_of, misfit_of, wanted_of}
-use Rattle.numa_script.specs.Causes.{first_misfit, is_malformed}
+use Rattle.numa_script.specs.Causes.{behind_huge, behind_map, fault_behind, form_of, misfit_of}
+use Rattle.numa_script.specs.Causes.{wanted_of, first_misfit, is_malformed}
 use Rattle.numa_script.specs.Lines.{alone, begun, is_in, keyword_of, line_after, script_after}
 use Rattle.numa_script.specs.Lines.{takes_texts, words_line}
 use Rattle.numa_script.specs.Numbers.{number_of, numeral_of}
@@ -19,6 +20,7 @@ use Rattle.numa_script.specs.declared.malformed.Malformed.{Malformed}
 use Rattle.numa_script.specs.declared.parameter.Form.{Form}
 use Rattle.numa_script.specs.declared.parameter.Form.TheVariants as form
 use Rattle.numa_script.specs.declared.parameter.Parameter.{Parameter}
+use Rattle.numa_script.specs.declared.parameter.Parameter.TheVariants as parameter
 use Rattle.numa_script.proofs.EmptyWords.{any_empty, any_behind}
 use Rattle.numa_script.proofs.Malformations.{says}
 use Rattle.numa_script.proofs.Together.{any_misfit, some_first}
@@ -31,11 +33,33 @@ is_number form.Rules = false
 is_number form.Frames = false
 is_number form.Distances = false
 is_number form.Switch = false
+is_number form.Word = true
 is_number form.Any = false
 
 abbrev are_numbers : List Parameter → Bool
 are_numbers [] = true
 are_numbers (p ∷ ps) = is_number (form_of p) && are_numbers ps
+
+-- the words behind the offset of a mapping aren't empty either
+huge_numbers : (words : List (List ℕ)) → are_numbers (behind_huge words) ≡ true
+huge_numbers [] = refl
+huge_numbers (task ∷ []) = refl
+huge_numbers (task ∷ word ∷ words) = either (bytes_eq word (codes "noreserve"))
+  where
+    either : (b : Bool) → are_numbers (if b then parameter.Task ∷ parameter.NoReserve ∷ []
+        else parameter.Task ∷ []) ≡ true
+    either true = refl
+    either false = refl
+
+numbers_if : (b : Bool) (ps : List Parameter) → are_numbers ps ≡ true
+    → are_numbers (if b then ps else []) ≡ true
+numbers_if true ps e = e
+numbers_if false ps e = refl
+
+map_numbers : (words : List (List ℕ)) → are_numbers (behind_map words) ≡ true
+map_numbers [] = refl
+map_numbers (word ∷ words) = numbers_if (bytes_eq word (codes "huge"))
+    (parameter.Huge ∷ behind_huge words) (huge_numbers words)
 
 numbers_of : (k : Keyword) (words : List (List ℕ)) → takes_texts k ≡ false
     → are_numbers (wanted_of k words) ≡ true
@@ -43,7 +67,7 @@ numbers_of keyword.Limits words e = refl
 numbers_of keyword.Rules words e = cc
 numbers_of keyword.Cpus words e = cc
 numbers_of keyword.Machine words e = cc
-numbers_of keyword.Map words e = refl
+numbers_of keyword.Map words e = map_numbers (drop 3 words)
 numbers_of keyword.Unmap words e = refl
 numbers_of keyword.Mbind words e = cc
 numbers_of keyword.Home words e = refl
@@ -71,6 +95,11 @@ numbers_of keyword.Migrate words e = cc
 numbers_of keyword.Move words e = refl
 numbers_of keyword.Moved words e = refl
 numbers_of keyword.Populate words e = refl
+numbers_of keyword.Pool [] e = refl
+numbers_of keyword.Pool (a ∷ []) e = refl
+numbers_of keyword.Pool (a ∷ b ∷ []) e = refl
+numbers_of keyword.Pool (a ∷ b ∷ d ∷ words) e = refl
+numbers_of keyword.Fault words e = refl
 numbers_of keyword.Host words e = refl
 numbers_of keyword.Group words e = refl
 numbers_of keyword.GroupMems words e = cc
@@ -113,6 +142,8 @@ not_in keyword.Migrate e = cc
 not_in keyword.Move e = refl
 not_in keyword.Moved e = refl
 not_in keyword.Populate e = refl
+not_in keyword.Pool e = refl
+not_in keyword.Fault e = refl
 not_in keyword.Host e = refl
 not_in keyword.Group e = refl
 not_in keyword.GroupMems e = cc
@@ -134,6 +165,7 @@ empty_misfit form.Rules e = cc
 empty_misfit form.Frames e = cc
 empty_misfit form.Distances e = cc
 empty_misfit form.Switch e = cc
+empty_misfit form.Word e = refl
 empty_misfit form.Any e = cc
 
 both_true : (a b : Bool) → (a && b) ≡ true → (a ≡ true) × (b ≡ true)
@@ -190,6 +222,7 @@ malformed_is (line.Maps task) e = cc
 malformed_is (line.Work said) e = cc
 malformed_is (line.Pages said) e = cc
 malformed_is (line.Bind start bytes policy pages) e = cc
+malformed_is (line.Huge said) e = cc
 malformed_is line.Host e = cc
 malformed_is (line.HostCommand said) e = cc
 

@@ -18,3 +18,4 @@ pub mod Together
 pub mod Bounding
 pub mod Telling
 pub mod Hosting
+pub mod HugeTelling

@@ -25,7 +25,8 @@ use Rattle.numa_script.specs.declared.keyword.Keyword.TheVariants as keyword
 use Rattle.numa_script.specs.declared.line.Line.TheVariants as line
 use Rattle.numa_script.proofs.Together.{said, some_misfit}
 use Rattle.numa_script.proofs.Telling.{says_begin, says_counts, says_cpus, says_give, says_home}
-use Rattle.numa_script.proofs.Telling.{says_inherit, says_limits, says_look, says_machine, says_map}
+use Rattle.numa_script.proofs.Telling.{says_inherit, says_limits, says_look, says_machine}
+use Rattle.numa_script.proofs.HugeTelling.{says_fault, says_map, says_pool}
 use Rattle.numa_script.proofs.Telling.{says_maps, says_mbind, says_mems, says_place, says_publish}
 use Rattle.numa_script.proofs.Telling.{says_ranges, says_release, says_rules, says_span, says_task}
 use Rattle.numa_script.proofs.Telling.{says_touch, says_try, says_unmap, says_weight}
@@ -68,6 +69,8 @@ says keyword.Migrate c words other = says_migrate c words
 says keyword.Move c words other = says_move c words
 says keyword.Moved c words other = says_moved c words
 says keyword.Populate c words other = says_populate c words
+says keyword.Pool c words other = says_pool c words
+says keyword.Fault c words other = says_fault c words
 says keyword.Host c words other = says_host c words
 says keyword.Group c words other = says_group c words
 says keyword.GroupMems c words other = says_group_mems c words
@@ -110,6 +113,8 @@ told_not_in keyword.Migrate e = refl
 told_not_in keyword.Move e = refl
 told_not_in keyword.Moved e = refl
 told_not_in keyword.Populate e = refl
+told_not_in keyword.Pool e = cc
+told_not_in keyword.Fault e = cc
 told_not_in keyword.Host e = cc
 told_not_in keyword.Group e = cc
 told_not_in keyword.GroupMems e = cc

@@ -34,6 +34,10 @@ known_number (Some n) fits =
     let no : nat_lt 18446744073709551615 n ≡ false = grind (arith, nat_tests) in
     rw no refl
 
+pub pool_count : (word : List ℕ) → is_some (number_misfit 9223372036854775807 (number_of word))
+    ≡ is_none (below (2 ^ 63) (number_of word))
+pool_count word = below_number 9223372036854775807 (number_of word)
+
 pub span_pages : (word : List ℕ) → is_some (number_misfit 65536 (number_of word))
     ≡ is_none (below 65537 (number_of word))
 span_pages word = below_number 65536 (number_of word)

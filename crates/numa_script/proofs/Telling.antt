@@ -4,10 +4,9 @@ use Rattle.std.specs.Prelude.{codes}
 use Rattle.std.specs.Option.{option_map}
 use Rattle.std.proofs.Common.{sym, ◌∙◌, ap, arith}
 use Rattle.numa_mask.specs.Lists.{list_of}
-use Rattle.numa_machine.specs.declared.page_size.PageSize.TheVariants.{Small}
 use Rattle.numa_script.specs.Causes.{fault_behind}
 use Rattle.numa_script.specs.Lines.{bound_line, limits_line, rules_line, cpus_line, machine_line}
-use Rattle.numa_script.specs.Lines.{map_line, unmap_line, mbind_line, home_line, task_line}
+use Rattle.numa_script.specs.Lines.{unmap_line, mbind_line, home_line, task_line}
 use Rattle.numa_script.specs.Lines.{inherit_line, weight_line, mems_line, place_line, span_line}
 use Rattle.numa_script.specs.Lines.{counts_line, ranges_line, maps_line, with_policy}
 use Rattle.std.specs.Str.{bytes_eq}
@@ -82,19 +81,6 @@ says_machine c (a ∷ b ∷ d ∷ e ∷ []) =
     (small a) (readable (frames_of d)) (readable (distances_of e))
 says_machine c (a ∷ b ∷ d ∷ e ∷ f ∷ words) = too_many keyword.Machine c (a ∷ b ∷ d ∷ e ∷ f ∷ words)
     (omega arith)
-
-pub says_map : (c : ℕ) (words : List (List ℕ)) → is_some (fault_behind keyword.Map c words)
-    ≡ said (map_line words)
-says_map c [] = too_few keyword.Map c [] (omega arith)
-says_map c (a ∷ []) = too_few keyword.Map c (a ∷ []) (omega arith)
-says_map c (a ∷ b ∷ []) = too_few keyword.Map c (a ∷ b ∷ []) (omega arith)
-says_map c (a ∷ b ∷ d ∷ []) =
-    enough keyword.Map c (a ∷ b ∷ d ∷ []) refl
-    ∙ triple (λ v. line.Command (Ok (command.Map v.0 v.1 v.2 Small))) _ _ _ (number_of a) (number_of
-    b)
-    (number_of d) (λ v. refl)
-    (any_number a) (any_number b) (any_number d)
-says_map c (a ∷ b ∷ d ∷ e ∷ words) = too_many keyword.Map c (a ∷ b ∷ d ∷ e ∷ words) (omega arith)
 
 pub says_unmap : (c : ℕ) (words : List (List ℕ)) → is_some (fault_behind keyword.Unmap c words)
     ≡ said (unmap_line words)

@@ -16,6 +16,7 @@ use Rattle.numa_mode.specs.declared.specification.SpecError.TheVariants.{Unknown
 use Rattle.numa_script.specs.declared.line.Line.TheVariants as line
 use Rattle.numa_script.specs.declared.line.Question.TheVariants as question
 use Rattle.numa_script.specs.declared.page_line.BoundPages.TheVariants as bound
+use Rattle.numa_script.specs.declared.huge_line.HugeLine.TheVariants as huge
 use Rattle.numa_script.specs.declared.page_line.PageLine.TheVariants as page
 use Rattle.numa_script.specs.declared.machine.Distances.TheVariants.{Flat, Table}
 use Rattle.numa_script.specs.declared.work.Work.TheVariants as work
@@ -207,6 +208,59 @@ moving_pages = refl
 moving_pages_of_nobody : line_of (codes "mbind 0 4096 default move") ≡ alone line.Malformed
 unfolding line_of keyword_of number_of numeral_of in_64_bits
 moving_pages_of_nobody = refl
+
+-- ---- pages of 2 MiB, and first touches
+
+what_pools_have : line_of (codes "pool") ≡ alone (line.Huge huge.Pools)
+unfolding line_of keyword_of number_of numeral_of in_64_bits
+what_pools_have = refl
+
+pools_of_all_nodes : line_of (codes "pool 64") ≡ alone (line.Huge (huge.Resize 64))
+unfolding line_of keyword_of number_of numeral_of in_64_bits
+pools_of_all_nodes = refl
+
+pool_of_one_node : line_of (codes "pool 1 64") ≡ alone (line.Huge (huge.ResizeNode 1 64))
+unfolding line_of keyword_of number_of numeral_of in_64_bits
+pool_of_one_node = refl
+
+pools_of_a_task : line_of (codes "pool 64 7 1") ≡ alone (line.Huge (huge.ResizeFor 64 7 1))
+unfolding line_of keyword_of number_of numeral_of in_64_bits
+pools_of_a_task = refl
+
+pools_of_too_much : line_of (codes "pool 64 7 1 0") ≡ alone line.Malformed
+unfolding line_of keyword_of number_of numeral_of in_64_bits
+pools_of_too_much = refl
+
+too_many_pages : line_of (codes "pool 0x8000000000000000") ≡ alone line.Malformed
+unfolding line_of keyword_of number_of numeral_of in_64_bits
+too_many_pages = refl
+
+touching_a_page : line_of (codes "fault 7 0x40000000 1")
+    ≡ alone (line.Huge (huge.Fault 7 1073741824 1))
+unfolding line_of keyword_of number_of numeral_of in_64_bits
+touching_a_page = refl
+
+mapping_large_pages : line_of (codes "map 0x40000000 0x600000 0 huge 7")
+    ≡ alone (line.Huge (huge.Map 1073741824 6291456 0 7 true))
+unfolding line_of keyword_of number_of numeral_of in_64_bits
+mapping_large_pages = refl
+
+mapping_without_reservations : line_of (codes "map 0x40000000 0x600000 512 huge 7 noreserve")
+    ≡ alone (line.Huge (huge.Map 1073741824 6291456 512 7 false))
+unfolding line_of keyword_of number_of numeral_of in_64_bits
+mapping_without_reservations = refl
+
+mapping_for_nobody : line_of (codes "map 0 4096 0 huge") ≡ alone line.Malformed
+unfolding line_of keyword_of number_of numeral_of in_64_bits
+mapping_for_nobody = refl
+
+mapping_with_other_words : line_of (codes "map 0 4096 0 large 7") ≡ alone line.Malformed
+unfolding line_of keyword_of number_of numeral_of in_64_bits
+mapping_with_other_words = refl
+
+mapping_with_more_words : line_of (codes "map 0 4096 0 huge 7 reserve") ≡ alone line.Malformed
+unfolding line_of keyword_of number_of numeral_of in_64_bits
+mapping_with_more_words = refl
 
 -- ---- hosts
 

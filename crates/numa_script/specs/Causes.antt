@@ -1,8 +1,7 @@
 -- Why a line is malformed, and where.
-use Rattle.std.specs.Prelude.{ℕ, ◌+◌, ◌==◌, ◌||◌, Bool, true, false, List, [], ◌∷◌, length, take}
-use Rattle.std.specs.Prelude.{codes, drop}
-use Rattle.std.specs.Prelude.{position, slice_index, nat_lt, is_some, if◌then◌else◌, Option, Some}
-use Rattle.std.specs.Prelude.{None}
+use Rattle.std.specs.Prelude.{ℕ, ◌+◌, ◌==◌, ◌||◌, Bool, true, false, not, List, [], ◌∷◌, length}
+use Rattle.std.specs.Prelude.{codes, drop, take, position, slice_index, nat_lt, is_some}
+use Rattle.std.specs.Prelude.{if◌then◌else◌, Option, Some, None}
 use Rattle.std.specs.Option.{option_map}
 use Rattle.std.specs.Str.{bytes_eq}
 use Rattle.numa_script.specs.Lines.{keyword_of, is_in, is_silent, is_told}
@@ -65,6 +64,8 @@ parameters_of keyword.Move = parameter.Address ∷ parameter.Node ∷ []
 parameters_of keyword.Moved = []
 parameters_of keyword.Populate =
     parameter.Start ∷ parameter.Length ∷ parameter.Task ∷ parameter.Cpu ∷ []
+parameters_of keyword.Pool = parameter.Count ∷ parameter.Task ∷ parameter.Cpu ∷ []
+parameters_of keyword.Fault = parameter.Task ∷ parameter.Address ∷ parameter.Cpu ∷ []
 parameters_of keyword.Host = []
 parameters_of keyword.Group = parameter.Group ∷ parameter.Parent ∷ []
 parameters_of keyword.GroupMems = parameter.Group ∷ parameter.List ∷ []
@@ -95,11 +96,32 @@ abbrev pub behind_room : List (List ℕ) → List Parameter
 behind_room [] = []
 behind_room (word ∷ words) = parameters_of keyword.Room
 
+-- nothing, a number of pages, a node and such a number, or such a number with a task and a CPU
+abbrev pub behind_pool : List (List ℕ) → List Parameter
+behind_pool [] = []
+behind_pool (first ∷ []) = parameter.Count ∷ []
+behind_pool (first ∷ second ∷ []) = parameter.Node ∷ parameter.Count ∷ []
+behind_pool (first ∷ second ∷ third ∷ words) = parameters_of keyword.Pool
+
+-- behind the offset of a map: `huge TASK`, and perhaps `noreserve`
+abbrev pub behind_huge : List (List ℕ) → List Parameter
+behind_huge (task ∷ word ∷ words) = if bytes_eq word (codes "noreserve")
+    then parameter.Task ∷ parameter.NoReserve ∷ [] else parameter.Task ∷ []
+behind_huge _ = parameter.Task ∷ []
+
+abbrev pub behind_map : List (List ℕ) → List Parameter
+behind_map [] = []
+behind_map (word ∷ words) = if bytes_eq word (codes "huge")
+    then parameter.Huge ∷ behind_huge words else []
+
 -- the words that there should be, of which these are
 abbrev pub wanted_of : Keyword → List (List ℕ) → List Parameter
 wanted_of keyword.Mbind words = parameter.Start ∷ parameter.Length ∷ parameter.Policy
     ∷ behind_policy (drop 3 words)
+wanted_of keyword.Map words = parameter.Start ∷ parameter.Length ∷ parameter.Offset
+    ∷ behind_map (drop 3 words)
 wanted_of keyword.Room words = behind_room words
+wanted_of keyword.Pool words = behind_pool words
 wanted_of k words = parameters_of k
 
 -- what each has to be: a number has a greatest, and for lists and policies anything may stand there
@@ -135,6 +157,9 @@ form_of parameter.Distances = form.Distances
 form_of parameter.Memory = form.Any
 form_of parameter.List = form.Any
 form_of parameter.Policy = form.Any
+form_of parameter.Count = form.Number 9223372036854775807
+form_of parameter.Huge = form.Word
+form_of parameter.NoReserve = form.Word
 form_of parameter.Switch = form.Switch
 form_of parameter.FromList = form.Any
 form_of parameter.ToList = form.Any
@@ -158,6 +183,7 @@ misfit_of form.Rules word = unless_readable (is_some (rules_of word))
 misfit_of form.Frames word = unless_readable (is_some (frames_of word))
 misfit_of form.Distances word = unless_readable (is_some (distances_of word))
 misfit_of form.Switch word = unless_readable (is_some (switch_of word))
+misfit_of form.Word word = unless_readable (not (length word == 0))
 misfit_of form.Any word = None
 
 -- the words in turn, the first of them at this column: the first that isn't of its form, and where
@@ -282,5 +308,6 @@ is_malformed (line.Maps task) = false
 is_malformed (line.Work said) = false
 is_malformed (line.Pages said) = false
 is_malformed (line.Bind start bytes policy pages) = false
+is_malformed (line.Huge said) = false
 is_malformed line.Host = false
 is_malformed (line.HostCommand said) = false

@@ -1,6 +1,7 @@
 pub mod Causes
 pub mod HostLines
 pub mod HostTexts
+pub mod HugeLines
 pub mod Lines
 pub mod Names
 pub mod PageLines

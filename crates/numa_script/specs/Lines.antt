@@ -1,13 +1,11 @@
 -- What a line of a script says.
 use Rattle.std.specs.Prelude.{ℕ, ◌==◌, ◌&&◌, Bool, true, false, List, [], ◌∷◌, length, codes}
-use Rattle.std.specs.Prelude.{nat_lt}
-use Rattle.std.specs.Prelude.{if◌then◌else◌, Option, Some, None, Result, Ok, Err, unwrap_or}
-use Rattle.std.specs.Prelude.{option_and_then}
+use Rattle.std.specs.Prelude.{nat_lt, if◌then◌else◌, Option, Some, None, Result, Ok, Err}
+use Rattle.std.specs.Prelude.{unwrap_or, option_and_then}
 use Rattle.std.specs.Option.{option_map}
 use Rattle.std.specs.Str.{bytes_eq}
 use Rattle.numa_mask.specs.Lists.{list_of}
 use Rattle.numa_mask.specs.declared.list.ListFault.{ListFault}
-use Rattle.numa_machine.specs.declared.page_size.PageSize.TheVariants.{Small}
 use Rattle.numa_mode.specs.Policy.{Specification}
 use Rattle.numa_mode.specs.declared.modes.Mode.TheVariants as mode
 use Rattle.numa_mode.specs.declared.modes.NodeFlag.TheVariants as flag
@@ -24,6 +22,8 @@ use Rattle.numa_script.specs.Workers.{publish_work, begin_work, look_work, try_w
 use Rattle.numa_script.specs.Workers.{touch_work, release_work}
 use Rattle.numa_script.specs.HostLines.{attach_line, exit_line, fork_line, group_line, host_line}
 use Rattle.numa_script.specs.HostLines.{group_mems_line, process_line}
+pub use Rattle.numa_script.specs.HugeLines.{map_line}
+use Rattle.numa_script.specs.HugeLines.{fault_line, pool_line}
 use Rattle.numa_script.specs.PageLines.{at_line, memory_migrate_line, migrate_line, move_line}
 use Rattle.numa_script.specs.PageLines.{moved_line, populate_line, room_line}
 use Rattle.numa_script.specs.declared.policy.WordError.{WordError}
@@ -72,6 +72,8 @@ first_word_of keyword.Migrate = codes "migrate"
 first_word_of keyword.Move = codes "move"
 first_word_of keyword.Moved = codes "moved"
 first_word_of keyword.Populate = codes "populate"
+first_word_of keyword.Pool = codes "pool"
+first_word_of keyword.Fault = codes "fault"
 first_word_of keyword.Host = codes "host"
 first_word_of keyword.Group = codes "cgroup"
 first_word_of keyword.GroupMems = codes "cgroup-mems"
@@ -84,7 +86,7 @@ first_word_of keyword.In = codes "in"
 -- those of four letters that come less often
 abbrev pub later_of_four : List Keyword
 later_of_four =
-    keyword.Exit ∷ keyword.Fork ∷ keyword.Move ∷ keyword.Room ∷ keyword.Host ∷ []
+    keyword.Exit ∷ keyword.Fork ∷ keyword.Move ∷ keyword.Room ∷ keyword.Host ∷ keyword.Pool ∷ []
 
 -- the keywords whose names have this many letters
 abbrev pub keywords_of : ℕ → List Keyword
@@ -96,7 +98,7 @@ keywords_of letters =
     ∷ keyword.Mems ∷ keyword.Cpus ∷ later_of_four
     else if letters == 5 then
     keyword.Place ∷ keyword.Begin ∷ keyword.Touch ∷ keyword.Mbind ∷ keyword.Unmap
-    ∷ keyword.Rules ∷ keyword.Moved ∷ []
+    ∷ keyword.Rules ∷ keyword.Moved ∷ keyword.Fault ∷ []
     else if letters == 6 then
     keyword.Counts ∷ keyword.Ranges ∷ keyword.Weight ∷ keyword.Limits ∷ keyword.Attach
     ∷ keyword.Group ∷ []
@@ -154,12 +156,6 @@ machine_line words =
       kernel_orders = has_kernel_orders v.3;
       distances = d;
     })) (small_of v.0) (frames_of v.2) (distances_of v.3)) (four_words words)
-
--- map START LENGTH OFFSET
-abbrev pub map_line : List (List ℕ) → Option Line
-map_line words =
-    option_map (λ v. line.Command (Ok (command.Map v.0 v.1 v.2 Small)))
-    (three_of number_of number_of number_of words)
 
 -- unmap START LENGTH
 abbrev pub unmap_line : List (List ℕ) → Option Line
@@ -301,6 +297,8 @@ line_after keyword.Migrate words = migrate_line words
 line_after keyword.Move words = move_line words
 line_after keyword.Moved words = moved_line words
 line_after keyword.Populate words = populate_line words
+line_after keyword.Pool words = pool_line words
+line_after keyword.Fault words = fault_line words
 line_after keyword.Host words = host_line words
 line_after keyword.Group words = group_line words
 line_after keyword.GroupMems words = group_mems_line words
@@ -355,6 +353,8 @@ is_told keyword.Machine = false
 is_told keyword.Weight = false
 is_told keyword.Room = false
 is_told keyword.MemoryMigrate = false
+is_told keyword.Pool = false
+is_told keyword.Fault = false
 is_told keyword.Host = false
 is_told keyword.Group = false
 is_told keyword.GroupMems = false

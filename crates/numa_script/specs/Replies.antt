@@ -11,6 +11,7 @@ use Rattle.numa_requests.specs.declared.event.CoreRefusal.{CoreRefusal}
 use Rattle.numa_requests.specs.declared.event.CoreReply.{CoreReply}
 use Rattle.numa_requests.specs.declared.event.CoreReply.TheVariants as done
 use Rattle.numa_requests.specs.declared.placement.Placement.{Placement}
+use Rattle.numa_script.specs.declared.huge_line.HugeRefusal.TheVariants as huge
 use Rattle.numa_script.specs.declared.reply.Win.{Win}
 use Rattle.numa_script.specs.declared.reply.Reply.{Reply}
 use Rattle.numa_script.specs.declared.reply.Reply.TheVariants as reply
@@ -52,6 +53,7 @@ is_fault reply.Placed = true
 is_fault (reply.HostRefused cause) = true
 is_fault (reply.PlacedRefused cause) = true
 is_fault (reply.MoveRefused cause) = true
+is_fault (reply.HugeRefused cause) = true
 is_fault _ = false
 
 -- the reply, where it is a fault or a refusal
@@ -67,6 +69,7 @@ LacksMemory (reply.Refused core.NoMemory) = Unit {0}
 LacksMemory (reply.HostRefused cause) = cause ≡ host.NoMemory
 LacksMemory (reply.PlacedRefused cause) = cause ≡ placed.NoMemory
 LacksMemory (reply.MoveRefused cause) = cause ≡ move.NoMemory
+LacksMemory (reply.HugeRefused cause) = cause ≡ huge.NoMemory
 LacksMemory _ = ⊥
 
 -- that only scripts of hosts or with lines about pages have
@@ -82,4 +85,5 @@ is_wider (reply.MovedTo node) = true
 is_wider (reply.Sent version moved left late) = true
 is_wider (reply.PlacedRefused cause) = true
 is_wider (reply.MoveRefused cause) = true
+is_wider (reply.HugeRefused cause) = true
 is_wider _ = false

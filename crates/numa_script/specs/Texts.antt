@@ -2,6 +2,7 @@
 use Rattle.std.specs.Prelude.{ℕ, List, [], ◌∷◌, ◌++◌, codes, decimal, flat_map}
 use Rattle.numa_requests.specs.NodeCounts.{nodes_text as counts_text}
 use Rattle.numa_script.specs.HostTexts.{host_cause}
+use Rattle.numa_script.specs.HugeLines.{huge_cause}
 use Rattle.numa_script.specs.Names.{cause_name, list_name, machine_name, policy_name}
 use Rattle.numa_script.specs.PageTexts.{move_cause, moved_words, placed_cause, sent_text}
 use Rattle.numa_script.specs.declared.policy.WordError.{WordError}
@@ -78,3 +79,4 @@ text_of (reply.MovedTo node) = codes "node " ++ decimal node ++ codes "\n"
 text_of (reply.Sent version moved left late) = sent_text version moved left late
 text_of (reply.PlacedRefused cause) = refused_text (placed_cause cause)
 text_of (reply.MoveRefused cause) = refused_text (move_cause cause)
+text_of (reply.HugeRefused cause) = refused_text (huge_cause cause)

@@ -71,6 +71,10 @@ pub enum Keyword {
     Moved,
     /// `populate`
     Populate,
+    /// `pool`
+    Pool,
+    /// `fault`
+    Fault,
     /// `host`
     Host,
     /// `cgroup`
@@ -90,7 +94,7 @@ pub enum Keyword {
 }
 
 /// The names of the keywords, in their order.
-static NAMES: [&str; 39] = [
+static NAMES: [&str; 41] = [
     "limits",
     "rules",
     "cpus",
@@ -122,6 +126,8 @@ static NAMES: [&str; 39] = [
     "move",
     "moved",
     "populate",
+    "pool",
+    "fault",
     "host",
     "cgroup",
     "cgroup-mems",
@@ -192,7 +198,8 @@ fn of_four_later(first: &[u8]) -> Option<Keyword>
     requires { length first.now ≡ 4 }
     ensures { result ≡ keyword_among later_of_four first.now }
 {
-    named!(first, b"exit" Exit, b"fork" Fork, b"move" Move, b"room" Room, b"host" Host; None)
+    named!(first, b"exit" Exit, b"fork" Fork, b"move" Move, b"room" Room, b"host" Host,
+        b"pool" Pool; None)
 }
 
 /// The keyword of five letters with this name.
@@ -201,7 +208,7 @@ fn of_five(first: &[u8]) -> Option<Keyword>
     ensures { result ≡ keyword_among (keywords_of 5) first.now }
 {
     named!(first, b"place" Place, b"begin" Begin, b"touch" Touch, b"mbind" Mbind,
-        b"unmap" Unmap, b"rules" Rules, b"moved" Moved; None)
+        b"unmap" Unmap, b"rules" Rules, b"moved" Moved, b"fault" Fault; None)
 }
 
 /// The keyword of six letters with this name.

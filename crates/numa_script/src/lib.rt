@@ -3,6 +3,7 @@
 
 pub mod commands;
 mod host_line;
+pub mod huge_line;
 pub mod keyword;
 pub mod line;
 pub mod machine;
@@ -23,6 +24,7 @@ pub mod tell;
 mod words;
 pub mod work;
 
+pub use huge_line::{HugeLine, HugeRefusal, HugeWords};
 pub use line::{Line, MachineLine, Question, ScriptLine};
 pub use malformed::{Cause, Malformed, why_malformed};
 pub use page_line::{BoundPages, MoveWords, PageLine};

@@ -2,18 +2,17 @@
 ghost use Rattle.std.specs.Prelude.{◌≡◌, ◌==◌, ◌+◌, ◌≤◌, ◌<◌, ℕ, List, length, Option, Ok, Err};
 ghost use Rattle.std.specs.Prelude.{◌&&◌, if◌then◌else◌, false, is_some, unwrap_or};
 ghost use Rattle.std.specs.Option.{option_map};
-ghost use Rattle.numa_script.specs.Lines.{limits_line, machine_line};
-ghost use Rattle.numa_script.specs.Lines.{place_line, span_line, counts_line};
-ghost use Rattle.numa_script.specs.Lines.{ranges_line, maps_line, line_after, words_line};
-ghost use Rattle.numa_script.specs.Lines.{rules_line, cpus_line};
-ghost use Rattle.numa_script.specs.Lines.{alone, in_line, is_common, is_told, keyword_of};
-ghost use Rattle.numa_script.specs.Lines.{script_after, told_line};
+ghost use Rattle.numa_script.specs.Lines.{limits_line, machine_line, place_line, span_line};
+ghost use Rattle.numa_script.specs.Lines.{counts_line, ranges_line, maps_line, line_after};
+ghost use Rattle.numa_script.specs.Lines.{words_line, rules_line, cpus_line, alone, in_line};
+ghost use Rattle.numa_script.specs.Lines.{is_common, is_told, keyword_of, script_after, told_line};
 ghost use Rattle.numa_script.specs.Lines.{is_silent, has_empty_word, line_of, takes_texts, begun};
 ghost use Rattle.numa_script.specs.Parts.{words_of};
 ghost use Rattle.numa_script.specs.Words.{any_empty};
 
 use crate::commands::{mbind, mems, task};
 use crate::host_line::{attach, exit, fork, group, group_mems, host, process};
+use crate::huge_line::{HugeLine, fault, map, pool};
 use crate::keyword::{Keyword, read_keyword, takes_texts};
 use crate::machine::{Distances, Frames, has_kernel_orders};
 use crate::number::{few_pages, small};
@@ -25,10 +24,10 @@ use crate::reading::{four, four_words, three, two};
 use crate::rules::read_rules;
 use crate::words::Words;
 use crate::work::{Work, begin, give, look, publish, release, touch, try_frame};
-use numa_machine::{PageSize, Rules};
+use numa_machine::Rules;
 use numa_mask::{ListFault, NodeMask, read_list};
 use numa_mode::PolicySpec;
-use numa_requests::Command::{Inherit, Map, SetHome, SetWeight, Unmap};
+use numa_requests::Command::{Inherit, SetHome, SetWeight, Unmap};
 use numa_requests::{Command, HostCommand};
 
 /// The most bytes of a line, without its line feed.
@@ -125,6 +124,8 @@ pub enum Line<'a> {
         policy: Result<PolicySpec, WordError>,
         pages: BoundPages,
     },
+    /// A line about pages of 2 MiB, or about a first touch.
+    Huge(HugeLine),
     /// The script is a host's from here on.
     Host,
     /// A command of a host that names no command of a process, or what is wrong with its list.
@@ -286,12 +287,7 @@ fn rare_line(keyword: Keyword, words: Words) -> Option<Line>
         Keyword::Rules => rules(words),
         Keyword::Cpus => cpus(words),
         Keyword::Machine => machine(words),
-        Keyword::Map => command_line(three(words).map(|(start, length, offset)| Map {
-            start,
-            length,
-            offset,
-            size: PageSize::Small,
-        })),
+        Keyword::Map => map(words),
         Keyword::Unmap => command_line(two(words).map(|(start, length)| Unmap { start, length })),
         Keyword::Home => command_line(three(words).map(|(start, length, node)| SetHome {
             start,
@@ -318,6 +314,8 @@ fn rare_line(keyword: Keyword, words: Words) -> Option<Line>
         Keyword::Move => move_page(words),
         Keyword::Moved => moved(words),
         Keyword::Populate => populate(words),
+        Keyword::Pool => pool(words),
+        Keyword::Fault => fault(words),
         Keyword::Host => host(words),
         Keyword::Group => group(words),
         Keyword::GroupMems => group_mems(words),
@@ -429,6 +427,7 @@ pub(crate) fn is_told(keyword: Keyword) -> bool
         Keyword::Weight | Keyword::Room | Keyword::MemoryMigrate | Keyword::Host => false,
         Keyword::Group | Keyword::GroupMems | Keyword::Process | Keyword::Exit => false,
         Keyword::Attach | Keyword::Fork | Keyword::In => false,
+        Keyword::Pool | Keyword::Fault => false,
         _ => true,
     }
 }

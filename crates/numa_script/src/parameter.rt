@@ -1,6 +1,7 @@
 //! The words of a line after its keyword.
 ghost use Rattle.std.specs.Prelude.{◌≡◌, ◌∷◌, ℕ, List, Option};
-ghost use Rattle.numa_script.specs.Causes.{behind_policy, behind_room, behind_strict, form_of};
+ghost use Rattle.numa_script.specs.Causes.{behind_huge, behind_map, behind_policy, behind_pool};
+ghost use Rattle.numa_script.specs.Causes.{behind_room, behind_strict, form_of};
 ghost use Rattle.numa_script.specs.Causes.{misfit_of, parameters_of, wanted_of};
 
 use crate::keyword::Keyword;
@@ -64,6 +65,12 @@ pub enum Parameter {
     FrameNode,
     /// FRAME, the number of a frame of a node.
     Frame,
+    /// COUNT, the pages that a pool is to have.
+    Count,
+    /// `huge`, behind the offset of `map`.
+    Huge,
+    /// `noreserve`, behind the task of such a mapping.
+    NoReserve,
     /// `strict`, behind the policy of `mbind`.
     Strict,
     /// `move`, behind the policy of `mbind`.
@@ -104,6 +111,8 @@ pub enum Form {
     Distances,
     /// `on` or `off`.
     Switch,
+    /// Anything but nothing: the line would be another without it.
+    Word,
     /// Anything: a node list or a policy, whose errors have names of their own.
     Any,
 }
@@ -145,6 +154,7 @@ impl Parameter {
             | Parameter::ChildTask
             | Parameter::Group
             | Parameter::Parent => Form::Number(u32::MAX as u64),
+            Parameter::Count => Form::Number(i64::MAX as u64),
             Parameter::SpanPages => Form::Number(65_536),
             Parameter::FrameNode => Form::Number(255),
             Parameter::Frame => Form::Number(65_535),
@@ -152,6 +162,7 @@ impl Parameter {
             Parameter::Frames => Form::Frames,
             Parameter::Distances => Form::Distances,
             Parameter::Switch => Form::Switch,
+            Parameter::Huge | Parameter::NoReserve => Form::Word,
             Parameter::Memory | Parameter::List | Parameter::Policy => Form::Any,
             Parameter::FromList | Parameter::ToList => Form::Any,
             Parameter::Strict | Parameter::Move | Parameter::Line => Form::Any,
@@ -184,6 +195,9 @@ impl Parameter {
             Parameter::Worker => "W",
             Parameter::Word => "WORD",
             Parameter::Frame => "FRAME",
+            Parameter::Count => "COUNT",
+            Parameter::Huge => "huge",
+            Parameter::NoReserve => "noreserve",
             Parameter::Strict => "strict",
             Parameter::Move => "move",
             Parameter::Switch => "on|off",
@@ -219,6 +233,7 @@ pub fn read_misfit(form: Form, word: &[u8]) -> Option<Misfit>
         Form::Frames if machine::Frames::read(word).is_none() => Some(Misfit::Unreadable),
         Form::Distances if machine::Distances::read(word).is_none() => Some(Misfit::Unreadable),
         Form::Switch if read_switch(word).is_none() => Some(Misfit::Unreadable),
+        Form::Word if word.is_empty() => Some(Misfit::Unreadable),
         _ => None,
     }
 }
@@ -256,6 +271,8 @@ pub fn parameters(keyword: Keyword) -> &'static [Parameter]
         Keyword::Move => &[Address, Node],
         Keyword::Moved | Keyword::Host => &[],
         Keyword::Populate => &[Start, Length, Task, Cpu],
+        Keyword::Pool => &[Count, Task, Cpu],
+        Keyword::Fault => &[Task, Address, Cpu],
         Keyword::Group => &[Group, Parent],
         Keyword::GroupMems => &[Group, List],
         Keyword::Process | Keyword::Attach => &[Process, Group],
@@ -300,8 +317,49 @@ fn room_parameters(mut words: Parts) -> &'static [Parameter]
     }
 }
 
+/// The words behind `pool`, of which these are.
+fn pool_parameters(mut words: Parts) -> &'static [Parameter]
+    ensures { result.now ≡ behind_pool words.entry }
+{
+    let Some(_) = words.next() else {
+        return &[];
+    };
+    let Some(_) = words.next() else {
+        return &[Count];
+    };
+    match words.next() {
+        Some(_) => &[Count, Task, Cpu],
+        None => &[Node, Count],
+    }
+}
+
+/// The words of a mapping of pages of 2 MiB, of which these follow `huge`.
+fn huge_parameters(mut words: Parts) -> &'static [Parameter]
+    ensures { result.now ≡ Parameter.Start ∷ Parameter.Length ∷ Parameter.Offset ∷ Parameter.Huge
+        ∷ behind_huge words.entry }
+{
+    let _ = words.next();
+    match words.next() {
+        Some(word) if word == b"noreserve".as_slice() => {
+            &[Start, Length, Offset, Huge, Task, NoReserve]
+        }
+        _ => &[Start, Length, Offset, Huge, Task],
+    }
+}
+
+/// The words of a mapping, of which these follow the offset.
+fn map_parameters(mut words: Parts) -> &'static [Parameter]
+    ensures { result.now ≡ Parameter.Start ∷ Parameter.Length ∷ Parameter.Offset
+        ∷ behind_map words.entry }
+{
+    match words.next() {
+        Some(word) if word == b"huge".as_slice() => huge_parameters(words),
+        _ => &[Start, Length, Offset],
+    }
+}
+
 /// The words that a line of this keyword should have: those behind the policy of an `mbind` go by
-/// the first of them, and `room` has two or none.
+/// the first of them, those of a `map` by the fourth, and `room` and `pool` have some or none.
 pub(crate) fn wanted(keyword: Keyword, mut words: Parts) -> &'static [Parameter]
     ensures { result.now ≡ wanted_of keyword words.entry }
 {
@@ -312,7 +370,14 @@ pub(crate) fn wanted(keyword: Keyword, mut words: Parts) -> &'static [Parameter]
             let _ = words.next();
             bind_parameters(words)
         }
+        Keyword::Map => {
+            let _ = words.next();
+            let _ = words.next();
+            let _ = words.next();
+            map_parameters(words)
+        }
         Keyword::Room => room_parameters(words),
+        Keyword::Pool => pool_parameters(words),
         other => parameters(other),
     }
 }

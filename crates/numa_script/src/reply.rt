@@ -2,6 +2,7 @@
 ghost use Rattle.std.specs.Prelude.{◌≡◌, ◌↔◌, IsTrue};
 ghost use Rattle.numa_script.specs.Replies.{LacksMemory, done_reply, fault_in, reply_to, win_of};
 
+use crate::huge_line::HugeRefusal;
 use crate::policy::WordError;
 use numa_machine::{Frame, MachineFault};
 use numa_requests::{
@@ -107,6 +108,8 @@ pub enum Reply {
     PlacedRefused(PlacedRefusal),
     /// The page isn't moved.
     MoveRefused(MoveRefusal),
+    /// A line about pages of 2 MiB, or about a first touch, is refused.
+    HugeRefused(HugeRefusal),
 }
 
 /// The reply to an event that isn't refused.
@@ -150,7 +153,8 @@ impl Reply {
             | Reply::Placed
             | Reply::HostRefused(_)
             | Reply::PlacedRefused(_)
-            | Reply::MoveRefused(_) => Some(self),
+            | Reply::MoveRefused(_)
+            | Reply::HugeRefused(_) => Some(self),
             _ => None,
         }
     }
@@ -166,6 +170,7 @@ impl Reply {
             Reply::HostRefused(refusal) => refusal == HostRefusal::NoMemory,
             Reply::PlacedRefused(refusal) => refusal == PlacedRefusal::NoMemory,
             Reply::MoveRefused(refusal) => refusal == MoveRefusal::NoMemory,
+            Reply::HugeRefused(refusal) => refusal == HugeRefusal::NoMemory,
             _ => false,
         }
     }

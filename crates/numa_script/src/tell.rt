@@ -13,6 +13,7 @@ ghost use Rattle.numa_script.specs.Texts.{counts_answer, frame_text, nodes_answe
 ghost use Rattle.numa_script.specs.Replies.{is_wider};
 ghost use Rattle.numa_script.specs.Texts.{refused_text, text_of, win_answer, word_text};
 
+use crate::huge_line::huge_cause;
 use crate::names::{Named, host_errno_name, host_refusal_name, move_cause, placed_cause};
 use crate::nodes::{FEW, MORE, say_each_node, say_few, say_more};
 use crate::policy::WordError;
@@ -295,6 +296,7 @@ fn say_wider<W: Write>(output: &mut Watched<W>, reply: &Reply)
         } => say_sent(output, *version, *moved, *left, *late),
         Reply::PlacedRefused(cause) => say_refused(output, placed_cause(*cause)),
         Reply::MoveRefused(cause) => say_refused(output, move_cause(*cause)),
+        Reply::HugeRefused(cause) => say_refused(output, huge_cause(*cause)),
         _ => unreachable!(),
     }
 }
