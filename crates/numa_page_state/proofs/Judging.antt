@@ -53,7 +53,7 @@ same-astray rules map state lying start bytes list lies =
 
 -- ---- the pages of a space are those of its history
 
-mapped-alike : (space : SpaceState) (history : List Command) → StandsFor space history
+pub mapped-alike : (space : SpaceState) (history : List Command) → StandsFor space history
     → page_at space.ranges ≡ page_in space.machine history
 mapped-alike space history stands = λ i page. stands.pages page i
 

@@ -2,16 +2,21 @@ pub mod Answered
 pub mod Asking
 pub mod Begun
 pub mod Emptied
+pub mod Faulted
 pub mod Flows
 pub mod Follows
 pub mod Fronts
 pub mod HeldPages
+pub mod HugeKept
+pub mod HugeMoved
 pub mod Judged
 pub mod Judging
 pub mod Keeping
 pub mod Mapped
 pub mod Migrating
 pub mod Moving
+pub mod Parts
+pub mod PartsTouched
 pub mod Populating
 mod Rows
 pub mod Served

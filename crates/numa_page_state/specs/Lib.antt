@@ -1,3 +1,4 @@
+pub mod Huge
 pub mod Lying
 pub mod Outcomes
 pub mod Sending

@@ -121,7 +121,7 @@ fn lies_astray(space: &Space, state: &Option<PageState>, said: &Binding) -> bool
 }
 
 /// The number of pages that so many bytes reach into.
-pub(crate) fn page_count(length: u64) -> u64
+pub fn page_count(length: u64) -> u64
     ensures pages { result ≡ page_count length }
     ensures at_most { result ≤ 2 ^ 52 }
 {

@@ -9,11 +9,13 @@
 #![tactic(auto)]
 
 pub mod arrived;
+mod beside;
 pub mod between;
 pub mod binding;
 mod counts;
 pub mod forgetting;
 mod frames;
+pub mod huge;
 pub mod last;
 pub mod laws;
 pub mod lending;
@@ -26,6 +28,7 @@ pub mod touching;
 pub use arrived::Arrived;
 pub use binding::{Binding, has_astray, is_late_in, strict_binding_in};
 pub use counts::add;
+pub use huge::{HugeSpan, huge_span};
 pub use last::{Departures, Last};
 pub use sending::{
     Rebinding, Sending, Toucher, rebinding_in, sent, sent_from, settle, settled, tells_left,

@@ -6,10 +6,8 @@ ghost use Rattle.numa_placed.specs.Binds.{Asked};
 ghost use Rattle.numa_placed.specs.Refusals.{span_cause};
 ghost use Rattle.numa_page_state.specs.Lying.{Lying, process_in};
 ghost use Rattle.numa_page_state.specs.Outcomes.{cause_by, is_starved, lack_told};
-ghost use Rattle.numa_page_state.specs.Sending.{below_end, command_of, lacks_room};
-ghost use Rattle.numa_page_state.specs.Sending.{rebinding_in};
-ghost use Rattle.numa_page_state.specs.Sending.{sent_spots, tells_left};
-ghost use Rattle.numa_page_state.specs.Sending.{with_sent};
+ghost use Rattle.numa_page_state.specs.Sending.{below_end, command_of, lacks_room, rebinding_in};
+ghost use Rattle.numa_page_state.specs.Sending.{sent_spots, tells_left, with_sent};
 ghost use Rattle.numa_page_state.specs.Standing.{HasPolicy, HasSent, Lies, LiesAs, Sends};
 ghost use Rattle.numa_page_state.specs.Standing.{asked_for};
 ghost use Rattle.numa_space.specs.Refusals.{refusal_of};
@@ -77,7 +75,7 @@ fn lacks_room(refusal: Refusal) -> bool
 }
 
 /// Drops a space, which takes many steps.
-fn let_go(space: Space) {
+pub(crate) fn let_go(space: Space) {
     drop(space);
 }
 
@@ -85,7 +83,11 @@ fn let_go(space: Space) {
 ///
 /// # Errors
 /// `NoMemory`: there is no memory for it.
-fn with_policy(alloc: Global, space: &Space, said: &Rebinding) -> Result<Option<Space>, NoMemory>
+pub(crate) fn with_policy(
+    alloc: Global,
+    space: &Space,
+    said: &Rebinding,
+) -> Result<Option<Space>, NoMemory>
     ensures { IfOk result (λ found. (history : List Command) → StandsFor space.now history
         → MatchOption found
         (is_some (refusal_of space.now.machine space.now.bounds history (command_of said.now))

@@ -16,7 +16,7 @@ use numa_space::Space;
 ///
 /// # Errors
 /// As [`Placed::populate`].
-fn touch(
+pub(crate) fn touch(
     placed: &mut Placed,
     rooms: &mut Option<Rooms>,
     space: &Space,
