@@ -12,15 +12,19 @@ use Rattle.numa_requests.specs.declared.page_refusal.PlacedRefusal.TheVariants a
 use Rattle.numa_core.specs.World.{Setup, World, newest_published}
 use Rattle.numa_core.specs.Steps.{IsAnswer, accept_answer, world_after}
 use Rattle.numa_core.specs.Standing.{CoreState, CoreStandsFor, setup_of}
+use Rattle.numa_huge.specs.Moves.{HugeMemory}
+use Rattle.numa_huge.specs.Tallies.{StandsForHuge}
+use Rattle.numa_huge.specs.declared.pages.HugePages.{HugePages}
 use Rattle.numa_page_state.specs.Lying.{Lying}
 use Rattle.numa_page_state.specs.Outcomes.{Enough, Lack}
 use Rattle.numa_page_state.specs.Standing.{Lies}
 use Rattle.numa_page_state.specs.declared.state.PageState.{PageState}
 use Rattle.numa_script.specs.Replies.{reply_to}
 use Rattle.numa_script.specs.declared.reply.Reply.{Reply}
-use Rattle.numa_run.specs.Answering.{Replied, Served, with_reply}
-use Rattle.numa_run.specs.Obeying.{accepted_outcome, command_reply, lying_so, with_lying}
-use Rattle.numa_run.specs.Standing.{RunsAs, Serves}
+use Rattle.numa_run.specs.Answering.{Served, with_reply}
+use Rattle.numa_run.specs.Obeying.{accepted_outcome, command_reply, is_accepted, lying_so}
+use Rattle.numa_run.specs.Obeying.{with_lying}
+use Rattle.numa_run.specs.Standing.{RunsAs, Serves, ServesIn}
 use Rattle.numa_run.specs.States.{State, setup_with}
 use Rattle.numa_run.specs.Work.{event_answer}
 use Rattle.numa_run.specs.declared.running.Running.{Running}
@@ -34,13 +38,7 @@ Accepts old command version new = (world : World) → CoreStandsFor old world
     × CoreStandsFor new (world_after (setup_of old) world (newest_published world)
     (Accept command) (accept_answer version))
 
--- a line comes to this in one state
-abbrev pub ServesIn : Running → Reply → Running → (Lack → Hardware → State → Served) → State
-    → Type 0
-ServesIn old answer new serve state = (lack : Lack)
-    × ((serve lack old.core.space.machine state).answer ≡ Replied answer)
-    × RunsAs new (serve lack old.core.space.machine state).state
-
+-- what a line comes to in one state
 pub served : (old new : Running) (answer : Reply) (serve : Lack → Hardware → State → Served)
     (state after : State) (lack : Lack)
     → serve lack old.core.space.machine state ≡ with_reply answer after → RunsAs new after
@@ -54,11 +52,17 @@ served old new answer serve state after lack is runs = (
 -- a machine that is as it was
 pub kept-pages : (running : Running) (state : State) (pages : Option PageState)
     → RunsAs running state → Lies pages state.lying
-    → RunsAs (record { core = running.core; resident = running.resident; pages = pages }) state
+    → RunsAs (record {
+      core = running.core;
+      resident = running.resident;
+      pages = pages;
+      huge = running.huge;
+    }) state
 kept-pages running state pages stands lies = record {
   core = stands.core;
   resident = stands.resident;
   lies = lies;
+  huge = stands.huge;
 }
 
 -- the core has 4 workers, and the limits of the state
@@ -82,8 +86,12 @@ module _ (old : Running) (command : Command) (version : Result ℕ Refusal) (cor
   abbrev pub shown : Setup → Result CoreReply CoreRefusal → Served
   shown s told = with_reply (reply_to told) (state_by s told)
 
+  -- more that is so where the core accepted the command
+  abbrev pub also : (Served → Served) → Setup → Result CoreReply CoreRefusal → Served
+  also more s told = if is_ok told then more (shown s told) else shown s told
+
   abbrev pub laid : Lying → Setup → Result CoreReply CoreRefusal → Served
-  laid lying s told = if is_ok told then with_lying lying (shown s told) else shown s told
+  laid lying = also (with_lying lying)
 
   abbrev pub state_then : State
   state_then = state_by (setup_of old.core) (accept_answer version)
@@ -97,10 +105,11 @@ module _ (old : Running) (command : Command) (version : Result ℕ Refusal) (cor
   told = answer-told (setup_of old.core) state.world (Accept command) (accept_answer version)
       (accepts state.world stands.core.world).0
 
-  pub runs-then : (pages : Option PageState) (lying : Lying) → Lies pages lying
-      → RunsAs (record { core = core; resident = old.resident; pages = pages })
-      (record state_then { lying = lying })
-  runs-then pages lying lies = record {
+  pub runs-both : (pages : Option PageState) (lying : Lying) (huge : Option HugePages)
+      (memory : Option HugeMemory) → Lies pages lying → StandsForHuge huge memory
+      → RunsAs (record { core = core; resident = old.resident; pages = pages; huge = huge })
+      (record state_then { lying = lying; huge = memory })
+  runs-both pages lying huge memory lies kept = record {
     core = record {
       bounds = stands.core.bounds ∙ sym (ap (λ (s : Setup). s.bounds) same);
       machine = stands.core.machine ∙ ap (λ (s : Setup). Some s.machine) (sym same);
@@ -109,7 +118,13 @@ module _ (old : Running) (command : Command) (version : Result ℕ Refusal) (cor
     };
     resident = stands.resident;
     lies = lies;
+    huge = kept;
   }
+
+  pub runs-then : (pages : Option PageState) (lying : Lying) → Lies pages lying
+      → RunsAs (record { core = core; resident = old.resident; pages = pages; huge = old.huge })
+      (record state_then { lying = lying })
+  runs-then pages lying lies = runs-both pages lying old.huge state.huge lies stands.huge
 
   pub accepted-is : (lack : Lack) → IsTold lack
       → accepted_outcome lack old.core.space.machine state command
@@ -119,13 +134,20 @@ module _ (old : Running) (command : Command) (version : Result ℕ Refusal) (cor
       (setup-is old state stands)
       ∙ ap (shown (setup_of old.core)) (sym is)
 
+  pub also-is : (lack : Lack) → IsTold lack → (more : Served → Served)
+      → (if is_accepted lack old.core.space.machine state command
+      then more (accepted_outcome lack old.core.space.machine state command)
+      else accepted_outcome lack old.core.space.machine state command)
+      ≡ also more (setup_of old.core) (accept_answer version)
+  also-is lack is more =
+      ap (λ (s : Setup). also more s (event_answer lack s state.world (Accept command)))
+      (setup-is old state stands)
+      ∙ ap (also more (setup_of old.core)) (sym is)
+
   pub laid-is : (lack : Lack) → IsTold lack → (lying : Lying)
       → lying_so lack old.core.space.machine state command lying
       ≡ laid lying (setup_of old.core) (accept_answer version)
-  laid-is lack is lying =
-      ap (λ (s : Setup). laid lying s (event_answer lack s state.world (Accept command)))
-      (setup-is old state stands)
-      ∙ ap (laid lying (setup_of old.core)) (sym is)
+  laid-is lack is lying = also-is lack is (with_lying lying)
 
   -- it was answered so with memory, or nothing was done for lack of it
   pub starved-or : IsTold Enough
@@ -139,12 +161,11 @@ module _ (old : Running) (command : Command) (version : Result ℕ Refusal) (cor
 pub accepted : (old : Running) (command : Command) (version : Result ℕ Refusal) (core : CoreState)
     → Accepts old.core command version core → setup_of core ≡ setup_of old.core
     → Serves old (reply_to (accept_answer version))
-    (record { core = core; resident = old.resident; pages = old.pages })
+    (record old { core = core })
     (λ lack machine state. accepted_outcome lack machine state command)
 accepted old command version core accepts same = λ state stands.
     let here = told old command version core accepts same state stands in
-    served old (record { core = core; resident = old.resident; pages = old.pages })
-    (reply_to (accept_answer version))
+    served old (record old { core = core }) (reply_to (accept_answer version))
     (λ lack machine s. accepted_outcome lack machine s command) state
     (state_then old command version core accepts same state stands) here.0
     (accepted-is old command version core accepts same state stands here.0 here.1)

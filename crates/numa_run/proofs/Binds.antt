@@ -23,12 +23,14 @@ use Rattle.numa_core.specs.Steps.{accept_answer, because, refused_or, reply_of, 
 use Rattle.numa_core.specs.Standing.{CoreState, setup_of}
 use Rattle.numa_space.specs.Refusals.{refusal_of}
 use Rattle.numa_space.specs.Standing.{StandsFor}
+use Rattle.numa_huge.specs.Moves.{HugeMemory}
+use Rattle.numa_huge.specs.Tallies.{StandsForHuge}
 use Rattle.numa_page_state.specs.Lying.{Lying, Process}
 use Rattle.numa_page_state.specs.Outcomes.{Enough, Lack, Starved, is_starved, lack_of, lack_told}
 use Rattle.numa_page_state.specs.Sending.{asked_of, command_of, rebinding_in, sent_in, sent_spots}
 use Rattle.numa_page_state.specs.Sending.{tells_left, with_sent}
 use Rattle.numa_page_state.specs.Standing.{HasSent, Lies, Sends}
-use Rattle.numa_page_state.specs.Strict.{has_astray, is_late, strict_binding_in}
+use Rattle.numa_page_state.specs.Strict.{is_late, strict_binding_in}
 use Rattle.numa_page_state.specs.declared.binding.Binding.{Binding}
 use Rattle.numa_page_state.specs.declared.sending.Rebinding.{Rebinding}
 use Rattle.numa_page_state.specs.declared.sending.Sending.{Sending}
@@ -41,16 +43,17 @@ use Rattle.numa_script.specs.declared.policy.WordError.{WordError}
 use Rattle.numa_script.specs.declared.reply.Reply.{Reply}
 use Rattle.numa_script.specs.declared.reply.Reply.TheVariants as reply
 use Rattle.numa_run.specs.Answering.{Served, with_reply}
-use Rattle.numa_run.specs.Obeying.{accepted_outcome, astray_outcome, bound_command, bound_outcome}
-use Rattle.numa_run.specs.Obeying.{command_reply, judged_by, moved_by, sent_outcome, sent_unless}
-use Rattle.numa_run.specs.Obeying.{sent_where, toucher_of, unless_pages}
-use Rattle.numa_run.specs.Standing.{RunsAs, Serves}
+use Rattle.numa_run.specs.Obeying.{accepted_outcome, any_astray, astray_outcome, bound_command}
+use Rattle.numa_run.specs.Obeying.{bound_outcome, command_reply, judged_by, moved_by}
+use Rattle.numa_run.specs.Obeying.{sent_outcome, sent_unless, sent_where, sent_with, toucher_of}
+use Rattle.numa_run.specs.Obeying.{unless_pages}
+use Rattle.numa_run.specs.Standing.{IsFound, RunsAs, Serves, ServesIn}
 use Rattle.numa_run.specs.States.{State, process_on, setup_with}
 use Rattle.numa_run.specs.Work.{event_answer, unless_wanting, want_of}
 use Rattle.numa_run.specs.declared.running.Running.{Running}
 use Rattle.numa_run.proofs.Accepting.{Accepts, accepted-is, kept-pages, runs-then, served}
-use Rattle.numa_run.proofs.Accepting.{serves-by}
-use Rattle.numa_run.proofs.Accepting.{starved-or, state_then}
+use Rattle.numa_run.proofs.Accepting.{serves-by, starved-or, state_then}
+use Rattle.numa_run.proofs.Keeping.{none-huge}
 use Rattle.numa_run.proofs.Processes.{process-same, process_by}
 
 -- ---- a command that something stands against
@@ -79,7 +82,7 @@ refused-alike machine state command lack some =
 
 -- ---- mbind .. strict
 
-late-where : (rules : Rules) (first : Option Refusal) → is_late rules first ≡ false
+pub late-where : (rules : Rules) (first : Option Refusal) → is_late rules first ≡ false
     → is_some first ≡ true
 late-where rules None late = cc
 late-where rules (Some refusal) late = refl
@@ -101,16 +104,18 @@ module _ (old : Running) (command : Command) where
 
   module _ (binding : Binding) (sets : strict_binding_in command ≡ Some binding)
       (astray : Bool)
-      (found : (lying : Lying) (history : List Command) → Lies old.pages lying
-      → StandsFor old.core.space history
-      → astray ≡ has_astray (process_by old.core.space history old.resident) lying.spots
+      (found : (lying : Lying) (memory : Option HugeMemory) (history : List Command)
+      → Lies old.pages lying → StandsForHuge old.huge memory → StandsFor old.core.space history
+      → astray ≡ any_astray memory (process_by old.core.space history old.resident) lying.spots
       binding) where
     is-astray : (state : State) → RunsAs old state
-        → has_astray (process_on old.core.space.machine state) state.lying.spots binding ≡ astray
+        → any_astray state.huge (process_on old.core.space.machine state) state.lying.spots
+        binding ≡ astray
     is-astray state stands =
-        ap (λ (p : Process). has_astray p state.lying.spots binding)
+        ap (λ (p : Process). any_astray state.huge p state.lying.spots binding)
         (sym (process-same old state stands))
-        ∙ sym (found state.lying state.world.history stands.lies stands.core.world.space)
+        ∙ sym (found state.lying state.huge state.world.history stands.lies stands.huge
+        stands.core.world.space)
 
     judged-is : (lack : Lack) (state : State) → RunsAs old state
         → judges lack old.core.space.machine state
@@ -189,7 +194,7 @@ module _ (old : Running) (command : Command) where
 
 -- ---- mbind .. move
 
-starved-why : (why : PlacedRefusal) → is_starved (lack_told why) ≡ true → why ≡ cause.NoMemory
+pub starved-why : (why : PlacedRefusal) → is_starved (lack_told why) ≡ true → why ≡ cause.NoMemory
 starved-why cause.NoMemory is = refl
 starved-why cause.Unaligned is = cc
 starved-why cause.OutOfSpace is = cc
@@ -206,7 +211,7 @@ starved-why cause.TooManyRuns is = cc
 same-version : (one other : ℕ) → accept_answer (Ok one) ≡ Ok (Accepted other) → one ≡ other
 same-version one other is = cc
 
-accepted-version : (s : Setup) (state : State) (command : Command) (version : ℕ)
+pub accepted-version : (s : Setup) (state : State) (command : Command) (version : ℕ)
     → refusal_of s.machine s.bounds state.world.history command ≡ None
     → accept_answer (Ok version) ≡ event_answer Enough s state.world (Accept command)
     → version ≡ suc (length state.world.history)
@@ -238,7 +243,7 @@ module _ (old : Running) (said : Rebinding) (words : MoveWords) (pages : Option 
   sends-that found wanted is all = subst SendsFrom is all
 
   abbrev pub here : Running
-  here = record { core = old.core; resident = old.resident; pages = pages }
+  here = record { core = old.core; resident = old.resident; pages = pages; huge = old.huge }
 
   sends-here : (found : Result (Option Sending) PlacedRefusal) → SendsFrom found
       → (state : State) → RunsAs old state
@@ -247,6 +252,16 @@ module _ (old : Running) (said : Rebinding) (words : MoveWords) (pages : Option 
       subst (λ (p : Process). Sends p said (toucher_of words) state.lying found)
       (process-same old state stands)
       (all state.world.history state.lying stands.core.world.space stands.lies)
+
+  -- pages of 2 MiB may go too
+  pub send-both : (new : Running) (answer : Reply) (sent : Sending)
+      → SendsFrom (Ok (Some sent))
+      → ((state : State) → RunsAs here state
+      → IsFound old.core.space.machine state said words sent → ServesIn here answer new sends state)
+      → Serves old answer new sends
+  send-both new answer sent all serves = λ state stands.
+      serves state (kept-pages old state pages stands (lies state.lying stands.lies))
+      (sends-here (Ok (Some sent)) all state stands)
 
   passes : (o : Option Refusal) (machine : Hardware) (state : State) → is_some o ≡ true
       → sent_unless Enough o machine state said words
@@ -303,26 +318,27 @@ module _ (old : Running) (said : Rebinding) (words : MoveWords) (pages : Option 
     -- memory lacked when the policy was to be set
     pub send-starved : (refusal : Refusal) → Accepts old.core (command_of said) (Err refusal) core
         → Serves old (command_reply cause.NoMemory)
-        (record { core = core; resident = old.resident; pages = pages }) sends
+        (record { core = core; resident = old.resident; pages = pages; huge = old.huge }) sends
     send-starved refusal accepts = λ state stands.
-        served old (record { core = core; resident = old.resident; pages = pages })
+        served old (record { core = core; resident = old.resident; pages = pages; huge = old.huge })
         (command_reply cause.NoMemory) sends state state Starved refl
         (runs-then old (command_of said) (Err refusal) core accepts same state stands pages
         state.lying (lies state.lying stands.lies))
 
-    -- the policy is set, and the pages went
-    pub send-done : (version : ℕ) (done : Sending) (pages_then : Option PageState) (late : Bool)
-        → Accepts old.core (command_of said) (Ok version) core → SendsFrom (Ok (Some done))
+    -- the policy is set, and the pages went, of which none has 2 MiB
+    pub send-done : old.huge ≡ None → (version : ℕ) (done : Sending)
+        (pages_then : Option PageState) (late : Bool) → Accepts old.core (command_of said) (Ok version) core → SendsFrom (Ok (Some done))
         → ((lying : Lying) (kept : Kept) (asked : Asked) → Lies pages lying
         → HasSent done kept asked lying → Lies pages_then (with_sent kept asked lying))
         → late ≡ tells_left words.strict said.spec done.left
         → Serves old (reply.Sent version done.moved done.left late)
-        (record { core = core; resident = old.resident; pages = pages_then }) sends
-    send-done version done pages_then late accepts all settles tells = λ state stands.
+        (record { core = core; resident = old.resident; pages = pages_then; huge = old.huge }) sends
+    send-done plain version done pages_then late accepts all settles tells = λ state stands.
         let new : Running = record {
           core = core;
           resident = old.resident;
           pages = pages_then;
+          huge = old.huge;
         } in
         let machine = old.core.space.machine in
         let so = sends-here (Ok (Some done)) all state stands in
@@ -347,7 +363,8 @@ module _ (old : Running) (said : Rebinding) (words : MoveWords) (pages : Option 
               ≡ with_reply (reply.Sent version done.moved done.left late)
               (record (accepted_outcome Enough machine state (command_of said)).state {
                 lying = lying;
-              }) = λ i. with_reply
+              }) = ap (λ (m : Option HugeMemory). sent_with m machine state said words)
+              (none-huge old.huge state.huge plain stands.huge) ∙ λ i. with_reply
               (reply.Sent (sym counts i) (sym so.1.moved i) (sym so.1.left i) (sym lateness i))
               (record (accepted_outcome Enough machine state (command_of said)).state {
                 lying = lying;

@@ -1,7 +1,6 @@
 -- What a running machine does with commands and the lines of workers.
 use Rattle.std.proofs.Common.{◌≡◌, ℕ, Bool, true, false, Option, Some, None, Result, Ok, Err}
-use Rattle.std.proofs.Common.{is_some, refl}
-use Rattle.std.proofs.Common.{sym, ap, subst, ◌∙◌}
+use Rattle.std.proofs.Common.{is_some, refl, sym, ap, subst, ◌∙◌}
 use Rattle.std.specs.Prelude.{is_ok, is_err, if◌then◌else◌}
 use Rattle.numa_core.specs.World.{World, newest_published}
 use Rattle.numa_core.specs.Steps.{world_after, IsAnswer}
@@ -17,6 +16,8 @@ use Rattle.numa_requests.specs.declared.event.CoreReply.TheVariants as done
 use Rattle.numa_requests.specs.declared.event.CoreRefusal.{CoreRefusal}
 use Rattle.numa_requests.specs.declared.event.CoreRefusal.TheVariants.{NoMemory}
 use Rattle.numa_maps.specs.Residents.{Kept, placed_at, with_placement, without_page}
+use Rattle.numa_huge.specs.Tallies.{StandsForHuge}
+use Rattle.numa_huge.specs.declared.pages.HugePages.{HugePages}
 use Rattle.numa_page_state.specs.Outcomes.{Enough, Lack, Starved}
 use Rattle.numa_page_state.specs.Standing.{Lies}
 use Rattle.numa_page_state.specs.declared.state.PageState.{PageState}
@@ -47,10 +48,14 @@ Touches old w request answer new =
 abbrev pub state_at : State → World → Kept → State
 state_at state world kept = record state { world = world; resident = kept }
 
+-- pages lie as they did
+abbrev pub SamePages : Running → Running → Type 0
+SamePages old new = (new.pages ≡ old.pages) × (new.huge ≡ old.huge)
+
 -- a running machine with another core and placed pages
 pub moved : (old new : Running) (state : State) (world : World) (kept : Kept) → RunsAs old state
     → setup_of new.core ≡ setup_of old.core → CoreStandsFor new.core world → new.resident ≡ kept
-    → new.pages ≡ old.pages → RunsAs new (state_at state world kept)
+    → SamePages old new → RunsAs new (state_at state world kept)
 moved old new state world kept stands same reached resident pages = record {
   core = record {
     bounds = stands.core.bounds ∙ sym (ap (λ s. s.bounds) same);
@@ -59,23 +64,25 @@ moved old new state world kept stands same reached resident pages = record {
     world = reached;
   };
   resident = resident;
-  lies = subst (λ (p : Option PageState). Lies p state.lying) (sym pages) stands.lies;
+  lies = subst (λ (p : Option PageState). Lies p state.lying) (sym pages.0) stands.lies;
+  huge = subst (λ (h : Option HugePages). StandsForHuge h state.huge) (sym pages.1) stands.huge;
 }
 
 -- the same core and pages stand for the same state
 pub same-core : (old new : Running) (state : State) → new.core ≡ old.core
-    → new.resident ≡ old.resident → new.pages ≡ old.pages → RunsAs old state → RunsAs new state
+    → new.resident ≡ old.resident → SamePages old new → RunsAs old state → RunsAs new state
 same-core old new state core resident pages stands = record {
   core = subst (λ (c : CoreState). IsCoreIn c state) (sym core) stands.core;
   resident = resident ∙ stands.resident;
-  lies = subst (λ (p : Option PageState). Lies p state.lying) (sym pages) stands.lies;
+  lies = subst (λ (p : Option PageState). Lies p state.lying) (sym pages.0) stands.lies;
+  huge = subst (λ (h : Option HugePages). StandsForHuge h state.huge) (sym pages.1) stands.huge;
 }
 
 -- ---- one event
 
 pub does-event : (old new : Running) (event : Event) (answer : Result CoreReply CoreRefusal)
     → Steps old.core event answer new.core → setup_of new.core ≡ setup_of old.core
-    → new.resident ≡ old.resident → new.pages ≡ old.pages
+    → new.resident ≡ old.resident → SamePages old new
     → Does old (reply_to answer) new
     (λ lack state. event_outcome lack (setup_of old.core) state.world state.resident event)
 does-event old new event answer steps same resident pages =
@@ -99,7 +106,7 @@ does-event old new event answer steps same resident pages =
 given : (old new : Running) (lack : Lack) (w : ℕ) (frame : Frame)
     (answer : Result CoreReply CoreRefusal) (kept : Kept)
     → Steps old.core (Give w frame) answer new.core → setup_of new.core ≡ setup_of old.core
-    → new.resident ≡ kept → new.pages ≡ old.pages → (state : State) → RunsAs old state
+    → new.resident ≡ kept → SamePages old new → (state : State) → RunsAs old state
     → RunsAs new
     (state_at state (event_world lack (setup_of old.core) state.world (Give w frame)) kept)
 given old new lack w frame answer kept steps same resident pages state stands =
@@ -118,7 +125,7 @@ given old new lack w frame answer kept steps same resident pages state stands =
 
 pub keeps : (old new : Running) (w : ℕ) (placement : Placement) → new.core ≡ old.core
     → placed_at old.resident placement.page ≡ None
-    → new.resident ≡ with_placement old.resident placement → new.pages ≡ old.pages
+    → new.resident ≡ with_placement old.resident placement → SamePages old new
     → Does old (reply.Won (win_of placement)) new
     (λ lack state. kept_outcome lack (setup_of old.core) state.world state.resident w
     placement)
@@ -146,7 +153,7 @@ keeps old new w placement core free resident pages =
 pub gives-taken : (old new : Running) (w : ℕ) (placement : Placement)
     (answer : Result CoreReply CoreRefusal) → Steps old.core (Give w placement.frame) answer
     new.core → setup_of new.core ≡ setup_of old.core
-    → new.resident ≡ old.resident → new.pages ≡ old.pages
+    → new.resident ≡ old.resident → SamePages old new
     → is_some (placed_at old.resident placement.page) ≡ true
     → Does old (reply.Back placement.frame) new
     (λ lack state. kept_outcome lack (setup_of old.core) state.world state.resident w
@@ -170,7 +177,7 @@ gives-taken old new w placement answer steps same resident pages taken =
 pub gives-starved : (old new : Running) (w : ℕ) (placement : Placement)
     (answer : Result CoreReply CoreRefusal) → Steps old.core (Give w placement.frame) answer
     new.core → setup_of new.core ≡ setup_of old.core
-    → new.resident ≡ old.resident → new.pages ≡ old.pages
+    → new.resident ≡ old.resident → SamePages old new
     → placed_at old.resident placement.page ≡ None
     → Does old (reply.Refused NoMemory) new
     (λ lack state. kept_outcome lack (setup_of old.core) state.world state.resident w
@@ -207,7 +214,7 @@ none_won done.Given none = refl
 touched-there : (old mid : Running) (w : ℕ) (request : Request)
     (answer : Result CoreReply CoreRefusal) → Touches old.core w request answer mid.core
     → setup_of mid.core ≡ setup_of old.core → mid.resident ≡ old.resident
-    → mid.pages ≡ old.pages → (state : State) → RunsAs old state
+    → SamePages old mid → (state : State) → RunsAs old state
     → RunsAs mid
     (state_at state (result_of_touch (setup_of old.core) state.world w request).world
     state.resident)
@@ -220,7 +227,7 @@ touched-there old mid w request answer touches same resident pages state stands 
 pub touches-nothing : (old new : Running) (w : ℕ) (request : Request)
     (answer : Result CoreReply CoreRefusal) → Touches old.core w request answer new.core
     → setup_of new.core ≡ setup_of old.core
-    → new.resident ≡ old.resident → new.pages ≡ old.pages → won_by answer ≡ None
+    → new.resident ≡ old.resident → SamePages old new → won_by answer ≡ None
     → Does old (reply_to answer) new
     (λ lack state. touch_outcome lack (setup_of old.core) state.world state.resident w
     request)
@@ -242,7 +249,7 @@ touches-nothing old new w request answer touches same resident pages lost =
 pub touches-won : (old mid new : Running) (w : ℕ) (request : Request)
     (answer : Result CoreReply CoreRefusal) (placement : Placement) (said : Reply)
     → Touches old.core w request answer mid.core → setup_of mid.core ≡ setup_of old.core
-    → mid.resident ≡ old.resident → mid.pages ≡ old.pages → won_by answer ≡ Some placement
+    → mid.resident ≡ old.resident → SamePages old mid → won_by answer ≡ Some placement
     → Does mid said new (λ lack state. kept_outcome lack (setup_of mid.core) state.world
     state.resident w placement)
     → Does old said new (λ lack state. touch_outcome lack (setup_of old.core) state.world
@@ -272,7 +279,7 @@ pub releases : (old new : Running) (w page : ℕ) (placement : Placement)
     new.core → setup_of new.core ≡ setup_of old.core
     → placed_at old.resident page ≡ Some placement
     → new.resident ≡ (if is_ok answer then without_page old.resident page else old.resident)
-    → new.pages ≡ old.pages
+    → SamePages old new
     → Does old (reply_to answer) new
     (λ lack state. release_outcome lack (setup_of old.core) state.world state.resident w page)
 releases old new w page placement answer steps same there resident pages =

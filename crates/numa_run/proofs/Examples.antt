@@ -176,6 +176,7 @@ bound = record {
   world = world;
   resident = [];
   lying = nothing;
+  huge = None;
 }
 
 bound-page : answer_to Enough bound (codes "place 1 0x10fff 0") ≡ codes "v2: 1\n"
@@ -297,6 +298,7 @@ published = record {
   };
   resident = [];
   lying = nothing;
+  huge = None;
 }
 
 -- the first frame of node 1 is worker 0's, and kept for page 16
@@ -326,6 +328,7 @@ resident = record {
   };
   resident = (16, placed) ∷ [];
   lying = nothing;
+  huge = None;
 }
 
 publish-both : answer_to Enough bound (codes "publish") ≡ codes "published 2\n"

@@ -4,11 +4,15 @@ use Rattle.std.proofs.Common.{arith}
 use Rattle.std.proofs.Common.{subst}
 use Rattle.std.specs.List.{flat_map, range_with_len}
 use Rattle.numa_machine.proofs.Nodes.{flat_map-range_more}
-use Rattle.std.specs.Prelude.{codes, decimal, slice_index}
+use Rattle.std.specs.Prelude.{◌==◌, codes, decimal, if◌then◌else◌, slice_index}
 use Rattle.numa_placed.specs.declared.moved.Moved.{Moved}
 use Rattle.numa_page_state.specs.Lying.{LastMove, OfNodes, OfPages, Sent, Told}
 use Rattle.numa_page_state.specs.Standing.{LastAs, SentAs, TellsOf, sent_by, told_in}
-use Rattle.numa_run.specs.MovedTexts.{all_flows_text, flow_text, flows_text, last_line}
+use Rattle.numa_huge.specs.Moves.{HugeTold}
+use Rattle.numa_huge.specs.Tallies.{HasTold, flow_of, left_of, moved_of}
+use Rattle.numa_huge.specs.declared.last.HugeLast.{HugeLast}
+use Rattle.numa_run.specs.MovedTexts.{added_line, all_flows_text, flow_of_last, flow_text}
+use Rattle.numa_run.specs.MovedTexts.{flows_text, last_line, last_of, left_last, moved_last}
 use Rattle.numa_run.specs.MovedTexts.{told_line}
 use Rattle.numa_script.specs.PageTexts.{moved_words}
 use Rattle.numa_page_state.specs.declared.last.Departures.{Departures}
@@ -76,7 +80,7 @@ pub sent-same : (version : ℕ) (done : Departures) (sent : Sent) → SentAs don
     → last_line version (OfPages (sent_by done)) ≡ last_line version (OfPages sent)
 sent-same version done sent tells =
     let flows : all_flows_text (sent_by done).flow ≡ all_flows_text sent.flow =
-    all-alike (sent_by done).flow sent.flow tells.flow in
+    all-alike (sent_by done).flow sent.flow (λ from to low high. tells.flow from to) in
     λ i. told_line version (tells.moved i) (tells.left i) (flows i)
 
 -- the last move, said
@@ -101,3 +105,51 @@ pages-told version gone last done is tells =
         → last_line version (OfPages (sent_by gone)) ≡ last_line version at
     by (OfNodes told) so = absurd so
     by (OfPages sent) so = sent-same version gone sent so
+
+-- ---- of pages of both sizes
+
+-- how many went from a node to another is told so
+by-node : (moved : Moved) (told : Told) → TellsOf moved told → (from to : ℕ) → from < 256
+    → flow_of_last (OfNodes (told_in moved)) from to ≡ flow_of_last (OfNodes told) from to
+by-node moved told tells from to low =
+    ap (λ (n : ℕ). if n == to then slice_index moved.from from else 0) (tells.to from low)
+    ∙ ap (λ (n : ℕ). if told.to from == to then n else 0) (tells.from from low)
+
+pub small-flows : (last : Last) (done : LastMove) → LastAs last done → (from to : ℕ) → from < 256
+    → flow_of_last (last_of last) from to ≡ flow_of_last done from to
+small-flows (went.Nodes moved) (OfNodes told) tells from to low = by-node moved told tells from to
+    low
+small-flows (went.Nodes moved) (OfPages sent) tells from to low = absurd tells
+small-flows (went.Pages gone) (OfNodes told) tells from to low = absurd tells
+small-flows (went.Pages gone) (OfPages sent) tells from to low = tells.flow from to
+
+pub moved-told : (last : Last) (done : LastMove) → LastAs last done
+    → moved_last (last_of last) ≡ moved_last done
+moved-told (went.Nodes moved) (OfNodes told) tells = tells.moved
+moved-told (went.Nodes moved) (OfPages sent) tells = absurd tells
+moved-told (went.Pages gone) (OfNodes told) tells = absurd tells
+moved-told (went.Pages gone) (OfPages sent) tells = tells.moved
+
+pub left-told : (last : Last) (done : LastMove) → LastAs last done
+    → left_last (last_of last) ≡ left_last done
+left-told (went.Nodes moved) (OfNodes told) tells = tells.left
+left-told (went.Nodes moved) (OfPages sent) tells = absurd tells
+left-told (went.Pages gone) (OfNodes told) tells = absurd tells
+left-told (went.Pages gone) (OfPages sent) tells = tells.left
+
+-- what is kept of both, said
+pub added-told : (version : ℕ) (last : Last) (done : LastMove) (huge : HugeLast)
+    (told : HugeTold) → LastAs last done → HasTold huge told
+    → told_line version (moved_last (last_of last) + moved_of huge)
+    (left_last (last_of last) + left_of huge)
+    (all_flows_text (λ from to. flow_of_last (last_of last) from to + flow_of huge from to))
+    ≡ added_line version done told
+added-told version last done huge told lasts has =
+    let moved = moved-told last done lasts in
+    let left = left-told last done lasts in
+    let flows = all-alike
+    (λ from to. flow_of_last (last_of last) from to + flow_of huge from to)
+    (λ from to. flow_of_last done from to + told.flow from to)
+    (λ from to low high. λ i. small-flows last done lasts from to low i
+    + has.flow from to low high i) in
+    λ i. told_line version (moved i + has.moved i) (left i + has.left i) (flows i)

@@ -19,10 +19,10 @@ use Rattle.numa_script.specs.Replies.{LacksMemory, fault_in, is_fault}
 use Rattle.numa_run.specs.Judged.{fault_or, fault_of, asked_by, asked_fault, cause_at}
 use Rattle.numa_run.specs.Judged.{question_cause, question_refusal, IsStarved}
 use Rattle.numa_run.specs.Questions.{question_text}
-use Rattle.numa_run.specs.Listings.{there_listing}
+use Rattle.numa_run.specs.Listings.{both_listing}
 use Rattle.numa_page_state.specs.Outcomes.{Enough, Lack, is_starved, rooms_of}
 use Rattle.numa_run.specs.ArrivedTexts.{rooms_line}
-use Rattle.numa_run.specs.MovedTexts.{last_line}
+use Rattle.numa_run.specs.MovedTexts.{both_line}
 use Rattle.numa_run.specs.PageLines.{page_outcome}
 use Rattle.numa_run.specs.Replies.{Served, reply_in, with_text, outcome_of, served_by, served_later}
 use Rattle.numa_run.specs.Standing.{RunsAs}
@@ -75,7 +75,8 @@ pub listed-fault : (running : Running) (task : ℕ) (state : State) → RunsAs r
     → None ≡ fault_of Enough state (line.Maps task)
 listed-fault running task state stands =
     shown-fault (line.Maps task)
-    (there_listing (process_on (setup_of running.core).machine state) state.lying.spots task) state
+    (both_listing (process_on (setup_of running.core).machine state) state.lying.spots state.huge
+    task) state
     (served-is running (line.Maps task) Enough state stands) refl
 
 -- a line about pages that is answered a text and changes nothing
@@ -85,7 +86,7 @@ IsText said text = (lack : Lack) (machine : Hardware) (state : State)
 
 -- moved, and room alone
 abbrev pub last_text : State → List ℕ
-last_text state = last_line (length state.world.history) state.lying.last
+last_text state = both_line (length state.world.history) state.lying.last state.huge
 
 abbrev pub rooms_left : State → List ℕ
 rooms_left state = rooms_line (rooms_of state.lying.room)
@@ -126,6 +127,7 @@ starved-fault (reply.Refused cause) lacks = refl
 starved-fault (reply.HostRefused cause) lacks = refl
 starved-fault (reply.PlacedRefused cause) lacks = refl
 starved-fault (reply.MoveRefused cause) lacks = refl
+starved-fault (reply.HugeRefused cause) lacks = refl
 starved-fault reply.Silent lacks = absurd lacks
 starved-fault reply.BadWords lacks = absurd lacks
 starved-fault reply.BadState lacks = absurd lacks

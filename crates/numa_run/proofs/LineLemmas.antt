@@ -10,6 +10,8 @@ use Rattle.numa_machine.specs.declared.fault.MachineFault.TheVariants as machine
 use Rattle.numa_machine.specs.declared.rules.Rules.{Rules}
 use Rattle.numa_core.specs.World.{Setup, opening}
 use Rattle.numa_core.specs.Standing.{LeadsTo, setup_of}
+use Rattle.numa_huge.specs.Tallies.{StandsForHuge}
+use Rattle.numa_huge.specs.declared.pages.HugePages.{HugePages}
 use Rattle.numa_page_state.specs.Lying.{nothing}
 use Rattle.numa_page_state.specs.Outcomes.{Enough, Lack, Starved}
 use Rattle.numa_page_state.specs.Standing.{Lies}
@@ -21,14 +23,13 @@ use Rattle.numa_script.specs.declared.line.Line.{Line}
 use Rattle.numa_script.specs.declared.line.Line.TheVariants as line
 use Rattle.numa_script.specs.declared.page_line.PageLine.{PageLine}
 use Rattle.numa_run.specs.Answers.{State, reply_of, after}
-use Rattle.numa_run.specs.Listings.{there_listing}
+use Rattle.numa_run.specs.Listings.{both_listing}
 use Rattle.numa_run.specs.Machines.{limits_fit, nodes_with_cpus, hardware_of, has_bad_nodes}
 use Rattle.numa_run.specs.Machines.{first_fault}
 use Rattle.numa_run.specs.Questions.{question_text}
-use Rattle.numa_run.specs.Replies.{Replied, Served, reply_in, with_text}
-use Rattle.numa_run.specs.Replies.{with_reply, cpus_outcome, machine_unless, machine_outcome}
-use Rattle.numa_run.specs.Replies.{served_first, served_later, with_outcome}
-use Rattle.numa_run.specs.Replies.{served_by, outcome_of}
+use Rattle.numa_run.specs.Replies.{Replied, Served, reply_in, with_text, with_reply, cpus_outcome}
+use Rattle.numa_run.specs.Replies.{machine_unless, machine_outcome, served_first, served_later}
+use Rattle.numa_run.specs.Replies.{with_outcome, served_by, outcome_of}
 use Rattle.numa_run.specs.Standing.{RunsAs, Stands, Replies, Serves, Takes, Does}
 use Rattle.numa_run.specs.States.{process_on, setup_with}
 use Rattle.numa_run.specs.Work.{Outcome}
@@ -171,8 +172,9 @@ pub first_ready : (settings : Settings) (said : MachineLine) (memory : ℕ) (run
     ≡ None
     → setup_of running.core ≡ setup_with (described said memory settings.rules settings.cpus)
     settings.limits → LeadsTo [] running.core → running.resident ≡ [] → running.pages ≡ None
+    → running.huge ≡ None
     → Replies settings None (line.Machine said) (Some reply.Ready) settings (Some running)
-first_ready settings said memory running named sound setup leads resident pages =
+first_ready settings said memory running named sound setup leads resident pages huge =
     λ state stands.
     let hardware : Hardware = described said memory state.rules state.cpus in
     let ready : State = record state {
@@ -180,6 +182,7 @@ first_ready settings said memory running named sound setup leads resident pages 
       world = opening;
       resident = [];
       lying = nothing;
+      huge = None;
     } in
     let is : outcome_of Enough state (line.Machine said) ≡ with_reply reply.Ready ready =
     first_is settings (line.Machine said) Enough state stands
@@ -197,6 +200,7 @@ first_ready settings said memory running named sound setup leads resident pages 
       };
       resident = resident;
       lies = subst (λ (p : Option PageState). Lies p nothing) (sym pages) refl;
+      huge = subst (λ (h : Option HugePages). StandsForHuge h None) (sym huge) tt;
     } in (
       Enough,
       sym (ap (λ r. reply_in r.answer) is),
@@ -361,7 +365,8 @@ pub maps_have_none : (old new : Running) (said : Line) (task : ℕ) → said ≡
 maps_have_none old new said task is same =
     has_none old new said (line.Maps task) is same
     (shown_has_none new (line.Maps task)
-    (λ state. there_listing (process_on (setup_of new.core).machine state) state.lying.spots task)
+    (λ state. both_listing (process_on (setup_of new.core).machine state) state.lying.spots
+    state.huge task)
     (served-is new (line.Maps task) Enough))
 
 pub text_has_none : (asked : PageLine) (text : State → List ℕ) → IsText asked text

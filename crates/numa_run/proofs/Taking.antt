@@ -2,13 +2,11 @@
 use Rattle.std.proofs.Common.{◌≡◌, ℕ, Bool, true, false, Option, Some, None, List, refl}
 use Rattle.std.proofs.Common.{sym, ap, subst, ◌∙◌}
 use Rattle.std.specs.Prelude.{◌↔◌, IsSomeAnd, IsTrue, Ok}
-use Rattle.std.specs.Option.{option_map}
 use Rattle.numa_core.specs.Standing.{setup_of}
 use Rattle.numa_lines.proofs.Adding.{said_same}
 use Rattle.numa_lines.specs.Written.{Said}
 use Rattle.numa_lines.specs.declared.watched.Watched.{Watched}
 use Rattle.numa_machine.specs.Machine.{Hardware}
-use Rattle.numa_requests.specs.declared.event.CoreRefusal.{CoreRefusal}
 use Rattle.numa_page_state.specs.Outcomes.{Enough, Lack, Starved, is_starved}
 use Rattle.numa_script.specs.Replies.{LacksMemory}
 use Rattle.numa_script.specs.Texts.{text_of}
@@ -21,13 +19,15 @@ use Rattle.numa_script.specs.declared.page_line.PageLine.TheVariants as page
 use Rattle.numa_script.specs.declared.reply.Reply.{Reply}
 use Rattle.numa_script.specs.declared.reply.Reply.TheVariants as reply
 use Rattle.numa_run.specs.Answers.{State, after, answer_of, reply_of}
-use Rattle.numa_run.specs.Judged.{IsStarved, asked_fault, fault_of, fault_or, question_cause}
+use Rattle.numa_run.specs.Judged.{IsStarved, asked_fault, fault_of, fault_or}
 use Rattle.numa_run.specs.Questions.{question_text}
-use Rattle.numa_run.specs.Listings.{there_listing}
+use Rattle.numa_run.specs.HugeLines.{pools_answer, pools_answer_on, pools_on}
+use Rattle.numa_run.specs.Listings.{both_listing}
 use Rattle.numa_run.specs.PageLines.{arrived_text}
+use Rattle.numa_run.specs.PoolTexts.{pools_line}
 use Rattle.numa_run.specs.Replies.{Answer, Replied, Shown, Served, bytes_of, outcome_of, reply_in}
 use Rattle.numa_run.specs.Replies.{served_by, served_first, with_reply}
-use Rattle.numa_run.specs.Scripts.{IsTaken, ScriptStandsFor, ScriptTakes, ScriptTells, ScriptWrites}
+use Rattle.numa_run.specs.Scripts.{IsTaken, ScriptStandsFor, ScriptTakes, ScriptWrites}
 use Rattle.numa_run.specs.Scripts.{arrived_answer, arrived_on}
 use Rattle.numa_run.specs.Standing.{RunsAs, Stands, Takes}
 use Rattle.numa_run.specs.States.{process_on}
@@ -36,7 +36,7 @@ use Rattle.numa_run.specs.declared.running.Taken.{Taken}
 use Rattle.numa_run.specs.declared.running.Taken.TheVariants as taken
 use Rattle.numa_run.specs.declared.script.Script.{Script}
 use Rattle.numa_run.specs.declared.settings.Settings.{Settings}
-use Rattle.numa_run.proofs.JudgeLemmas.{IsText, asked-fault, asked-starved, faultless-starved}
+use Rattle.numa_run.proofs.JudgeLemmas.{IsText, asked-starved, faultless-starved}
 use Rattle.numa_run.proofs.JudgeLemmas.{last_text, listed-fault, moved-text, reply-starved}
 use Rattle.numa_run.proofs.JudgeLemmas.{rooms-text, rooms_left, served-is, text-fault}
 use Rattle.numa_run.proofs.JudgeLemmas.{text-served, told-judged}
@@ -44,11 +44,16 @@ use Rattle.numa_run.proofs.LineLemmas.{first_is, maps_have_none, question_has_no
 
 -- ---- taking
 
--- what was touched is told, once a machine is ready
-arrived-is : (running : Running) (state : State) → RunsAs running state
+-- what was touched is told, and what the pools have, once a machine is ready
+pub arrived-is : (running : Running) (state : State) → RunsAs running state
     → arrived_answer state ≡ Shown (arrived_text state)
 arrived-is running state stands =
     ap (λ (machine : Option Hardware). arrived_on machine state) stands.core.machine
+
+pub pools-is : (running : Running) (state : State) → RunsAs running state
+    → pools_answer state ≡ Shown (pools_line (pools_on (setup_of running.core).machine state))
+pools-is running state stands =
+    ap (λ (machine : Option Hardware). pools_answer_on machine state) stands.core.machine
 
 -- a line that a running machine takes
 pub taken-later : (old new : Running) (said : Line) (found : Taken) → Takes old said found new
@@ -78,6 +83,12 @@ taken-later old new said taken.Arrived takes = λ state stands.
         arrived-is new reached t.3 ∙ t.1,
         t.2,
       ),
+      t.3,
+    )
+taken-later old new said taken.Pools takes = λ state stands.
+    let t = takes state stands in (
+      t.0,
+      (ap reply_in (sym (pools-is new (after t.0 state said) t.3) ∙ t.1), t.1, t.2),
       t.3,
     )
 
@@ -134,14 +145,14 @@ text-same asked text shows lack state = by_machine state.machine
     by_machine (Some machine) = ap (λ (r : Served). r.state) (shows lack machine state)
 
 -- before a machine is ready they are refused
-abbrev IsUnready : Line → Type 0
+abbrev pub IsUnready : Line → Type 0
 IsUnready said = (state : State) → served_first Enough state said ≡ with_reply reply.BadState state
 
-unready : (settings : Settings) (said : Line) → IsUnready said → (state : State)
+pub unready : (settings : Settings) (said : Line) → IsUnready said → (state : State)
     → Stands settings None state → outcome_of Enough state said ≡ with_reply reply.BadState state
 unready settings said is state stands = first_is settings said Enough state stands ∙ is state
 
-told-unready : (said : Line) (state : State)
+pub told-unready : (said : Line) (state : State)
     → outcome_of Enough state said ≡ with_reply reply.BadState state
     → Some reply.BadState ≡ reply_of Enough state said
 told-unready said state is = sym (ap (λ (r : Served). reply_in r.answer) is)
@@ -154,13 +165,12 @@ starved-unready said state is =
     (told-judged reply.BadState Enough state said (told-unready said state is))
     (λ e. cc, λ s. absurd s)
 
--- what was touched is told of the state after: the line's fault is that
-arrived-fault : (lack : Lack) (state : State) (said : Line)
-    → arrived_answer (after lack state said) ≡ (outcome_of lack state said).answer
+-- what is told of the state after: the line's fault is that
+pub left-fault : (told : State → Answer) (lack : Lack) (state : State) (said : Line)
+    → told (after lack state said) ≡ (outcome_of lack state said).answer
     → None ≡ asked_fault lack state said
-    → fault_or (reply_in (arrived_answer (after lack state said))) None
-    ≡ fault_of lack state said
-arrived-fault lack state said is none =
+    → fault_or (reply_in (told (after lack state said))) None ≡ fault_of lack state said
+left-fault told lack state said is none =
     λ i. fault_or (reply_in (is i)) (none i)
 
 -- ---- writing
@@ -255,7 +265,8 @@ module _ {W : Type 0} (contents : W → Option (List ℕ)) (output output_then :
   -- the ranges were listed
   pub maps-written : (running : Running) (task : ℕ)
       → ((state : State) → RunsAs running state → Said contents output output_then
-      (there_listing (process_on (setup_of running.core).machine state) state.lying.spots task))
+      (both_listing (process_on (setup_of running.core).machine state) state.lying.spots state.huge
+      task))
       → (state : State) → RunsAs running state
       → IsAnswered (RunsAs running) (line.Maps task) state
   maps-written running task lists = λ state stands.
@@ -283,22 +294,21 @@ module _ {W : Type 0} (contents : W → Option (List ℕ)) (output output_then :
             (text-fault asked text shows running state stands),
       )
 
-  -- what was touched was told, and nothing changed
-  abbrev pub IsArrivalTold : (State → Type 0) → State → Type 0
-  IsArrivalTold reached state = (lack : Lack) × reached state
-      × Said contents output output_then (bytes_of (arrived_answer state))
-      × (IsTrue false
-      ↔ IsSomeAnd (fault_or (reply_in (arrived_answer state)) None) LacksMemory)
+  -- what was left to be told was told, and nothing changed
+  abbrev pub IsLeftTold : (State → Answer) → (State → Type 0) → State → Type 0
+  IsLeftTold told reached state = (lack : Lack) × reached state
+      × Said contents output output_then (bytes_of (told state))
+      × (IsTrue false ↔ IsSomeAnd (fault_or (reply_in (told state)) None) LacksMemory)
 
-  arrival-told : (answer : Answer) (reached : Type 0) (state : State)
-      → arrived_answer state ≡ answer → reached → Said contents output output_then (bytes_of answer)
+  left-told : (told : State → Answer) (answer : Answer) (reached : State → Type 0)
+      (state : State) → told state ≡ answer → reached state
+      → Said contents output output_then (bytes_of answer)
       → (IsTrue false ↔ IsSomeAnd (fault_or (reply_in answer) None) LacksMemory)
-      → (lack : Lack) × reached × Said contents output output_then (bytes_of (arrived_answer state))
-      × (IsTrue false ↔ IsSomeAnd (fault_or (reply_in (arrived_answer state)) None) LacksMemory)
-  arrival-told answer reached state is stands told starved = (
+      → IsLeftTold told reached state
+  left-told told answer reached state is stands says starved = (
     Enough,
     stands,
-    said_same contents output output_then _ _ (ap bytes_of (sym is)) told,
+    said_same contents output output_then _ _ (ap bytes_of (sym is)) says,
     subst (λ (a : Answer). IsTrue false ↔ IsSomeAnd (fault_or (reply_in a) None) LacksMemory)
         (sym is) starved,
   )
@@ -306,18 +316,38 @@ module _ {W : Type 0} (contents : W → Option (List ℕ)) (output output_then :
   pub arrived-written : (running : Running)
       → ((state : State) → RunsAs running state
       → Said contents output output_then (arrived_text state))
-      → (state : State) → RunsAs running state → IsArrivalTold (RunsAs running) state
+      → (state : State) → RunsAs running state
+      → IsLeftTold arrived_answer (RunsAs running) state
   arrived-written running tells = λ state stands.
-      arrival-told (Shown (arrived_text state)) (RunsAs running state) state
+      left-told arrived_answer (Shown (arrived_text state)) (RunsAs running) state
       (arrived-is running state stands) stands (tells state stands) (λ e. cc, λ s. absurd s)
+
+  pub pools-written : (running : Running)
+      → ((state : State) → RunsAs running state → Said contents output output_then
+      (pools_line (pools_on (setup_of running.core).machine state)))
+      → (state : State) → RunsAs running state
+      → IsLeftTold pools_answer (RunsAs running) state
+  pools-written running tells = λ state stands.
+      left-told pools_answer (Shown (pools_line (pools_on (setup_of running.core).machine state)))
+      (RunsAs running) state (pools-is running state stands) stands (tells state stands)
+      (λ e. cc, λ s. absurd s)
 
   pub arrived-unready : (settings : Settings)
       → Said contents output output_then (text_of reply.BadState)
       → (state : State) → Stands settings None state
-      → IsArrivalTold (Stands settings None) state
-  arrived-unready settings told = λ state stands.
-      arrival-told (Replied reply.BadState) (Stands settings None state) state
-      (ap (λ (machine : Option Hardware). arrived_on machine state) stands.3) stands told
+      → IsLeftTold arrived_answer (Stands settings None) state
+  arrived-unready settings says = λ state stands.
+      left-told arrived_answer (Replied reply.BadState) (Stands settings None) state
+      (ap (λ (machine : Option Hardware). arrived_on machine state) stands.3) stands says
+      (λ e. cc, λ s. absurd s)
+
+  pub pools-unready : (settings : Settings)
+      → Said contents output output_then (text_of reply.BadState)
+      → (state : State) → Stands settings None state
+      → IsLeftTold pools_answer (Stands settings None) state
+  pools-unready settings says = λ state stands.
+      left-told pools_answer (Replied reply.BadState) (Stands settings None) state
+      (ap (λ (machine : Option Hardware). pools_answer_on machine state) stands.3) stands says
       (λ e. cc, λ s. absurd s)
 
   -- a line was taken, and then its answer was written
@@ -382,123 +412,14 @@ module _ {W : Type 0} (contents : W → Option (List ℕ)) (output output_then :
         w.1,
         said_same contents output output_then _ _ (ap bytes_of t.1.1) w.2,
         subst (λ (o : Option Reply). IsTrue lacks ↔ IsSomeAnd o LacksMemory)
-            (arrived-fault t.0 state said t.1.1 t.1.2) w.3,
+            (left-fault arrived_answer t.0 state said t.1.1 t.1.2) w.3,
       )
-
--- ---- judging
-
--- a question is judged by what refuses it
-pub question-told : (old new : Running) (asked : Question) (cause : Option CoreRefusal)
-    → ((state : State) → RunsAs old state → (lack : Lack) × RunsAs new state
-    × (cause ≡ question_cause (is_starved lack) (setup_of old.core).machine state.world.history
-    asked))
-    → (state : State) → RunsAs old state → (lack : Lack)
-    × (option_map reply.Refused cause ≡ fault_of lack state (line.Question asked))
-    × RunsAs new state
-question-told old new asked cause h = λ state stands.
-    let a = h state stands in
-    (a.0, ap (option_map reply.Refused) a.2 ∙ asked-fault old asked a.0 state stands, a.1)
-
--- nothing changed, and this fault was told of a line
-abbrev pub IsTold : (State → Type 0) → Line → Option Reply → State → Type 0
-IsTold reached said fault state =
-    (lack : Lack) × (fault ≡ fault_of lack state said) × reached state
-
-unready-told : (settings : Settings) (said : Line) → IsUnready said → (state : State)
-    → Stands settings None state
-    → IsTold (Stands settings None) said (Some reply.BadState) state
-unready-told settings said bad state stands = (
-  Enough,
-  told-judged reply.BadState Enough state said
-      (told-unready said state (unready settings said bad state stands)),
-  stands,
-)
-
-pub question-bad : (settings : Settings) (asked : Question) (state : State)
-    → Stands settings None state
-    → IsTold (Stands settings None) (line.Question asked) (Some reply.BadState) state
-question-bad settings asked = unready-told settings (line.Question asked) (λ state. refl)
-
-pub maps-told : (running : Running) (task : ℕ) (state : State) → RunsAs running state
-    → IsTold (RunsAs running) (line.Maps task) None state
-maps-told running task state stands = (Enough, listed-fault running task state stands, stands)
-
-pub maps-bad : (settings : Settings) (task : ℕ) (state : State) → Stands settings None state
-    → IsTold (Stands settings None) (line.Maps task) (Some reply.BadState) state
-maps-bad settings task = unready-told settings (line.Maps task) (λ state. refl)
-
-pub text-told : (asked : PageLine) (text : State → List ℕ) → IsText asked text
-    → (running : Running) (state : State) → RunsAs running state
-    → IsTold (RunsAs running) (line.Pages (Ok asked)) None state
-text-told asked text shows running state stands =
-    (Enough, text-fault asked text shows running state stands, stands)
-
-pub text-bad : (settings : Settings) (asked : PageLine) (state : State)
-    → Stands settings None state
-    → IsTold (Stands settings None) (line.Pages (Ok asked)) (Some reply.BadState) state
-text-bad settings asked = unready-told settings (line.Pages (Ok asked)) (λ state. refl)
-
--- what was touched has no fault, once a machine is ready
-abbrev pub IsArrivalJudged : (State → Type 0) → Option Reply → State → Type 0
-IsArrivalJudged reached fault state = (lack : Lack)
-    × (fault ≡ fault_or (reply_in (arrived_answer state)) None) × reached state
-
-pub arrived-told : (running : Running) (state : State) → RunsAs running state
-    → IsArrivalJudged (RunsAs running) None state
-arrived-told running state stands = (
-  Enough,
-  ap (λ (a : Answer). fault_or (reply_in a) None) (sym (arrived-is running state stands)),
-  stands,
-)
-
-pub arrived-bad : (settings : Settings) (state : State) → Stands settings None state
-    → IsArrivalJudged (Stands settings None) (Some reply.BadState) state
-arrived-bad settings state stands = (
-  Enough,
-  ap (λ (machine : Option Hardware). fault_or (reply_in (arrived_on machine state)) None)
-      (sym stands.3),
-  stands,
-)
-
--- a line was taken, and then its fault or refusal was told
-abbrev IsJudged : Script → Line → Option Reply → State → Type 0
-IsJudged new said fault state = (lack : Lack) × (fault ≡ fault_of lack state said)
-    × ScriptStandsFor new (after lack state said)
-
-pub judged : (old mid new : Script) (said : Line) (found : Taken) (fault : Option Reply)
-    → ScriptTakes old said found mid → ScriptTells mid found fault new
-    → (state : State) → ScriptStandsFor old state → IsJudged new said fault state
-judged old mid new said (taken.Reply answer) fault takes tells = λ state stands.
-    let t = takes state stands in
-    let w = tells (after t.0 state said) t.2 in
-    (t.0, w.1 ∙ told-judged answer t.0 state said t.1, w.2)
-judged old mid new said (taken.Question asked) fault takes tells = λ state stands.
-    let t = takes state stands in
-    let same = ap (after t.0 state) t.1.1 ∙ question-same t.0 state asked in
-    let w = tells state (subst (ScriptStandsFor mid) same t.2) in
-    subst (λ (l : Line). IsJudged new l fault state) (sym t.1.1)
-    (w.0, w.1, subst (ScriptStandsFor new) (sym (question-same w.0 state asked)) w.2)
-judged old mid new said (taken.Maps task) fault takes tells = λ state stands.
-    let t = takes state stands in
-    let same = ap (after t.0 state) t.1.1 ∙ maps-same t.0 state task in
-    let w = tells state (subst (ScriptStandsFor mid) same t.2) in
-    subst (λ (l : Line). IsJudged new l fault state) (sym t.1.1)
-    (w.0, w.1, subst (ScriptStandsFor new) (sym (maps-same w.0 state task)) w.2)
-judged old mid new said taken.Moved fault takes tells = λ state stands.
-    let t = takes state stands in
-    let same = text-same page.Moved last_text moved-text in
-    let w = tells state (subst (ScriptStandsFor mid) (ap (after t.0 state) t.1.1
-    ∙ same t.0 state) t.2) in
-    subst (λ (l : Line). IsJudged new l fault state) (sym t.1.1)
-    (w.0, w.1, subst (ScriptStandsFor new) (sym (same w.0 state)) w.2)
-judged old mid new said taken.Rooms fault takes tells = λ state stands.
-    let t = takes state stands in
-    let same = text-same page.Rooms rooms_left rooms-text in
-    let w = tells state (subst (ScriptStandsFor mid) (ap (after t.0 state) t.1.1
-    ∙ same t.0 state) t.2) in
-    subst (λ (l : Line). IsJudged new l fault state) (sym t.1.1)
-    (w.0, w.1, subst (ScriptStandsFor new) (sym (same w.0 state)) w.2)
-judged old mid new said taken.Arrived fault takes tells = λ state stands.
-    let t = takes state stands in
-    let w = tells (after t.0 state said) t.2 in
-    (t.0, w.1 ∙ arrived-fault t.0 state said t.1.1 t.1.2, w.2)
+  served old mid new said taken.Pools lacks takes writes = λ state stands.
+      let t = takes state stands in
+      let w = writes (after t.0 state said) t.2 in (
+        t.0,
+        w.1,
+        said_same contents output output_then _ _ (ap bytes_of t.1.1) w.2,
+        subst (λ (o : Option Reply). IsTrue lacks ↔ IsSomeAnd o LacksMemory)
+            (left-fault pools_answer t.0 state said t.1.1 t.1.2) w.3,
+      )

@@ -1,16 +1,23 @@
 -- Texts said one node after the other.
 use Rattle.std.proofs.Common.{◌≡◌, ℕ, zero, suc, ◌+◌, ◌<◌, List, [], ◌++◌, refl, ap, sym, ◌∙◌}
-use Rattle.std.proofs.Common.{arith}
-use Rattle.std.specs.Prelude.{codes, decimal, slice_index}
+use Rattle.std.proofs.Common.{append_assoc, arith}
+use Rattle.std.specs.Prelude.{codes, decimal, if◌then◌else◌, slice_index}
 use Rattle.std.specs.List.{flat_map, range_with_len}
 use Rattle.numa_machine.proofs.Nodes.{flat_map-range_more}
 use Rattle.numa_requests.specs.NodeCounts.{node_text, nodes_text}
+use Rattle.numa_mask.specs.NodeSet.{has}
+use Rattle.numa_pools.specs.Pools.{PoolCounts, free_at, surplus_at, total_at}
+use Rattle.numa_huge.specs.Moves.{HugeArrival}
+use Rattle.numa_huge.specs.Tallies.{HasArrived}
+use Rattle.numa_huge.specs.declared.arrived.HugeArrived.{HugeArrived}
 use Rattle.numa_page_state.specs.Lying.{Arrival}
 use Rattle.numa_page_state.specs.Standing.{ArrivedAs}
 use Rattle.numa_page_state.specs.declared.arrived.Arrived.{Arrived}
 use Rattle.numa_script.specs.PageTexts.{placed_words}
-use Rattle.numa_run.specs.ArrivedTexts.{arrival_in, arrival_line, limit_of, room_text, rooms_text}
+use Rattle.numa_run.specs.ArrivedTexts.{arrival_in, arrival_line, both_arrival_line, limit_of}
+use Rattle.numa_run.specs.ArrivedTexts.{huge_arrival_in, room_text, rooms_text}
 use Rattle.numa_run.specs.MovedTexts.{all_flows_text, flow_text, flows_from_text}
+use Rattle.numa_run.specs.PoolTexts.{pool_text, pools_text}
 
 -- the texts of the nodes below a number
 pub texts_below : (ℕ → List ℕ) → ℕ → List ℕ
@@ -61,12 +68,13 @@ from-alike from flow other same =
     (λ to small. ap (λ (k : ℕ). flow_text from k to) (same to small))
     ∙ flows-from_all from other 256 refl
 
-pub all-alike : (flow other : ℕ → ℕ → ℕ) → ((from to : ℕ) → flow from to ≡ other from to)
+pub all-alike : (flow other : ℕ → ℕ → ℕ)
+    → ((from to : ℕ) → from < 256 → to < 256 → flow from to ≡ other from to)
     → all_flows_text flow ≡ all_flows_text other
 all-alike flow other same =
     sym (all-flows flow 256 refl)
     ∙ texts-alike (flows_of flow) (flows_of other) 256
-    (λ from small. from-alike from (flow from) (other from) (λ to lt. same from to))
+    (λ from low. from-alike from (flow from) (other from) (λ to high. same from to low high))
     ∙ all-flows other 256 refl
 
 -- ---- rooms
@@ -111,3 +119,35 @@ arrival-told version done arrival so =
     let counts = counts-alike (slice_index done.on) arrival.on so.on in
     λ i. codes "v" ++ decimal version ++ codes ": " ++ placed_words (so.placed i) (so.exhausted i)
     ++ counts i ++ codes "\n"
+
+-- with what they did to pages of 2 MiB
+pub both-told : (version : ℕ) (done : Arrived) (arrival : Arrival) (huge : HugeArrived)
+    (told : HugeArrival) → ArrivedAs done arrival → HasArrived huge told
+    → both_arrival_line version (arrival_in done) (huge_arrival_in huge)
+    ≡ both_arrival_line version arrival told
+both-told version done arrival huge told so more =
+    let counts = counts-alike (slice_index done.on) arrival.on so.on in
+    let others = counts-alike (slice_index huge.on) told.on more.on in
+    λ i. codes "v" ++ decimal version ++ codes ": " ++ placed_words (so.placed i) (so.exhausted i)
+    ++ counts i ++ codes " huge " ++ placed_words (more.placed i) (more.exhausted i)
+    ++ others i ++ codes "\n"
+
+-- texts that are said one after the other
+pub both-joined : (v d s w c h x e n : List ℕ)
+    → ((v ++ d ++ s ++ w ++ c) ++ (h ++ x ++ e)) ++ n
+    ≡ v ++ d ++ s ++ w ++ c ++ h ++ x ++ e ++ n
+both-joined v d s w c h x e n =
+    let first : List ℕ = v ++ d ++ s ++ w ++ c in
+    ap (λ (t : List ℕ). t ++ n) (sym (append_assoc first (h ++ x) e)
+    ∙ ap (λ (t : List ℕ). t ++ e) (sym (append_assoc first h x)))
+
+-- ---- pools of pages of 2 MiB
+
+abbrev pub pool_at : PoolCounts → ℕ → List ℕ
+pool_at pools node = if has pools.memory node
+    then pool_text node (free_at pools node) (total_at pools node) (surplus_at pools node) else []
+
+pub pools-all : (pools : PoolCounts) (n : ℕ) → n ≡ 256
+    → texts_below (pool_at pools) n ≡ pools_text pools
+unfolding texts_below pools_text
+pools-all pools n e = ap (λ (k : ℕ). flat_map (pool_at pools) (range_with_len 0 k)) e

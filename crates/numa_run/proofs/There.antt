@@ -3,7 +3,7 @@ use Rattle.std.proofs.Common.{◌≡◌, ℕ, zero, suc, ◌+◌, ◌<◌, ◌^�
 use Rattle.std.proofs.Common.{◌∷◌, ◌++◌, codes, decimal, refl, sym, ap, ◌∙◌, arith}
 use Rattle.std.proofs.Common.{append_assoc, subst, ◌≤◌, Bor}
 use Rattle.std.specs.Option.{option_copied}
-use Rattle.std.specs.Prelude.{MatchOption, None, Some, if◌then◌else◌}
+use Rattle.std.specs.Prelude.{MatchOption, None, Some, false, true, if◌then◌else◌}
 use Rattle.numa_mode.specs.Policy.{PolicyRecord}
 use Rattle.numa_ranges.specs.Runs.{AreApart, AreMaximal, end_of}
 use Rattle.numa_ranges.specs.declared.run.Run.{Run}
@@ -13,8 +13,9 @@ use Rattle.numa_space.proofs.Same.{same_record-exact, same_record-refl}
 use Rattle.numa_space.specs.Same.{same_record}
 use Rattle.numa_space.specs.Standing.{SpaceState, StandsFor, policy_in}
 use Rattle.numa_requests.specs.declared.command.Command.{Command}
-use Rattle.numa_maps.specs.Listing.{address_text, counted_line, node_text, nodes_text}
-use Rattle.numa_maps.specs.Listing.{policy_or_default}
+use Rattle.numa_huge.specs.Moves.{HugeMemory}
+use Rattle.numa_maps.specs.Listing.{address_text, counted_line, huge_line, node_text, nodes_text}
+use Rattle.numa_maps.specs.Listing.{policy_or_default, size_text}
 use Rattle.numa_machine.proofs.Nodes.{flat_map-range_more}
 use Rattle.numa_ranges.proofs.Apart.{apart-top}
 use Rattle.std.specs.List.{flat_map, range_with_len}
@@ -27,7 +28,8 @@ use Rattle.numa_placed.specs.declared.spot.Spot.{Spot}
 use Rattle.numa_placed.specs.declared.spot.Spot.TheVariants.{Nowhere}
 use Rattle.numa_run.proofs.Listed.{joined-singles}
 use Rattle.numa_run.specs.Ranges.{ranges_of}
-use Rattle.numa_run.specs.Listings.{there_line, there_lines, there_listing}
+use Rattle.numa_run.specs.Listings.{both_listing, either_line, either_lines, there_line}
+use Rattle.numa_run.specs.Listings.{there_lines, there_listing}
 
 -- ---- nodes
 
@@ -89,7 +91,7 @@ line-same policy first count other p q is same =
     let nodes = texts-same p q same in
     λ i. address_text first ++ codes " " ++ policy_or_default policy
     ++ (if is i == 0 then [] else codes " anon=" ++ decimal (is i) ++ nodes i
-    ++ codes " kernelpagesize_kB=4") ++ codes "\n"
+    ++ size_text false) ++ codes "\n"
 
 -- one line more went out
 pub line-next : (policy_of : ℕ → Option PolicyRecord) (kept : Kept) (spots : ℕ → Spot)
@@ -132,3 +134,46 @@ lie-there None pages lying same lies = λ page.
     (subst (λ (p : Option PageState). Lies p lying) (sym same) lies)
 lie-there (Some kept) pages lying same lies =
     (subst (λ (p : Option PageState). Lies p lying) (sym same) lies).spots
+
+-- ---- beside pages of 2 MiB
+
+-- counts that are equal make one line
+pub huge-same : (policy : Option PolicyRecord) (first count other : ℕ) (p q : ℕ → ℕ)
+    → count ≡ other → ((node : ℕ) → node < 256 → p node ≡ q node)
+    → huge_line policy first count p ≡ huge_line policy first other q
+huge-same policy first count other p q is same =
+    let nodes = texts-same p q same in
+    λ i. address_text first ++ codes " " ++ policy_or_default policy ++ codes " huge"
+    ++ (if is i == 0 then [] else codes " anon=" ++ decimal (is i) ++ nodes i
+    ++ size_text true) ++ codes "\n"
+
+-- one line more went out
+pub either-next : (policy_of : ℕ → Option PolicyRecord) (kept : Kept) (spots : ℕ → Spot)
+    (memory : HugeMemory) (all sent line : List ℕ) (range : Run (Option PolicyRecord))
+    (left rest : List (Run (Option PolicyRecord)))
+    → all ≡ sent ++ either_lines policy_of kept spots memory left → left ≡ range ∷ rest
+    → line ≡ either_line memory (policy_of range.first) kept spots range
+    → all ≡ (sent ++ line) ++ either_lines policy_of kept spots memory rest
+either-next policy_of kept spots memory all sent line range left rest so_far e text =
+    so_far ∙ ap (λ (ranges : List (Run (Option PolicyRecord))). sent
+    ++ either_lines policy_of kept spots memory ranges) e
+    ∙ ap (λ x. sent ++ (x ++ either_lines policy_of kept spots memory rest)) (sym text)
+    ∙ sym (append_assoc sent line (either_lines policy_of kept spots memory rest))
+
+-- the listing of what a space holds is that of its process
+pub each-same : (space : SpaceState) (history : List Command) (task : ℕ) (kept : Kept)
+    (spots : ℕ → Spot) (memory : HugeMemory) → StandsFor space history
+    → AreApart 0 space.ranges → AreMaximal space.ranges
+    → either_lines (policy_in space task) kept spots memory space.ranges ≡ both_listing (record {
+      machine = space.machine;
+      bounds = space.bounds;
+      history = history;
+      kept = kept;
+    }) spots (Some memory) task
+unfolding ranges_of
+each-same space history task kept spots memory stands apart maximal =
+    let ranges = joined-singles same_record same_record-exact same_record-refl space.ranges
+    (page_in space.machine history) (2 ^ 35) refl apart maximal stands.pages in
+    let policies : policy_in space task ≡ resolved_policy space.machine history task = λ i page.
+    policy-same space history task page stands i in
+    λ i. either_lines (policies i) kept spots memory (sym ranges i)

@@ -1,7 +1,6 @@
 -- Which lines are answered by a fault or a refusal. `lack` says what a line lacked while it was
 -- served.
-use Rattle.std.specs.Prelude.{ℕ, Bool, Option, Some, None, List, length}
-use Rattle.std.specs.Prelude.{IsSomeAnd, if◌then◌else◌}
+use Rattle.std.specs.Prelude.{ℕ, Bool, Option, Some, None, List, length, IsSomeAnd, if◌then◌else◌}
 use Rattle.std.specs.Option.{option_map}
 use Rattle.numa_machine.specs.Machine.{Hardware}
 use Rattle.numa_space.specs.History.{page_of}
@@ -81,6 +80,7 @@ asked_fault lack state (line.Maps task) = None
 asked_fault lack state (line.Work said) = None
 asked_fault lack state (line.Pages said) = None
 asked_fault lack state (line.Bind start bytes policy pages) = None
+asked_fault lack state (line.Huge said) = None
 asked_fault lack state line.Host = None
 asked_fault lack state (line.HostCommand said) = None
 

@@ -1,12 +1,14 @@
 pub mod Answering
 pub mod Answers
 pub mod ArrivedTexts
+pub mod HugeLines
 pub mod Judged
 pub mod Listings
 pub mod Machines
 pub mod MovedTexts
 pub mod Obeying
 pub mod PageLines
+pub mod PoolTexts
 pub mod Questions
 pub mod Ranges
 pub mod Replies

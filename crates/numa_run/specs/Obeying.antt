@@ -1,7 +1,7 @@
 -- What commands are answered, and the state after them. `lack` says what a line lacked while it was
 -- served.
-use Rattle.std.specs.Prelude.{ℕ, suc, ◌==◌, ◌&&◌, Bool, true, false, Option, Some, None, ◌∷◌}
-use Rattle.std.specs.Prelude.{length, is_ok, if◌then◌else◌, Result, Ok, Err}
+use Rattle.std.specs.Prelude.{ℕ, suc, ◌+◌, ◌==◌, ◌&&◌, ◌||◌, Bool, true, false, Option, Some, None}
+use Rattle.std.specs.Prelude.{◌∷◌, length, is_ok, if◌then◌else◌, Result, Ok, Err}
 use Rattle.numa_machine.specs.Machine.{Hardware}
 use Rattle.numa_machine.specs.Rules.{is_linux}
 use Rattle.numa_machine.specs.declared.rules.Rules.{Rules}
@@ -16,7 +16,12 @@ use Rattle.numa_requests.specs.declared.refusal.Refusal.{Refusal}
 use Rattle.numa_requests.specs.declared.refusal.Refusal.TheVariants.{NoMemory}
 use Rattle.numa_space.specs.Policies.{allowed_nodes}
 use Rattle.numa_space.specs.Refusals.{refusal_of}
-use Rattle.numa_page_state.specs.Lying.{Lying, with_spots}
+use Rattle.numa_space.specs.History.{page_count, page_of}
+use Rattle.numa_huge.specs.Moves.{HugeMemory}
+use Rattle.numa_page_state.specs.Huge.{has_huge_in, huge_astray, huge_followed, huge_sent}
+use Rattle.numa_page_state.specs.Huge.{unmap_lack, unmapped_in}
+use Rattle.numa_page_state.specs.Lying.{Lying, Process, with_spots}
+use Rattle.numa_placed.specs.declared.spot.Spot.{Spot}
 use Rattle.numa_page_state.specs.Outcomes.{Enough, Lack, followed, forgotten, has_stated}
 use Rattle.numa_page_state.specs.Outcomes.{is_starved, lack_of}
 use Rattle.numa_page_state.specs.Sending.{asked_of, command_of, rebinding_in, sent_in, sent_spots}
@@ -57,12 +62,30 @@ lying_so lack machine state command lying =
     then with_lying lying (accepted_outcome lack machine state command)
     else accepted_outcome lack machine state command
 
--- pages follow the allowed nodes
-abbrev pub mems_outcome : Lack → Hardware → State → ℕ → Served
-mems_outcome lack machine state mask =
+-- and pages of 2 MiB are so
+abbrev pub with_huge : Option HugeMemory → Served → Served
+with_huge memory served = record served { state = record served.state { huge = memory } }
+
+abbrev pub both_so : Lack → Hardware → State → Command → Lying → Option HugeMemory → Served
+both_so lack machine state command lying memory =
+    if is_accepted lack machine state command
+    then with_huge memory (with_lying lying (accepted_outcome lack machine state command))
+    else accepted_outcome lack machine state command
+
+-- pages follow the allowed nodes, those of 2 MiB too where there are some
+abbrev pub mems_where : Option HugeMemory → Lack → Hardware → State → ℕ → Served
+mems_where None lack machine state mask =
     lying_so lack machine state (SetMems mask) (followed lack
     (allowed_nodes machine state.world.history)
     (allowed_nodes machine (SetMems mask ∷ state.world.history)) state.resident state.lying)
+mems_where (Some memory) lack machine state mask =
+    let old = allowed_nodes machine state.world.history in
+    let new = allowed_nodes machine (SetMems mask ∷ state.world.history) in
+    both_so lack machine state (SetMems mask) (followed lack old new state.resident state.lying)
+    (Some (huge_followed state.lying.follows old new memory))
+
+abbrev pub mems_outcome : Lack → Hardware → State → ℕ → Served
+mems_outcome lack machine state mask = mems_where state.huge lack machine state mask
 
 -- why pages stand against a command; where memory lacks, it is the command that lacks it
 abbrev pub command_reply : PlacedRefusal → Reply
@@ -74,13 +97,41 @@ unless_pages (Some why) state served = with_reply (command_reply why) state
 unless_pages None state served = served
 
 -- nothing is stated any more of pages that were unmapped, and their room is given back
-abbrev pub unmap_outcome : Lack → Hardware → State → ℕ → ℕ → Served
-unmap_outcome lack machine state start bytes =
+abbrev pub small_unmap : Lack → Hardware → State → ℕ → ℕ → Served
+small_unmap lack machine state start bytes =
     let spots = forgotten start bytes state.lying.spots in
     if has_stated state.lying.spots start bytes
     then unless_pages (lack_of lack spots) state (lying_so lack machine state
     (Unmap start bytes) (with_spots spots state.lying))
     else accepted_outcome lack machine state (Unmap start bytes)
+
+-- where pages of 4 KiB lie once a span was unmapped, and what that can lack
+abbrev pub lying_without : ℕ → ℕ → Lying → Lying
+lying_without start bytes at = if has_stated at.spots start bytes
+    then with_spots (forgotten start bytes at.spots) at else at
+
+abbrev pub lying_lack : Lack → ℕ → ℕ → Lying → Option PlacedRefusal
+lying_lack lack start bytes at = if has_stated at.spots start bytes
+    then lack_of lack (forgotten start bytes at.spots) else None
+
+-- pages of 2 MiB among them become free, or their reservations are given back
+abbrev pub huge_unmap : Lack → Hardware → State → ℕ → ℕ → HugeMemory → Served
+huge_unmap lack machine state start bytes memory =
+    unless_pages (unmap_lack lack start bytes memory) state
+    (unless_pages (lying_lack lack start bytes state.lying) state
+    (both_so lack machine state (Unmap start bytes) (lying_without start bytes state.lying)
+    (Some (unmapped_in start bytes memory))))
+
+abbrev pub unmap_where : Option HugeMemory → Lack → Hardware → State → ℕ → ℕ → Served
+unmap_where None lack machine state start bytes = small_unmap lack machine state start bytes
+unmap_where (Some memory) lack machine state start bytes =
+    if has_huge_in (Some memory) (page_of start) (page_count bytes)
+    then huge_unmap lack machine state start bytes memory
+    else small_unmap lack machine state start bytes
+
+abbrev pub unmap_outcome : Lack → Hardware → State → ℕ → ℕ → Served
+unmap_outcome lack machine state start bytes =
+    unmap_where state.huge lack machine state start bytes
 
 abbrev pub obeyed : Lack → Hardware → State → Command → Served
 obeyed lack machine state (SetMems mask) = mems_outcome lack machine state mask
@@ -116,10 +167,16 @@ astray_outcome lack machine state command =
     then with_reply (command_reply cause.Astray) state
     else accepted_outcome Enough machine state command
 
+-- pages of either size lie astray
+abbrev pub any_astray : Option HugeMemory → Process → (ℕ → Spot) → Binding → Bool
+any_astray None process spots said = has_astray process spots said
+any_astray (Some memory) process spots said =
+    has_astray process spots said || huge_astray process memory said
+
 abbrev pub judged_by : Option Binding → Lack → Hardware → State → Command → Served
 judged_by None lack machine state command = accepted_outcome lack machine state command
 judged_by (Some binding) lack machine state command =
-    if has_astray (process_on machine state) state.lying.spots binding
+    if any_astray state.huge (process_on machine state) state.lying.spots binding
     then astray_outcome lack machine state command
     else accepted_outcome lack machine state command
 
@@ -134,8 +191,8 @@ abbrev pub toucher_of : MoveWords → Toucher
 toucher_of words = record { task = words.task; cpu = words.cpu }
 
 -- the policy was set, and pages went
-abbrev pub sent_outcome : Hardware → State → Rebinding → MoveWords → Served
-sent_outcome machine state said words =
+abbrev pub small_sent : Hardware → State → Rebinding → MoveWords → Served
+small_sent machine state said words =
     let asked = asked_of (process_on machine state) said (toucher_of words) in
     let sent = sent_in state.resident asked state.lying in
     record {
@@ -145,6 +202,29 @@ sent_outcome machine state said words =
         lying = with_sent state.resident asked state.lying;
       };
     }
+
+-- those of 2 MiB too
+abbrev pub both_sent : Hardware → State → Rebinding → MoveWords → HugeMemory → Served
+both_sent machine state said words after =
+    let asked = asked_of (process_on machine state) said (toucher_of words) in
+    let sent = sent_in state.resident asked state.lying in
+    let left = sent.left + after.told.left in
+    record {
+      answer = Replied (reply.Sent (suc (length state.world.history))
+          (sent.moved + after.told.moved) left (tells_left words.strict said.spec left));
+      state = record (accepted_outcome Enough machine state (command_of said)).state {
+        lying = with_sent state.resident asked state.lying;
+        huge = Some after;
+      };
+    }
+
+abbrev pub sent_with : Option HugeMemory → Hardware → State → Rebinding → MoveWords → Served
+sent_with None machine state said words = small_sent machine state said words
+sent_with (Some memory) machine state said words = both_sent machine state said words
+    (huge_sent (process_on machine state) said (toucher_of words) memory)
+
+abbrev pub sent_outcome : Hardware → State → Rebinding → MoveWords → Served
+sent_outcome machine state said words = sent_with state.huge machine state said words
 
 -- what refuses the policy is answered as without the words; then lack of runs or memory
 abbrev pub sent_where : Option Refusal → Lack → Hardware → State → Rebinding → MoveWords → Served

@@ -14,7 +14,8 @@ use Rattle.numa_script.specs.declared.line.Line.TheVariants as line
 use Rattle.numa_script.specs.declared.reply.Reply.TheVariants as reply
 pub use Rattle.numa_run.specs.Answering.{Answer, Replied, Shown, Served, bytes_of, reply_in}
 pub use Rattle.numa_run.specs.Answering.{with_outcome, with_reply, with_text}
-use Rattle.numa_run.specs.Listings.{there_listing}
+use Rattle.numa_run.specs.HugeLines.{huge_outcome}
+use Rattle.numa_run.specs.Listings.{both_listing}
 use Rattle.numa_run.specs.Machines.{limits_fit, nodes_with_cpus, hardware_of, first_fault}
 pub use Rattle.numa_run.specs.Obeying.{bind_nothing}
 use Rattle.numa_run.specs.Obeying.{bound_command, bound_outcome, command_outcome}
@@ -49,6 +50,7 @@ machine_unless None hardware state =
       world = opening;
       resident = [];
       lying = nothing;
+      huge = None;
     })
 machine_unless (Some fault) hardware state = with_reply (reply.BadMachine fault) state
 
@@ -78,6 +80,7 @@ served_first lack state (line.Maps task) = with_reply reply.BadState state
 served_first lack state (line.Work said) = with_reply reply.BadState state
 served_first lack state (line.Pages said) = with_reply reply.BadState state
 served_first lack state (line.Bind start bytes policy pages) = with_reply reply.BadState state
+served_first lack state (line.Huge said) = with_reply reply.BadState state
 served_first lack state line.Host = with_reply reply.BadWords state
 served_first lack state (line.HostCommand said) = with_reply reply.BadWords state
 
@@ -97,11 +100,12 @@ served_later lack machine state (line.EmptyBind start fault) =
 served_later lack machine state (line.Question said) =
     with_text (question_text (is_starved lack) machine state.world.history said) state
 served_later lack machine state (line.Maps task) =
-    with_text (there_listing (process_on machine state) state.lying.spots task) state
+    with_text (both_listing (process_on machine state) state.lying.spots state.huge task) state
 served_later lack machine state (line.Work said) = work_served lack machine state said
 served_later lack machine state (line.Pages said) = pages_outcome lack machine state said
 served_later lack machine state (line.Bind start bytes policy pages) =
     bound_outcome lack machine state pages (bound_command machine.rules start bytes policy)
+served_later lack machine state (line.Huge said) = huge_outcome lack machine state said
 served_later lack machine state line.Host = with_reply reply.BadWords state
 served_later lack machine state (line.HostCommand said) = with_reply reply.BadWords state
 

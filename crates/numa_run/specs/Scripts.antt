@@ -10,6 +10,7 @@ use Rattle.numa_script.specs.Replies.{LacksMemory, fault_in}
 use Rattle.numa_script.specs.declared.line.Line.{Line}
 use Rattle.numa_script.specs.declared.line.Line.TheVariants as line
 use Rattle.numa_script.specs.declared.page_line.PageLine.TheVariants as page
+use Rattle.numa_run.specs.HugeLines.{pools_answer}
 use Rattle.numa_run.specs.Judged.{asked_fault, fault_of, fault_or}
 use Rattle.numa_run.specs.PageLines.{arrived_text}
 use Rattle.numa_run.specs.Replies.{Answer, Replied, Shown, bytes_of, outcome_of, reply_in}
@@ -74,6 +75,10 @@ IsTaken lack state said taken.Arrived =
     (None ≡ reply_of lack state said)
     × (arrived_answer (after lack state said) ≡ (outcome_of lack state said).answer)
     × (None ≡ asked_fault lack state said)
+IsTaken lack state said taken.Pools =
+    (None ≡ reply_of lack state said)
+    × (pools_answer (after lack state said) ≡ (outcome_of lack state said).answer)
+    × (None ≡ asked_fault lack state said)
 
 -- the line was carried out, and the state that the definition says is reached
 abbrev pub ScriptTakes : Script → Line → Taken → Script → Type 0
@@ -93,6 +98,7 @@ answer_left lack state taken.Moved =
 answer_left lack state taken.Rooms =
     (outcome_of lack state (line.Pages (Ok page.Rooms))).answer
 answer_left lack state taken.Arrived = arrived_answer state
+answer_left lack state taken.Pools = pools_answer state
 
 abbrev pub fault_left : Lack → State → Taken → Option Reply
 fault_left lack state (taken.Reply answer) = fault_in answer
@@ -101,6 +107,7 @@ fault_left lack state (taken.Maps task) = fault_of lack state (line.Maps task)
 fault_left lack state taken.Moved = fault_of lack state (line.Pages (Ok page.Moved))
 fault_left lack state taken.Rooms = fault_of lack state (line.Pages (Ok page.Rooms))
 fault_left lack state taken.Arrived = fault_or (reply_in (arrived_answer state)) None
+fault_left lack state taken.Pools = fault_or (reply_in (pools_answer state)) None
 
 -- the answer was said, and nothing else changed; and whether it tells lack of memory
 abbrev pub ScriptWrites : {W : Type 0} → (W → Option (List ℕ)) → Script → Watched W → Taken → Bool

@@ -7,11 +7,13 @@ use Rattle.numa_space.specs.Limited.{Bounds}
 use Rattle.numa_core.specs.World.{Setup, World, opening}
 use Rattle.numa_maps.specs.Residents.{Kept}
 use Rattle.numa_placed.specs.declared.spot.Spot.TheVariants.{Nowhere}
+use Rattle.numa_huge.specs.Moves.{HugeMemory}
 use Rattle.numa_page_state.specs.Lying.{Lying, Process, nothing}
 
 -- the limits; whose rules count on the machine to come, and the set of its nodes with CPUs, where a
 -- line named them; the machine, once it is ready; the core's world, with the accepted commands; the
--- pages that `touch` has placed; and where other pages lie
+-- pages that `touch` has placed; where other pages lie; and, once a line is about them, pages of
+-- 2 MiB
 pub record State : Type 0 where
   pub bounds : Bounds
   pub rules : Rules
@@ -20,6 +22,7 @@ pub record State : Type 0 where
   pub world : World
   pub resident : Kept
   pub lying : Lying
+  pub huge : Option HugeMemory
 
 -- the limits where no line gives others
 abbrev pub usual_bounds : Bounds
@@ -35,6 +38,7 @@ start_by rules = record {
   world = opening;
   resident = [];
   lying = nothing;
+  huge = None;
 }
 
 -- the same by the rules of the documents

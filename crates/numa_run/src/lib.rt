@@ -4,11 +4,13 @@
 pub mod arrived;
 pub mod binding;
 mod build;
+mod huge;
 pub mod judging;
 pub mod listing;
 pub mod moved;
 mod obeying;
 pub mod paging;
+pub mod pools;
 pub mod questions;
 mod running;
 mod script;

@@ -1,17 +1,22 @@
 //! Writing the answer to `moved`: what the last move did.
-ghost use Rattle.std.specs.Prelude.{◌≡◌, ◌++◌, ◌<◌, ℕ, codes, decimal, slice_index};
+ghost use Rattle.std.specs.Prelude.{◌≡◌, ◌++◌, ◌+◌, ◌<◌, ℕ, codes, decimal, slice_index};
 ghost use Rattle.numa_lines.specs.Written.{Said};
 ghost use Rattle.numa_placed.specs.Spots.{spot_at};
-ghost use Rattle.numa_page_state.specs.Lying.{LastMove, OfNodes, OfPages};
+ghost use Rattle.numa_huge.specs.Moves.{HugeTold};
+ghost use Rattle.numa_huge.specs.Tallies.{HasTold, flow_of, left_of, moved_of};
+ghost use Rattle.numa_page_state.specs.Lying.{LastMove, Lying, OfNodes, OfPages};
 ghost use Rattle.numa_page_state.specs.Sending.{flow_between};
-ghost use Rattle.numa_page_state.specs.Standing.{LastAs, sent_by, told_in};
-ghost use Rattle.numa_run.specs.MovedTexts.{all_flows_text, arrow_text, flow_text};
-ghost use Rattle.numa_run.specs.MovedTexts.{flows_from_text, flows_text, last_line};
+ghost use Rattle.numa_page_state.specs.Standing.{LastAs, Lies, sent_by, told_in};
+ghost use Rattle.numa_run.specs.MovedTexts.{added_line, all_flows_text, arrow_text, flow_of_last};
+ghost use Rattle.numa_run.specs.MovedTexts.{flow_text, flows_from_text, flows_text, last_line};
+ghost use Rattle.numa_run.specs.MovedTexts.{last_of, left_last, moved_last, told_line};
 ghost use Rattle.numa_script.specs.PageTexts.{moved_words};
 
+use numa_huge::HugeLast;
 use numa_lines::Watched;
 use numa_page_state::between::flow_from;
-use numa_page_state::{Departures, Last};
+use numa_page_state::state::still;
+use numa_page_state::{Departures, Last, PageState};
 use numa_placed::{Moved, Placed};
 use numa_script::tell::say_moved_words;
 use std::io::Write;
@@ -109,5 +114,151 @@ pub fn say_last<W: Write>(output: &mut Watched<W>, version: u64, last: &Last)
     match last {
         Last::Nodes(moved) => say_told(output, version, moved),
         Last::Pages(done) => say_departed(output, version, done),
+    }
+}
+
+/// Writes what the last move of pages of 4 KiB did, where these perhaps aren't kept yet.
+pub fn say_small<W: Write>(output: &mut Watched<W>, version: u64, pages: &Option<PageState>)
+    ensures { (lying : Lying) → Lies pages.now lying
+        → Said W.contents output.old output.new (last_line version lying.last) }
+{
+    match pages {
+        Some(kept) => say_last(output, version, kept.last()),
+        None => say_told(output, version, &still()),
+    }
+}
+
+// ---- of pages of both sizes
+
+/// How many pages of 4 KiB went from a node to each, by where those of each node went.
+fn flow_by_nodes(told: &Moved, from: u8) -> [u64; 256]
+    ensures { (to : ℕ) → to < 256 → slice_index result to
+        ≡ flow_of_last (OfNodes (told_in told.now)) from to }
+{
+    let mut flow = [0; 256];
+    let target = told.to[from as usize];
+    flow[target as usize] = told.from[from as usize];
+    flow
+}
+
+/// How many pages of 4 KiB went from a node to each.
+fn small_flow(last: &Last, from: u8) -> [u64; 256]
+    ensures { (to : ℕ) → to < 256 → slice_index result to
+        ≡ flow_of_last (last_of last.now) from to }
+{
+    match last {
+        Last::Nodes(told) => flow_by_nodes(told, from),
+        Last::Pages(done) => flow_from(&done.before, &done.after, from),
+    }
+}
+
+/// How many pages of 4 KiB moved.
+fn small_moved(last: &Last) -> u64
+    ensures { result ≡ moved_last (last_of last.now) }
+{
+    match last {
+        Last::Nodes(told) => told.moved,
+        Last::Pages(done) => done.moved,
+    }
+}
+
+/// How many pages of 4 KiB stayed.
+fn small_left(last: &Last) -> u64
+    ensures { result ≡ left_last (last_of last.now) }
+{
+    match last {
+        Last::Nodes(told) => told.left,
+        Last::Pages(done) => done.left,
+    }
+}
+
+/// Writes a text and the sum of two numbers.
+fn say_sum<W: Write>(output: &mut Watched<W>, text: &[u8], one: u64, other: u64)
+    ensures { Said W.contents output.old output.new (text.now ++ decimal (one + other)) }
+{
+    if other <= u64::MAX - one {
+        say_number(output, text, one + other);
+        return;
+    }
+    let last = one % 10 + other % 10;
+    say_number(output, text, one / 10 + other / 10 + last / 10);
+    output.say_number(last % 10);
+}
+
+/// Writes where pages of both sizes went, if some did.
+fn say_both_flow<W: Write>(output: &mut Watched<W>, from: usize, small: u64, huge: u64, to: u8)
+    ensures { Said W.contents output.old output.new (flow_text from (small + huge) to) }
+{
+    if small == 0 && huge == 0 {
+        return;
+    }
+    say_arrow(output, from, to);
+    say_sum(output, b"=", small, huge);
+}
+
+/// Writes how many pages of both sizes went to each node.
+fn say_both_flows_from<W: Write>(
+    output: &mut Watched<W>,
+    from: usize,
+    small: &[u64; 256],
+    huge: &[u64; 256],
+)
+    ensures { Said W.contents output.old output.new (flows_from_text from
+        (λ to. slice_index small.now to + slice_index huge.now to)) }
+{
+    for to in 0..256usize {
+        say_both_flow(output, from, small[to], huge[to], to as u8);
+    }
+}
+
+/// Writes how many pages of both sizes went from each node to each.
+fn say_added_flows<W: Write>(output: &mut Watched<W>, last: &Last, huge: &HugeLast)
+    ensures { Said W.contents output.old output.new (all_flows_text
+        (λ from to. flow_of_last (last_of last.now) from to + flow_of huge.now from to)) }
+{
+    for from in 0..256usize {
+        let small = small_flow(last, from as u8);
+        let more = huge.flow_from(from as u8);
+        say_both_flows_from(output, from, &small, &more);
+    }
+}
+
+/// Writes how many pages of both sizes moved, and how many stayed, at a version.
+fn say_both_counts<W: Write>(output: &mut Watched<W>, version: u64, last: &Last, huge: &HugeLast)
+    ensures { Said W.contents output.old output.new (codes "v" ++ decimal version ++ codes ": "
+        ++ moved_words (moved_last (last_of last.now) + moved_of huge.now)
+        (left_last (last_of last.now) + left_of huge.now)) }
+{
+    say_number(output, b"v", version);
+    output.say(b": ");
+    say_sum(output, b"moved ", small_moved(last), huge.moved());
+    say_sum(output, b" left ", small_left(last), huge.left());
+}
+
+/// Writes what the last move of pages of both sizes did, at a version.
+fn say_added<W: Write>(output: &mut Watched<W>, version: u64, last: &Last, huge: &HugeLast)
+    ensures { Said W.contents output.old output.new (told_line version
+        (moved_last (last_of last.now) + moved_of huge.now)
+        (left_last (last_of last.now) + left_of huge.now) (all_flows_text
+        (λ from to. flow_of_last (last_of last.now) from to + flow_of huge.now from to))) }
+{
+    say_both_counts(output, version, last, huge);
+    say_added_flows(output, last, huge);
+    output.say(b"\n");
+}
+
+/// Writes it, where pages of 4 KiB perhaps aren't kept yet.
+pub fn say_both<W: Write>(
+    output: &mut Watched<W>,
+    version: u64,
+    pages: &Option<PageState>,
+    huge: &HugeLast,
+)
+    ensures { (lying : Lying) (told : HugeTold) → Lies pages.now lying → HasTold huge.now told
+        → Said W.contents output.old output.new (added_line version lying.last told) }
+{
+    match pages {
+        Some(kept) => say_added(output, version, kept.last(), huge),
+        None => say_added(output, version, &Last::Nodes(still()), huge),
     }
 }

@@ -1,5 +1,5 @@
 //! Running machines.
-ghost use Rattle.std.specs.Prelude.{◌≡◌, Bool, List, [], None, Some, true, false, length};
+ghost use Rattle.std.specs.Prelude.{◌≡◌, Bool, List, [], None, Option, Some, true, false, length};
 ghost use Rattle.std.specs.Prelude.{MatchResult};
 ghost use Rattle.numa_lines.specs.Written.{Said};
 ghost use Rattle.numa_core.specs.Standing.{setup_of};
@@ -8,37 +8,45 @@ ghost use Rattle.numa_requests.specs.declared.command.Command.{Command};
 ghost use Rattle.numa_run.specs.Answers.{State};
 ghost use Rattle.numa_run.specs.Judged.{question_cause};
 ghost use Rattle.numa_run.specs.Questions.{question_text};
-ghost use Rattle.numa_run.specs.Listings.{there_listing};
+ghost use Rattle.numa_run.specs.Listings.{both_listing};
 ghost use Rattle.numa_placed.specs.Shifts.{AreRooms};
-ghost use Rattle.numa_page_state.specs.Lying.{Lying};
+ghost use Rattle.numa_huge.specs.Moves.{HugeMemory};
+ghost use Rattle.numa_huge.specs.Tallies.{StandsForHuge};
+ghost use Rattle.numa_page_state.specs.Huge.{has_huge_in};
+ghost use Rattle.numa_page_state.specs.Lying.{Arrival, Lying};
 ghost use Rattle.numa_page_state.specs.Outcomes.{Lack, is_starved, rooms_of};
-ghost use Rattle.numa_page_state.specs.Standing.{Lies};
-ghost use Rattle.numa_run.specs.ArrivedTexts.{rooms_line};
-ghost use Rattle.numa_run.specs.MovedTexts.{last_line};
+ghost use Rattle.numa_page_state.specs.Standing.{ArrivedAs, Lies};
+ghost use Rattle.numa_run.specs.ArrivedTexts.{arrival_with, rooms_line};
+ghost use Rattle.numa_run.specs.HugeLines.{pools_on};
+ghost use Rattle.numa_run.specs.MovedTexts.{both_line};
 ghost use Rattle.numa_run.specs.Obeying.{bind_nothing, command_outcome};
 ghost use Rattle.numa_run.specs.PageLines.{arrived_text, work_served};
+ghost use Rattle.numa_run.specs.PoolTexts.{pools_line};
 ghost use Rattle.numa_run.specs.Standing.{Does, RunsAs, Serves, Takes};
 ghost use Rattle.numa_run.specs.States.{process_on};
-ghost use Rattle.numa_run.specs.Work.{kept_outcome, release_outcome, touch_outcome};
-ghost use Rattle.numa_run.specs.Work.{won_by};
+ghost use Rattle.numa_run.specs.Work.{kept_outcome, release_outcome, touch_outcome, won_by};
 ghost use Rattle.numa_script.specs.Replies.{reply_to};
 
-use crate::arrived::{say_arrived, say_rooms};
+use crate::arrived::{say_arrived, say_both_arrived, say_rooms};
 use crate::judging::{cause_at, refusal_by_plan};
-use crate::listing::say_there;
-use crate::moved::{say_last, say_told};
+use crate::listing::{say_each, say_there};
+use crate::moved::{say_both, say_small};
+use crate::pools::say_pools;
 use crate::questions::{fault_at, say_by_plan, say_place_in};
 use numa_core::Core;
+use numa_huge::HugePages;
 use numa_lines::Watched;
 use numa_maps::{RecordRefusal, Resident};
-use numa_page_state::PageState;
 use numa_page_state::arrived::untouched;
-use numa_page_state::state::{is_there, still};
+use numa_page_state::huge::has_huge_in;
+use numa_page_state::state::is_there;
+use numa_page_state::{Arrived, PageState};
 use numa_placed::Rooms;
+use numa_pools::Pools;
 use numa_requests::{CoreRefusal, CoreReply, Event, Placement, Request};
 use numa_script::commands::empty_bind;
 use numa_script::tell::{say_ranges, say_starved};
-use numa_script::{Line, Question, Reply, Win, WordError, Work};
+use numa_script::{HugeRefusal, Line, Question, Reply, Win, WordError, Work};
 use std::alloc::Global;
 use std::io::Write;
 
@@ -108,6 +116,50 @@ fn rooms_in(pages: &Option<PageState>) -> Rooms
     }
 }
 
+/// What the last first touches did to pages of 4 KiB.
+fn arrived_in(pages: &Option<PageState>) -> Arrived
+    ensures { (lying : Lying) → Lies pages.now lying → ArrivedAs result lying.arrived }
+{
+    match pages {
+        Some(kept) => *kept.arrived(),
+        None => untouched(),
+    }
+}
+
+/// Writes what the last first touches did to pages of both sizes, if a span had some of 2 MiB.
+fn say_arrivals<W: Write>(
+    output: &mut Watched<W>,
+    version: u64,
+    done: &Arrived,
+    huge: &Option<HugePages>,
+)
+    ensures { (arrival : Arrival) (memory : Option HugeMemory) → ArrivedAs done.now arrival
+        → StandsForHuge huge.now memory
+        → Said W.contents output.old output.new (arrival_with memory version arrival) }
+{
+    match huge {
+        Some(kept) => match &kept.arrived {
+            Some(arrived) => say_both_arrived(output, version, done, arrived),
+            None => say_arrived(output, version, done),
+        },
+        None => say_arrived(output, version, done),
+    }
+}
+
+/// The number of pages of 4 KiB below address 2^47.
+const MOST_SMALL: u64 = 1 << 35;
+
+/// Whether a page of 4 KiB is a part of one of 2 MiB.
+fn is_huge_part(huge: &Option<HugePages>, page: u64) -> bool
+    ensures { (memory : Option HugeMemory) → StandsForHuge huge.now memory
+        → result ≡ has_huge_in memory page 1 }
+{
+    if page >= MOST_SMALL {
+        return false;
+    }
+    has_huge_in(huge, page, 1)
+}
+
 /// What a line came to: it has been carried out, or its answer shows what is.
 #[derive(Drop)]
 pub enum Taken {
@@ -123,6 +175,8 @@ pub enum Taken {
     Rooms,
     /// Pages were touched, and what came of it is still to be told.
     Arrived,
+    /// What the pools of pages of 2 MiB have is still to be told.
+    Pools,
 }
 
 /// A running machine: its core, which keeps the plan that answers questions, the placed pages, and
@@ -132,6 +186,7 @@ pub(crate) struct Running {
     pub core: Core,
     pub resident: Resident,
     pub pages: Option<PageState>,
+    pub huge: Option<HugePages>,
 }
 
 impl Running {
@@ -140,11 +195,13 @@ impl Running {
         ensures core { result.core ≡ core }
         ensures resident { result.resident ≡ [] }
         ensures pages { result.pages ≡ None }
+        ensures huge { result.huge ≡ None }
     {
         Running {
             core,
             resident: Resident::new(alloc),
             pages: None,
+            huge: None,
         }
     }
 
@@ -211,6 +268,9 @@ impl Running {
                 Reply::to_event(&answer)
             }
             Work::Touch(worker, request) => {
+                if is_huge_part(&self.huge, request.page) {
+                    return Reply::HugeRefused(HugeRefusal::NotSupported);
+                }
                 if is_there(&self.pages, request.page) {
                     return Reply::Placed;
                 }
@@ -253,13 +313,17 @@ impl Running {
     #[inline(never)]
     pub fn list<W: Write>(&self, task: u32, output: &mut Watched<W>)
         ensures { (state : State) → RunsAs self.now state
-            → Said W.contents output.old output.new (there_listing
-            (process_on self.now.core.space.machine state) state.lying.spots task) }
+            → Said W.contents output.old output.new (both_listing
+            (process_on self.now.core.space.machine state) state.lying.spots state.huge task) }
     {
         let space = self.core.space();
         // Tells the proof that the ranges are in ascending order and maximal.
         let _ = space.range_iter();
-        say_there(space, task, &self.resident, self.pages.as_ref(), output);
+        let pages = self.pages.as_ref();
+        match &self.huge {
+            Some(huge) => say_each(space, task, &self.resident, pages, &huge.places, output),
+            None => say_there(space, task, &self.resident, pages, output),
+        }
     }
 
     /// Writes what the last move did.
@@ -267,12 +331,25 @@ impl Running {
     pub fn tell_last<W: Write>(&self, output: &mut Watched<W>)
         ensures { (state : State) → RunsAs self.now state
             → Said W.contents output.old output.new
-            (last_line (length state.world.history) state.lying.last) }
+            (both_line (length state.world.history) state.lying.last state.huge) }
     {
         let version = self.core.space().version();
-        match &self.pages {
-            Some(kept) => say_last(output, version, kept.last()),
-            None => say_told(output, version, &still()),
+        match &self.huge {
+            Some(huge) => say_both(output, version, &self.pages, &huge.last),
+            None => say_small(output, version, &self.pages),
+        }
+    }
+
+    /// Writes how many pages of 2 MiB the pools have.
+    #[inline(never)]
+    pub fn tell_pools<W: Write>(&self, output: &mut Watched<W>)
+        ensures { (state : State) → RunsAs self.now state
+            → Said W.contents output.old output.new
+            (pools_line (pools_on self.now.core.space.machine state)) }
+    {
+        match &self.huge {
+            Some(kept) => say_pools(output, kept.places.pools()),
+            None => say_pools(output, &Pools::new(self.core.space().machine())),
         }
     }
 
@@ -292,10 +369,8 @@ impl Running {
             → Said W.contents output.old output.new (arrived_text state) }
     {
         let version = self.core.space().version();
-        match &self.pages {
-            Some(kept) => say_arrived(output, version, kept.arrived()),
-            None => say_arrived(output, version, &untouched()),
-        }
+        let done = arrived_in(&self.pages);
+        say_arrivals(output, version, &done, &self.huge);
     }
 
     /// Carries out an `mbind` of length 0 whose mode, flag and nodes are refused together.
@@ -337,6 +412,7 @@ impl Running {
                 policy,
                 pages,
             } => Taken::Reply(self.bind(alloc, *start, *length, policy, pages)),
+            Line::Huge(said) => self.huge(alloc, said),
             Line::Host => Taken::Reply(Reply::BadWords),
             Line::HostCommand(_) => Taken::Reply(Reply::BadWords),
         }

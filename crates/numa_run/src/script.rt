@@ -147,6 +147,10 @@ impl Script {
                 self.tell_arrived(output);
                 false
             }
+            Taken::Pools => {
+                self.tell_pools(output);
+                false
+            }
         }
     }
 
@@ -216,6 +220,18 @@ impl Script {
         running.tell_arrived(output);
     }
 
+    /// Writes what the pools of pages of 2 MiB have.
+    fn tell_pools<W: Write>(&self, output: &mut Watched<W>)
+        ensures { ScriptWrites W.contents self.now output.old Taken.Pools false
+            self.now output.new }
+    {
+        let Some(running) = &self.running else {
+            say_reply(output, &Reply::BadState);
+            return;
+        };
+        running.tell_pools(output);
+    }
+
     /// The error or the refusal of a line that was taken; `None` if its answer is neither. A
     /// question is judged and not answered.
     pub fn fault(&mut self, taken: Taken) -> Option<Reply>
@@ -228,6 +244,7 @@ impl Script {
             Taken::Moved => self.text_fault(),
             Taken::Rooms => self.text_fault(),
             Taken::Arrived => self.text_fault(),
+            Taken::Pools => self.text_fault(),
         }
     }
 
@@ -250,6 +267,7 @@ impl Script {
         ensures moved { ScriptTells self.now Taken.Moved result self.now }
         ensures rooms { ScriptTells self.now Taken.Rooms result self.now }
         ensures arrived { ScriptTells self.now Taken.Arrived result self.now }
+        ensures pools { ScriptTells self.now Taken.Pools result self.now }
     {
         match &self.running {
             Some(_) => None,
@@ -258,8 +276,8 @@ impl Script {
     }
 
     /// Carries out a line and returns its reply. A question to a ready machine and lines `maps`,
-    /// `moved` and `room` alone have none, and change nothing; nor has a `populate` that isn't
-    /// refused. Their answers are texts, which `serve` writes.
+    /// `moved` and `room` alone have none, and change nothing; nor have a `populate` and a `pool`
+    /// that aren't refused. Their answers are texts, which `serve` writes.
     pub fn reply(&mut self, alloc: Global, line: &Line<'_>) -> Option<Reply>
         ensures { ScriptReplies self.old line.now result self.new }
     {
@@ -270,6 +288,7 @@ impl Script {
             Taken::Moved => None,
             Taken::Rooms => None,
             Taken::Arrived => None,
+            Taken::Pools => None,
         }
     }
 
@@ -365,6 +384,7 @@ impl Script {
             Line::Work(_) => Reply::BadState,
             Line::Pages(_) => Reply::BadState,
             Line::Bind { .. } => Reply::BadState,
+            Line::Huge(_) => Reply::BadState,
             Line::Host => Reply::BadWords,
             Line::HostCommand(_) => Reply::BadWords,
         }

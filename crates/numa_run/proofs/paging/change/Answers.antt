@@ -9,46 +9,46 @@ use Rattle.numa_run.specs.PageLines.{migrate_reply, move_reply, page_reply, touc
 use Rattle.numa_run.proofs.PageChanges.{replied, succeeds}
 use Rattle.numa_run.proofs.paging.change.Goals as goal
 
-pub returns-in-At : goal.returns-in-At
-returns-in-At c =
+pub returns-in-At-clause-does : goal.returns-in-At-clause-does
+returns-in-At-clause-does c =
     rw (c.in-At.is, c.page_reply.ensures)
     (replied c.args.kept.now c.at.new.self c.at.result (Err cause.NoMemory)
     (λ lack at. at_outcome lack (ground_in c.args.space.now c.args.resident.now)
     c.in-At.start c.in-At.length c.in-At.node at)
     (λ done. Some (page_reply reply.AtOk done)) c.at.ensures.does)
 
-pub returns-in-Room : goal.returns-in-Room
-returns-in-Room c =
+pub returns-in-Room-clause-does : goal.returns-in-Room-clause-does
+returns-in-Room-clause-does c =
     rw (c.in-Room.is, c.page_reply-in-Room.ensures)
     (replied c.args.kept.now c.limit.new.self c.limit.result (Err cause.NoMemory)
     (λ lack at. room_outcome c.args.space.now.machine c.in-Room.node c.in-Room.pages at)
     (λ done. Some (page_reply reply.RoomOk done)) c.limit.ensures.does)
 
-pub returns-in-MemoryMigrate : goal.returns-in-MemoryMigrate
-returns-in-MemoryMigrate c =
+pub returns-in-MemoryMigrate-clause-does : goal.returns-in-MemoryMigrate-clause-does
+returns-in-MemoryMigrate-clause-does c =
     rw c.in-MemoryMigrate.is
     (succeeds c.args.kept.now c.set_follows.new.self (Some reply.MemoryMigrateOk)
     (Some (reply.PlacedRefused cause.NoMemory))
     (λ at. record at { follows = c.in-MemoryMigrate.follows }) c.set_follows.ensures)
 
-pub returns-in-Migrate : goal.returns-in-Migrate
-returns-in-Migrate c =
+pub returns-in-Migrate-clause-does : goal.returns-in-Migrate-clause-does
+returns-in-Migrate-clause-does c =
     rw (c.in-Migrate.is, c.migrate_reply.ensures)
     (replied c.args.kept.now c.migrate.new.self c.migrate.result (Err cause.NoMemory)
     (λ lack at. migrate_outcome lack (ground_in c.args.space.now c.args.resident.now)
     c.in-Migrate.from c.in-Migrate.to at)
     (λ done. Some (migrate_reply done)) c.migrate.ensures.does)
 
-pub returns-in-Move : goal.returns-in-Move
-returns-in-Move c =
+pub returns-in-Move-clause-does : goal.returns-in-Move-clause-does
+returns-in-Move-clause-does c =
     rw (c.in-Move.is, c.move_reply.ensures)
     (replied c.args.kept.now c.move_page.new.self c.move_page.result (Err move.NoMemory)
     (λ lack at. move_outcome lack (ground_in c.args.space.now c.args.resident.now)
     c.in-Move.address c.in-Move.node at)
     (λ done. Some (move_reply c.in-Move.node done)) c.move_page.ensures.does)
 
-pub returns-in-Populate : goal.returns-in-Populate
-returns-in-Populate c =
+pub returns-in-Populate-clause-does : goal.returns-in-Populate-clause-does
+returns-in-Populate-clause-does c =
     rw (c.in-Populate.is, c.touch_reply.ensures)
     (replied c.args.kept.now c.populate.new.self c.populate.result (Err cause.NoMemory)
     (λ lack at. populate_outcome lack (ground_in c.args.space.now c.args.resident.now)

@@ -28,7 +28,7 @@ returns-then-answered_by_space-clause-answer g c =
     λ state stands. (
       same-core c.args.self.now
           (record c.args.self.now { core = c.answered_by_space.new.core })
-          state c.answered_by_space.ensures.same refl refl stands,
+          state c.answered_by_space.ensures.same refl (refl, refl) stands,
       c.answered_by_space.ensures.answer c.if-answered_by_space.true state.world.history
           stands.core.world.space,
     )
@@ -39,7 +39,7 @@ returns-clause-answer g c =
     let same = c.prepare.ensures ∙ c.answered_by_space.ensures.same in
     let ready =
     same-core c.args.self.now (record c.args.self.now { core = c.prepare.new.core }) state same
-    refl refl stands in
+    refl (refl, refl) stands in
     let history = state.world.history in
     let plan = c.in-Some.ensures.meaning state.world ready.core.world in
     let text = ap (λ (core : CoreState). question_text c.say_by_plan.result core.space.machine

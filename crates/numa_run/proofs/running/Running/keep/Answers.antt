@@ -7,7 +7,7 @@ pub returns-in-Ok : goal.returns-in-Ok
 returns-in-Ok c =
     rw c.of-win.ensures
     (keeps c.args.self.now (record c.args.self.now { resident = c.record.new.self })
-    c.args.worker c.args.placement refl c.in-Ok.ensures.free c.in-Ok.ensures.ok refl)
+    c.args.worker c.args.placement refl c.in-Ok.ensures.free c.in-Ok.ensures.ok (refl, refl))
 
 pub returns-in-Err-Taken : goal.returns-in-Err-Taken
 returns-in-Err-Taken c =
@@ -16,7 +16,7 @@ returns-in-Err-Taken c =
     gives-taken c.args.self.now
     (record c.args.self.now { core = c.step.new.self; resident = c.record.new.self })
     c.args.worker c.args.placement c.step.result
-    c.step.ensures.answer c.step.ensures.setup c.in-Err-Taken.ensures.unchanged refl why.1
+    c.step.ensures.answer c.step.ensures.setup c.in-Err-Taken.ensures.unchanged (refl, refl) why.1
 
 pub returns-in-Err-NoMemory : goal.returns-in-Err-NoMemory
 returns-in-Err-NoMemory c =
@@ -29,4 +29,4 @@ returns-in-Err-NoMemory c =
     })
     c.args.worker c.args.placement c.step-in-Err-NoMemory.result
     c.step-in-Err-NoMemory.ensures.answer c.step-in-Err-NoMemory.ensures.setup
-    c.in-Err-NoMemory.ensures.unchanged refl why.1
+    c.in-Err-NoMemory.ensures.unchanged (refl, refl) why.1

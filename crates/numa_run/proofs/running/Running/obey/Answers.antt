@@ -17,6 +17,7 @@ returns-in_default c =
       core = c.accept.new.self;
       resident = c.args.self.now.resident;
       pages = c.args.self.now.pages;
+      huge = c.args.self.now.huge;
     }) (reply_to (accept_answer (version_of c.accept.result))) c.args.command.now
     c.in_default.not-SetMems c.in_default.not-Unmap
     (accepted c.args.self.now c.args.command.now (version_of c.accept.result) c.accept.new.self

@@ -13,7 +13,7 @@ returns-in-None c =
     let ready =
     same-core c.args.self.now
     (record c.args.self.now { core = c.prepare.new.core }) state
-    c.prepare.ensures refl refl stands in
+    c.prepare.ensures refl (refl, refl) stands in
     let machine = c.prepare.new.core.space.machine in
     let history = state.world.history in
     let plan = c.in-Some.ensures.meaning state.world ready.core.world in
@@ -32,7 +32,7 @@ returns-in-Some-refusal_by_plan c =
     let ready =
     same-core c.args.self.now
     (record c.args.self.now { core = c.prepare.new.core }) state
-    c.prepare.ensures refl refl stands in
+    c.prepare.ensures refl (refl, refl) stands in
     let machine = c.prepare.new.core.space.machine in
     let history = state.world.history in
     let plan = c.in-Some.ensures.meaning state.world ready.core.world in

@@ -11,7 +11,7 @@ returns-then-is_err c =
     c.args.worker c.args.page c.in-Some.placement.now c.step-answer.result
     c.step-answer.ensures.answer c.step-answer.ensures.setup c.in-Some.ensures.kept
     (kept-where_refused c.step-answer.result (without_page c.args.self.now.resident c.args.page)
-    c.args.self.now.resident (sym c.is_err.ensures.value ∙ c.if-is_err.true)) refl)
+    c.args.self.now.resident (sym c.is_err.ensures.value ∙ c.if-is_err.true)) (refl, refl))
 
 pub returns : goal.returns
 returns c =
@@ -22,4 +22,4 @@ returns c =
     c.step-answer.ensures.answer c.step-answer.ensures.setup c.in-Some.ensures.kept
     (c.remove.ensures.rest ∙ gone-where_given c.step-answer.result
     (without_page c.args.self.now.resident c.args.page) c.args.self.now.resident
-    (sym c.is_err.ensures.value ∙ c.if-is_err.false)) refl)
+    (sym c.is_err.ensures.value ∙ c.if-is_err.false)) (refl, refl))

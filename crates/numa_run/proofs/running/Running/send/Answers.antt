@@ -1,5 +1,7 @@
-use Rattle.std.proofs.Common.{Ok, Err, None, Some, ap, ◌∙◌}
-use Rattle.numa_run.proofs.Binds.{send-denied, send-done, send-refused, send-starved, sends-that}
+use Rattle.std.proofs.Common.{Ok, Err, None, Some, sym, ap, ◌∙◌}
+use Rattle.numa_run.proofs.Binds.{send-both, send-denied, send-done, send-refused}
+use Rattle.numa_run.proofs.Binds.{send-starved, sends-that}
+use Rattle.numa_run.proofs.Keeping.{none-of}
 use Rattle.numa_run.proofs.running.Running.send.Goals as goal
 
 pub returns-in-Ok-None : goal.returns-in-Ok-None
@@ -21,6 +23,16 @@ returns-in-Err c =
     c.sent_from.ensures.lies c.sent_from.result (Err c.in-Err.refusal) c.in-Err.is
     (rw (c.space-space.ensures.space, c.toucher_of-toucher.ensures) at c.sent_from.ensures.sends)))
 
+pub returns-then-is_some : goal.returns-then-is_some
+returns-then-is_some c =
+    send-both c.args.self.now c.args.said.now c.args.words.now c.sent_from.new.state
+    c.sent_from.ensures.lies c.send_both.new.self c.send_both.result c.in-Ok-Some.sent
+    (sends-that c.args.self.now c.args.said.now c.args.words.now c.sent_from.new.state
+    c.sent_from.ensures.lies c.sent_from.result (Ok (Some c.in-Ok-Some.sent))
+    (c.in-Ok-Some.is ∙ ap Ok c.in-Ok-Some.field-0-is)
+    (rw (c.space-space.ensures.space, c.toucher_of-toucher.ensures) at c.sent_from.ensures.sends))
+    c.send_both.ensures
+
 pub returns-in_default : goal.returns-in_default
 returns-in_default c =
     rw c.command_reply-in_default.ensures
@@ -32,6 +44,7 @@ pub returns : goal.returns
 returns c =
     send-done c.args.self.now c.args.said.now c.args.words.now c.sent_from.new.state
     c.sent_from.ensures.lies c.accept-2.new.self c.accept-2.ensures.setup
+    (none-of c.args.self.now.huge (sym c.is_some.ensures ∙ c.if-is_some.false))
     c.in-Ok.acceptance.version c.in-Ok-Some.sent c.settled.new.state c.tells_left-late.result
     c.in-Ok.ensures.answer
     (sends-that c.args.self.now c.args.said.now c.args.words.now c.sent_from.new.state

@@ -70,6 +70,9 @@ returns-in-Bind c =
     (bound_command machine.rules c.in-Bind.start c.in-Bind.length c.in-Bind.policy))
     c.bind.ensures (λ lack state. refl))
 
+pub returns-in-Huge : goal.returns-in-Huge
+returns-in-Huge c = rw c.in-Huge.is c.huge.ensures
+
 pub returns-in-Host : goal.returns-in-Host
 returns-in-Host c =
     rw c.in-Host.is (later_same c.args.self.now _ reply.BadWords (λ machine state. refl))

@@ -7,7 +7,7 @@ returns-in-Ok c =
     touches-won c.args.self.now
     (record c.args.self.now { core = c.touch.new.self }) c.keep.new.self
     c.args.worker c.args.request c.touch.result c.in-Ok.placement c.keep.result
-    c.touch.ensures.answer c.touch.ensures.setup refl refl c.in-Ok.ensures c.keep.ensures
+    c.touch.ensures.answer c.touch.ensures.setup refl (refl, refl) c.in-Ok.ensures c.keep.ensures
 
 pub returns-in-Err : goal.returns-in-Err
 returns-in-Err c =
@@ -15,4 +15,4 @@ returns-in-Err c =
     (touches-nothing c.args.self.now
     (record c.args.self.now { core = c.touch.new.self }) c.args.worker
     c.args.request c.touch.result
-    c.touch.ensures.answer c.touch.ensures.setup refl refl c.in-Err.ensures.0)
+    c.touch.ensures.answer c.touch.ensures.setup refl (refl, refl) c.in-Err.ensures.0)

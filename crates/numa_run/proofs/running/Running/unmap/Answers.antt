@@ -1,30 +1,18 @@
-use Rattle.std.proofs.Common.{sym, ◌∙◌}
-use Rattle.numa_run.proofs.Obeys.{unmap-denied, unmap-goes, unmap-plain, unmap-stays}
+use Rattle.std.proofs.Common.{ℕ, ap, sym, ◌∙◌}
+use Rattle.numa_page_state.specs.Huge.{has_huge_in}
+use Rattle.numa_space.specs.History.{page_of}
+use Rattle.numa_run.proofs.Obeys.{unmap-small}
 use Rattle.numa_run.proofs.running.Running.unmap.Goals as goal
 
-pub returns-in-Err : goal.returns-in-Err
-returns-in-Err c =
-    rw c.command_reply.ensures
-    (unmap-denied c.args.self.now c.args.start c.args.length c.in-Err.refusal c.in-Err.ensures)
-
-pub returns-in_default : goal.returns-in_default
-returns-in_default c =
-    unmap-plain c.args.self.now c.args.start c.args.length c.accept.new.self c.accept.result
-    (rw c.in_default.is at c.in-Ok.ensures) c.accept.ensures
-
-pub returns-then-is_err : goal.returns-then-is_err
-returns-then-is_err c =
-    rw c.accept_reply.ensures
-    (unmap-stays c.args.self.now c.args.start c.args.length c.accept-answer.new.self
-    c.accept-answer.ensures.setup c.in-Some.after
-    (rw c.in-Some.is at c.in-Ok.ensures) c.accept-answer.result
-    (sym c.is_err.ensures.value ∙ c.if-is_err.true) c.accept-answer.ensures.answer)
+pub unmap_huge-requires : goal.unmap_huge-requires
+unmap_huge-requires c = λ memory stands.
+    ap (λ (n : ℕ). has_huge_in memory (page_of c.args.start) n) (sym c.page_count.ensures.pages)
+    ∙ sym (c.has_huge_in.ensures memory stands) ∙ c.if-has_huge_in.true
 
 pub returns : goal.returns
 returns c =
-    rw c.accept_reply-2.ensures
-    (unmap-goes c.args.self.now c.args.start c.args.length c.accept-answer.new.self
-    c.accept-answer.ensures.setup c.in-Some.after
-    (rw c.in-Some.is at c.in-Ok.ensures) c.accept-answer.result
-    (sym c.is_err.ensures.value ∙ c.if-is_err.false) c.replace.new.state
-    c.accept-answer.ensures.answer c.replace.ensures)
+    unmap-small c.args.self.now c.unmap_small.new.self c.unmap_small.result c.args.start
+    c.args.length c.has_huge_in.result
+    (λ memory stands. c.has_huge_in.ensures memory stands
+    ∙ ap (λ (n : ℕ). has_huge_in memory (page_of c.args.start) n) c.page_count.ensures.pages)
+    c.if-has_huge_in.false c.unmap_small.ensures

@@ -42,4 +42,5 @@ returns-in-Ok-new c =
     (first_ready settings c.args.said.now c.in-Ok.memory c.new-in-Ok-new.result c.in-Ok.is
     (ap (first_fault Enough cpus) (sym made.0) ∙ made.1) setup
     (subst (LeadsTo []) (sym core) c.in-Ok-new.ensures.opens)
-    c.new-in-Ok-new.ensures.resident c.new-in-Ok-new.ensures.pages)
+    c.new-in-Ok-new.ensures.resident c.new-in-Ok-new.ensures.pages
+    c.new-in-Ok-new.ensures.huge)

@@ -19,3 +19,6 @@ returns-in-Rooms c = rw c.in-Rooms.is c.text_fault-in-Rooms.ensures.rooms
 
 pub returns-in-Arrived : goal.returns-in-Arrived
 returns-in-Arrived c = rw c.in-Arrived.is c.text_fault-in-Arrived.ensures.arrived
+
+pub returns-in-Pools : goal.returns-in-Pools
+returns-in-Pools c = rw c.in-Pools.is c.text_fault-in-Pools.ensures.pools

@@ -1,4 +1,4 @@
-use Rattle.numa_run.proofs.Taking.{judged}
+use Rattle.numa_run.proofs.Faults.{judged}
 use Rattle.numa_run.proofs.script.Script.judge.Goals as goal
 
 pub returns : goal.returns

@@ -1,5 +1,5 @@
 use Rattle.numa_run.specs.Answers.{own_line}
-use Rattle.numa_run.proofs.Taking.{judged}
+use Rattle.numa_run.proofs.Faults.{judged}
 use Rattle.numa_run.proofs.script.Script.judge_said.Goals as goal
 
 pub returns : goal.returns

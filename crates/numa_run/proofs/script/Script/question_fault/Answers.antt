@@ -1,5 +1,5 @@
 use Rattle.std.proofs.Common.{Some, None}
-use Rattle.numa_run.proofs.Taking.{question-bad, question-told}
+use Rattle.numa_run.proofs.Faults.{question-bad, question-told}
 use Rattle.numa_run.proofs.script.Script.question_fault.Goals as goal
 
 pub returns-in-Some-question_cause : goal.returns-in-Some-question_cause

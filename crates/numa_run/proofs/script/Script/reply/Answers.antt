@@ -22,3 +22,7 @@ returns-in-Rooms c = λ state stands.
 pub returns-in-Arrived : goal.returns-in-Arrived
 returns-in-Arrived c = λ state stands.
     let t = c.in-Arrived.ensures state stands in (t.0, t.1.0, t.2)
+
+pub returns-in-Pools : goal.returns-in-Pools
+returns-in-Pools c = λ state stands.
+    let t = c.in-Pools.ensures state stands in (t.0, t.1.0, t.2)

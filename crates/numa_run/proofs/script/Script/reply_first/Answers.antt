@@ -61,6 +61,11 @@ returns-in-Bind c =
     rw (c.in-Bind.is, c.requires)
     (first_same c.args.self.now.settings _ reply.BadState Enough (λ state. refl))
 
+pub returns-in-Huge : goal.returns-in-Huge
+returns-in-Huge c =
+    rw (c.in-Huge.is, c.requires)
+    (first_same c.args.self.now.settings _ reply.BadState Enough (λ state. refl))
+
 pub returns-in-Host : goal.returns-in-Host
 returns-in-Host c =
     rw (c.in-Host.is, c.requires)

@@ -1,7 +1,7 @@
 use Rattle.numa_script.specs.declared.page_line.PageLine.TheVariants as page
 use Rattle.numa_run.proofs.JudgeLemmas.{last_text, moved-text, rooms-text, rooms_left}
-use Rattle.numa_run.proofs.Taking.{arrived-bad, arrived-told, maps-bad, maps-told, text-bad}
-use Rattle.numa_run.proofs.Taking.{text-told}
+use Rattle.numa_run.proofs.Faults.{arrived-bad, arrived-told, maps-bad, maps-told, pools-bad}
+use Rattle.numa_run.proofs.Faults.{pools-told, text-bad, text-told}
 use Rattle.numa_run.proofs.script.Script.text_fault.Goals as goal
 
 pub returns-in-Some-clause-maps : goal.returns-in-Some-clause-maps
@@ -18,6 +18,9 @@ returns-in-Some-clause-rooms c =
 pub returns-in-Some-clause-arrived : goal.returns-in-Some-clause-arrived
 returns-in-Some-clause-arrived c = rw c.in-Some.is (arrived-told c.in-Some.field-0)
 
+pub returns-in-Some-clause-pools : goal.returns-in-Some-clause-pools
+returns-in-Some-clause-pools c = rw c.in-Some.is (pools-told c.in-Some.field-0)
+
 pub returns-in-None-clause-maps : goal.returns-in-None-clause-maps
 returns-in-None-clause-maps c = λ task. rw c.in-None.is (maps-bad c.args.self.now.settings task)
 
@@ -31,3 +34,6 @@ returns-in-None-clause-rooms c =
 
 pub returns-in-None-clause-arrived : goal.returns-in-None-clause-arrived
 returns-in-None-clause-arrived c = rw c.in-None.is (arrived-bad c.args.self.now.settings)
+
+pub returns-in-None-clause-pools : goal.returns-in-None-clause-pools
+returns-in-None-clause-pools c = rw c.in-None.is (pools-bad c.args.self.now.settings)

@@ -21,3 +21,6 @@ returns-in-Rooms g c = rw c.in-Rooms.is c.tell_rooms.ensures
 
 pub returns-in-Arrived : goal.returns-in-Arrived
 returns-in-Arrived g c = rw c.in-Arrived.is c.tell_arrived.ensures
+
+pub returns-in-Pools : goal.returns-in-Pools
+returns-in-Pools g c = rw c.in-Pools.is c.tell_pools.ensures

@@ -1,0 +1,22 @@
+use Rattle.std.proofs.Common.{Option, refl, sym, subst}
+use Rattle.numa_lines.proofs.Adding.{said_same}
+use Rattle.numa_page_state.specs.Lying.{Lying}
+use Rattle.numa_page_state.specs.Standing.{LastAs, Lies}
+use Rattle.numa_page_state.specs.declared.last.Last.TheVariants as went
+use Rattle.numa_page_state.specs.declared.state.PageState.{PageState}
+use Rattle.numa_run.proofs.Flows.{nodes-told}
+use Rattle.numa_run.proofs.moved.say_small.Goals as goal
+
+pub returns-in-Some : goal.returns-in-Some
+returns-in-Some g c = λ lying lies.
+    c.say_last.ensures lying.last (c.last.ensures.lies lying
+    (subst (λ (p : Option PageState). Lies p lying) c.in-Some.is lies))
+
+pub returns-in-None : goal.returns-in-None
+returns-in-None g c = λ lying lies.
+    let none = subst (λ (p : Option PageState). Lies p lying) c.in-None.is lies in
+    let tells : LastAs (went.Nodes c.still.result) lying.last =
+    subst (λ (l : Lying). LastAs (went.Nodes c.still.result) l.last) (sym none) c.still.ensures in
+    said_same g.W.Write.contents c.args.output.now c.say_told.new.output _ _
+    (nodes-told c.args.version c.still.result (went.Nodes c.still.result) lying.last refl tells)
+    c.say_told.ensures
