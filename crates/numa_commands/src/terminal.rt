@@ -4,7 +4,7 @@ use numa_console::{Answering, StandardError, fail};
 use numa_diagnose::{LineAt, say_line};
 use numa_host_script::HostScript;
 use numa_lines::{Lines, Respond, RunFault, TakeLine, read_all};
-use numa_play::{Scripts, judge};
+use numa_play::{Scripts, judge, remark_on};
 use numa_script::line::parse;
 use std::alloc::Global;
 use std::io;
@@ -50,6 +50,12 @@ move ADDR NODE                 one of them goes to a node
 moved                          asks what the last move did
 mbind .. strict                refused where a page of the span lies on another node
 mbind .. move TASK CPU         moves such pages to where TASK would have them
+map .. huge TASK               maps pages of 2 MiB, and reserves them; noreserve behind: not
+pool                           asks how many pages of 2 MiB the pools of nodes have
+pool COUNT                     so many in all, or
+pool NODE COUNT                  on a node, or
+pool COUNT TASK CPU              on the nodes of the policy of TASK
+fault TASK ADDR CPU            a task writes to a page of either size
 host                           from here on a host's lines: see man numaplan-script
 ";
 
@@ -133,7 +139,8 @@ impl<W: Write, T: Write> Typed<W, T> {
         self.tell(name, place, line)
     }
 
-    /// Answers a question of a shell, and returns whether the line is one.
+    /// Answers a question of a shell, and returns whether the line is one. What the answer doesn't
+    /// say of pages of 2 MiB is remarked.
     fn ask(&mut self, line: &[u8]) -> Result<bool, RunFault> {
         let Ok(asked) = asked_of(self.alloc, line, self.process) else {
             return Err(RunFault::Memory);
@@ -142,7 +149,11 @@ impl<W: Write, T: Write> Typed<W, T> {
             return Ok(false);
         };
         match answer_to(self.alloc, &self.judged, asked) {
-            Ok(text) => put(&mut self.output, text.as_slice())?,
+            Ok(text) => {
+                put(&mut self.output, text.as_slice())?;
+                let remark = remark_on(&self.judged, true).unwrap_or("");
+                put(&mut self.told, remark.as_bytes())?;
+            }
             Err(Some(message)) => {
                 put(&mut self.told, message.as_bytes())?;
                 put(&mut self.told, b"\n")?;

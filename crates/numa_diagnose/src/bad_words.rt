@@ -4,8 +4,8 @@ use numa_script::keyword::{Keyword, read_keyword};
 use numa_script::parts::words;
 use numa_script::{Cause, Malformed, why_malformed};
 
-/// The place of the word after the policy of an `mbind`, from 0.
-const AFTER_POLICY: u32 = 4;
+/// The place of the word after the policy of an `mbind` and the offset of a `map`, from 0.
+const AFTER_THREE: u32 = 4;
 
 /// The place of what a process is told, in a line `in P LINE`.
 const TOLD: u32 = 2;
@@ -51,28 +51,39 @@ fn is_of_pages(word: &[u8]) -> bool {
     word == b"move".as_slice()
 }
 
-/// Whether the words of an `mbind` don't fit what follows its policy.
-fn is_of_bind(line: &[u8], cause: Cause) -> bool {
+/// The keyword whose words are wrong.
+pub(crate) fn keyword_of(cause: Cause) -> Option<Keyword> {
     match cause {
-        Cause::TooFewWords(Keyword::Mbind)
-        | Cause::TooManyWords(Keyword::Mbind)
-        | Cause::BadWord(Keyword::Mbind, ..) => {}
-        _ => return false,
+        Cause::TooFewWords(keyword) => Some(keyword),
+        Cause::TooManyWords(keyword) => Some(keyword),
+        Cause::BadWord(keyword, ..) => Some(keyword),
+        _ => None,
     }
-    let place = match word_at(line, 0) {
-        Some(word) if word == b"in".as_slice() => AFTER_POLICY + TOLD,
-        _ => AFTER_POLICY,
+}
+
+/// Whether the words of an `mbind` or a `map` don't fit what follows its policy or its offset.
+fn is_of_more(line: &[u8], cause: Cause) -> bool {
+    let Some(keyword) = keyword_of(cause) else {
+        return false;
     };
-    match word_at(line, place) {
-        Some(word) => is_of_pages(word),
-        None => false,
+    let place = match word_at(line, 0) {
+        Some(word) if word == b"in".as_slice() => AFTER_THREE + TOLD,
+        _ => AFTER_THREE,
+    };
+    let Some(word) = word_at(line, place) else {
+        return false;
+    };
+    match keyword {
+        Keyword::Mbind => is_of_pages(word),
+        Keyword::Map => word == b"huge".as_slice(),
+        _ => false,
     }
 }
 
 /// Why a line is malformed.
 fn malformed_detail(line: &[u8], malformed: Malformed) -> Detail {
-    if is_of_bind(line, malformed.cause) {
-        return Detail::MalformedBind(malformed);
+    if is_of_more(line, malformed.cause) {
+        return Detail::MalformedMore(malformed);
     }
     Detail::Malformed(malformed)
 }

@@ -7,7 +7,9 @@ use numa_mask::ListFault;
 use numa_mask::parts::first_place;
 use numa_requests::{Command, CoreRefusal, Event, MoveRefusal, PlacedRefusal, Refusal};
 use numa_script::parts::{items, words};
-use numa_script::{Line, PageLine, Question, Reply, ScriptLine, WordError, Work};
+use numa_script::{
+    HugeLine, HugeRefusal, Line, PageLine, Question, Reply, ScriptLine, WordError, Work,
+};
 use numa_space::Space;
 
 /// The size of a page in bytes.
@@ -74,14 +76,51 @@ fn page_detail(page: Option<u64>) -> Detail {
     }
 }
 
-/// The page of a span that causes a command's refusal.
+/// The page of a span that causes a command's refusal, if the span is aligned.
 fn span_detail(space: &Space, pages: LinePages, refusal: Refusal) -> Detail {
     match refusal {
-        Refusal::Unaligned => Detail::Page(pages.first),
         Refusal::Overlap => page_detail(first_mapped(space, pages.first, pages.end)),
         Refusal::Hole => page_detail(first_unmapped(space, pages.first, pages.end)),
         Refusal::NotSupported => page_detail(first_without_home(space, pages.first, pages.end)),
         _ => Detail::None,
+    }
+}
+
+/// What isn't aligned of a span that begins at an address: that, or a border, which is inside a page
+/// of 2 MiB.
+fn unaligned_detail(start: u64) -> Detail {
+    if start.is_multiple_of(PAGE) {
+        return Detail::HugeBorder;
+    }
+    Detail::Page(start / PAGE)
+}
+
+/// The details of the refusal of a mapping of pages of 2 MiB.
+fn huge_map_detail(space: &Space, start: u64, length: u64, refusal: Refusal) -> Detail {
+    let pages = pages_from(start, sized_count(PageSize::Huge, length));
+    match refusal {
+        Refusal::Unaligned if start.is_multiple_of(HUGE) => Detail::HugeOffset,
+        Refusal::Unaligned => Detail::HugeStart,
+        Refusal::CommandsSpent => Detail::Count(space.version()),
+        Refusal::TooManyRanges => Detail::Count(space.ranges() as u64),
+        refusal => span_detail(space, pages, refusal),
+    }
+}
+
+/// Where the span of a command begins that has one.
+fn start_of(command: &Command) -> Option<u64> {
+    match *command {
+        Command::Map { start, .. } | Command::Unmap { start, .. } => Some(start),
+        Command::Mbind { start, .. } | Command::SetHome { start, .. } => Some(start),
+        _ => None,
+    }
+}
+
+/// What isn't aligned of the span of a command.
+fn unaligned_span(command: &Command) -> Detail {
+    match start_of(command) {
+        Some(start) => unaligned_detail(start),
+        None => Detail::None,
     }
 }
 
@@ -97,6 +136,9 @@ fn command_detail(space: &Space, command: &Command, refusal: Refusal) -> Detail 
     if let Command::SetMems { .. } = command {
         return Detail::Mems;
     }
+    if let Refusal::Unaligned = refusal {
+        return unaligned_span(command);
+    }
     match span_of(command) {
         Some(pages) => span_detail(space, pages, refusal),
         None => Detail::None,
@@ -108,6 +150,7 @@ fn bind_detail(space: &Space, start: u64, length: u64, refusal: Refusal) -> Deta
     match refusal {
         Refusal::CommandsSpent => Detail::Count(space.version()),
         Refusal::TooManyRanges => Detail::Count(space.ranges() as u64),
+        Refusal::Unaligned => unaligned_detail(start),
         _ => span_detail(space, pages_from(start, page_count(length)), refusal),
     }
 }
@@ -162,6 +205,9 @@ pub(crate) fn refusal_detail(space: &Space, said: &Line<'_>, cause: CoreRefusal)
         CoreRefusal::Command(refusal) => match said {
             Line::Command(Ok(command)) => command_detail(space, command, refusal),
             Line::Bind { start, length, .. } => bind_detail(space, *start, *length, refusal),
+            Line::Huge(HugeLine::Map { start, length, .. }) => {
+                huge_map_detail(space, *start, *length, refusal)
+            }
             _ => Detail::None,
         },
         CoreRefusal::BadCpu => last_node(space),
@@ -285,15 +331,40 @@ pub(crate) fn move_detail(space: &Space, said: &Line<'_>, refusal: MoveRefusal) 
     }
 }
 
+/// The details of the refusal of a line about pages of 2 MiB, or about a first touch.
+fn huge_detail(space: &Space, said: &Line<'_>, refusal: HugeRefusal) -> Detail {
+    match (refusal, said) {
+        (HugeRefusal::NoSuchNode | HugeRefusal::BadCpu, _) => last_node(space),
+        (HugeRefusal::Unmapped, Line::Huge(HugeLine::Fault { address, .. })) => {
+            Detail::Page(*address / PAGE)
+        }
+        _ => Detail::None,
+    }
+}
+
+/// Whether START of a line isn't aligned because it is decimal, which may be a slip.
+fn is_decimal_slip(line: &[u8], said: &Line<'_>) -> bool {
+    let start = match said {
+        Line::Command(Ok(command)) => start_of(command),
+        Line::Bind { start, .. } => Some(*start),
+        Line::Huge(HugeLine::Map { start, .. }) => Some(*start),
+        _ => None,
+    };
+    match start {
+        Some(start) => is_decimal_start(line) && !start.is_multiple_of(PAGE),
+        None => false,
+    }
+}
+
 /// The details of a refusal once a machine is ready.
 fn refused_detail(space: &Space, line: &[u8], said: &Line<'_>, fault: Reply) -> Detail {
     match fault {
-        Reply::Refused(CoreRefusal::Command(Refusal::Unaligned)) if is_decimal_start(line) => {
-            Detail::DecimalStart
-        }
+        Reply::Refused(CoreRefusal::Command(Refusal::Unaligned)) if is_decimal_slip(line, said) =>
+            Detail::DecimalStart,
         Reply::Refused(cause) => refusal_detail(space, said, cause),
         Reply::PlacedRefused(refusal) => placed_detail(space, line, said, refusal),
         Reply::MoveRefused(refusal) => move_detail(space, said, refusal),
+        Reply::HugeRefused(refusal) => huge_detail(space, said, refusal),
         _ => Detail::None,
     }
 }

@@ -14,8 +14,8 @@ pub enum Detail {
     None,
     /// Why the line is malformed, and where.
     Malformed(Malformed),
-    /// The same of an `mbind` with words after its policy.
-    MalformedBind(Malformed),
+    /// The same of an `mbind` with words after its policy, or of a `map` with some after its offset.
+    MalformedMore(Malformed),
     /// Only a host's script has the line, and this isn't one.
     NoHost,
     /// No machine is ready yet, so the line wasn't judged.
@@ -30,6 +30,12 @@ pub enum Detail {
     AllNodes(u32),
     /// START begins with 0 without `0x`, so it is decimal.
     DecimalStart,
+    /// A mapping of pages of 2 MiB begins at no multiple of that.
+    HugeStart,
+    /// Its OFFSET is no multiple of the pages of 4 KiB that one of 2 MiB has.
+    HugeOffset,
+    /// A border of the span is inside a page of 2 MiB.
+    HugeBorder,
     /// The number of a page: the first that is in the way, or that is missing.
     Page(u64),
     /// The number of a page that is mapped but not published yet.
@@ -48,6 +54,8 @@ pub enum Detail {
     NeedsProcess,
     /// A worker's line, which has no place in a host.
     NoWorkers,
+    /// A line about pages of 2 MiB, or about a first touch, which has none either.
+    NoHuge,
     /// The number of the group or of the process in question.
     Number(u32),
     /// A host's process was told or asked: its group says which nodes are allowed, and no worker
@@ -69,7 +77,7 @@ impl Detail {
     pub fn column(self) -> Option<usize> {
         match self {
             Detail::Malformed(malformed) => Some(malformed.column),
-            Detail::MalformedBind(malformed) => Some(malformed.column),
+            Detail::MalformedMore(malformed) => Some(malformed.column),
             Detail::NoHost => Some(1),
             _ => None,
         }

@@ -1,8 +1,9 @@
 //! Findings as texts.
+use crate::bad_words::keyword_of;
 use crate::finding::{Detail, Finding};
 use crate::hint::HostHint;
 use crate::host_text::put_host_refused;
-use crate::page_text::{PLACED, put_move_refused, put_placed_refused};
+use crate::page_text::{PLACED, put_huge_refused, put_move_refused, put_placed_refused};
 use crate::words::{list_words, machine_words, policy_words, told_words, worker_words};
 use numa_requests::{CoreRefusal, Refusal};
 use numa_rules::{Text, say_hint, say_otherwise};
@@ -58,14 +59,19 @@ fn put_usage(text: &mut Text, keyword: Keyword) {
     match keyword {
         Keyword::GroupMems => text.put(", or - for no list"),
         Keyword::Room => text.put(", or stands alone"),
+        Keyword::Pool => text.put(", NODE COUNT or COUNT alone, or stands alone"),
         _ => {}
     }
 }
 
-/// Appends the syntax of an `mbind` with words after its policy, after a semicolon.
-fn put_bind_usage(text: &mut Text) {
-    put_usage(text, Keyword::Mbind);
-    text.put(", then strict, move TASK CPU, or both");
+/// Appends the syntax of an `mbind` with words after its policy, or of a `map` with some after its
+/// offset, after a semicolon.
+fn put_more_usage(text: &mut Text, keyword: Keyword) {
+    put_usage(text, keyword);
+    text.put(match keyword {
+        Keyword::Map => ", then huge TASK, and perhaps noreserve",
+        _ => ", then strict, move TASK CPU, or both",
+    });
 }
 
 /// Appends the form that a word must have.
@@ -83,7 +89,7 @@ fn put_form(text: &mut Text, parameter: Parameter) {
         Form::Rules => text.put(RULES_FORM),
         Form::Frames => text.put(FRAMES_FORM),
         Form::Distances => text.put(DISTANCES_FORM),
-        Form::Switch | Form::Any => {}
+        Form::Switch | Form::Word | Form::Any => {}
     }
 }
 
@@ -140,18 +146,18 @@ fn put_fault_of(text: &mut Text, cause: Cause) {
 /// Appends why a line is malformed.
 fn put_cause(text: &mut Text, cause: Cause) {
     put_fault_of(text, cause);
-    match cause {
-        Cause::TooFewWords(keyword) => put_usage(text, keyword),
-        Cause::TooManyWords(keyword) => put_usage(text, keyword),
-        Cause::BadWord(keyword, ..) => put_usage(text, keyword),
-        _ => {}
+    if let Some(keyword) = keyword_of(cause) {
+        put_usage(text, keyword);
     }
 }
 
-/// Appends why an `mbind` with words after its policy is malformed.
-fn put_bind_cause(text: &mut Text, cause: Cause) {
+/// Appends why an `mbind` with words after its policy, or a `map` with some after its offset, is
+/// malformed.
+fn put_more_cause(text: &mut Text, cause: Cause) {
     put_fault_of(text, cause);
-    put_bind_usage(text);
+    if let Some(keyword) = keyword_of(cause) {
+        put_more_usage(text, keyword);
+    }
 }
 
 /// Appends an error: its head, its name and its cause.
@@ -246,6 +252,13 @@ pub(crate) fn put_refusal(text: &mut Text, cause: CoreRefusal, detail: Detail) {
         Detail::Count(count) => put_counted(text, cause, " (now ", count, ")"),
         Detail::Mems => text.put("none of these nodes has memory; name one that has"),
         Detail::DecimalStart => text.put(DECIMAL_START),
+        Detail::HugeStart => {
+            text.put("START is no multiple of 2 MiB; round it down, and LENGTH up");
+        }
+        Detail::HugeOffset => text.put("OFFSET is no multiple of 512, which a page of 2 MiB takes"),
+        Detail::HugeBorder => {
+            text.put("a border of the span is inside a page of 2 MiB; take in the whole page");
+        }
         Detail::OfHost => text.put(words_in_host(cause)),
         _ => text.put(worker_words(cause)),
     }
@@ -273,6 +286,7 @@ fn put_answer(text: &mut Text, fault: Reply, detail: Detail) {
         Reply::HostRefused(refusal) => put_host_refused(text, refusal, detail),
         Reply::PlacedRefused(refusal) => put_placed_refused(text, refusal, detail),
         Reply::MoveRefused(refusal) => put_move_refused(text, refusal, detail),
+        Reply::HugeRefused(refusal) => put_huge_refused(text, refusal, detail),
         Reply::Placed => text.put(PLACED),
         _ => {}
     }
@@ -281,12 +295,15 @@ fn put_answer(text: &mut Text, fault: Reply, detail: Detail) {
 /// The text of a detail of bad words or a bad state.
 fn detail_words(detail: Detail) -> &'static str {
     match detail {
-        Detail::Malformed(_) | Detail::MalformedBind(_) => ": ",
+        Detail::Malformed(_) | Detail::MalformedMore(_) => ": ",
         Detail::NoHost => ": only a host's script has this line; write host after machine",
         Detail::LateHost => ": host comes after machine and before the first command",
         Detail::HostReady => ": the script is a host's already; take the line out",
         Detail::NeedsProcess => ": in a host a line of one process follows in P; write that",
         Detail::NoWorkers => ": a host has no workers; they are for scripts of one process",
+        Detail::NoHuge => {
+            ": a host has no pools; they, pages of 2 MiB and fault are for scripts of one process"
+        }
         Detail::NoMachine => ": no machine is ready; limits and machine come first",
         Detail::MachineReady => {
             ": a machine is ready already; limits, rules, cpus and machine come before it"
@@ -310,7 +327,7 @@ fn put_detail(text: &mut Text, detail: Detail) {
     text.put(detail_words(detail));
     match detail {
         Detail::Malformed(malformed) => put_cause(text, malformed.cause),
-        Detail::MalformedBind(malformed) => put_bind_cause(text, malformed.cause),
+        Detail::MalformedMore(malformed) => put_more_cause(text, malformed.cause),
         Detail::CarriageReturn => text.put(RETURN),
         Detail::Tab => text.put(TAB),
         Detail::AllNodes(last) => put_all(text, last),

@@ -3,6 +3,8 @@ use crate::finding::Detail;
 use crate::finding_text::put_refusal;
 use numa_requests::{CoreRefusal, MoveRefusal, PlacedRefusal, Refusal};
 use numa_rules::Text;
+use numa_script::HugeRefusal;
+use numa_script::huge_line::huge_cause;
 use numa_script::names::{move_cause, placed_cause};
 
 /// The text for a page that is touched and lies somewhere.
@@ -54,7 +56,7 @@ fn move_words(refusal: MoveRefusal) -> &'static str {
         }
         MoveRefusal::Unmapped => "the page isn't mapped; map it, or look at the address",
         MoveRefusal::NotPlaced => {
-            "the page lies nowhere yet; say where it lies by at, or touch it by populate"
+            "the page lies nowhere yet; touch it by populate, or say where it lies by at, of 4 KiB"
         }
         MoveRefusal::NoRoom => {
             "the node takes no more pages, or the page is in a worker's frame; raise room, or \
@@ -124,5 +126,40 @@ pub(crate) fn put_move_refused(text: &mut Text, refusal: MoveRefusal, detail: De
             put_named(text, name, told_move_words(refusal), Detail::None);
         }
         (refusal, detail) => put_named(text, name, move_words(refusal), detail),
+    }
+}
+
+/// Why a line about pages of 2 MiB, or about a first touch, is refused.
+fn huge_words(refusal: HugeRefusal) -> &'static str {
+    match refusal {
+        HugeRefusal::NoSuchNode => "the machine lacks the node, or the node has no memory",
+        HugeRefusal::BadCpu => "the machine lacks the node of CPU",
+        HugeRefusal::Unsure => {
+            "the node, or the others together, have more surplus pages than pages, and a kernel \
+then takes all memory; unmap pages first"
+        }
+        HugeRefusal::NoHugePages => {
+            "too few pages of 2 MiB are free and not reserved, or on the nodes of TASK; raise a \
+pool, or write noreserve"
+        }
+        HugeRefusal::Unmapped => "the page isn't mapped; map it, or look at the address",
+        HugeRefusal::Exhausted => "no node of the page's list has room; raise room",
+        HugeRefusal::Killed => {
+            "no node of the page's list has a free page of 2 MiB, or all are reserved; raise a pool"
+        }
+        HugeRefusal::NotSupported => "a page has 2 MiB; it lies where fault or populate brings it",
+        HugeRefusal::TooManyRuns => "there would be more than 1048576 runs of pages that lie alike",
+        HugeRefusal::NoMemory => "the program found no memory for it",
+    }
+}
+
+/// Appends the refusal of such a line: its name and its cause.
+pub(crate) fn put_huge_refused(text: &mut Text, refusal: HugeRefusal, detail: Detail) {
+    let name = huge_cause(refusal);
+    match (refusal, detail) {
+        (HugeRefusal::Unmapped, Detail::Page(page)) => {
+            put_of_page(text, name, CoreRefusal::Unmapped(page), detail);
+        }
+        (refusal, detail) => put_named(text, name, huge_words(refusal), detail),
     }
 }

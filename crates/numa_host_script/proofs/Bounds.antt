@@ -13,10 +13,9 @@ use Rattle.numa_script.specs.declared.reply.Reply.TheVariants as reply
 use Rattle.numa_run.specs.Answers.{State, after}
 use Rattle.numa_run.specs.Machines.{first_fault, hardware_of, limits_fit, nodes_with_cpus}
 use Rattle.numa_run.specs.Obeying.{bound_command}
-use Rattle.numa_run.specs.Replies.{bind_nothing, cpus_outcome}
-use Rattle.numa_run.specs.Replies.{machine_outcome, machine_unless, outcome_of, served_by}
-use Rattle.numa_run.specs.Replies.{with_reply}
-use Rattle.numa_run.proofs.Bounded.{bound-keeps, command-keeps, pages-keep, work-keeps}
+use Rattle.numa_run.specs.Replies.{bind_nothing, cpus_outcome, machine_outcome, machine_unless}
+use Rattle.numa_run.specs.Replies.{outcome_of, served_by, with_reply}
+use Rattle.numa_run.proofs.Bounded.{bound-keeps, command-keeps, huge-keeps, pages-keep, work-keeps}
 use Rattle.numa_host_script.specs.Sessions.{bounds_after}
 
 -- limits, where they fit
@@ -63,6 +62,7 @@ by-machine None lacked state (line.Maps task) = refl
 by-machine None lacked state (line.Work said) = refl
 by-machine None lacked state (line.Pages said) = refl
 by-machine None lacked state (line.Bind start bytes policy pages) = refl
+by-machine None lacked state (line.Huge said) = refl
 by-machine None lacked state line.Host = refl
 by-machine None lacked state (line.HostCommand said) = refl
 by-machine (Some machine) lacked state line.Silent = refl
@@ -81,6 +81,8 @@ by-machine (Some machine) lacked state (line.Work said) = work-keeps lacked mach
 by-machine (Some machine) lacked state (line.Pages said) = pages-keep lacked machine state said
 by-machine (Some machine) lacked state (line.Bind start bytes policy pages) =
     bound-keeps pages lacked machine state (bound_command machine.rules start bytes policy)
+by-machine (Some machine) lacked state (line.Huge said) =
+    huge-keeps said lacked machine state
 by-machine (Some machine) lacked state line.Host = refl
 by-machine (Some machine) lacked state (line.HostCommand said) = refl
 

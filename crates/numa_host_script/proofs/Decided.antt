@@ -27,7 +27,7 @@ use Rattle.numa_host_script.specs.Hosts.{plenty}
 use Rattle.numa_host_script.specs.Judged.{session_fault}
 use Rattle.numa_host_script.specs.Sessions.{Hosted, HostLack, Session, Single, session_after}
 use Rattle.numa_host_script.specs.Standing.{StandsIn, told}
-use Rattle.numa_host_script.specs.Taking.{IsLeft, Left, Open, Told, Touched, fault_left}
+use Rattle.numa_host_script.specs.Taking.{IsLeft, Left, Open, Pooled, Told, Touched, fault_left}
 use Rattle.numa_host_script.specs.Taking.{left_in, misplaced_reply}
 use Rattle.numa_host_script.specs.declared.running.RunningHost.{RunningHost}
 use Rattle.numa_host_script.specs.declared.taking.HostTaken.{HostTaken}
@@ -35,8 +35,8 @@ use Rattle.numa_host_script.specs.declared.taking.HostTaken.TheVariants as taken
 use Rattle.numa_host_script.proofs.Left.{asked-fault_where, asks_moved, foreign-asked}
 use Rattle.numa_host_script.proofs.Left.{foreign-listed, foreign-moved, IsSpaceOf}
 use Rattle.numa_host_script.proofs.Left.{listed-fault_where, misplaced-fault, misplaced_fault}
-use Rattle.numa_host_script.proofs.Left.{moved-fault_where, own-fault, stays, Stays, told-fault}
-use Rattle.numa_host_script.proofs.Left.{touched-fault}
+use Rattle.numa_host_script.proofs.Left.{moved-fault_where, own-fault, pooled-fault, stays, Stays}
+use Rattle.numa_host_script.proofs.Left.{told-fault, touched-fault}
 use Rattle.numa_host_script.proofs.Taken.{lack_of}
 
 -- what was left in a session was judged
@@ -203,6 +203,9 @@ module _ (mid : Script) (mid_limits : Bounds) (mid_host : Option RunningHost)
   judged-left said (Touched process) fault session same t tells =
       let w = tells (session_after t.0 session said) t.1 in
       (t.0, w.1, w.2 ∙ touched-fault t.0 w.0 session said process t.2)
+  judged-left said Pooled fault session same t tells =
+      let w = tells (session_after t.0 session said) t.1 in
+      (t.0, w.1, w.2 ∙ pooled-fault t.0 w.0 session said t.2)
   judged-left said (Open shown) fault session same t tells =
       let still = ap (session_after t.0 session) t.2 ∙ same t.0 in
       let w = tells session (subst (StandsIn mid mid_limits mid_host) still t.1) in

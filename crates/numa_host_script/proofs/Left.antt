@@ -33,7 +33,7 @@ use Rattle.numa_host_script.specs.Sessions.{Hosted, Hosting, HostLack, Session, 
 use Rattle.numa_host_script.specs.Sessions.{asked_where, listed_where, session_after}
 use Rattle.numa_host_script.specs.Sessions.{session_served}
 use Rattle.numa_host_script.specs.Standing.{StandsIn, told}
-use Rattle.numa_host_script.specs.Taking.{IsLeft, Left, Open, Told, Touched, answer_left}
+use Rattle.numa_host_script.specs.Taking.{IsLeft, Left, Open, Pooled, Told, Touched, answer_left}
 use Rattle.numa_host_script.specs.Taking.{asks_move, fault_left, left_in, misplaced_reply}
 use Rattle.numa_host_script.specs.declared.running.RunningHost.{RunningHost}
 use Rattle.numa_host_script.specs.declared.taking.HostTaken.{HostTaken}
@@ -63,6 +63,14 @@ pub touched-fault : (lack then_lack : HostLack) (session : Session) (said : Scri
     → fault_left then_lack (session_after lack session said) (Touched process)
     ≡ session_fault lack session said
 touched-fault lack then_lack session said process left =
+    λ i. fault_or (reply_in (left.0 i)) (left.1 i)
+
+-- so do the pools
+pub pooled-fault : (lack then_lack : HostLack) (session : Session) (said : ScriptLine)
+    → IsLeft lack session said Pooled
+    → fault_left then_lack (session_after lack session said) Pooled
+    ≡ session_fault lack session said
+pooled-fault lack then_lack session said left =
     λ i. fault_or (reply_in (left.0 i)) (left.1 i)
 
 -- a reply that is written as bad words, where there is no host
@@ -101,6 +109,7 @@ own-answer lack state (own.Maps task) = refl
 own-answer lack state own.Moved = refl
 own-answer lack state own.Rooms = refl
 own-answer lack state own.Arrived = refl
+own-answer lack state own.Pools = refl
 
 pub own-fault : (lack : HostLack) (state : State) (found : Taken)
     → own_fault_left lack.lacked state found
@@ -112,6 +121,7 @@ own-fault lack state (own.Maps task) = refl
 own-fault lack state own.Moved = refl
 own-fault lack state own.Rooms = refl
 own-fault lack state own.Arrived = refl
+own-fault lack state own.Pools = refl
 
 -- and as a host does: by a reply, by what its last move did, or by its rooms
 abbrev pub misplaced_as : Option Reply → Bool → Hosting → Answer
@@ -132,6 +142,7 @@ misplaced-answer lack at (own.Maps task) = refl
 misplaced-answer lack at own.Moved = refl
 misplaced-answer lack at own.Rooms = refl
 misplaced-answer lack at own.Arrived = refl
+misplaced-answer lack at own.Pools = refl
 
 pub misplaced-fault : (lack : HostLack) (at : Hosting) (found : Taken)
     → misplaced_fault (misplaced_reply found)
@@ -143,6 +154,7 @@ misplaced-fault lack at (own.Maps task) = refl
 misplaced-fault lack at own.Moved = refl
 misplaced-fault lack at own.Rooms = refl
 misplaced-fault lack at own.Arrived = refl
+misplaced-fault lack at own.Pools = refl
 
 -- a question of a process, where it is there or not
 asked-answer : (lack : HostLack) (at : Hosting) (process : ℕ) (asked : Question)
@@ -219,6 +231,7 @@ abbrev pub Stays : HostLack → Session → Left → Type 0
 Stays lack session (Told answer) = Unit {0}
 Stays lack session (Open said) = session_after lack session said ≡ session
 Stays lack session (Touched process) = Unit {0}
+Stays lack session Pooled = Unit {0}
 
 malformed-same : (lacked : Lack) (state : State) → after lacked state line.Malformed ≡ state
 malformed-same lacked state = ap (λ (r : Played). r.state) (malformed-is lacked state)
@@ -230,6 +243,7 @@ stays lack session (taken.Reply answer) = tt
 stays lack session (taken.Arrived process) = tt
 stays lack session (taken.Own (own.Reply answer)) = tt
 stays lack session (taken.Own own.Arrived) = tt
+stays lack session (taken.Own own.Pools) = tt
 stays lack (Single state) (taken.Own (own.Question asked)) =
     ap Single (question-same lack.lacked state asked)
 stays lack (Single state) (taken.Own (own.Maps task)) =

@@ -41,7 +41,7 @@ use Rattle.numa_host_script.specs.Sessions.{is_fresh, listed_where, own_outcome,
 use Rattle.numa_host_script.specs.Sessions.{session_after, session_served}
 use Rattle.numa_host_script.specs.Standing.{Replies, RunsAs, StandsIn, Takes, hosting_with, told}
 use Rattle.numa_host_script.specs.Standing.{IsTakenIn}
-use Rattle.numa_host_script.specs.Taking.{IsLeft, left_in, touched_answer}
+use Rattle.numa_host_script.specs.Taking.{IsLeft, left_in, pooled_answer, touched_answer}
 use Rattle.numa_host_script.specs.declared.running.RunningHost.{RunningHost}
 use Rattle.numa_host_script.specs.declared.taking.HostTaken.{HostTaken}
 use Rattle.numa_host_script.specs.declared.taking.HostTaken.TheVariants as taken
@@ -163,6 +163,8 @@ in-nothing running process (line.Pages said) given none asks lists shows binds =
     absurd (shows said refl)
 in-nothing running process (line.Bind start bytes policy pages) given none asks lists shows
     binds = absurd (binds start bytes policy pages refl)
+in-nothing running process (line.Huge said) given none asks lists shows binds =
+    λ at stands. (plenty, refl, stands)
 in-nothing running process line.Host given none asks lists shows binds =
     λ at stands. (plenty, refl, stands)
 in-nothing running process (line.HostCommand said) given none asks lists shows binds =
@@ -189,6 +191,7 @@ own-is (line.Work said) other lack at = refl
 own-is (line.Pages (Ok said)) other lack at = absurd other
 own-is (line.Pages (Err fault)) other lack at = refl
 own-is (line.Bind start bytes policy pages) other lack at = refl
+own-is (line.Huge said) other lack at = refl
 own-is line.Host other lack at = refl
 own-is (line.HostCommand said) other lack at = refl
 
@@ -207,6 +210,7 @@ is-other (line.Work said) none = tt
 is-other (line.Pages (Ok said)) none = absurd (none said refl)
 is-other (line.Pages (Err fault)) none = tt
 is-other (line.Bind start bytes policy pages) none = tt
+is-other (line.Huge said) none = tt
 is-other line.Host none = tt
 is-other (line.HostCommand said) none = tt
 
@@ -385,6 +389,8 @@ module _ (script : Script) (limits : Bounds) where
       says-alone said.process said.line (line.Pages (Ok page.Rooms)) (λ e. cc) left.1
   left-alone lack state said own.Arrived same left =
       (subst (λ (s : Served). touched_answer s.session None ≡ s.answer) (sym same) left.1, left.2)
+  left-alone lack state said own.Pools same left =
+      (subst (λ (s : Served). pooled_answer s.session ≡ s.answer) (sym same) left.1, left.2)
 
   -- a line that is told to a process has no place
   pub taken-foreign : (said : ScriptLine) (process : ℕ) (session : Session)

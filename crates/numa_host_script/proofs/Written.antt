@@ -39,7 +39,7 @@ use Rattle.numa_host_script.specs.Paging.{arrived_text, pages_at, process_in, sh
 use Rattle.numa_host_script.specs.Sessions.{Hosted, Hosting, HostLack, Session, Single}
 use Rattle.numa_host_script.specs.Sessions.{session_after, session_answer, session_served}
 use Rattle.numa_host_script.specs.Standing.{RunsAs, StandsIn, told}
-use Rattle.numa_host_script.specs.Taking.{IsLeft, Left, Open, Told, Touched, answer_left}
+use Rattle.numa_host_script.specs.Taking.{IsLeft, Left, Open, Pooled, Told, Touched, answer_left}
 use Rattle.numa_host_script.specs.Taking.{asks_move, fault_left, left_in, misplaced_reply}
 use Rattle.numa_host_script.specs.declared.running.RunningHost.{RunningHost}
 use Rattle.numa_host_script.specs.declared.taking.HostTaken.{HostTaken}
@@ -49,8 +49,8 @@ use Rattle.numa_host_script.proofs.Left.{foreign-asked, foreign-listed, foreign-
 use Rattle.numa_host_script.proofs.Left.{listed-answer_where, listed-unstarved}
 use Rattle.numa_host_script.proofs.Left.{misplaced-answer, misplaced-fault, misplaced_as}
 use Rattle.numa_host_script.proofs.Left.{misplaced_fault, moved-answer_where, moved-unstarved}
-use Rattle.numa_host_script.proofs.Left.{own-answer, own-fault, stays, Stays, told-answer}
-use Rattle.numa_host_script.proofs.Left.{told-fault, touched-fault}
+use Rattle.numa_host_script.proofs.Left.{own-answer, own-fault, pooled-fault, stays, Stays}
+use Rattle.numa_host_script.proofs.Left.{told-answer, told-fault, touched-fault}
 use Rattle.numa_host_script.proofs.Taken.{lack_of}
 
 module _ {W : Type 0} (contents : W → Option (List ℕ)) (output output_then : Watched W) where
@@ -370,6 +370,14 @@ module _ {W : Type 0} (contents : W → Option (List ℕ)) (output output_then :
           said_same contents output output_then _ _ (ap bytes_of t.2.0) w.2,
           subst (λ (o : Option Reply). IsTrue lacks ↔ IsSomeAnd o LacksMemory)
               (touched-fault t.0 w.0 session said process t.2) w.3,
+        )
+    served-left said Pooled lacks session same t writes =
+        let w = writes (session_after t.0 session said) t.1 in (
+          t.0,
+          w.1,
+          said_same contents output output_then _ _ (ap bytes_of t.2.0) w.2,
+          subst (λ (o : Option Reply). IsTrue lacks ↔ IsSomeAnd o LacksMemory)
+              (pooled-fault t.0 w.0 session said t.2) w.3,
         )
     served-left said (Open shown) lacks session same t writes =
         let still = ap (session_after t.0 session) t.2 ∙ same t.0 in

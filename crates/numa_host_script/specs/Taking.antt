@@ -12,13 +12,13 @@ use Rattle.numa_script.specs.declared.reply.Reply.{Reply}
 use Rattle.numa_script.specs.declared.reply.Reply.TheVariants as reply
 use Rattle.numa_run.specs.Judged.{fault_or}
 use Rattle.numa_run.specs.Replies.{Answer, Replied, Shown, bytes_of, reply_in}
+use Rattle.numa_run.specs.HugeLines.{pools_answer}
 use Rattle.numa_run.specs.Scripts.{arrived_answer}
 use Rattle.numa_run.specs.declared.running.Taken.{Taken}
 use Rattle.numa_run.specs.declared.running.Taken.TheVariants as own
 use Rattle.numa_host_script.specs.Judged.{Starves, session_fault, session_refused}
-use Rattle.numa_host_script.specs.Sessions.{Hosted, Hosting, HostLack, Session, Single, session_after}
-use Rattle.numa_host_script.specs.Sessions.{session_answer}
-use Rattle.numa_host_script.specs.Sessions.{session_served}
+use Rattle.numa_host_script.specs.Sessions.{Hosted, Hosting, HostLack, Session, Single}
+use Rattle.numa_host_script.specs.Sessions.{session_after, session_answer, session_served}
 use Rattle.numa_host_script.specs.Paging.{arrived_text}
 use Rattle.numa_host_script.specs.Standing.{StandsIn, told}
 use Rattle.numa_host_script.specs.declared.script.HostScript.{HostScript}
@@ -26,12 +26,13 @@ use Rattle.numa_host_script.specs.declared.taking.HostTaken.{HostTaken}
 use Rattle.numa_host_script.specs.declared.taking.HostTaken.TheVariants as taken
 
 -- what is left of a line that was taken: its reply; or the line, which has changed nothing and
--- whose answer is a text of what there is; or what pages that it touched did, which the session
--- after it tells
+-- whose answer is a text of what there is; or what pages that it touched did, or what the pools of
+-- pages of 2 MiB have, which the session after it tells
 pub data Left : Type 0 where
   Told : Reply → Left
   Open : ScriptLine → Left
   Touched : Option ℕ → Left
+  Pooled : Left
 
 abbrev pub left_in : HostTaken → Left
 left_in (taken.Own (own.Reply answer)) = Told answer
@@ -40,6 +41,7 @@ left_in (taken.Own (own.Maps task)) = Open (alone (line.Maps task))
 left_in (taken.Own own.Moved) = Open (alone (line.Pages (Ok page.Moved)))
 left_in (taken.Own own.Rooms) = Open (alone (line.Pages (Ok page.Rooms)))
 left_in (taken.Own own.Arrived) = Touched None
+left_in (taken.Own own.Pools) = Pooled
 left_in (taken.Reply answer) = Told answer
 left_in (taken.Asked process asked) = Open (told process (line.Question asked))
 left_in (taken.Listed process task) = Open (told process (line.Maps task))
@@ -57,6 +59,11 @@ abbrev pub touched_answer : Session → Option ℕ → Answer
 touched_answer (Single state) process = arrived_answer state
 touched_answer (Hosted at) process = touched_by process at
 
+-- what the pools of the one process have
+abbrev pub pooled_answer : Session → Answer
+pooled_answer (Single state) = pools_answer state
+pooled_answer (Hosted at) = Replied reply.BadState
+
 -- the reply is the one that the definition says, or the line is left as it is
 abbrev pub IsLeft : HostLack → Session → ScriptLine → Left → Type 0
 IsLeft lack session said (Told answer) =
@@ -66,18 +73,24 @@ IsLeft lack session said (Touched process) =
     (touched_answer (session_after lack session said) process
     ≡ (session_served lack session said).answer)
     × (None ≡ session_refused lack session said)
+IsLeft lack session said Pooled =
+    (pooled_answer (session_after lack session said)
+    ≡ (session_served lack session said).answer)
+    × (None ≡ session_refused lack session said)
 
 -- the answer of what is left, and its fault or refusal
 abbrev pub answer_left : HostLack → Session → Left → Answer
 answer_left lack session (Told answer) = Replied answer
 answer_left lack session (Open said) = (session_served lack session said).answer
 answer_left lack session (Touched process) = touched_answer session process
+answer_left lack session Pooled = pooled_answer session
 
 abbrev pub fault_left : HostLack → Session → Left → Option Reply
 fault_left lack session (Told answer) = fault_in answer
 fault_left lack session (Open said) = session_fault lack session said
 fault_left lack session (Touched process) =
     fault_or (reply_in (touched_answer session process)) None
+fault_left lack session Pooled = fault_or (reply_in (pooled_answer session)) None
 
 -- where there is a host, a line that names no process and shows what is has no place; but the rooms
 -- are the host's, and so is its last move
@@ -88,6 +101,7 @@ misplaced_reply (own.Maps task) = Some reply.BadState
 misplaced_reply own.Moved = None
 misplaced_reply own.Rooms = None
 misplaced_reply own.Arrived = Some reply.BadState
+misplaced_reply own.Pools = Some reply.BadState
 
 -- of these two it is the last move
 abbrev pub asks_move : Taken → Bool

@@ -1,6 +1,6 @@
 //! Laws about the definitions that the contracts of this crate cite. The functions do nothing: what
 //! each one ensures is a law.
-ghost use Rattle.std.specs.Prelude.{◌≡◌, ℕ, Bool, true, false, Some, [], List};
+ghost use Rattle.std.specs.Prelude.{◌≡◌, ℕ, Bool, true, false, Some, None, [], List};
 ghost use Rattle.numa_host.specs.Processes.{commands_of, is_there, members_of};
 ghost use Rattle.numa_page_state.specs.Outcomes.{Lack};
 ghost use Rattle.numa_run.specs.Answers.{State, after, answer_of, own_line};
@@ -27,7 +27,8 @@ pub fn without_host()
 {}
 
 /// A process answers a question, and `maps`, as a script does that has accepted its commands, has
-/// placed no page in a frame, and whose pages lie where those of the process do.
+/// placed no page in a frame, has no line about pages of 2 MiB, and whose pages lie where those of
+/// the process do.
 pub fn process_answers()
     ensures asked { (lacked : Lack) (at : Hosting) (process : ℕ) (state : State)
         (question : Question) → state.machine ≡ Some at.machine
@@ -39,7 +40,7 @@ pub fn process_answers()
         → state.machine ≡ Some at.machine
         → state.world.history ≡ commands_of at.machine at.history process
         → state.resident ≡ [] → state.lying.spots ≡ (pages_at at process).spots
-        → state.bounds ≡ at.bounds
+        → state.bounds ≡ at.bounds → state.huge ≡ None
         → is_there (members_of at.history) process ≡ true
         → (in_outcome lacked at process (Line.Maps task)).answer
         ≡ (outcome_of lacked state (Line.Maps task)).answer }

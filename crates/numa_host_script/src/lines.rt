@@ -86,6 +86,7 @@ pub(crate) fn misplaced(taken: Taken) -> Option<Reply>
         Taken::Moved => None,
         Taken::Rooms => None,
         Taken::Arrived => Some(Reply::BadState),
+        Taken::Pools => Some(Reply::BadState),
     }
 }
 

@@ -14,6 +14,7 @@
 mod findings;
 mod foremost;
 mod found_objects;
+mod huge;
 mod judging;
 mod named;
 mod places;
@@ -22,6 +23,7 @@ mod question;
 mod touching;
 
 pub use findings::{Findings, Look, PLAIN};
+pub use huge::remark_on;
 pub use judging::judge;
 pub use named::TasksNamed;
 pub use places::page_places;

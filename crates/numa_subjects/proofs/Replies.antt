@@ -42,6 +42,7 @@ text_tells_fault (reply.MovedTo node) = refl
 text_tells_fault (reply.Sent version moved left late) = refl
 text_tells_fault (reply.PlacedRefused cause) = refl
 text_tells_fault (reply.MoveRefused cause) = refl
+text_tells_fault (reply.HugeRefused cause) = refl
 
 pub fault_of_text : (answer : List ℕ) (said : Reply) → answer ≡ text_of said
     → tells_fault answer ≡ is_fault said

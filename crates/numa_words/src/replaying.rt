@@ -221,16 +221,17 @@ fn replayed_whole<S: Read + Drop, T: Write>(
     }
 }
 
-/// The report of a replay, after the remark that it is another by the other rules, if it is.
+/// The report of a replay, after remarks: on pages of 2 MiB, if there are some, and that it is
+/// another by the other rules, if it is.
 fn told_of<T: Write>(
     findings: &mut Findings<T>,
     replayed: Result<Replayed, Halt>,
 ) -> Result<Vec<u8>, Halt> {
     let Replayed { text, is_other } = replayed?;
-    if !is_other {
-        return Ok(text);
+    findings.tell_huge(true);
+    if is_other {
+        findings.tell_other();
     }
-    findings.tell_other();
     match findings.end_remarks() {
         Ok(()) => Ok(text),
         Err(why) => {

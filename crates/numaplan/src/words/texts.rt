@@ -223,10 +223,21 @@ fn answer_of<T: Write, P: Watch>(
     }
 }
 
-/// An answer, with remarks on it: that no line names the task, and that by the other rules it would
-/// be another.
-fn remarked<T: Write>(findings: &mut Findings<T>, answer: Answer) -> Result<Vec<u8>, Halt> {
+/// Whether an answer counts pages of 2 MiB, as if they were touched: that about pages that are there
+/// leaves them out.
+fn counts_huge(meant: Meant<'_>) -> bool {
+    !matches!(meant.asking.question, Question::Moves(..)) || !meant.touches.is_empty()
+}
+
+/// An answer, with remarks on it: what it doesn't say of pages of 2 MiB, which it counts or leaves
+/// out; that no line names the task; and that by the other rules it would be another.
+fn remarked<T: Write>(
+    findings: &mut Findings<T>,
+    counts_huge: bool,
+    answer: Answer,
+) -> Result<Vec<u8>, Halt> {
     let Answer { text, is_other } = answer;
+    findings.tell_huge(counts_huge);
     if findings.tell_unnamed().is_err() {
         drop(text);
         return Err(Halt::Stopped(RunFault::Memory));
@@ -304,10 +315,11 @@ pub fn text_of<'a, T: Write, P: Watch>(
     let findings = &mut played.findings;
     let (areas, faults) = (&played.areas, &mut played.faults);
     let answer = answer_of(alloc, findings, areas, meant, faults, watch);
+    let counts_huge = counts_huge(meant);
     drop(touches);
     match answer {
         Ok(answer) => {
-            let text = remarked(&mut played.findings, answer)?;
+            let text = remarked(&mut played.findings, counts_huge, answer)?;
             shown(alloc, &played.areas, process, asking, text)
         }
         Err(halt) => Err(halt),
