@@ -13,6 +13,7 @@ TOP = os.path.dirname(os.path.dirname(os.path.dirname(os.path.abspath(__file__))
 sys.path[:0] = [TOP + "/tests/model", TOP + "/tests/worked"]
 
 import host_scripts
+import huge_scripts
 import move_scripts
 import scripts
 import worked
@@ -24,7 +25,7 @@ RESIDENT = re.compile(rb"^(?:page 0x[0-9a-f]+ is resident on|node \d+:) .*\n", r
 TELLS_OTHER = re.compile(rb"^(?:rules: those of the documents|task \d+ has no policy).*\n", re.M)
 MOST = 2**24  # bytes of a mapping
 UNKNOWN = "no line begins with this word"
-PAGES = ["at", "populate", "room", "memory-migrate", "migrate", "move", "moved"]
+PAGES = ["at", "populate", "room", "memory-migrate", "migrate", "move", "moved", "pool", "fault"]
 HOSTS = ["host", "cgroup", "cgroup-mems", "process", "exit", "attach", "fork", "in"]
 KEYWORDS = PAGES + HOSTS + (
     "limits rules cpus machine map unmap mbind home task inherit weight mems place span counts "
@@ -42,9 +43,9 @@ def mixed(dice, few, many):
 
 
 def lines_of(seed):
-    """The lines of a random script: plain, of a host, of pages, or some of two of these."""
+    """The lines of a random script: plain, of a host, of pages, of those of 2 MiB, or some of two of these."""
     dice = random.Random(f"all lines {seed}")
-    kinds = [scripts.Script, host_scripts.HostScript, move_scripts.MoveScript]
+    kinds = [scripts.Script, host_scripts.HostScript, move_scripts.MoveScript, huge_scripts.HugeScript]
     first, second = dice.choice(kinds), dice.choice(kinds)
     lines, more = ([line for line in kind(seed).write().decode("latin-1").split("\n")[:-1]]
                    for kind in (first, second))
@@ -152,6 +153,8 @@ def plain_line(line, answer):
         return ""
     if words[0] == "mbind" and answer.startswith("ok ") and words[4:]:
         return " ".join(words[:4])
+    if words[0] == "map" and words[5:] and answer.startswith("ok "):
+        return " ".join(words[:6]) + " noreserve"
     return "" if answer.startswith(("bad ", "refused ")) else line
 
 

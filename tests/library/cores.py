@@ -36,6 +36,8 @@ with Core([0, 0], [[10, 20], [20, 10]]) as core:
     assert core.ranges() == [Range(0x400000, 0x400000, 1 << 36, None)]
     assert is_refused(numaplan.Unaligned, core.mbind, 0x401000, 0x1000, "bind:0")
     assert is_refused(numaplan.Unaligned, lambda: core.map(0x1000000, 1, 1, huge=True))
+    parts = [numaplan.Placement(2, page, 1, 0, 0, node) for page, node in [(1535, 0), (1030, 1)]]
+    assert core.maps(2, parts) == "00400000 default anon=1 N1=1 kernelpagesize_kB=2048\n"
     with core.compile() as plan:
         assert [plan.choice(1, page, 0)[0] for page in (1024, 1535, 1536, 2047)] == [0, 0, 1, 1]
 with Core([2, 1], [[10, 20], [20, 10]], workers=2) as core:

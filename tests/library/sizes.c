@@ -1,6 +1,6 @@
-/* Pages of 2 MiB beside those of 4 KiB: turns, refusals, ranges, fills and counts. The wanted values
- * come from mmap(2), mbind(2) and what kernels answered (docs/KERNEL.md), and for random mappings
- * from a second model, page by page. Prints what is wrong; not proved. */
+/* Pages of 2 MiB beside those of 4 KiB: turns, refusals, ranges, listings, fills and counts. The
+ * wanted values come from mmap(2), mbind(2) and what kernels answered (docs/KERNEL.md), and for
+ * random mappings from a second model, page by page. Prints what is wrong; not proved. */
 #include "numaplan.h"
 #include "numaplan_reports.h"
 
@@ -114,6 +114,47 @@ static void refusals(uint32_t rules) {
     np_core_close(&core);
 }
 
+/* What np_core_maps writes for two ranges of pages of 2 MiB, with these placements. */
+static void shown(np_core *core, const np_placement *placements, size_t count, const char *text) {
+    char found[400];
+    size_t length = 0;
+    WANT(np_core_maps(core, 1, placements, count, (uint8_t *)found, sizeof found, &length), NP_OK);
+    if (length != strlen(text) || memcmp(found, text, length) != 0) {
+        printf("maps wrote\n%.*sinstead of\n%s", (int)length, found, text);
+        wrong = 1;
+    }
+}
+
+/* Listings count pages of 2 MiB: the first are two lines of a kernel's numa_maps (an anonymous
+ * MAP_HUGETLB; tests/tools/samples/huge), without its words file, huge and dirty. A page lies where
+ * the lowest of its placed parts does, in whatever order these are told. */
+static void listed(void) {
+    const uint64_t first = 0x7f4751600;
+    const np_placement parts[] = {
+        {2, first + 511, 1, 0, 0, 2}, {2, first + 7, 1, 0, 0, 1}, {2, first + 8, 2, 0, 0, 3},
+        {2, first + 1023, 1, 0, 0, 3}, {2, 0x10, 1, 0, 0, 0},
+    };
+    static np_placement all[1024];
+    np_core core = {0};
+    open_by(&core, NP_RULES_LINUX);
+    WANT(np_core_map_huge(&core, 0x7f4751200000, 2 * MIB, 0), NP_OK);
+    WANT(np_core_map_huge(&core, first * 4096, 4 * MIB, 512), NP_OK);
+    WANT(np_core_mbind(&core, first * 4096, 4 * MIB, TEXT("interleave:0")), NP_OK);
+    for (uint32_t k = 0; k < 1024; k++)
+        all[k] = (np_placement){3, first + 1023 - k, 1, 0, 0, 0};
+    shown(&core, all, 1024, "7f4751200000 default\n"
+                            "7f4751600000 interleave:0 anon=2 N0=2 kernelpagesize_kB=2048\n");
+    shown(&core, parts, 5, "7f4751200000 default\n"
+                           "7f4751600000 interleave:0 anon=2 N1=1 N3=1 kernelpagesize_kB=2048\n");
+    shown(&core, parts, 1, "7f4751200000 default\n"
+                           "7f4751600000 interleave:0 anon=1 N2=1 kernelpagesize_kB=2048\n");
+    WANT(np_core_map(&core, 0x10000, 4096, 16), NP_OK);
+    shown(&core, parts, 5, "00010000 default anon=1 N0=1 kernelpagesize_kB=4\n"
+                           "7f4751200000 default\n"
+                           "7f4751600000 interleave:0 anon=2 N1=1 N3=1 kernelpagesize_kB=2048\n");
+    np_core_close(&core);
+}
+
 /* ---- random mappings, by a second model */
 
 enum { PAGES = 32 * 512 };
@@ -208,6 +249,7 @@ int main(void) {
     turns();
     refusals(NP_RULES_DOCUMENT);
     refusals(NP_RULES_LINUX);
+    listed();
     randomly();
     return wrong;
 }

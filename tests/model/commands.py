@@ -137,11 +137,17 @@ def mbind(space, start, length, asked):
         return "Hole"
     if lacks_nodes(space, asked):
         return "NodesNotAllowed"
-    record = record_when_set(asked, space.allowed)
-    if parts_page(space, start, length, lambda own: is_same(own, record)):
+    if parts_by_policy(space, start, length, asked):
         return "Unaligned"
+    record = record_when_set(asked, space.allowed)
     set_records(space, inside(space, first, end), lambda _: record)
     return range_cause(space)
+
+
+def parts_by_policy(space, start, length, asked):
+    """Whether a page of 2 MiB would have the policy in a part alone."""
+    record = record_when_set(asked, space.allowed)
+    return parts_page(space, start, length, lambda own: is_same(own, record))
 
 
 def lacks_pages(space, first, end, asked):

@@ -6,8 +6,8 @@ who had not read the program. Where both answer a script alike, two readers have
 documents alike; where they don't, one of the two or the documents are wrong. It is not proved, it
 is slow, and it never wants memory; nothing of the program depends on it. Its parts, one function a
 rule: words.py what a line says; space.py pages, policies and node lists; commands.py what changes
-them; workers.py the search for frames; placed.py pages that are there; hosts.py processes and control groups; this file the
-questions and the answer to each line.
+them; workers.py the search for frames; placed.py pages that are there; huge.py those of 2 MiB, and
+pools; hosts.py processes and control groups; this file the questions and the answer to each line.
 
     tests/model/model.py < examples/first-run.numaplan
 
@@ -16,6 +16,7 @@ tests/model/run-program compares it with the built program."""
 import sys
 
 import hosts
+import huge
 import placed
 from commands import COMMANDS
 from space import (Space, firsts, has_hole, index_at, is_live, machine_of, page_of, ranges,
@@ -36,6 +37,7 @@ class State:
         self.space = None
         self.crew = None
         self.placed = None
+        self.huge = None  # once a line speaks of pages of 2 MiB
         self.host = None  # once a line `host` is accepted
 
 
@@ -163,16 +165,17 @@ def asked(space, nodes, name, arguments):
 # ---- the listing
 
 
-def maps(space, nodes, task):
+def maps(space, nodes, task, state=None):
     """`maps`: one line for each range, rising; none where nothing is mapped."""
-    return "\n".join(range_line(space, nodes, task, each) for each in ranges(space))
+    return "\n".join(range_line(space, nodes, task, each, state) for each in ranges(space))
 
 
-def range_line(space, nodes, task, each):
+def range_line(space, nodes, task, each, state):
     """The address in at least eight digits, the policy, and the placed pages."""
     record = resolved(space, task, each)
     text = policy_text(record) if is_live(record) else "default"
-    return f"{each.first * 4096:08x} {text}{placed_text(nodes, each)}"
+    pages = placed_text(nodes, each) if each.unit == 1 or not state else huge.text_of(state, each)
+    return f"{each.first * 4096:08x} {text}{pages}"
 
 
 def policy_text(record):
@@ -230,6 +233,10 @@ def served(state, name, arguments):
     """The answer to a line that is neither faulty nor at the wrong time."""
     if name in OPENING:
         return OPENING[name](state, *arguments)
+    if name in huge.OWN:
+        return huge.OWN[name](state, *arguments)
+    if state.huge and name in huge.LATER:
+        return huge.LATER[name](state, *arguments)
     if name in COMMANDS:
         return placed.command(state, name, arguments)
     if name in placed.LINES:
@@ -239,7 +246,7 @@ def served(state, name, arguments):
     if name == "ranges":
         return f"ranges {len(ranges(state.space))}"
     if name == "maps":
-        return maps(state.space, placed.nodes_of(state), *arguments)
+        return maps(state.space, placed.nodes_of(state), *arguments, state)
     if name == "publish":
         return publish(state.crew, state.space)
     return STEPS[name](state.crew, *arguments)

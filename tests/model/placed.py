@@ -7,7 +7,7 @@ slowly. Not proved."""
 
 from collections import Counter
 
-from commands import accept, policy_cause, refused, span_cause, span_of
+from commands import accept, lacks_pages, parts_by_policy, policy_cause, refused, span_cause, span_of
 from space import ERRNO, has_hole, lacks_nodes, page_of, piece_at, ranges
 from workers import list_of_page, touch as take_frame
 
@@ -138,9 +138,14 @@ def populate(state, start, length, task, cpu):
     cause = populate_cause(state.space, start, length, cpu)
     if cause:
         return f"refused {cause} {POPULATE_ERRNO.get(cause) or ERRNO[cause]}"
+    return populate_but(state, start, length, task, cpu, ())
+
+
+def populate_but(state, start, length, task, cpu, others):
+    """The same, but for other pages."""
     on, exhausted, there = Counter(), 0, nodes_of(state)
     for page in range(*span_of(start, length)):
-        if page in there:
+        if page in there or page in others:
             continue
         found = [node for node in nodes_for(state.space, task, page, cpu) if has_room(state.placed, node)]
         if not found:
@@ -293,10 +298,12 @@ def judged_end(space, first, end):
 
 
 def early_cause(space, start, length, asked):
-    """What of an `mbind` is judged before its pages, and before a hole in a kernel."""
+    """What of an `mbind` is judged before its pages, and before a hole in a kernel; and whether it would part a
+    page of 2 MiB, over no hole. (A kernel judges pages before that.)"""
     if space.version >= space.limits[2] or policy_cause(space, start, length):
         return True
-    return lacks_nodes(space, asked)
+    parts = not lacks_pages(space, *span_of(start, length), asked) and parts_by_policy(space, start, length, asked)
+    return lacks_nodes(space, asked) or parts
 
 
 def nodes_for(space, task, page, cpu):

@@ -74,6 +74,11 @@ def frame_number(word):
     return below(65536, number(word))
 
 
+def pool_size(word):
+    """COUNT of `pool` is below 2^63."""
+    return below(2**63, number(word))
+
+
 def span_pages(word):
     """PAGES of `span` is at most 65,536."""
     return below(65537, number(word))
@@ -213,6 +218,12 @@ FORMS = {
     "machine": [small, node_list, frames, distances],
     "map": [number, number, number],
     "map huge": [number, number, number, small],
+    "map huge noreserve": [number, number, number, small],
+    "pool": [],
+    "pool count": [pool_size],
+    "pool node": [small, pool_size],
+    "pool task": [pool_size, small, small],
+    "fault": [small, number, small],
     "unmap": [number, number],
     "mbind": [number, number, policy],
     "home": [number, number, small],
@@ -257,6 +268,10 @@ def line_of(line):
         del rest[3 : 3 + name.count(" ")]
     if name == "map" and rest[3:4] == ["huge"]:
         name += " " + rest.pop(3)
+        if rest[4:] == ["noreserve"]:
+            name += " " + rest.pop(4)
+    if name == "pool" and 1 <= len(rest) <= 3:
+        name += [" count", " node", " task"][len(rest) - 1]
     if name == "room" and not rest:
         name = "room alone"
     if name not in FORMS or len(rest) != len(FORMS[name]):

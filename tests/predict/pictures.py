@@ -198,11 +198,29 @@ def moves_difference(picture, page, lines, number):
     total = root.find(f"{SVG}text[@class='total']").text
     if total != f"total differs={amount(sum(differ))}{behind}":
         return f"{total!r} behind the spans"
+    wrong = legend_difference(root)
+    if wrong:
+        return wrong
     starts = [span_text(f"{it['start']:08x}-{it['end']:08x}", it["differs"]) for it in page["spans"]]
     if starts != told or page.get("others") != (
             {"spans": len(rest), "differs": sum(rest)} if rest else None):
         return f"page: {starts} and {page.get('others')}"
     return None
+
+
+def legend_difference(root):
+    """What is wrong with the legend of a difference, or None: a mark like the frames in bars, its words, and
+    nodes, all within the picture."""
+    [legend] = [it for it in root.findall(SVG + "g") if it.get("class") == "legend"]
+    framed = {it.get("class"): it for it in root.iter(SVG + "rect") if it.get("class")}
+    looks = {tuple(it.get(name) for name in ("fill", "stroke", "stroke-width")) for it in framed.values()}
+    words = [it.text for it in legend.findall(SVG + "text")]
+    if not set(framed) <= {"mark", "differs"} or "mark" not in framed or len(looks) != 1:
+        return f"frames {set(framed)} that look like {looks}"
+    if words[:1] != ["would go to another node"]:
+        return f"a legend with the words {words}"
+    low = max(int(it.get("y")) + int(it.get("height")) for it in legend.iter(SVG + "rect"))
+    return None if low <= int(root.get("height")) else f"the legend ends at {low}"
 
 
 def total_difference(root, group, rows, nodes, left):

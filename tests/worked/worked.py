@@ -46,6 +46,7 @@ def paths(hosts=False):
     if hosts:
         files += glob.glob(TOP + "/tests/worked/hosts/*.answers")
         files += glob.glob(TOP + "/tests/worked/placed/*.answers")
+        files += glob.glob(TOP + "/tests/worked/huge/*.answers")
     else:
         files = [it for it in files if not is_of_pages(it)]
     return {os.path.basename(it)[: -len(".answers")]: it for it in sorted(files)}
