@@ -71,8 +71,8 @@ function pictureOf(rows) {
   return new XMLSerializer().serializeToString(root);
 }
 
-// Writes words, of which those with an arrow don't break, as `N0->N1=4` would behind its hyphen. (Of
-// very many words that isn't worth an element each.)
+// Writes words, of which those with an arrow don't break, as `N0->N1=4` would behind its hyphen.
+// (Of very many words that isn't worth an element each.)
 function putWords(parent, text) {
   const words = text.split(' ');
   words.forEach((word, place) => {

@@ -47,8 +47,8 @@ fn far_of(counts: &[u64]) -> Far
     far
 }
 
-/// The mean distance of accesses, of which so many are at each from 0 on, in thousandths: rounded, a
-/// half up. `None` without accesses.
+/// The mean distance of accesses, of which so many are at each from 0 on, in thousandths: rounded,
+/// a half up. `None` without accesses.
 #[tactic(auto, using(crate::proofs::Farther::mean_below, crate::proofs::Farther::mean_is))]
 pub(crate) fn mean_of(counts: &[u64]) -> Option<u64>
     requires { length counts.now ≤ 256 }
