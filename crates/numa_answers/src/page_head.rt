@@ -18,6 +18,7 @@ table { border-collapse: collapse; font-family: monospace; }
 td, th { padding: 2px 10px; text-align: left; border-bottom: 1px solid #ddd; }
 td.number { text-align: right; }
 td.number, td.one, .whole { white-space: nowrap; }
+td.name { min-width: 9em; white-space: normal; overflow-wrap: anywhere; }
 th { cursor: pointer; background: #eee; position: sticky; top: 0; }
 tbody tr { cursor: pointer; }
 tbody tr:hover, tr.chosen { background: #eef4ff; }
@@ -34,7 +35,7 @@ pre { background: #f6f6f6; padding: 8px; max-width: 1184px; white-space: pre-wra
 @media (max-width: 600px) {
   body { margin: 0.5em; font-size: 13px; }
   td, th { padding: 2px 5px; }
-  td.name { min-width: 9em; white-space: normal; overflow-wrap: anywhere; }
+  pre { font-size: 11px; }
   .cell { border-right-width: 0; }
 }
 @media print {
