@@ -31,7 +31,8 @@ tbody tr:hover, tr.chosen { background: #eef4ff; }
 .wide { overflow-x: auto; }
 .tools > * { margin: 0 0.5em 0.3em 0; font: inherit; }
 :focus-visible { outline: 3px solid #002aff; }
-pre { background: #f6f6f6; padding: 8px; max-width: 1184px; white-space: pre-wrap; }
+pre { background: #f6f6f6; padding: 8px; max-width: 1184px; white-space: pre-wrap;
+  font-size: 12px; }
 @media (max-width: 600px) {
   body { margin: 0.5em; font-size: 13px; }
   td, th { padding: 2px 5px; }
