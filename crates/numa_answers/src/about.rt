@@ -212,16 +212,17 @@ fn ends_before(column: usize, rest: &[u8], begins_word: bool, wide: usize) -> bo
     length <= wide && column.saturating_add(length) > wide
 }
 
-/// Writes a line as rows of text, which end behind a space where words fit; those behind its first
-/// begin with `next`.
-pub(crate) fn put_wrapped(text: &mut Written, line: &[u8], next: &[u8]) {
-    let wide = WIDE.saturating_sub(next.len());
+/// Writes a line as rows of text, which end behind a space where words fit; its first stands behind
+/// so many letters, the others begin with `next`.
+pub(crate) fn put_wrapped(text: &mut Written, before: usize, line: &[u8], next: &[u8]) {
+    let mut wide = WIDE.saturating_sub(before);
     let mut column = 0usize;
     let mut begins_word = false;
     for place in 0..line.len() {
         if ends_before(column, &line[place..], begins_word, wide) {
             text.put(b"\n");
             text.put(next);
+            wide = WIDE.saturating_sub(next.len());
             column = 0;
         }
         let byte = line[place];
@@ -239,9 +240,10 @@ fn put_refused(text: &mut Written, line: &[u8], fault: &[u8]) {
     row.put(b" (");
     row.put(fault.strip_prefix(b"refused ").unwrap_or(fault));
     row.put(b")");
+    let next = b"                     ".as_slice();
     text.put(b"Added line, refused: ");
     match row.take() {
-        Ok(row) => put_wrapped(text, row.as_slice(), b"                     "),
+        Ok(row) => put_wrapped(text, next.len(), row.as_slice(), next),
         Err(_) => text.lack(),
     }
 }
@@ -251,8 +253,9 @@ fn put_line(text: &mut Written, line: &[u8], fault: &[u8]) {
     if !fault.is_empty() {
         return put_refused(text, line, fault);
     }
+    let next = b"            ".as_slice();
     text.put(b"Added line: ");
-    put_wrapped(text, line, b"            ");
+    put_wrapped(text, next.len(), line, next);
 }
 
 /// Writes the added lines.

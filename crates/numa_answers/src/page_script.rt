@@ -299,6 +299,7 @@ function totals(title, total, most) {
 function pagesPart(views, isUntold) {
   make('h2', page, 'Pages');
   make('p', page, 'Choose a row above; a cell of several pages opens, one of a page tells why.'
+    + (views.length > 1 ? ' Cells with a thick frame differ.' : '')
     + (isUntold ? ' Where nodes fill or repeat after many pages, a page has no node but -.' : ''));
   views.told = { strips: make('div', page), words: make('pre', page) };
   views.told.strips.id = 'strips' + mark;

@@ -247,7 +247,7 @@ fn put_turns(text: &mut Written, space: &Space, said: &Explanation, top: u64) ->
 fn rows_of(alloc: Global, words: &[u8]) -> Result<Vec<u8>, AllocError> {
     let mut rows = Written::new(alloc);
     for line in Parts::new(words.strip_suffix(b"\n").unwrap_or(words), b'\n') {
-        put_wrapped(&mut rows, line, b"  ");
+        put_wrapped(&mut rows, 0, line, b"  ");
     }
     rows.take()
 }
