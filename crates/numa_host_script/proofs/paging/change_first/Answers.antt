@@ -23,7 +23,7 @@ pub returns : goal.returns
 returns c = λ at none lies.
     changed-first _ c.change-told.new.kept c.change-told.result c.give_back.new.self
     c.args.process c.args.line.now (ground_in c.args.space.now []) at
-    (rw c.new-resident.ensures at c.change-told.ensures)
+    (rw c.new-resident.ensures at c.change-told.ensures.does)
     (λ done is. c.give_back.ensures at done (none-out c.args.pages.now c.args.process at none lies)
     is) none
     (subst (λ (s : PageState). LiesAs s (lent at.room at.follows nothing))

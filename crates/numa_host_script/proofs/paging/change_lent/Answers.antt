@@ -10,7 +10,7 @@ pub returns : goal.returns
 returns c = λ at lying is out has.
     changed-lent _ c.change-told.new.kept c.change-told.result c.give_back.new.self
     c.args.process c.args.line.now (ground_in c.args.space.now []) at
-    (rw c.new-resident.ensures at c.change-told.ensures)
+    (rw c.new-resident.ensures at c.change-told.ensures.does)
     (λ done lies. c.give_back.ensures at done out lies) lying is
     (subst (λ (s : PageState). LiesAs s (lent at.room at.follows lying))
     (sym c.deref_mut.ensures.value) has)
