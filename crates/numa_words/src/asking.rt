@@ -3,7 +3,9 @@ use crate::differing::difference;
 use crate::explaining::{ExplainAsked, explanation_after};
 use numa_host_script::HostScript;
 use numa_placed::Placed;
-use numa_play::{Look, PLAIN, Scripts, answer, plain_by, play, subject_after, subject_of};
+use numa_play::{
+    Findings, Look, PLAIN, Scripts, answer, plain_by, play, subject_after, subject_of,
+};
 use numa_questions::{EachAsked, prediction_of};
 use numa_sheets::{Format, FreePages, Touch, Watch};
 use numa_subjects::{Ended, Halt, Subject, Twin};
@@ -70,6 +72,34 @@ pub fn prediction_there<P: Watch>(
     prediction(alloc, subject_of(script, process), asked, watch)
 }
 
+/// An answer, once the remarks on it are written.
+///
+/// # Errors
+/// `Stopped(Write)`: writing failed.
+pub(crate) fn remarked<T: Write>(
+    findings: &mut Findings<T>,
+    text: Vec<u8>,
+) -> Result<Vec<u8>, Halt> {
+    match findings.end_remarks() {
+        Ok(()) => Ok(text),
+        Err(why) => {
+            drop(text);
+            Err(Halt::Stopped(why))
+        }
+    }
+}
+
+/// An answer that counts pages of 2 MiB as if they were touched, with a remark that says so, if
+/// there are some.
+fn counted<T: Write>(
+    findings: &mut Findings<T>,
+    text: Result<Vec<u8>, Halt>,
+) -> Result<Vec<u8>, Halt> {
+    let text = text?;
+    findings.tell_huge(true);
+    remarked(findings, text)
+}
+
 /// How scripts are played for a question: for an explanation by both sets of rules.
 fn look_for(question: &Question<'_>) -> Look {
     match question {
@@ -79,8 +109,9 @@ fn look_for(question: &Question<'_>) -> Look {
 }
 
 /// Plays the scripts, and writes the answer to a question about the state that they lead to. What
-/// is wrong with a line is written to `told`, and the line is skipped, which the result says too.
-/// The answer is complete before its first byte is written.
+/// is wrong with a line is written to `told`, and the line is skipped, which the result says too;
+/// behind it stands what the answer doesn't say of pages of 2 MiB, if there are some. The answer is
+/// complete before its first byte is written.
 ///
 /// # Errors
 /// Why there is no answer. Text already written to `told` stays.
@@ -101,5 +132,6 @@ pub fn answer_after<R: Read + Drop, W: Write, T: Write + Drop, P: Watch>(
         Question::Diff(asked) => difference(alloc, &mut findings, process, asked, watch),
         Question::Explain(asked) => explanation_after(alloc, &mut findings, process, asked),
     };
+    let text = counted(&mut findings, text);
     answer(findings, text, output)
 }

@@ -4,14 +4,14 @@ use crate::asking::prediction;
 use crate::explaining::{ExplainAsked, explanation_in};
 use crate::moving::{MovesAsked, moves_told};
 use crate::there::{Played, Reading, play_there};
-use numa_play::{Scripts, subject_of};
+use numa_play::{Findings, Scripts, subject_of};
 use numa_questions::EachAsked;
 use numa_sheets::{Format, Watch};
 use numa_subjects::{Ended, Halt, Twin};
 use std::alloc::Global;
 use std::io::{Read, Write};
 
-/// It matters where pages lie, and nothing is remarked on an answer.
+/// It matters where pages lie, and by the other rules nothing is played.
 const KEEPING: Reading = Reading {
     task: None,
     other: Twin::None,
@@ -41,6 +41,22 @@ fn reading_for(question: &QuestionThere<'_>) -> Reading {
             ..KEEPING
         },
         _ => KEEPING,
+    }
+}
+
+/// Whether an answer counts pages of 2 MiB, as if they were touched: that about pages that are
+/// there leaves them out.
+fn counts_huge(question: &QuestionThere<'_>) -> bool {
+    match question {
+        QuestionThere::Moves(asked) => asked.touch.is_some(),
+        _ => true,
+    }
+}
+
+/// Remarks what an answer doesn't say of pages of 2 MiB, if there are some, and there is an answer.
+fn remark<T: Write>(findings: &mut Findings<T>, counts_huge: bool, text: &Result<Vec<u8>, Halt>) {
+    if text.is_ok() {
+        findings.tell_huge(counts_huge);
     }
 }
 
@@ -74,8 +90,8 @@ fn prediction_told<T: Write, P: Watch>(
 /// Plays the scripts, and writes the answer to a question about the state that they lead to, in
 /// which pages are there: they lie as the scripts left them, and then as lines `at` of further
 /// texts state it, of which no others are played. What is wrong with a line is written to `told`,
-/// and the line is skipped, which the result says too. The answer is complete before its first byte
-/// is written.
+/// and the line is skipped, which the result says too; behind it stands what the answer doesn't say
+/// of pages of 2 MiB, if there are some. The answer is complete before its first byte is written.
 ///
 /// # Errors
 /// Why there is no answer. Text already written to `told` stays.
@@ -89,6 +105,7 @@ pub fn answer_there<R: Read + Drop, A: Read + Drop, W: Write, T: Write + Drop, P
     watch: &mut P,
 ) -> Result<Ended, Halt> {
     let mut played = play_there(alloc, scripts, texts_at, reading_for(&question), told)?;
+    let counts_huge = counts_huge(&question);
     let text = match question {
         QuestionThere::Predict(asked) => prediction_told(alloc, &played, asked, watch),
         QuestionThere::Explain(asked) => {
@@ -96,5 +113,6 @@ pub fn answer_there<R: Read + Drop, A: Read + Drop, W: Write, T: Write + Drop, P
         }
         QuestionThere::Moves(asked) => moves_told(alloc, &mut played, asked),
     };
+    remark(&mut played.findings, counts_huge, &text);
     played.write(text, output)
 }

@@ -1,4 +1,5 @@
 //! Replaying traces after scripts.
+use crate::asking::remarked;
 use crate::moving::judge_free;
 use numa_host_script::HostScript;
 use numa_lines::RunFault;
@@ -232,13 +233,7 @@ fn told_of<T: Write>(
     if is_other {
         findings.tell_other();
     }
-    match findings.end_remarks() {
-        Ok(()) => Ok(text),
-        Err(why) => {
-            drop(text);
-            Err(Halt::Stopped(why))
-        }
-    }
+    remarked(findings, text)
 }
 
 /// Plays the scripts, replays a trace by the plan of all accepted commands, and writes the report.

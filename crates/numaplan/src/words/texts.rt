@@ -223,8 +223,8 @@ fn answer_of<T: Write, P: Watch>(
     }
 }
 
-/// Whether an answer counts pages of 2 MiB, as if they were touched: that about pages that are there
-/// leaves them out.
+/// Whether an answer counts pages of 2 MiB, as if they were touched: that about pages that are
+/// there leaves them out.
 fn counts_huge(meant: Meant<'_>) -> bool {
     !matches!(meant.asking.question, Question::Moves(..)) || !meant.touches.is_empty()
 }
