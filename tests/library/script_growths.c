@@ -35,7 +35,8 @@ void rattle_dealloc(void *at) {
     free(at);
 }
 
-/* Pages that are interleaved over two nodes: 3,000 of them have an answer of 6,004 bytes. */
+/* Pages that are interleaved over two nodes: 3,000 of them have an answer of 6,004 bytes. Then pages of
+ * 2 MiB: the pools have one on each node, that of node 0 goes to the other, and one is unmapped. */
 static const char *const lines[][2] = {
     {"machine 2 0-1 8 flat", "ready\n"},
     {"map 0x10000000 0xbb8000 0", "ok 1\n"},
@@ -43,6 +44,13 @@ static const char *const lines[][2] = {
     {"publish", "published 2\n"},
     {"span 1 0x10000000 3000 0", "v2: 0 1 0 1 0 1"},
     {"touch 0 1 0x10001000 0", "won v2 node 1 frame 0 rank 0\n"},
+    {"pool 2", "pool N0=1/1 N1=1/1 reserved 0\n"},
+    {"map 0x40000000 0x400000 0 huge 1", "ok 3\n"},
+    {"fault 1 0x40000000 0", "node 0\n"},
+    {"populate 0x40000000 0x400000 1 0", "v3: placed 0 exhausted 0 huge placed 1 exhausted 0 N1=1\n"},
+    {"move 0x40000000 1", "node 1\n"},
+    {"unmap 0x40200000 0x200000", "ok 4\n"},
+    {"pool", "pool N0=0/0 N1=1/2 reserved 0\n"},
 };
 
 /* Serves a line, and once more where memory was refused; then it has its answer. */
