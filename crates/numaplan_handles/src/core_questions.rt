@@ -15,7 +15,7 @@ ghost use Rattle.numaplan_handles.specs.Steps.{Publishes};
 
 use crate::core_handle::CoreHandle;
 use crate::handle::of_kept;
-use crate::kept::Kept;
+use crate::kept::{Kept, kept_as};
 use crate::search::place_of;
 use numa_core::Core;
 use numa_lines::Watched;
@@ -32,10 +32,7 @@ pub fn core_kept(kept: &Kept) -> &Core
     requires core { is_core (Some kept.now) ≡ true }
     ensures core { core_of (Some kept.now) ≡ Some result.now }
 {
-    let Kept::Core(core) = kept else {
-        unreachable!()
-    };
-    core
+    kept_as!(kept, Core)
 }
 
 /// The number of ranges.

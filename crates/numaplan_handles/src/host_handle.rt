@@ -8,7 +8,7 @@ ghost use Rattle.numaplan_handles.specs.Pages.{IsMade};
 ghost use Rattle.numa_requests.specs.declared.host_command.HostCommand.{HostCommand};
 
 use crate::handle::{Handle, of_kept};
-use crate::kept::Kept;
+use crate::kept::{Kept, kept_as};
 use numa_host_script::RunningHost;
 use numa_machine::NoMemory;
 use numa_requests::HostCommand;
@@ -22,22 +22,19 @@ pub struct HostHandle {
     ghost kind: { is_host handle.held.kept ≡ true },
 }
 
-/// The host that is kept, with the pages of its processes.
-pub(crate) fn running_kept(kept: &Kept) -> &RunningHost
-    requires host { is_host (Some kept.now) ≡ true }
-    ensures host { host_of (Some kept.now) ≡ Some result.now }
-{
-    let Kept::Host(running) = kept else {
-        unreachable!()
-    };
-    running
-}
-
 /// Carries out a command of the host, and what it does to the pages of its processes.
 fn commanded(running: &mut RunningHost, command: &HostCommand) -> Reply
     ensures { Commands command.now running.old result running.new }
 {
     running.command(command)
+}
+
+/// The host that is kept, with the pages of its processes.
+pub(crate) fn running_kept(kept: &Kept) -> &RunningHost
+    requires host { is_host (Some kept.now) ≡ true }
+    ensures host { host_of (Some kept.now) ≡ Some result.now }
+{
+    kept_as!(kept, Host)
 }
 
 impl HostHandle {
@@ -76,10 +73,10 @@ impl HostHandle {
         ensures ok { OnOk result (host_in self.new ≡ Some running) }
         ensures err { OnErr result (host_in self.new ≡ None) }
     {
-        match self.open(alloc, running) {
-            Ok(()) => Ok(()),
-            Err(_) => Err(NoMemory),
-        }
+        let Ok(()) = self.open(alloc, running) else {
+            return Err(NoMemory);
+        };
+        Ok(())
     }
 
     /// Puts a copy of the host, with the pages of its processes, into another, closed handle. What

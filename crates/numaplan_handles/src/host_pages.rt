@@ -15,7 +15,7 @@ use crate::kept::Kept;
 use numa_host_script::RunningHost;
 use numa_mask::NodeMask;
 use numa_page_state::arrived::untouched;
-use numa_page_state::{Arrived, Rebinding};
+use numa_page_state::{Arrived, Rebinding, Toucher};
 use numa_requests::PlacedRefusal;
 use numa_script::{BoundPages, PageLine, Reply};
 use std::alloc::Global;
@@ -63,11 +63,12 @@ fn touched(
     process: u32,
     start: u64,
     length: u64,
-    task: u32,
-    cpu: u32,
+    toucher: Toucher,
 ) -> Result<Arrived, Reply>
-    ensures { TouchesIn process start length task cpu running.old result running.new }
+    ensures { TouchesIn process start length toucher.task toucher.cpu running.old result
+        running.new }
 {
+    let Toucher { task, cpu } = toucher;
     let line = PageLine::Populate {
         start,
         length,
@@ -123,8 +124,9 @@ impl HostHandle {
         ensures { Calls (OfRunning (TouchesIn process start length task cpu)) (host_in self.old)
             result (host_in self.new) }
     {
+        let toucher = Toucher { task, cpu };
         of_kept!(self.handle, alloc, Kept::Host(running) => {
-            touched(running, alloc, process, start, length, task, cpu)
+            touched(running, alloc, process, start, length, toucher)
         })
     }
 

@@ -1,10 +1,11 @@
 //! Where pages of a host's processes lie, and how many more each node takes, asked of a handle.
-ghost use Rattle.std.specs.Prelude.{◌≡◌, ℕ, IfOk, IfSome, MatchOption, None, Option, Some};
+ghost use Rattle.std.specs.Prelude.{◌≡◌, ℕ, IfOk, IfSome, MatchOption, None};
+ghost use Rattle.numa_host_pages.specs.Homes.{HostLying};
+ghost use Rattle.numa_host_pages.specs.Standing.{HostLies};
 ghost use Rattle.numa_host_script.specs.Hosts.{Hosting};
 ghost use Rattle.numa_host_script.specs.Paging.{pages_at};
 ghost use Rattle.numa_host_script.specs.Standing.{RunsAs};
 ghost use Rattle.numa_page_state.specs.Outcomes.{rooms_of};
-ghost use Rattle.numa_placed.specs.Shifts.{AreRooms};
 ghost use Rattle.numa_placed.specs.Spots.{spot_at};
 ghost use Rattle.numa_placed.specs.declared.spot.Spot.TheVariants.{Nowhere};
 ghost use Rattle.numaplan_handles.specs.Calls.{Asks};
@@ -16,22 +17,21 @@ use crate::flows::{LastFlows, flows_of, sums_of};
 use crate::handle::of_kept;
 use crate::host_handle::{HostHandle, running_kept};
 use crate::nodes_there::{node_there, write_nodes};
+use numa_host_pages::HostPages;
 use numa_host_script::RunningHost;
 use numa_machine::NoMemory;
 use numa_page_state::Last;
 use numa_page_state::state::still;
 use numa_pages::{PageRun, list_runs};
-use numa_placed::{Placed, Rooms, lacks_node};
+use numa_placed::{Placed, lacks_node};
 use numa_requests::PlacedRefusal;
 use std::alloc::Global;
 
 /// How many more pages a node takes, of those that a host's nodes take; 2^64 - 1 if it never fills.
-fn room_on(rooms: Option<&Rooms>, node: u8) -> u64
-    ensures { (room : Option (ℕ → ℕ)) → MatchOption rooms.entry (room ≡ None)
-        (λ it. (given : ℕ → ℕ) × (room ≡ Some given) × AreRooms it.now given)
-        → result ≡ rooms_of room node }
+fn room_on(pages: &HostPages, node: u8) -> u64
+    ensures { (at : HostLying) → HostLies pages.now at → result ≡ rooms_of at.room node }
 {
-    match rooms {
+    match pages.rooms() {
         None => u64::MAX,
         Some(it) => it.at(node).unwrap_or(u64::MAX),
     }
@@ -47,7 +47,7 @@ fn room_left(running: &RunningHost, node: u32) -> Result<u64, PlacedRefusal>
     if lacks_node(running.host.machine(), node) {
         return Err(PlacedRefusal::NoSuchNode);
     }
-    Ok(room_on(running.pages.rooms(), node as u8))
+    Ok(room_on(&running.pages, node as u8))
 }
 
 /// Where the pages of a process lie, once one was touched or stated to lie somewhere.

@@ -27,6 +27,18 @@ pub enum Kept {
     Pages(Pages),
 }
 
+/// The value, of a kind that is known.
+macro_rules! kept_as {
+    ($kept:expr, $kind:ident) => {
+        match $kept {
+            $crate::kept::Kept::$kind(it) => it,
+            _ => unreachable!(),
+        }
+    };
+}
+
+pub(crate) use kept_as;
+
 impl Kept {
     ghost use Rattle.numaplan_handles.specs.Kinds.{IsCopied, core_of, is_core, is_plan, plan_of};
     ghost use Rattle.numaplan_handles.specs.Kinds.{is_pages, pages_of};

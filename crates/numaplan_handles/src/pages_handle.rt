@@ -8,7 +8,7 @@ ghost use Rattle.numaplan_handles.specs.Pages.{IsCoreOf, IsMade, IsOpenedFrom, O
 use crate::core_handle::CoreHandle;
 use crate::core_questions::core_kept;
 use crate::handle::{Handle, of_kept};
-use crate::kept::Kept;
+use crate::kept::{Kept, kept_as};
 use numa_core::Core;
 use numa_machine::NoMemory;
 use numa_mode::PolicySpec;
@@ -28,10 +28,7 @@ pub(crate) fn pages_kept(kept: &Kept) -> &Pages
     requires pages { is_pages (Some kept.now) ≡ true }
     ensures pages { pages_of (Some kept.now) ≡ Some result.now }
 {
-    let Kept::Pages(pages) = kept else {
-        unreachable!()
-    };
-    pages
+    kept_as!(kept, Pages)
 }
 
 /// A copy of a core, of whose pages nothing is stated.

@@ -20,12 +20,11 @@ fn touched(
     pages: &mut Pages,
     start: u64,
     length: u64,
-    task: u32,
-    cpu: u32,
+    toucher: Toucher,
 ) -> Result<Arrived, PlacedRefusal>
-    ensures { Touches start length task cpu pages.old result pages.new }
+    ensures { Touches start length toucher.task toucher.cpu pages.old result pages.new }
 {
-    match pages.populate(start, length, task, cpu) {
+    match pages.populate(start, length, toucher.task, toucher.cpu) {
         Ok(()) => Ok(*pages.arrived()),
         Err(cause) => Err(cause),
     }
@@ -66,8 +65,9 @@ impl PagesHandle {
         ensures { Calls (OfPages (Touches start length task cpu)) (pages_in self.old) result
             (pages_in self.new) }
     {
+        let toucher = Toucher { task, cpu };
         of_kept!(self.handle, alloc, Kept::Pages(pages) => {
-            touched(pages, start, length, task, cpu)
+            touched(pages, start, length, toucher)
         })
     }
 
@@ -80,12 +80,11 @@ impl PagesHandle {
         &mut self,
         alloc: Global,
         node: u32,
-        pages: u64,
+        room: u64,
     ) -> Option<Result<(), PlacedRefusal>>
-        ensures { Calls (OfPages (Limits node pages)) (pages_in self.old) result
-            (pages_in self.new) }
+        ensures { Calls (OfPages (Limits node room)) (pages_in self.old) result (pages_in self.new) }
     {
-        of_kept!(self.handle, alloc, Kept::Pages(it) => it.limit(node, pages))
+        of_kept!(self.handle, alloc, Kept::Pages(pages) => pages.limit(node, room))
     }
 
     /// Moves pages from one set of nodes to the allowed nodes of another, as far as there is room,

@@ -15,7 +15,7 @@ returns-in-Some c = record {
     host = c.change.ensures.host;
     runs = subst (λ (told : Option Reply). Changes c.args.running.now told c.change.new.self
         c.args.process (λ lacked at. changed_outcome lacked at c.args.process
-        (page.Populate c.args.start c.args.length c.args.task c.args.cpu))) c.in-Some.is
+        (page.Populate c.args.start c.args.length c.args.toucher.task c.args.toucher.cpu))) c.in-Some.is
         c.change.ensures.runs;
   };
   told = tt;
@@ -27,7 +27,7 @@ returns-in-Some-pages_there c = record {
     host = c.change.ensures.host;
     runs = subst (λ (told : Option Reply). Changes c.args.running.now told c.change.new.self
         c.args.process (λ lacked at. changed_outcome lacked at c.args.process
-        (page.Populate c.args.start c.args.length c.args.task c.args.cpu))) c.in-None.is
+        (page.Populate c.args.start c.args.length c.args.toucher.task c.args.toucher.cpu))) c.in-None.is
         c.change.ensures.runs;
   };
   told = λ at runs.
@@ -41,7 +41,7 @@ returns-in-None-pages_there c = record {
     host = c.change.ensures.host;
     runs = subst (λ (told : Option Reply). Changes c.args.running.now told c.change.new.self
         c.args.process (λ lacked at. changed_outcome lacked at c.args.process
-        (page.Populate c.args.start c.args.length c.args.task c.args.cpu))) c.in-None.is
+        (page.Populate c.args.start c.args.length c.args.toucher.task c.args.toucher.cpu))) c.in-None.is
         c.change.ensures.runs;
   };
   told = λ at runs.

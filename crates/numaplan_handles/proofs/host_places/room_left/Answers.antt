@@ -14,5 +14,5 @@ pub returns : goal.returns
 returns c = λ at runs. (
   sym (ap (λ (m : Hardware). lacks_node m c.args.node) (c.machine.ensures ∙ runs.machine))
       ∙ sym c.lacks_node.ensures.lacks ∙ c.if-lacks_node.false,
-  c.room_on.ensures at.lying.room (c.rooms.ensures at.lying runs.lies),
+  c.room_on.ensures at.lying runs.lies,
 )
