@@ -42,6 +42,7 @@ LEFT = {"document": set(ROWS), "linux": {"home", "parts", "kept", "huge above"}}
 
 LAST_PAGE = 2**47 - 4096
 HUGE = 2**21
+POOL = 16  # pages of 2 MiB on each node, as the player has them
 
 
 def opening(name):
@@ -51,6 +52,13 @@ def opening(name):
     rows = ";".join(",".join(map(str, row)) for row in it.distances)
     cpus = [f"cpus {list_text(it.with_cpus)}"] if it.added else []
     return cpus + [f"machine {it.nodes} {list_text(it.memory)} 8 kernel:{rows}"]
+
+
+def pools(name, lines):
+    """The lines that fill the pools, if some line maps pages of 2 MiB."""
+    if not any(" huge " in line for line in lines):
+        return []
+    return [f"pool {node} {POOL}" for node in machine_named(name).memory]
 
 
 def read_seen(path):
@@ -85,7 +93,7 @@ def parts(line):
 
 def ask(program, rules, machine, lines):
     """numaplan's answers; of a place line the first node, a colon, and the policy shown there."""
-    script = [f"rules {rules}"] + opening(machine)
+    script = [f"rules {rules}"] + opening(machine) + pools(machine, lines)
     before = len(script)
     for line in lines:
         script.append(line)
@@ -103,7 +111,7 @@ def ask(program, rules, machine, lines):
                     break
                 start, rest = entry.split(" ", 1)
                 if int(start, 16) <= address:
-                    policy = rest.split(" anon=")[0]
+                    policy = rest.split(" anon=")[0].removesuffix(" huge")
             answer = f"{answer.split()[1]}: {policy}" if answer[0] == "v" else answer
         yield answer
 
