@@ -60,21 +60,24 @@ Places (Ok reply.Full) old new = new ≡ old
 Places (Ok reply.Given) old new = new ≡ old
 Places (Err cause) old new = new ≡ old
 
+-- a call that may change what a handle keeps, and `told` says what is told of it; a closed handle
+-- stays closed, and answers 1, and nothing is told, which is `untold`
+abbrev pub Called : {A : Type 0} → Option A → ℕ → Option A → Type 0 → (A → Type 0) → Type 0
+Called {A} old code new untold told = (old ≡ None → (code ≡ 1) × (new ≡ None) × untold)
+    × ((it : A) → old ≡ Some it → told it)
+
 -- the same as `Answers` for a touch and for a Try, which tell where the page was placed
 abbrev pub Touched : Option CoreState → ℕ → Request → ℕ → Option CoreState → NpPlacement
     → NpPlacement → Type 0
-Touched old worker request code new before after =
-    (old ≡ None → (code ≡ 1) × (new ≡ None) × (after ≡ before))
-    × ((core : CoreState) → old ≡ Some core → (answer : Result CoreReply CoreRefusal)
-    × (code ≡ answer_code answer) × Touches worker request old new answer
-    × Places answer before after)
+Touched old worker request code new before after = Called old code new (after ≡ before)
+    (λ core. (answer : Result CoreReply CoreRefusal) × (code ≡ answer_code answer)
+    × Touches worker request old new answer × Places answer before after)
 
 abbrev pub Tried : Option CoreState → Event → ℕ → Option CoreState → NpPlacement → NpPlacement
     → Type 0
-Tried old event code new before after =
-    (old ≡ None → (code ≡ 1) × (new ≡ None) × (after ≡ before))
-    × ((core : CoreState) → old ≡ Some core → (answer : Result CoreReply CoreRefusal)
-    × (code ≡ answer_code answer) × Steps event old new answer × Places answer before after)
+Tried old event code new before after = Called old code new (after ≡ before)
+    (λ core. (answer : Result CoreReply CoreRefusal) × (code ≡ answer_code answer)
+    × Steps event old new answer × Places answer before after)
 
 -- the machine of a description, whose list of nodes with memory is a text, by these options
 abbrev pub IsMachineOf : Result ℕ ListFault → List ℕ → List ℕ → Options → Hardware → Type 0
@@ -177,3 +180,15 @@ Read {A} kept code untold told = (kept ≡ None → (code ≡ 1) × untold)
 -- the same of a question that takes it out, and leaves it as it was
 abbrev pub Asked : {A : Type 0} → Option A → Option A → ℕ → Type 0 → (A → Type 0) → Type 0
 Asked old new code untold told = (new ≡ old) × Read old code untold told
+
+-- a question that is answered by items in a room, and by their number: untold, both stay
+abbrev pub ReadInto : {A B : Type 0} → Option A → ℕ → List B → List B → ℕ → ℕ → (A → Type 0)
+    → Type 0
+ReadInto kept code room room_then count count_then told =
+    Read kept code ((room_then ≡ room) × (count_then ≡ count)) told
+
+-- the same of a question that takes it out
+abbrev pub AskedInto : {A B : Type 0} → Option A → Option A → ℕ → List B → List B → ℕ → ℕ
+    → (A → Type 0) → Type 0
+AskedInto old new code room room_then count count_then told =
+    (new ≡ old) × ReadInto old code room room_then count count_then told

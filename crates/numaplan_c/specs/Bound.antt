@@ -5,18 +5,24 @@ use Rattle.numa_host_script.specs.declared.running.RunningHost.{RunningHost}
 use Rattle.numa_machine.specs.Rules.{is_linux}
 use Rattle.numa_machine.specs.declared.rules.Rules.{Rules}
 use Rattle.numa_machine.specs.declared.rules.Rules.TheVariants.{Document}
-use Rattle.numa_mode.specs.Policy.{Specification}
+use Rattle.numa_mask.specs.Words.{number_of}
+use Rattle.numa_mode.specs.Policy.{Specification, raw_specification}
 use Rattle.numa_mode.specs.declared.modes.Mode.TheVariants.{Default}
 use Rattle.numa_mode.specs.declared.modes.NodeFlag.TheVariants.{Plain}
 use Rattle.numa_mode.specs.declared.specification.SpecError.{SpecError}
 use Rattle.numa_mode.specs.declared.specification.SpecError.TheVariants.{FlagsForbidden}
 use Rattle.numa_pages.specs.Changes.{PagesState}
-use Rattle.numa_script.specs.Policies.{waits_for_pages}
+use Rattle.numa_script.specs.Policies.{spec_or_fault, waits_for_pages}
 use Rattle.numa_script.specs.declared.policy.WordError.{WordError}
+use Rattle.numaplan_c.specs.declared.nodes.NpNodes.{NpNodes}
 
 -- no policy
 abbrev pub default_spec : Specification
 default_spec = record { mode = Default; flag = Plain; mask = 0 }
+
+-- the policy that a mode word and a set of nodes ask for; what is wrong is told as of a policy word
+abbrev pub spec_by : ℕ → NpNodes → Result Specification WordError
+spec_by mode nodes = spec_or_fault (raw_specification mode (number_of nodes.words))
 
 -- what an mbind of so many bytes sets for a policy that was read: by the kernel's rules a length of
 -- 0 is judged before mode, flag and nodes together are, and then nothing is bound

@@ -1,10 +1,16 @@
 -- What the exported calls of pages of a host's processes answer and do.
 use Rattle.std.specs.Prelude.{◌≡◌, ℕ, Bool, true, false, Option, Some, None, Result, Ok, Err, List, Vec}
+use Rattle.std.specs.Prelude.{MatchResult}
 use Rattle.std.specs.Global.{Global}
 use Rattle.numa_host_script.specs.declared.running.RunningHost.{RunningHost}
 use Rattle.numa_pages.specs.declared.listing.PageRun.{PageRun}
 use Rattle.numa_script.specs.declared.reply.Reply.{Reply}
 use Rattle.numa_script.specs.declared.reply.Reply.TheVariants as reply
+use Rattle.numa_mode.specs.Policy.{Specification}
+use Rattle.numa_script.specs.declared.policy.WordError.{WordError}
+use Rattle.numaplan_c.specs.Border.{Asked}
+use Rattle.numaplan_c.specs.Bound.{bound_spec, host_rules_in}
+use Rattle.numaplan_c.specs.Codes.{word_code}
 use Rattle.numaplan_c.specs.Compared.{IsListed}
 use Rattle.numaplan_c.specs.Hosts.{reply_code, told_code}
 use Rattle.numaplan_c.specs.Placed.{TellsArrived, TellsNode, done_code}
@@ -76,6 +82,25 @@ abbrev pub HostBind : (RunningHost → Reply → RunningHost → Type 0) → Hos
 HostBind told old code new bound bound-then = HostTell reply_code (TellsSent bound bound-then)
     (bound-then ≡ bound) told old code new
 
+-- a call by a policy for so many bytes that is read first: a faulty one is told, and changes
+-- nothing
+abbrev pub HostDoesRead : Result Specification WordError → ℕ
+    → (Specification → RunningHost → Reply → RunningHost → Type 0) → HostHandle → ℕ → HostHandle
+    → Type 0
+HostDoesRead said bytes told old code new =
+    MatchResult (bound_spec (host_rules_in (host_in old)) bytes said)
+    (λ spec. HostDoes reply_code (told spec) old code new)
+    (λ fault. (code ≡ word_code fault) × (host_in new ≡ host_in old))
+
+-- the same where pages move
+abbrev pub HostBindRead : Result Specification WordError → ℕ
+    → (Specification → RunningHost → Reply → RunningHost → Type 0) → HostHandle → ℕ → HostHandle
+    → NpBound → NpBound → Type 0
+HostBindRead said bytes told old code new bound bound-then =
+    MatchResult (bound_spec (host_rules_in (host_in old)) bytes said)
+    (λ spec. HostBind (told spec) old code new bound bound-then)
+    (λ fault. (code ≡ word_code fault) × (host_in new ≡ host_in old) × (bound-then ≡ bound))
+
 -- ---- questions to a process: 96 where it isn't there, and nothing is told
 
 -- the node of a page, if it lies on one
@@ -102,6 +127,13 @@ TellsRunsIn (Some (Err lack)) code old new count count_then =
     (code ≡ 3) × (new ≡ old) × (count_then ≡ count)
 TellsRunsIn (Some (Ok list)) code old new count count_then =
     IsListed list.items code old new count_then
+
+-- a question about a last move; where nothing is told, all stays
+abbrev pub AskedMoves : HostHandle → HostHandle → ℕ → List Flow → List Flow → ℕ → ℕ → NpBound
+    → NpBound → (RunningHost → Type 0) → Type 0
+AskedMoves old new code flows flows_then count count_then bound bound_then told =
+    Asked (host_in old) (host_in new) code
+    ((flows_then ≡ flows) × (count_then ≡ count) × (bound_then ≡ bound)) told
 
 -- what the last move did: how many pages went and stayed, and from where to where, if there is room
 abbrev pub TellsLastIn : Option (Result LastFlows NoMemory) → ℕ → List Flow → List Flow → ℕ → ℕ

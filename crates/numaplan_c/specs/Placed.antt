@@ -11,7 +11,10 @@ use Rattle.numa_requests.specs.declared.page_refusal.MoveRefusal.{MoveRefusal}
 use Rattle.numa_requests.specs.declared.page_refusal.MoveRefusal.TheVariants as move
 use Rattle.numa_requests.specs.declared.page_refusal.PlacedRefusal.{PlacedRefusal}
 use Rattle.numa_requests.specs.declared.page_refusal.PlacedRefusal.TheVariants as placed
-use Rattle.numaplan_c.specs.Codes.{refusal_code}
+use Rattle.numa_mode.specs.Policy.{Specification}
+use Rattle.numa_script.specs.declared.policy.WordError.{WordError}
+use Rattle.numaplan_c.specs.Bound.{bound_spec, page_rules_in}
+use Rattle.numaplan_c.specs.Codes.{refusal_code, word_code}
 use Rattle.numaplan_c.specs.Compared.{IsListed}
 use Rattle.numaplan_c.specs.declared.placed_moves.NpBound.{NpBound}
 use Rattle.numaplan_c.specs.declared.placed_moves.NpMoves.{NpMoves}
@@ -73,6 +76,11 @@ abbrev pub PagesAnswer : {A E : Type 0} → (E → ℕ)
 PagesAnswer code_of told old code new =
     PagesTell (done_code code_of) (λ answer. Unit {0}) (Unit {0}) told old code new
 
+-- the same of a call that states where pages lie, or how many may
+abbrev pub PagesSet : {A : Type 0} → (PagesState → Result A PlacedRefusal → PagesState → Type 0)
+    → PagesHandle → ℕ → PagesHandle → Type 0
+PagesSet told old code new = PagesAnswer placed_code told old code new
+
 -- the same for a command with a word that is read first: a faulty word is told, by `fault_code` its
 -- fault, and changes nothing
 abbrev pub PagesAnswerRead : {W F A E : Type 0} → Result W F → (F → ℕ) → (E → ℕ)
@@ -118,6 +126,16 @@ abbrev pub PagesBind : (PagesState → Result Rebound ChangeRefusal → PagesSta
     → PagesHandle → ℕ → PagesHandle → NpBound → NpBound → Type 0
 PagesBind told old code new bound bound-then = PagesTell (done_code change_code)
     (TellsBound bound bound-then) (bound-then ≡ bound) told old code new
+
+-- the same by a policy for so many bytes that is read first: a faulty one is told, and changes
+-- nothing
+abbrev pub PagesBindRead : Result Specification WordError → ℕ
+    → (Specification → PagesState → Result Rebound ChangeRefusal → PagesState → Type 0)
+    → PagesHandle → ℕ → PagesHandle → NpBound → NpBound → Type 0
+PagesBindRead said bytes told old code new bound bound-then =
+    MatchResult (bound_spec (page_rules_in (pages_in old)) bytes said)
+    (λ spec. PagesBind (told spec) old code new bound bound-then)
+    (λ fault. (code ≡ word_code fault) × (pages_in new ≡ pages_in old) × (bound-then ≡ bound))
 
 -- ---- questions
 

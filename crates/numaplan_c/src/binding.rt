@@ -1,11 +1,14 @@
 //! The policies of calls of mbind.
 ghost use Rattle.std.specs.Prelude.{◌≡◌};
-ghost use Rattle.numa_script.specs.Policies.{spec_or_fault};
+ghost use Rattle.numa_mask.specs.Words.{number_of};
+ghost use Rattle.numa_mode.specs.Policy.{raw_specification};
 ghost use Rattle.numaplan_c.specs.Bound.{bound_spec, default_spec, home_of, host_rules_in};
-ghost use Rattle.numaplan_c.specs.Bound.{page_rules_in, rules_in};
+ghost use Rattle.numaplan_c.specs.Bound.{page_rules_in, rules_in, spec_by};
 ghost use Rattle.numaplan_handles.specs.Handles.{core_in, host_in, pages_in};
 
+use crate::nodes::NpNodes;
 use numa_machine::Rules;
+use numa_mask::NodeMask;
 use numa_mode::{PolicySpec, SpecError};
 use numa_requests::Command;
 use numa_script::WordError;
@@ -24,18 +27,25 @@ fn default_spec() -> PolicySpec
     spec
 }
 
-/// What is wrong with a mode and its nodes, as with a policy word that says them.
-pub(crate) fn worded(spec: Result<PolicySpec, SpecError>) -> Result<PolicySpec, WordError>
-    ensures { result ≡ spec_or_fault spec }
+/// The policy that a mode word and a set of nodes ask for.
+pub(crate) fn raw_spec(mode: u32, nodes: &NpNodes) -> Result<PolicySpec, SpecError>
+    ensures { result ≡ raw_specification mode (number_of nodes.now.words) }
 {
-    match spec {
+    PolicySpec::from_raw(mode, NodeMask::from_words(nodes.words))
+}
+
+/// The same; what is wrong with it is told as of a policy word that says them.
+pub(crate) fn spec_by(mode: u32, nodes: &NpNodes) -> Result<PolicySpec, WordError>
+    ensures { result ≡ spec_by mode nodes.now }
+{
+    match raw_spec(mode, nodes) {
         Ok(spec) => Ok(spec),
         Err(fault) => Err(WordError::Policy(fault)),
     }
 }
 
 /// The policy that an mbind of so many bytes sets for one that was read, by these rules.
-fn bound_spec(
+pub(crate) fn bound_spec(
     rules: Rules,
     length: u64,
     policy: Result<PolicySpec, WordError>,
@@ -63,50 +73,26 @@ pub(crate) fn home_of(node: u64, flags: u64) -> Result<u32, SpecError>
     Ok(node.min(4_294_967_295) as u32)
 }
 
-/// The policy that an mbind of a core sets.
-pub(crate) fn spec_for(
-    alloc: Global,
-    core: &mut CoreHandle,
-    length: u64,
-    policy: Result<PolicySpec, WordError>,
-) -> Result<PolicySpec, WordError>
+/// The rules of a core; `Document` if the handle is closed.
+pub(crate) fn core_rules(alloc: Global, core: &mut CoreHandle) -> Rules
     ensures same { core_in core.new ≡ core_in core.old }
-    ensures spec { result ≡ bound_spec (rules_in (core_in core.old)) length policy }
+    ensures rules { result ≡ rules_in (core_in core.old) }
 {
-    match core.rules(alloc) {
-        None => bound_spec(Rules::Document, length, policy),
-        Some(rules) => bound_spec(rules, length, policy),
-    }
+    core.rules(alloc).unwrap_or(Rules::Document)
 }
 
-/// The policy that an mbind of a core with its pages sets.
-pub(crate) fn spec_of_pages(
-    alloc: Global,
-    pages: &mut PagesHandle,
-    length: u64,
-    policy: Result<PolicySpec, WordError>,
-) -> Result<PolicySpec, WordError>
+/// The same of a core with its pages.
+pub(crate) fn page_rules(alloc: Global, pages: &mut PagesHandle) -> Rules
     ensures same { pages_in pages.new ≡ pages_in pages.old }
-    ensures spec { result ≡ bound_spec (page_rules_in (pages_in pages.old)) length policy }
+    ensures rules { result ≡ page_rules_in (pages_in pages.old) }
 {
-    match pages.rules(alloc) {
-        None => bound_spec(Rules::Document, length, policy),
-        Some(rules) => bound_spec(rules, length, policy),
-    }
+    pages.rules(alloc).unwrap_or(Rules::Document)
 }
 
-/// The policy that an mbind of a process of a host sets.
-pub(crate) fn spec_in_host(
-    alloc: Global,
-    host: &mut HostHandle,
-    length: u64,
-    policy: Result<PolicySpec, WordError>,
-) -> Result<PolicySpec, WordError>
+/// The same of a host.
+pub(crate) fn host_rules(alloc: Global, host: &mut HostHandle) -> Rules
     ensures same { host_in host.new ≡ host_in host.old }
-    ensures spec { result ≡ bound_spec (host_rules_in (host_in host.old)) length policy }
+    ensures rules { result ≡ host_rules_in (host_in host.old) }
 {
-    match host.rules(alloc) {
-        None => bound_spec(Rules::Document, length, policy),
-        Some(rules) => bound_spec(rules, length, policy),
-    }
+    host.rules(alloc).unwrap_or(Rules::Document)
 }

@@ -111,6 +111,19 @@ pub(crate) enum Code {
     SpanUnmapped = 109,
 }
 
+/// The code of a cause: of some kinds the one with the cause's own name, of the others what an arm
+/// says.
+macro_rules! code_by_name {
+    ($cause:expr, $causes:ident { $($own:ident),* }, $($other:pat => $code:expr),*) => {
+        match $cause {
+            $($causes::$own => $crate::codes::Code::$own as u32,)*
+            $($other => $code,)*
+        }
+    };
+}
+
+pub(crate) use code_by_name;
+
 /// The code of a command's refusal: most are in order from 10; a later one has a later number.
 pub(crate) fn refusal_code(refusal: Refusal) -> u32
     ensures { result ≡ refusal_code refusal }
@@ -140,18 +153,11 @@ pub(crate) fn refusal_code(refusal: Refusal) -> u32
 fn cause_code(cause: CoreRefusal) -> u32
     ensures { result ≡ cause_code cause }
 {
-    match cause {
+    code_by_name!(cause,
+        CoreRefusal { NoSuchWorker, Busy, Idle, BadTry, NotOwned, BadCpu, NoMemory },
         CoreRefusal::Command(refusal) => refusal_code(refusal),
-        CoreRefusal::NoSuchWorker => Code::NoSuchWorker as u32,
-        CoreRefusal::Busy => Code::Busy as u32,
-        CoreRefusal::Idle => Code::Idle as u32,
-        CoreRefusal::BadTry => Code::BadTry as u32,
-        CoreRefusal::NotOwned => Code::NotOwned as u32,
-        CoreRefusal::Unmapped(_) => Code::Unmapped as u32,
-        CoreRefusal::BadCpu => Code::BadCpu as u32,
         CoreRefusal::NoSuchNode => refusal_code(Refusal::NoSuchNode),
-        CoreRefusal::NoMemory => Code::NoMemory as u32,
-    }
+        CoreRefusal::Unmapped(_) => Code::Unmapped as u32)
 }
 
 /// The code of an event's reply.
@@ -164,6 +170,28 @@ pub(crate) fn answer_code(answer: &Result<CoreReply, CoreRefusal>) -> u32
         Ok(CoreReply::Full) => Code::AllTaken as u32,
         Ok(_) => 0,
         Err(cause) => cause_code(*cause),
+    }
+}
+
+/// The code of an error in a machine: in order from 50, apart from out of memory.
+pub(crate) fn machine_code(fault: MachineFault) -> u32
+    ensures code { result ≡ machine_code fault }
+    ensures refused { result ≢ 0 }
+{
+    match fault {
+        MachineFault::NoMemory => Code::NoMemory as u32,
+        fault => 50 + fault as u32,
+    }
+}
+
+/// The code of an error in a policy word.
+pub(crate) fn word_code(fault: WordError) -> u32
+    ensures code { result ≡ word_code fault }
+    ensures refused { result ≢ 0 }
+{
+    match fault {
+        WordError::List(fault) => list_code(fault),
+        WordError::Policy(fault) => spec_code(fault),
     }
 }
 
@@ -183,32 +211,10 @@ pub(crate) fn list_code(fault: ListFault) -> u32
     60 + fault as u32
 }
 
-/// The code of an error in a machine: in order from 50, apart from out of memory.
-pub(crate) fn machine_code(fault: MachineFault) -> u32
-    ensures code { result ≡ machine_code fault }
-    ensures refused { result ≢ 0 }
-{
-    match fault {
-        MachineFault::NoMemory => Code::NoMemory as u32,
-        fault => 50 + fault as u32,
-    }
-}
-
 /// The code of an error in a policy: in order from 70.
 pub(crate) fn spec_code(fault: SpecError) -> u32
     ensures code { result ≡ spec_code fault }
     ensures refused { result ≢ 0 }
 {
     70 + fault as u32
-}
-
-/// The code of an error in a policy word.
-pub(crate) fn word_code(fault: WordError) -> u32
-    ensures code { result ≡ word_code fault }
-    ensures refused { result ≢ 0 }
-{
-    match fault {
-        WordError::List(fault) => list_code(fault),
-        WordError::Policy(fault) => spec_code(fault),
-    }
 }

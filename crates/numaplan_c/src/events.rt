@@ -3,23 +3,24 @@ ghost use Rattle.std.specs.Prelude.{◌≡◌, MatchOption};
 ghost use Rattle.numa_mask.specs.Lists.{list_of};
 ghost use Rattle.numa_mask.specs.Words.{number_of};
 ghost use Rattle.numa_mode.specs.Policy.{raw_specification};
-ghost use Rattle.numa_script.specs.Policies.{policy_of, spec_or_fault};
+ghost use Rattle.numa_script.specs.Policies.{policy_of};
 ghost use Rattle.numa_requests.specs.declared.event.Event.{Event};
 ghost use Rattle.numa_machine.specs.declared.page_size.PageSize.{PageSize};
 ghost use Rattle.numa_requests.specs.declared.command.Command.{Command};
 ghost use Rattle.numaplan_c.specs.Border.{Answers, AnswersRead, Places, Touched, Tried};
-ghost use Rattle.numaplan_c.specs.Bound.{bound_spec, home_of, rules_in};
+ghost use Rattle.numaplan_c.specs.Bound.{bound_spec, home_of, rules_in, spec_by};
 ghost use Rattle.numaplan_c.specs.Codes.{answer_code, list_code, spec_code, word_code};
 ghost use Rattle.numaplan_handles.specs.Handles.{core_in};
 
-use crate::binding::{home_of, spec_for, worded};
+use crate::binding::{bound_spec, core_rules, home_of, raw_spec, spec_by};
 use crate::codes::{Code, answer_code, list_code, spec_code, word_code};
 use crate::keeping::{if_open, or_return};
 use crate::nodes::NpNodes;
 use numa_machine::{Frame, PageSize};
-use numa_mask::{NodeMask, read_list};
+use numa_mask::read_list;
 use numa_mode::PolicySpec;
 use numa_requests::{Command, CoreRefusal, CoreReply, Event, Request};
+use numa_script::WordError;
 use numa_script::policy::read_policy;
 use numaplan_handles::CoreHandle;
 use std::alloc::Global;
@@ -84,6 +85,22 @@ pub extern "C" fn np_core_unmap(
     accept!(alloc, core => Unmap { start, length })
 }
 
+/// Sets the policy of a span's pages, as it was read.
+fn bind(
+    alloc: Global,
+    core: &mut CoreHandle,
+    start: u64,
+    length: u64,
+    said: Result<PolicySpec, WordError>,
+) -> u32
+    ensures { AnswersRead (bound_spec (rules_in (core_in core.old)) length said) word_code
+        (λ spec. Command.Mbind start length spec) (core_in core.old) result (core_in core.new) }
+{
+    let rules = core_rules(alloc, core);
+    let spec = or_return!(bound_spec(rules, length, said), word_code);
+    accept!(alloc, core => Mbind { start, length, spec })
+}
+
 /// Sets the policy of a span's pages.
 #[unsafe(no_mangle)]
 pub extern "C" fn np_core_mbind(
@@ -97,11 +114,7 @@ pub extern "C" fn np_core_mbind(
         word_code (λ spec. Command.Mbind start length spec) (core_in core.old) result
         (core_in core.new) }
 {
-    let spec = or_return!(
-        spec_for(alloc, core, length, read_policy(policy)),
-        word_code
-    );
-    accept!(alloc, core => Mbind { start, length, spec })
+    bind(alloc, core, start, length, read_policy(policy))
 }
 
 /// Sets the policy of a span's pages, by a mode word and a set of nodes.
@@ -114,14 +127,11 @@ pub extern "C" fn np_core_mbind_by(
     mode: u32,
     nodes: &NpNodes,
 ) -> u32
-    ensures { AnswersRead (bound_spec (rules_in (core_in core.old)) length
-        (spec_or_fault (raw_specification mode (number_of nodes.now.words)))) word_code
-        (λ spec. Command.Mbind start length spec) (core_in core.old) result (core_in core.new) }
+    ensures { AnswersRead (bound_spec (rules_in (core_in core.old)) length (spec_by mode nodes.now))
+        word_code (λ spec. Command.Mbind start length spec) (core_in core.old) result
+        (core_in core.new) }
 {
-    let asked = NodeMask::from_words(nodes.words);
-    let said = worded(PolicySpec::from_raw(mode, asked));
-    let spec = or_return!(spec_for(alloc, core, length, said), word_code);
-    accept!(alloc, core => Mbind { start, length, spec })
+    bind(alloc, core, start, length, spec_by(mode, nodes))
 }
 
 /// Sets the policy of a task.
@@ -151,8 +161,7 @@ pub extern "C" fn np_core_set_task_by(
     ensures { AnswersRead (raw_specification mode (number_of nodes.now.words)) spec_code
         (λ spec. Command.SetTask task spec) (core_in core.old) result (core_in core.new) }
 {
-    let asked = NodeMask::from_words(nodes.words);
-    let spec = or_return!(PolicySpec::from_raw(mode, asked), spec_code);
+    let spec = or_return!(raw_spec(mode, nodes), spec_code);
     accept!(alloc, core => SetTask { task, spec })
 }
 

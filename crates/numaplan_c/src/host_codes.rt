@@ -3,7 +3,7 @@ ghost use Rattle.std.specs.Prelude.{◌≡◌, ◌≢◌};
 ghost use Rattle.numaplan_c.specs.Hosts.{host_cause_code, reply_code, told_code};
 ghost use Rattle.numaplan_c.specs.Placed.{done_code};
 
-use crate::codes::{Code, refusal_code};
+use crate::codes::{code_by_name, refusal_code};
 use crate::placed_codes::{move_code, placed_code};
 use numa_requests::{HostRefusal, Refusal};
 use numa_script::Reply;
@@ -12,21 +12,12 @@ use numa_script::Reply;
 fn host_cause_code(cause: HostRefusal) -> u32
     ensures { result ≡ host_cause_code cause }
 {
-    match cause {
+    code_by_name!(cause,
+        HostRefusal { GroupExists, NoSuchGroup, TooManyGroups, RootGroup, Populated, ProcessExists,
+            NoSuchProcess, TooManyProcesses, GroupMems, NoMemory },
         HostRefusal::CommandsSpent => refusal_code(Refusal::CommandsSpent),
-        HostRefusal::GroupExists => Code::GroupExists as u32,
-        HostRefusal::NoSuchGroup => Code::NoSuchGroup as u32,
-        HostRefusal::TooManyGroups => Code::TooManyGroups as u32,
-        HostRefusal::RootGroup => Code::RootGroup as u32,
         HostRefusal::NoSuchNode => refusal_code(Refusal::NoSuchNode),
-        HostRefusal::Populated => Code::Populated as u32,
-        HostRefusal::ProcessExists => Code::ProcessExists as u32,
-        HostRefusal::NoSuchProcess => Code::NoSuchProcess as u32,
-        HostRefusal::TooManyProcesses => Code::TooManyProcesses as u32,
-        HostRefusal::GroupMems => Code::GroupMems as u32,
-        HostRefusal::OfSpace(refusal) => refusal_code(refusal),
-        HostRefusal::NoMemory => Code::NoMemory as u32,
-    }
+        HostRefusal::OfSpace(refusal) => refusal_code(refusal))
 }
 
 /// The code of a reply of a host: 0 unless it refuses.

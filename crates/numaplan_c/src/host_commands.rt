@@ -5,22 +5,23 @@ ghost use Rattle.numa_machine.specs.declared.page_size.PageSize.{PageSize};
 ghost use Rattle.numa_mask.specs.Lists.{list_of};
 ghost use Rattle.numa_mask.specs.Words.{number_of};
 ghost use Rattle.numa_mode.specs.Policy.{raw_specification};
-ghost use Rattle.numa_script.specs.Policies.{policy_of, spec_or_fault};
+ghost use Rattle.numa_script.specs.Policies.{policy_of};
 ghost use Rattle.numa_requests.specs.declared.command.Command.{Command};
-ghost use Rattle.numaplan_c.specs.Bound.{bound_spec, home_of, host_rules_in};
+ghost use Rattle.numaplan_c.specs.Bound.{bound_spec, home_of, host_rules_in, spec_by};
 ghost use Rattle.numaplan_c.specs.Codes.{list_code, spec_code, word_code};
 ghost use Rattle.numaplan_c.specs.Hosts.{HostAnswers, HostAnswersRead};
 ghost use Rattle.numaplan_handles.specs.Handles.{host_in};
 
-use crate::binding::{home_of, spec_in_host, worded};
+use crate::binding::{bound_spec, home_of, host_rules, raw_spec, spec_by};
 use crate::codes::{list_code, spec_code, word_code};
 use crate::host_codes::reply_code;
 use crate::keeping::{if_open, or_return};
 use crate::nodes::NpNodes;
 use numa_machine::PageSize;
-use numa_mask::{NodeMask, read_list};
+use numa_mask::read_list;
 use numa_mode::PolicySpec;
 use numa_requests::{Command, HostCommand};
+use numa_script::WordError;
 use numa_script::policy::read_policy;
 use numaplan_handles::HostHandle;
 use std::alloc::Global;
@@ -207,6 +208,24 @@ pub extern "C" fn np_host_unmap(
     tell!(alloc, host, process => Unmap { start, length })
 }
 
+/// Sets the policy of the pages of a process's span, as it was read.
+fn bind(
+    alloc: Global,
+    host: &mut HostHandle,
+    process: u32,
+    start: u64,
+    length: u64,
+    said: Result<PolicySpec, WordError>,
+) -> u32
+    ensures { HostAnswersRead (bound_spec (host_rules_in (host_in host.old)) length said) word_code
+        (λ spec. HostCommand.In process (Command.Mbind start length spec)) (host_in host.old)
+        result (host_in host.new) }
+{
+    let rules = host_rules(alloc, host);
+    let spec = or_return!(bound_spec(rules, length, said), word_code);
+    tell!(alloc, host, process => Mbind { start, length, spec })
+}
+
 /// Sets the policy of the pages of a process's span.
 #[unsafe(no_mangle)]
 pub extern "C" fn np_host_mbind(
@@ -222,11 +241,7 @@ pub extern "C" fn np_host_mbind(
         (λ spec. HostCommand.In process (Command.Mbind start length spec)) (host_in host.old)
         result (host_in host.new) }
 {
-    let spec = or_return!(
-        spec_in_host(alloc, host, length, read_policy(policy)),
-        word_code
-    );
-    tell!(alloc, host, process => Mbind { start, length, spec })
+    bind(alloc, host, process, start, length, read_policy(policy))
 }
 
 /// The same by a mode word and a set of nodes.
@@ -241,13 +256,11 @@ pub extern "C" fn np_host_mbind_by(
     nodes: &NpNodes,
 ) -> u32
     ensures { HostAnswersRead (bound_spec (host_rules_in (host_in host.old)) length
-        (spec_or_fault (raw_specification mode (number_of nodes.now.words)))) word_code
+        (spec_by mode nodes.now)) word_code
         (λ spec. HostCommand.In process (Command.Mbind start length spec)) (host_in host.old)
         result (host_in host.new) }
 {
-    let said = worded(PolicySpec::from_raw(mode, NodeMask::from_words(nodes.words)));
-    let spec = or_return!(spec_in_host(alloc, host, length, said), word_code);
-    tell!(alloc, host, process => Mbind { start, length, spec })
+    bind(alloc, host, process, start, length, spec_by(mode, nodes))
 }
 
 /// Sets the policy of a process's task.
@@ -281,8 +294,7 @@ pub extern "C" fn np_host_set_task_by(
         (λ spec. HostCommand.In process (Command.SetTask task spec)) (host_in host.old) result
         (host_in host.new) }
 {
-    let asked = NodeMask::from_words(nodes.words);
-    let spec = or_return!(PolicySpec::from_raw(mode, asked), spec_code);
+    let spec = or_return!(raw_spec(mode, nodes), spec_code);
     tell!(alloc, host, process => SetTask { task, spec })
 }
 

@@ -1,21 +1,20 @@
 //! Stating where pages of a host's processes lie, touching them first, and moving them.
 ghost use Rattle.std.specs.Prelude.{◌≡◌, MatchResult};
 ghost use Rattle.numa_mask.specs.Lists.{list_of};
-ghost use Rattle.numa_mask.specs.Words.{number_of};
-ghost use Rattle.numa_mode.specs.Policy.{raw_specification};
-ghost use Rattle.numa_script.specs.Policies.{policy_of, spec_or_fault};
+ghost use Rattle.numa_script.specs.Policies.{policy_of};
 ghost use Rattle.numa_script.specs.declared.page_line.BoundPages.{BoundPages};
 ghost use Rattle.numa_script.specs.declared.page_line.PageLine.{PageLine};
-ghost use Rattle.numaplan_c.specs.Bound.{bound_spec, host_rules_in};
-ghost use Rattle.numaplan_c.specs.Codes.{list_code, word_code};
-ghost use Rattle.numaplan_c.specs.Hosted.{HostBind, HostDoes, HostMigrate, HostTouch, PagesChange};
+ghost use Rattle.numaplan_c.specs.Bound.{spec_by};
+ghost use Rattle.numaplan_c.specs.Codes.{list_code};
+ghost use Rattle.numaplan_c.specs.Hosted.{HostBind, HostBindRead, HostDoes, HostDoesRead};
+ghost use Rattle.numaplan_c.specs.Hosted.{HostMigrate, HostTouch, PagesChange};
 ghost use Rattle.numaplan_c.specs.Hosted.{TellsSent, TellsShift, late_number};
 ghost use Rattle.numaplan_c.specs.Hosts.{reply_code};
 ghost use Rattle.numaplan_c.specs.Placed.{done_code, placed_code};
 ghost use Rattle.numaplan_handles.specs.Handles.{host_in};
 ghost use Rattle.numaplan_handles.specs.Hosted.{Binds, LetsFollow, LimitsAll};
 
-use crate::binding::{spec_in_host, worded};
+use crate::binding::{bound_spec, host_rules, spec_by};
 use crate::codes::{list_code, word_code};
 use crate::host_codes::{done_code, reply_code, told_code};
 use crate::keeping::{if_open, or_return};
@@ -26,7 +25,7 @@ use numa_mask::{NodeMask, read_list};
 use numa_mode::PolicySpec;
 use numa_page_state::Rebinding;
 use numa_script::policy::read_policy;
-use numa_script::{BoundPages, MoveWords, Reply};
+use numa_script::{BoundPages, MoveWords, Reply, WordError};
 use numaplan_handles::HostHandle;
 use std::alloc::Global;
 
@@ -162,6 +161,28 @@ fn bind_strictly(alloc: Global, host: &mut HostHandle, process: u32, said: Rebin
     if_open!(host.bind(alloc, process, said, &BoundPages::Strict), answer => reply_code(&answer))
 }
 
+/// The same for a policy as it was read.
+fn bind_read(
+    alloc: Global,
+    host: &mut HostHandle,
+    process: u32,
+    start: u64,
+    length: u64,
+    said: Result<PolicySpec, WordError>,
+) -> u32
+    ensures { HostDoesRead said length
+        (λ spec. Binds process start length spec BoundPages.Strict) host.old result host.new }
+{
+    let rules = host_rules(alloc, host);
+    let spec = or_return!(bound_spec(rules, length, said), word_code);
+    let said = Rebinding {
+        start,
+        length,
+        spec,
+    };
+    bind_strictly(alloc, host, process, said)
+}
+
 /// Sets the policy of the pages of a process's span, unless one lies on another node than it asks
 /// for.
 #[unsafe(no_mangle)]
@@ -173,21 +194,10 @@ pub extern "C" fn np_host_mbind_strictly(
     length: u64,
     policy: &[u8],
 ) -> u32
-    ensures { MatchResult (bound_spec (host_rules_in (host_in host.old)) length
-        (policy_of policy.now)) (λ spec. HostDoes reply_code
-        (Binds process start length spec BoundPages.Strict) host.old result host.new)
-        (λ fault. (result ≡ word_code fault) × (host_in host.new ≡ host_in host.old)) }
+    ensures { HostDoesRead (policy_of policy.now) length
+        (λ spec. Binds process start length spec BoundPages.Strict) host.old result host.new }
 {
-    let spec = or_return!(
-        spec_in_host(alloc, host, length, read_policy(policy)),
-        word_code
-    );
-    let said = Rebinding {
-        start,
-        length,
-        spec,
-    };
-    bind_strictly(alloc, host, process, said)
+    bind_read(alloc, host, process, start, length, read_policy(policy))
 }
 
 /// The same by a mode word and a set of nodes.
@@ -201,19 +211,10 @@ pub extern "C" fn np_host_mbind_strictly_by(
     mode: u32,
     nodes: &NpNodes,
 ) -> u32
-    ensures { MatchResult (bound_spec (host_rules_in (host_in host.old)) length
-        (spec_or_fault (raw_specification mode (number_of nodes.now.words)))) (λ spec. HostDoes
-        reply_code (Binds process start length spec BoundPages.Strict) host.old result host.new)
-        (λ fault. (result ≡ word_code fault) × (host_in host.new ≡ host_in host.old)) }
+    ensures { HostDoesRead (spec_by mode nodes.now) length
+        (λ spec. Binds process start length spec BoundPages.Strict) host.old result host.new }
 {
-    let asked = worded(PolicySpec::from_raw(mode, NodeMask::from_words(nodes.words)));
-    let spec = or_return!(spec_in_host(alloc, host, length, asked), word_code);
-    let said = Rebinding {
-        start,
-        length,
-        spec,
-    };
-    bind_strictly(alloc, host, process, said)
+    bind_read(alloc, host, process, start, length, spec_by(mode, nodes))
 }
 
 /// The error number that mbind(2) answers all the same.
@@ -264,6 +265,31 @@ fn rebind(
     })
 }
 
+/// The same for a policy as it was read.
+fn rebind_read(
+    alloc: Global,
+    host: &mut HostHandle,
+    process: u32,
+    start: u64,
+    length: u64,
+    said: Result<PolicySpec, WordError>,
+    words: MoveWords,
+    bound: &mut NpBound,
+) -> u32
+    ensures { HostBindRead said length
+        (λ spec. Binds process start length spec (BoundPages.Move words)) host.old result host.new
+        bound.old bound.new }
+{
+    let rules = host_rules(alloc, host);
+    let spec = or_return!(bound_spec(rules, length, said), word_code);
+    let said = Rebinding {
+        start,
+        length,
+        spec,
+    };
+    rebind(alloc, host, process, said, words, bound)
+}
+
 /// Sets the policy of the pages of a process's span, and moves those that lie on other nodes than
 /// it asks for.
 #[unsafe(no_mangle)]
@@ -279,24 +305,13 @@ pub extern "C" fn np_host_mbind_moving(
     cpu: u32,
     bound: &mut NpBound,
 ) -> u32
-    ensures { MatchResult (bound_spec (host_rules_in (host_in host.old)) length
-        (policy_of policy.now)) (λ spec. HostBind (Binds process start length spec
+    ensures { HostBindRead (policy_of policy.now) length (λ spec. Binds process start length spec
         (BoundPages.Move (record { strict = strict; task = task; cpu = cpu }))) host.old result
-        host.new bound.old bound.new)
-        (λ fault. (result ≡ word_code fault) × (host_in host.new ≡ host_in host.old)
-        × (bound.new ≡ bound.old)) }
+        host.new bound.old bound.new }
 {
-    let spec = or_return!(
-        spec_in_host(alloc, host, length, read_policy(policy)),
-        word_code
-    );
-    let said = Rebinding {
-        start,
-        length,
-        spec,
-    };
     let words = MoveWords { strict, task, cpu };
-    rebind(alloc, host, process, said, words, bound)
+    let said = read_policy(policy);
+    rebind_read(alloc, host, process, start, length, said, words, bound)
 }
 
 /// The same by a mode word and a set of nodes.
@@ -314,21 +329,11 @@ pub extern "C" fn np_host_mbind_moving_by(
     cpu: u32,
     bound: &mut NpBound,
 ) -> u32
-    ensures { MatchResult (bound_spec (host_rules_in (host_in host.old)) length
-        (spec_or_fault (raw_specification mode (number_of nodes.now.words)))) (λ spec. HostBind
-        (Binds process start length spec
+    ensures { HostBindRead (spec_by mode nodes.now) length (λ spec. Binds process start length spec
         (BoundPages.Move (record { strict = strict; task = task; cpu = cpu }))) host.old result
-        host.new bound.old bound.new)
-        (λ fault. (result ≡ word_code fault) × (host_in host.new ≡ host_in host.old)
-        × (bound.new ≡ bound.old)) }
+        host.new bound.old bound.new }
 {
-    let asked = worded(PolicySpec::from_raw(mode, NodeMask::from_words(nodes.words)));
-    let spec = or_return!(spec_in_host(alloc, host, length, asked), word_code);
-    let said = Rebinding {
-        start,
-        length,
-        spec,
-    };
     let words = MoveWords { strict, task, cpu };
-    rebind(alloc, host, process, said, words, bound)
+    let said = spec_by(mode, nodes);
+    rebind_read(alloc, host, process, start, length, said, words, bound)
 }

@@ -8,8 +8,8 @@ ghost use Rattle.numa_requests.specs.declared.page_refusal.PlacedRefusal.{Placed
 ghost use Rattle.numa_space.specs.History.{page_of};
 ghost use Rattle.numaplan_c.specs.Border.{Asked};
 ghost use Rattle.numaplan_c.specs.Compared.{IsListed};
-ghost use Rattle.numaplan_c.specs.Hosted.{TellsCountsIn, TellsLastIn, TellsNodeIn, TellsRunsIn};
-ghost use Rattle.numaplan_c.specs.Hosted.{told_nodes_code};
+ghost use Rattle.numaplan_c.specs.Hosted.{AskedMoves, TellsCountsIn, TellsLastIn, TellsNodeIn};
+ghost use Rattle.numaplan_c.specs.Hosted.{TellsRunsIn, told_nodes_code};
 ghost use Rattle.numaplan_c.specs.Placed.{TellsRoom};
 ghost use Rattle.numaplan_handles.specs.Handles.{host_in};
 ghost use Rattle.numaplan_handles.specs.Hosted.{HasRoomLeft, LieAt, LieOn, LieSo, LiesOn, OfLying};
@@ -175,9 +175,8 @@ pub extern "C" fn np_host_moves(
     count: &mut usize,
     bound: &mut NpBound,
 ) -> u32
-    ensures { Asked (host_in host.old) (host_in host.new) result
-        ((flows.new ≡ flows.old) × (count.new ≡ count.old) × (bound.new ≡ bound.old))
-        (λ kept. (answer : Option (Result LastFlows NoMemory)) × OfLying (host_in host.old)
+    ensures { AskedMoves host.old host.new result flows.old flows.new count.old count.new bound.old
+        bound.new (λ kept. (answer : Option (Result LastFlows NoMemory)) × OfLying (host_in host.old)
         (OfPagesIn process (λ lying told. IfOk told (TellsLast lying)) answer)
         × TellsLastIn answer result flows.old flows.new count.old count.new bound.old
         bound.new) }
@@ -197,9 +196,8 @@ pub extern "C" fn np_host_moves_of_all(
     count: &mut usize,
     bound: &mut NpBound,
 ) -> u32
-    ensures { Asked (host_in host.old) (host_in host.new) result
-        ((flows.new ≡ flows.old) × (count.new ≡ count.old) × (bound.new ≡ bound.old))
-        (λ kept. (answer : Result LastFlows NoMemory) × OfLying (host_in host.old)
+    ensures { AskedMoves host.old host.new result flows.old flows.new count.old count.new bound.old
+        bound.new (λ kept. (answer : Result LastFlows NoMemory) × OfLying (host_in host.old)
         (λ at. IfOk answer (λ told. TellsSum told at))
         × TellsLastIn (Some answer) result flows.old flows.new count.old count.new bound.old
         bound.new) }

@@ -14,7 +14,7 @@ ghost use Rattle.numaplan_handles.specs.Hosts.{HasGroupAt, HasGroupNodes, HasGro
 ghost use Rattle.numaplan_handles.specs.Hosts.{HasHostVersion, HasProcessAt, HasProcesses};
 ghost use Rattle.numaplan_handles.specs.Hosts.{IsPlanned, OfHost, OfProcess};
 ghost use Rattle.numaplan_handles.specs.declared.plan_view.ChoiceRefusal.{ChoiceRefusal};
-ghost use Rattle.numaplan_c.specs.Border.{Asked, Opens};
+ghost use Rattle.numaplan_c.specs.Border.{Asked, AskedInto, Opens};
 ghost use Rattle.numaplan_c.specs.Hosts.{AnswersPlan, TellsChoice, TellsGroup, TellsGroupNodes};
 ghost use Rattle.numaplan_c.specs.Hosts.{TellsNumber, TellsPolicyIn, TellsProcess, TellsRangeIn};
 ghost use Rattle.numaplan_c.specs.Hosts.{flag_of};
@@ -205,7 +205,7 @@ pub extern "C" fn np_host_range(
     policy: &mut [u8],
     length: &mut usize,
 ) -> u32
-    ensures told { Asked (host_in host.old) (host_in host.new) result
+    ensures { Asked (host_in host.old) (host_in host.new) result
         ((range.new ≡ range.old) × (policy.new ≡ policy.old) × (length.new ≡ length.old))
         (λ kept. (answer : Option (Option (Run (Option PolicyRecord))))
         × OfHost (host_in host.old) (OfProcess process (FindsRange index) answer)
@@ -251,9 +251,9 @@ pub extern "C" fn np_host_choice(
     nodes: &mut [u8],
     count: &mut usize,
 ) -> u32
-    ensures told { Asked (host_in host.old) (host_in host.new) result
-        ((nodes.new ≡ nodes.old) × (count.new ≡ count.old))
-        (λ kept. (answer : Option (Result ℕ ChoiceRefusal)) × OfHost (host_in host.old)
+    ensures told { AskedInto (host_in host.old) (host_in host.new) result nodes.old nodes.new
+        count.old count.new (λ kept. (answer : Option (Result ℕ ChoiceRefusal))
+        × OfHost (host_in host.old)
         (OfProcess process (ChoosesBy task page cpu nodes.old nodes.new) answer)
         × TellsChoice answer result count.old count.new) }
     ensures none { result ≡ 96 → nodes.new ≡ nodes.old }

@@ -1,12 +1,10 @@
 //! Listings of a core's ranges.
 ghost use Rattle.std.specs.Prelude.{◌≡◌, ◌≢◌, Some, None, is_some, true, Result, List, ℕ};
-ghost use Rattle.std.specs.Prelude.{IfOk, IfErr, OnOk, OnErr, IsSome};
-ghost use Rattle.numa_core.specs.Standing.{CoreState};
+ghost use Rattle.std.specs.Prelude.{IfOk, IfErr, OnOk, IsSome};
 ghost use Rattle.numaplan_handles.specs.Handles.{core_in};
-ghost use Rattle.numaplan_handles.specs.Asked.{HasListing};
 ghost use Rattle.numa_maps.specs.Residents.{IsRising, placed_at};
 ghost use Rattle.numaplan_c.specs.Ranges.{ArePlaced, Lists, RefusesPlaced, TellsListing};
-ghost use Rattle.numaplan_c.specs.Border.{Asked};
+ghost use Rattle.numaplan_c.specs.Border.{AskedInto};
 ghost use Rattle.numaplan_c.specs.Ranges.{placement_of};
 
 use crate::codes::Code;
@@ -113,9 +111,8 @@ pub extern "C" fn np_core_maps(
     text: &mut [u8],
     length: &mut usize,
 ) -> u32
-    ensures { Asked (core_in core.old) (core_in core.new) result
-        ((text.new ≡ text.old) × (length.new ≡ length.old))
-        (λ kept. (answer : Result (List ℕ) MapsRefusal)
+    ensures { AskedInto (core_in core.old) (core_in core.new) result text.old text.new length.old
+        length.new (λ kept. (answer : Result (List ℕ) MapsRefusal)
         × Lists (core_in core.old) task placements.now answer
         × TellsListing answer result text.old text.new length.old length.new) }
 {

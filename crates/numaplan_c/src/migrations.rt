@@ -1,10 +1,10 @@
 //! Pages that move to frames of other nodes.
-ghost use Rattle.std.specs.Prelude.{◌≡◌, Some, None, Result};
+ghost use Rattle.std.specs.Prelude.{◌≡◌, Result};
 ghost use Rattle.numa_machine.specs.declared.frame.Frame.{Frame};
-ghost use Rattle.numa_pool.specs.Seated.{Seated};
 ghost use Rattle.numa_pool.specs.declared.owned_seat.ExchangeRefusal.{ExchangeRefusal};
 ghost use Rattle.numaplan_handles.specs.Handles.{seat_in};
 ghost use Rattle.numaplan_handles.specs.Seats.{Migrates};
+ghost use Rattle.numaplan_c.specs.Border.{Called};
 ghost use Rattle.numaplan_c.specs.Migrations.{exchange_code, TellsFrame};
 
 use crate::codes::Code;
@@ -39,13 +39,10 @@ pub extern "C" fn np_seat_migrate(
     to: u8,
     frame: &mut NpFrame,
 ) -> u32
-    ensures closed { seat_in seat.old ≡ None → (result ≡ 1) × (seat_in seat.new ≡ None)
-        × (frame.new ≡ frame.old) }
-    ensures migrates { (kept : Seated) → seat_in seat.old ≡ Some kept →
+    ensures { Called (seat_in seat.old) result (seat_in seat.new) (frame.new ≡ frame.old) (λ kept.
         (answer : Result Frame ExchangeRefusal) × (result ≡ exchange_code answer)
         × Migrates (record { node = node; number = number }) to (seat_in seat.old)
-        (seat_in seat.new) answer
-        × TellsFrame answer frame.old frame.new }
+        (seat_in seat.new) answer × TellsFrame answer frame.old frame.new) }
 {
     let answer = seat.migrate(alloc, Frame { node, number }, to);
     if_open!(answer, answer => tell_frame(answer, frame))

@@ -2,7 +2,7 @@
 ghost use Rattle.std.specs.Prelude.{◌≡◌};
 ghost use Rattle.numaplan_c.specs.Placed.{change_code, done_code, move_code, placed_code};
 
-use crate::codes::{Code, refusal_code};
+use crate::codes::{Code, code_by_name, refusal_code};
 use crate::keeping::or_return;
 use numa_pages::ChangeRefusal;
 use numa_requests::{MoveRefusal, PlacedRefusal, Refusal};
@@ -11,19 +11,14 @@ use numa_requests::{MoveRefusal, PlacedRefusal, Refusal};
 pub(crate) fn placed_code(cause: PlacedRefusal) -> u32
     ensures { result ≡ placed_code cause }
 {
-    match cause {
+    code_by_name!(cause, PlacedRefusal { Occupied, Astray, TooManyRuns, NoMemory },
         PlacedRefusal::Unaligned => refusal_code(Refusal::Unaligned),
         PlacedRefusal::OutOfSpace => refusal_code(Refusal::OutOfSpace),
         PlacedRefusal::NoSuchNode => refusal_code(Refusal::NoSuchNode),
-        PlacedRefusal::Occupied => Code::Occupied as u32,
         PlacedRefusal::NodesNotAllowed => refusal_code(Refusal::NodesNotAllowed),
-        PlacedRefusal::Astray => Code::Astray as u32,
         PlacedRefusal::BadCpu => Code::NoSuchCpu as u32,
         PlacedRefusal::Unmapped => Code::SpanUnmapped as u32,
-        PlacedRefusal::NoRoom => Code::NodeFull as u32,
-        PlacedRefusal::TooManyRuns => Code::TooManyRuns as u32,
-        PlacedRefusal::NoMemory => Code::NoMemory as u32,
-    }
+        PlacedRefusal::NoRoom => Code::NodeFull as u32)
 }
 
 /// The code of the result of a change of pages.
@@ -38,15 +33,11 @@ pub(crate) fn set_code<A: Drop>(answer: Result<A, PlacedRefusal>) -> u32
 pub(crate) fn move_code(cause: MoveRefusal) -> u32
     ensures { result ≡ move_code cause }
 {
-    match cause {
+    code_by_name!(cause, MoveRefusal { NotPlaced, TooManyRuns, NoMemory },
         MoveRefusal::NoSuchNode => Code::NoSuchTarget as u32,
         MoveRefusal::NodesNotAllowed => Code::TargetNotAllowed as u32,
         MoveRefusal::Unmapped => Code::PageUnmapped as u32,
-        MoveRefusal::NotPlaced => Code::NotPlaced as u32,
-        MoveRefusal::NoRoom => Code::NodeFull as u32,
-        MoveRefusal::TooManyRuns => Code::TooManyRuns as u32,
-        MoveRefusal::NoMemory => Code::NoMemory as u32,
-    }
+        MoveRefusal::NoRoom => Code::NodeFull as u32)
 }
 
 /// The code of the result of moving a page.
@@ -61,11 +52,9 @@ pub(crate) fn moved_code(answer: Result<(), MoveRefusal>) -> u32
 pub(crate) fn change_code(cause: ChangeRefusal) -> u32
     ensures { result ≡ change_code cause }
 {
-    match cause {
+    code_by_name!(cause, ChangeRefusal { NoMemory },
         ChangeRefusal::OfSpace(refusal) => refusal_code(refusal),
-        ChangeRefusal::OfPages(cause) => placed_code(cause),
-        ChangeRefusal::NoMemory => Code::NoMemory as u32,
-    }
+        ChangeRefusal::OfPages(cause) => placed_code(cause))
 }
 
 /// The code of the result of a change of a core and its pages.

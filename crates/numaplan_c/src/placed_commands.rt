@@ -4,31 +4,39 @@ ghost use Rattle.numa_mask.specs.Lists.{list_of};
 ghost use Rattle.numa_pages.specs.Changes.{Accepts, BindsStrictly};
 ghost use Rattle.numa_mask.specs.Words.{number_of};
 ghost use Rattle.numa_mode.specs.Policy.{raw_specification};
-ghost use Rattle.numa_script.specs.Policies.{policy_of, spec_or_fault};
+ghost use Rattle.numa_script.specs.Policies.{policy_of};
 ghost use Rattle.numa_requests.specs.declared.command.Command.{Command};
-ghost use Rattle.numaplan_c.specs.Bound.{bound_spec, home_of, page_rules_in};
+ghost use Rattle.numaplan_c.specs.Bound.{bound_spec, home_of, page_rules_in, spec_by};
 ghost use Rattle.numaplan_c.specs.Codes.{list_code, spec_code, word_code};
 ghost use Rattle.numaplan_c.specs.Placed.{PagesAnswer, PagesAnswerRead, change_code};
 ghost use Rattle.numaplan_handles.specs.Handles.{pages_in};
 
-use crate::binding::{home_of, spec_of_pages, worded};
+use crate::binding::{bound_spec, home_of, page_rules, raw_spec, spec_by};
 use crate::codes::{list_code, spec_code, word_code};
 use crate::keeping::{if_open, or_return};
 use crate::nodes::NpNodes;
 use crate::placed_codes::changed_code;
 use numa_machine::PageSize;
-use numa_mask::{NodeMask, read_list};
+use numa_mask::read_list;
 use numa_mode::PolicySpec;
 use numa_requests::Command;
+use numa_script::WordError;
 use numa_script::policy::read_policy;
 use numaplan_handles::PagesHandle;
 use std::alloc::Global;
 
 /// Carries out a command of the core in a handle, and returns the code of its result.
-fn accept(alloc: Global, pages: &mut PagesHandle, command: Command) -> u32
+fn obey(alloc: Global, pages: &mut PagesHandle, command: Command) -> u32
     ensures { PagesAnswer change_code (Accepts command) pages.old result pages.new }
 {
     if_open!(pages.accept(alloc, &command), answer => changed_code(answer))
+}
+
+/// The same, by the command's name and fields.
+macro_rules! accept {
+    ($alloc:expr, $pages:ident : $command:ident { $($field:ident),* }) => {
+        obey($alloc, $pages, Command::$command { $($field),* })
+    };
 }
 
 /// Maps a span.
@@ -43,13 +51,8 @@ pub extern "C" fn np_pages_map(
     ensures { PagesAnswer change_code (Accepts (Command.Map start length offset PageSize.Small))
         pages.old result pages.new }
 {
-    let command = Command::Map {
-        start,
-        length,
-        offset,
-        size: PageSize::Small,
-    };
-    accept(alloc, pages, command)
+    let size = PageSize::Small;
+    accept!(alloc, pages: Map { start, length, offset, size })
 }
 
 /// Unmaps the pages of a span, of which nothing is stated any more.
@@ -63,7 +66,24 @@ pub extern "C" fn np_pages_unmap(
     ensures { PagesAnswer change_code (Accepts (Command.Unmap start length)) pages.old
         result pages.new }
 {
-    accept(alloc, pages, Command::Unmap { start, length })
+    accept!(alloc, pages: Unmap { start, length })
+}
+
+/// Sets the policy of a span's pages, wherever they lie, as it was read.
+fn bind(
+    alloc: Global,
+    pages: &mut PagesHandle,
+    start: u64,
+    length: u64,
+    said: Result<PolicySpec, WordError>,
+) -> u32
+    ensures { PagesAnswerRead (bound_spec (page_rules_in (pages_in pages.old)) length said)
+        word_code change_code (λ spec. Accepts (Command.Mbind start length spec)) pages.old result
+        pages.new }
+{
+    let rules = page_rules(alloc, pages);
+    let spec = or_return!(bound_spec(rules, length, said), word_code);
+    accept!(alloc, pages: Mbind { start, length, spec })
 }
 
 /// Sets the policy of a span's pages, wherever they lie.
@@ -79,16 +99,7 @@ pub extern "C" fn np_pages_mbind(
         (policy_of policy.now)) word_code change_code
         (λ spec. Accepts (Command.Mbind start length spec)) pages.old result pages.new }
 {
-    let spec = or_return!(
-        spec_of_pages(alloc, pages, length, read_policy(policy)),
-        word_code
-    );
-    let command = Command::Mbind {
-        start,
-        length,
-        spec,
-    };
-    accept(alloc, pages, command)
+    bind(alloc, pages, start, length, read_policy(policy))
 }
 
 /// The same by a mode word and a set of nodes.
@@ -102,24 +113,33 @@ pub extern "C" fn np_pages_mbind_by(
     nodes: &NpNodes,
 ) -> u32
     ensures { PagesAnswerRead (bound_spec (page_rules_in (pages_in pages.old)) length
-        (spec_or_fault (raw_specification mode (number_of nodes.now.words)))) word_code change_code
+        (spec_by mode nodes.now)) word_code change_code
         (λ spec. Accepts (Command.Mbind start length spec)) pages.old result pages.new }
 {
-    let said = worded(PolicySpec::from_raw(mode, NodeMask::from_words(nodes.words)));
-    let spec = or_return!(spec_of_pages(alloc, pages, length, said), word_code);
-    let command = Command::Mbind {
-        start,
-        length,
-        spec,
-    };
-    accept(alloc, pages, command)
+    bind(alloc, pages, start, length, spec_by(mode, nodes))
 }
 
-/// Sets a policy for a span, and returns the code of its result.
-fn bind(alloc: Global, pages: &mut PagesHandle, start: u64, length: u64, spec: PolicySpec) -> u32
+/// Sets a policy for a span, unless a page lies on another node than it asks for.
+fn strict(alloc: Global, pages: &mut PagesHandle, start: u64, length: u64, spec: PolicySpec) -> u32
     ensures { PagesAnswer change_code (BindsStrictly start length spec) pages.old result pages.new }
 {
     if_open!(pages.bind_strictly(alloc, start, length, spec), answer => changed_code(answer))
+}
+
+/// The same for a policy as it was read.
+fn bind_strictly(
+    alloc: Global,
+    pages: &mut PagesHandle,
+    start: u64,
+    length: u64,
+    said: Result<PolicySpec, WordError>,
+) -> u32
+    ensures { PagesAnswerRead (bound_spec (page_rules_in (pages_in pages.old)) length said)
+        word_code change_code (BindsStrictly start length) pages.old result pages.new }
+{
+    let rules = page_rules(alloc, pages);
+    let spec = or_return!(bound_spec(rules, length, said), word_code);
+    strict(alloc, pages, start, length, spec)
 }
 
 /// Sets the policy of a span's pages, unless one lies on another node than it asks for.
@@ -135,11 +155,7 @@ pub extern "C" fn np_pages_mbind_strictly(
         (policy_of policy.now)) word_code change_code (BindsStrictly start length) pages.old result
         pages.new }
 {
-    let spec = or_return!(
-        spec_of_pages(alloc, pages, length, read_policy(policy)),
-        word_code
-    );
-    bind(alloc, pages, start, length, spec)
+    bind_strictly(alloc, pages, start, length, read_policy(policy))
 }
 
 /// The same by a mode word and a set of nodes.
@@ -153,12 +169,10 @@ pub extern "C" fn np_pages_mbind_strictly_by(
     nodes: &NpNodes,
 ) -> u32
     ensures { PagesAnswerRead (bound_spec (page_rules_in (pages_in pages.old)) length
-        (spec_or_fault (raw_specification mode (number_of nodes.now.words)))) word_code change_code
-        (BindsStrictly start length) pages.old result pages.new }
+        (spec_by mode nodes.now)) word_code change_code (BindsStrictly start length) pages.old
+        result pages.new }
 {
-    let said = worded(PolicySpec::from_raw(mode, NodeMask::from_words(nodes.words)));
-    let spec = or_return!(spec_of_pages(alloc, pages, length, said), word_code);
-    bind(alloc, pages, start, length, spec)
+    bind_strictly(alloc, pages, start, length, spec_by(mode, nodes))
 }
 
 /// Sets the policy of a task.
@@ -173,7 +187,7 @@ pub extern "C" fn np_pages_set_task(
         (λ spec. Accepts (Command.SetTask task spec)) pages.old result pages.new }
 {
     let spec = or_return!(read_policy(policy), word_code);
-    accept(alloc, pages, Command::SetTask { task, spec })
+    accept!(alloc, pages: SetTask { task, spec })
 }
 
 /// The same by a mode word and a set of nodes.
@@ -188,9 +202,8 @@ pub extern "C" fn np_pages_set_task_by(
     ensures { PagesAnswerRead (raw_specification mode (number_of nodes.now.words)) spec_code
         change_code (λ spec. Accepts (Command.SetTask task spec)) pages.old result pages.new }
 {
-    let asked = NodeMask::from_words(nodes.words);
-    let spec = or_return!(PolicySpec::from_raw(mode, asked), spec_code);
-    accept(alloc, pages, Command::SetTask { task, spec })
+    let spec = or_return!(raw_spec(mode, nodes), spec_code);
+    accept!(alloc, pages: SetTask { task, spec })
 }
 
 /// Gives a task the policy of another, or removes its policy if the other has none.
@@ -204,7 +217,7 @@ pub extern "C" fn np_pages_inherit(
     ensures { PagesAnswer change_code (Accepts (Command.Inherit task from)) pages.old
         result pages.new }
 {
-    accept(alloc, pages, Command::Inherit { task, from })
+    accept!(alloc, pages: Inherit { task, from })
 }
 
 /// Sets the home node of the policies of a span's pages.
@@ -219,12 +232,7 @@ pub extern "C" fn np_pages_set_home(
     ensures { PagesAnswer change_code (Accepts (Command.SetHome start length node)) pages.old
         result pages.new }
 {
-    let command = Command::SetHome {
-        start,
-        length,
-        node,
-    };
-    accept(alloc, pages, command)
+    accept!(alloc, pages: SetHome { start, length, node })
 }
 
 /// The same by set_mempolicy_home_node(2)'s own words.
@@ -241,12 +249,7 @@ pub extern "C" fn np_pages_home_by(
         (λ home. Accepts (Command.SetHome start length home)) pages.old result pages.new }
 {
     let node = or_return!(home_of(node, flags), spec_code);
-    let command = Command::SetHome {
-        start,
-        length,
-        node,
-    };
-    accept(alloc, pages, command)
+    accept!(alloc, pages: SetHome { start, length, node })
 }
 
 /// Sets the weight of a node.
@@ -260,7 +263,7 @@ pub extern "C" fn np_pages_set_weight(
     ensures { PagesAnswer change_code (Accepts (Command.SetWeight node weight)) pages.old
         result pages.new }
 {
-    accept(alloc, pages, Command::SetWeight { node, weight })
+    accept!(alloc, pages: SetWeight { node, weight })
 }
 
 /// Sets the nodes on which memory may be placed. Pages stay where they lie.
@@ -270,5 +273,5 @@ pub extern "C" fn np_pages_set_mems(alloc: Global, pages: &mut PagesHandle, node
         (λ mask. Accepts (Command.SetMems mask)) pages.old result pages.new }
 {
     let mask = or_return!(read_list(nodes), list_code);
-    accept(alloc, pages, Command::SetMems { mask })
+    accept!(alloc, pages: SetMems { mask })
 }

@@ -3,17 +3,16 @@ ghost use Rattle.std.specs.Prelude.{◌≡◌, MatchResult};
 ghost use Rattle.numa_mask.specs.Lists.{list_of};
 ghost use Rattle.numa_pages.specs.Changes.{BindsMoving, Limits, Migrates, MovesMems, MovesPage};
 ghost use Rattle.numa_pages.specs.Changes.{Places};
-ghost use Rattle.numa_mask.specs.Words.{number_of};
-ghost use Rattle.numa_mode.specs.Policy.{raw_specification};
-ghost use Rattle.numa_script.specs.Policies.{policy_of, spec_or_fault};
-ghost use Rattle.numaplan_c.specs.Bound.{bound_spec, page_rules_in};
-ghost use Rattle.numaplan_c.specs.Codes.{list_code, word_code};
-ghost use Rattle.numaplan_c.specs.Placed.{PagesAnswer, PagesBind, PagesMove, PagesTouch};
+ghost use Rattle.numa_script.specs.Policies.{policy_of};
+ghost use Rattle.numaplan_c.specs.Bound.{spec_by};
+ghost use Rattle.numaplan_c.specs.Codes.{list_code};
+ghost use Rattle.numaplan_c.specs.Placed.{PagesAnswer, PagesBind, PagesBindRead, PagesMove};
+ghost use Rattle.numaplan_c.specs.Placed.{PagesSet, PagesTouch};
 ghost use Rattle.numaplan_c.specs.Placed.{TellsArrived, TellsBound, TellsMoved, change_code};
 ghost use Rattle.numaplan_c.specs.Placed.{move_code, placed_code};
 ghost use Rattle.numaplan_handles.specs.Handles.{pages_in};
 
-use crate::binding::{spec_of_pages, worded};
+use crate::binding::{bound_spec, page_rules, spec_by};
 use crate::codes::{list_code, word_code};
 use crate::keeping::{if_open, or_return};
 use crate::nodes::NpNodes;
@@ -24,6 +23,7 @@ use numa_page_state::{Arrived, Rebinding, Toucher};
 use numa_pages::{ChangeRefusal, Rebound};
 use numa_placed::Moved;
 use numa_script::policy::read_policy;
+use numa_script::{MoveWords, WordError};
 use numaplan_handles::PagesHandle;
 use std::alloc::Global;
 
@@ -113,7 +113,7 @@ pub extern "C" fn np_pages_place(
     length: u64,
     node: u32,
 ) -> u32
-    ensures { PagesAnswer placed_code (Places start length node) pages.old result pages.new }
+    ensures { PagesSet (Places start length node) pages.old result pages.new }
 {
     if_open!(pages.place(alloc, start, length, node), answer => set_code(answer))
 }
@@ -145,7 +145,7 @@ pub extern "C" fn np_pages_set_room(
     node: u32,
     room: u64,
 ) -> u32
-    ensures { PagesAnswer placed_code (Limits node room) pages.old result pages.new }
+    ensures { PagesSet (Limits node room) pages.old result pages.new }
 {
     if_open!(pages.limit(alloc, node, room), answer => set_code(answer))
 }
@@ -248,6 +248,31 @@ fn rebind(
     })
 }
 
+/// The same for a policy as it was read.
+fn bind(
+    alloc: Global,
+    pages: &mut PagesHandle,
+    start: u64,
+    length: u64,
+    said: Result<PolicySpec, WordError>,
+    words: MoveWords,
+    bound: &mut NpBound,
+) -> u32
+    ensures { PagesBindRead said length
+        (λ spec. BindsMoving start length spec words.strict words.task words.cpu) pages.old result
+        pages.new bound.old bound.new }
+{
+    let rules = page_rules(alloc, pages);
+    let spec = or_return!(bound_spec(rules, length, said), word_code);
+    let said = Rebinding {
+        start,
+        length,
+        spec,
+    };
+    let MoveWords { strict, task, cpu } = words;
+    rebind(alloc, pages, said, strict, Toucher { task, cpu }, bound)
+}
+
 /// Sets the policy of a span's pages, and moves those that lie on other nodes than it asks for.
 #[unsafe(no_mangle)]
 pub extern "C" fn np_pages_mbind_moving(
@@ -261,23 +286,13 @@ pub extern "C" fn np_pages_mbind_moving(
     cpu: u32,
     bound: &mut NpBound,
 ) -> u32
-    ensures { MatchResult (bound_spec (page_rules_in (pages_in pages.old)) length
-        (policy_of policy.now)) (λ spec. PagesBind
-        (BindsMoving start length spec strict task cpu) pages.old result pages.new bound.old
-        bound.new)
-        (λ fault. (result ≡ word_code fault) × (pages_in pages.new ≡ pages_in pages.old)
-        × (bound.new ≡ bound.old)) }
+    ensures { PagesBindRead (policy_of policy.now) length
+        (λ spec. BindsMoving start length spec strict task cpu) pages.old result pages.new
+        bound.old bound.new }
 {
-    let spec = or_return!(
-        spec_of_pages(alloc, pages, length, read_policy(policy)),
-        word_code
-    );
-    let said = Rebinding {
-        start,
-        length,
-        spec,
-    };
-    rebind(alloc, pages, said, strict, Toucher { task, cpu }, bound)
+    let words = MoveWords { strict, task, cpu };
+    let said = read_policy(policy);
+    bind(alloc, pages, start, length, said, words, bound)
 }
 
 /// The same by a mode word and a set of nodes.
@@ -294,19 +309,11 @@ pub extern "C" fn np_pages_mbind_moving_by(
     cpu: u32,
     bound: &mut NpBound,
 ) -> u32
-    ensures { MatchResult (bound_spec (page_rules_in (pages_in pages.old)) length
-        (spec_or_fault (raw_specification mode (number_of nodes.now.words)))) (λ spec. PagesBind
-        (BindsMoving start length spec strict task cpu) pages.old result pages.new bound.old
-        bound.new)
-        (λ fault. (result ≡ word_code fault) × (pages_in pages.new ≡ pages_in pages.old)
-        × (bound.new ≡ bound.old)) }
+    ensures { PagesBindRead (spec_by mode nodes.now) length
+        (λ spec. BindsMoving start length spec strict task cpu) pages.old result pages.new
+        bound.old bound.new }
 {
-    let asked = worded(PolicySpec::from_raw(mode, NodeMask::from_words(nodes.words)));
-    let spec = or_return!(spec_of_pages(alloc, pages, length, asked), word_code);
-    let said = Rebinding {
-        start,
-        length,
-        spec,
-    };
-    rebind(alloc, pages, said, strict, Toucher { task, cpu }, bound)
+    let words = MoveWords { strict, task, cpu };
+    let said = spec_by(mode, nodes);
+    bind(alloc, pages, start, length, said, words, bound)
 }

@@ -5,7 +5,7 @@ ghost use Rattle.numa_pages.specs.declared.listing.PageRun.{PageRun};
 ghost use Rattle.numa_placed.specs.Spots.{node_of, spot_at};
 ghost use Rattle.numa_requests.specs.declared.page_refusal.PlacedRefusal.{PlacedRefusal};
 ghost use Rattle.numa_space.specs.History.{page_of};
-ghost use Rattle.numaplan_c.specs.Border.{Asked};
+ghost use Rattle.numaplan_c.specs.Border.{Asked, AskedInto};
 ghost use Rattle.numaplan_c.specs.Placed.{TellsNode, TellsRoom, TellsRuns};
 ghost use Rattle.numaplan_handles.specs.Handles.{pages_in};
 ghost use Rattle.numaplan_c.specs.Texts.{copy_code};
@@ -80,9 +80,8 @@ pub extern "C" fn np_pages_runs(
     room: &mut [PageRun],
     count: &mut usize,
 ) -> u32
-    ensures { Asked (pages_in pages.old) (pages_in pages.new) result
-        ((room.new ≡ room.old) × (count.new ≡ count.old))
-        (λ kept. (answer : Result (List PageRun) NoMemory)
+    ensures { AskedInto (pages_in pages.old) (pages_in pages.new) result room.old room.new count.old
+        count.new (λ kept. (answer : Result (List PageRun) NoMemory)
         × IfOk answer (λ runs. HasRuns runs kept)
         × TellsRuns answer result room.old room.new count.old count.new) }
 {

@@ -3,7 +3,7 @@ ghost use Rattle.std.specs.Prelude.{◌≡◌, ◌≢◌, Some, None, IfSome, is
 ghost use Rattle.std.specs.Prelude.{ℕ, IfOk, MatchOption};
 ghost use Rattle.numa_plan.specs.Meaning.{PlanData};
 ghost use Rattle.numaplan_c.specs.Border.{AnswersKeeping, Gives, IsPlanBy, Makes, Opens};
-ghost use Rattle.numaplan_c.specs.Border.{Read, is_done};
+ghost use Rattle.numaplan_c.specs.Border.{Read, ReadInto, is_done};
 ghost use Rattle.numaplan_handles.specs.Handles.{core_in, plan_in, plan_seen};
 ghost use Rattle.numaplan_handles.specs.Steps.{Compiles, Publishes};
 ghost use Rattle.numaplan_handles.specs.Plans.{Chooses, Counts, Fills, FillsMarked};
@@ -157,8 +157,8 @@ pub extern "C" fn np_plan_choice(
     nodes: &mut [u8],
     count: &mut usize,
 ) -> u32
-    ensures { Read (plan_seen plan.now) result ((nodes.new ≡ nodes.old) × (count.new ≡ count.old))
-        (λ kept. (answer : Result ℕ ChoiceRefusal) × (result ≡ choice_code answer)
+    ensures { ReadInto (plan_seen plan.now) result nodes.old nodes.new count.old count.new (λ kept.
+        (answer : Result ℕ ChoiceRefusal) × (result ≡ choice_code answer)
         × Chooses (plan_seen plan.now) task page cpu answer nodes.old nodes.new
         × AreTold answer count.old count.new) }
 {
@@ -233,9 +233,8 @@ pub extern "C" fn np_plan_runs(
     room: &mut [PageTurns],
     count: &mut usize,
 ) -> u32
-    ensures { Read (plan_seen plan.now) result ((room.new ≡ room.old) × (count.new ≡ count.old))
-        (λ kept. (told : Result ℕ ℕ) × (result ≡ copy_code told)
-        × (count.new ≡ length_copied told)
+    ensures { ReadInto (plan_seen plan.now) result room.old room.new count.old count.new (λ kept.
+        (told : Result ℕ ℕ) × (result ≡ copy_code told) × (count.new ≡ length_copied told)
         × ListsTurns (plan_seen plan.now) task told room.old room.new) }
 {
     if_open!(plan.runs(task, room), told => {

@@ -2,7 +2,7 @@
 ghost use Rattle.std.specs.Prelude.{◌≡◌, ℕ, List, Result};
 ghost use Rattle.numa_traces.specs.declared.fault.ReplayError.{ReplayError};
 ghost use Rattle.numa_traces.specs.declared.routes.RouteCounts.{RouteCounts};
-ghost use Rattle.numaplan_c.specs.Border.{Asked};
+ghost use Rattle.numaplan_c.specs.Border.{AskedInto};
 ghost use Rattle.numaplan_c.specs.Compared.{TellsRoutes, ended_code, place_told};
 ghost use Rattle.numaplan_handles.specs.Handles.{core_in};
 ghost use Rattle.numaplan_reports.specs.Compared.{Replays};
@@ -43,9 +43,8 @@ pub extern "C" fn np_core_replay(
     room: &mut [RouteCounts],
     count: &mut usize,
 ) -> u32
-    ensures { Asked (core_in core.old) (core_in core.new) result
-        ((room.new ≡ room.old) × (count.new ≡ count.old))
-        (λ kept. (answer : Result (List RouteCounts) (ℕ × ReplayError))
+    ensures { AskedInto (core_in core.old) (core_in core.new) result room.old room.new count.old
+        count.new (λ kept. (answer : Result (List RouteCounts) (ℕ × ReplayError))
         × Replays (λ routes. routes) (core_in core.old) trace.now answer
         × TellsRoutes answer result room.old room.new count.old count.new) }
 {

@@ -1,11 +1,10 @@
 //! Scripts: whole ones, and line by line.
-ghost use Rattle.std.specs.Prelude.{◌≡◌, ◌≢◌, ℕ, Bool, List, None, Some, true, Result};
+ghost use Rattle.std.specs.Prelude.{◌≡◌, ◌≢◌, ℕ, List, None, true, Result};
 ghost use Rattle.std.specs.Prelude.{is_some, IfSome, MatchOption};
 ghost use Rattle.numaplan_handles.specs.Handles.{dialog_in};
 ghost use Rattle.numaplan_handles.specs.Dialogs.{IsFresh, ServesKept};
-ghost use Rattle.numaplan_handles.specs.declared.dialog.Dialog.{Dialog};
 ghost use Rattle.numaplan_handles.specs.declared.dialog.LineRefusal.{LineRefusal};
-ghost use Rattle.numaplan_c.specs.Border.{Asked, Opens, is_done};
+ghost use Rattle.numaplan_c.specs.Border.{AskedInto, Called, Opens, is_done};
 ghost use Rattle.numaplan_c.specs.Options.{rules_of};
 ghost use Rattle.numaplan_c.specs.Scripts.{AreAnswers, line_code, length_told};
 ghost use Rattle.numaplan_c.specs.Texts.{IsWritten};
@@ -110,12 +109,11 @@ pub extern "C" fn np_script_line(
     line: &[u8],
     length: &mut usize,
 ) -> u32
-    ensures closed { dialog_in script.old ≡ None → (result ≡ 1) × (dialog_in script.new ≡ None)
-        × (length.new ≡ length.old) }
-    ensures serves { (kept : Dialog) → dialog_in script.old ≡ Some kept →
-        (answer : Result ℕ LineRefusal) × (result ≡ line_code answer)
+    ensures { Called (dialog_in script.old) result (dialog_in script.new)
+        (length.new ≡ length.old) (λ kept. (answer : Result ℕ LineRefusal)
+        × (result ≡ line_code answer)
         × ServesKept line.now (dialog_in script.old) (dialog_in script.new) answer
-        × (length.new ≡ length_told answer length.old) }
+        × (length.new ≡ length_told answer length.old)) }
 {
     if_open!(script.line(alloc, line), answer => {
         *length = length_told(answer, *length);
@@ -131,8 +129,8 @@ pub extern "C" fn np_script_answer(
     room: &mut [u8],
     length: &mut usize,
 ) -> u32
-    ensures { Asked (dialog_in script.old) (dialog_in script.new) result
-        ((room.new ≡ room.old) × (length.new ≡ length.old))
+    ensures { AskedInto (dialog_in script.old) (dialog_in script.new) result room.old room.new
+        length.old length.new
         (λ kept. IsWritten kept.answer.items result room.old room.new length.new) }
 {
     if_open!(script.answer(alloc, room), told => {

@@ -1,5 +1,5 @@
 use Rattle.std.proofs.Common.{◌≡◌, ◌∙◌, ap}
-use Rattle.numa_script.specs.Policies.{policy_of}
+use Rattle.numa_machine.specs.declared.rules.Rules.{Rules}
 use Rattle.numa_script.specs.declared.page_line.BoundPages.TheVariants as pages
 use Rattle.numaplan_c.specs.Bound.{bound_spec, host_rules_in}
 use Rattle.numaplan_c.specs.Codes.{word_code}
@@ -8,20 +8,19 @@ use Rattle.numaplan_c.specs.Hosts.{reply_code}
 use Rattle.numaplan_handles.specs.Handles.{host_in}
 use Rattle.numaplan_handles.specs.Hosted.{Binds}
 use Rattle.numaplan_c.proofs.Hosting.{told-bound}
-use Rattle.numaplan_c.proofs.host_pages.np_host_mbind_moving.Goals as goal
+use Rattle.numaplan_c.proofs.host_pages.rebind_read.Goals as goal
 
 pub returns : goal.returns
 returns c =
     told-bound reply_code (TellsSent c.args.bound.now c.rebind.new.bound)
     (c.rebind.new.bound ≡ c.args.bound.now)
-    (λ spec. Binds c.args.process c.args.start c.args.length spec
-    (pages.Move (record { strict = c.args.strict; task = c.args.task; cpu = c.args.cpu })))
-    c.args.host.now c.spec_in_host.new.host c.rebind.new.host c.rebind.result
-    (bound_spec (host_rules_in (host_in c.args.host.now)) c.args.length
-    (policy_of c.args.policy.now)) c.in-Ok.value
+    (λ spec. Binds c.args.process c.args.start c.args.length spec (pages.Move c.args.words))
+    c.args.host.now c.host_rules-rules.new.host c.rebind.new.host c.rebind.result
+    (bound_spec (host_rules_in (host_in c.args.host.now)) c.args.length c.args.said)
+    c.in-Ok.value
     (λ fault. (c.rebind.result ≡ word_code fault)
     × (host_in c.rebind.new.host ≡ host_in c.args.host.now)
     × (c.rebind.new.bound ≡ c.args.bound.now))
-    (c.in-Ok.ensures.spec
-    ∙ ap (bound_spec (host_rules_in (host_in c.args.host.now)) c.args.length)
-    c.read_policy.ensures) c.spec_in_host.ensures.same c.rebind.ensures
+    (c.in-Ok.ensures
+    ∙ ap (λ (rules : Rules). bound_spec rules c.args.length c.args.said)
+    c.host_rules-rules.ensures.rules) c.host_rules-rules.ensures.same c.rebind.ensures
