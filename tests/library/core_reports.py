@@ -104,8 +104,8 @@ def core_of(path, rules):
             name, *words = line.rstrip("\n").split(" ")
             if name == "limits" and core is None and words[0] == "2":
                 return None  # (whose limits refuse commands)
-            if name == "host":
-                return None  # (which has processes, and no core)
+            if name in ("host", "pool"):
+                return None  # (which has processes, or pools; a core has neither)
             if name == "machine" and core is None and len(words) == 4:
                 try:
                     core = machine(words, rules)
