@@ -5,7 +5,7 @@
 //! `Request`, and its result a `Placement`. An `Event` is one atomic step of a core: a command, a
 //! publication, or a worker's step towards a frame; numa_core takes them. A host of processes obeys
 //! a `HostCommand` or gives a `HostRefusal` (numa_host); calls about pages that are there give a
-//! `PlacedRefusal` or a `MoveRefusal` (numa_placed).
+//! `PlacedRefusal` or a `MoveRefusal` (numa_placed), those about pages of 2 MiB a `HugeRefusal`.
 //!
 //! They are plain types: whoever reads or writes them, as a script does, needs no space.
 #![tactic(auto)]
@@ -25,7 +25,7 @@ pub use event::{CoreRefusal, CoreReply, Event};
 pub use host_command::HostCommand;
 pub use host_refusal::{HostErrno, HostRefusal};
 pub use limits::Limits;
-pub use page_refusal::{MoveRefusal, PlacedRefusal};
+pub use page_refusal::{HugeRefusal, MoveRefusal, PlacedRefusal};
 pub use placement::Placement;
 pub use refusal::{Errno, Refusal};
 pub use request::Request;

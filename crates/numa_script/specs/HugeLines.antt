@@ -9,8 +9,8 @@ use Rattle.numa_script.specs.Numbers.{below, number_of, small_of}
 use Rattle.numa_script.specs.Present.{three_of, two_of, with_four}
 use Rattle.numa_script.specs.declared.huge_line.HugeLine.{HugeLine}
 use Rattle.numa_script.specs.declared.huge_line.HugeLine.TheVariants as huge
-use Rattle.numa_script.specs.declared.huge_line.HugeRefusal.{HugeRefusal}
-use Rattle.numa_script.specs.declared.huge_line.HugeRefusal.TheVariants as cause
+use Rattle.numa_requests.specs.declared.page_refusal.HugeRefusal.{HugeRefusal}
+use Rattle.numa_requests.specs.declared.page_refusal.HugeRefusal.TheVariants as cause
 use Rattle.numa_script.specs.declared.huge_line.HugeWords.{HugeWords}
 use Rattle.numa_script.specs.declared.line.Line.{Line}
 use Rattle.numa_script.specs.declared.line.Line.TheVariants as line

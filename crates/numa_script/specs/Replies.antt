@@ -11,7 +11,7 @@ use Rattle.numa_requests.specs.declared.event.CoreRefusal.{CoreRefusal}
 use Rattle.numa_requests.specs.declared.event.CoreReply.{CoreReply}
 use Rattle.numa_requests.specs.declared.event.CoreReply.TheVariants as done
 use Rattle.numa_requests.specs.declared.placement.Placement.{Placement}
-use Rattle.numa_script.specs.declared.huge_line.HugeRefusal.TheVariants as huge
+use Rattle.numa_requests.specs.declared.page_refusal.HugeRefusal.TheVariants as huge
 use Rattle.numa_script.specs.declared.reply.Win.{Win}
 use Rattle.numa_script.specs.declared.reply.Reply.{Reply}
 use Rattle.numa_script.specs.declared.reply.Reply.TheVariants as reply

@@ -11,7 +11,7 @@ use crate::number::{number, small};
 use crate::reading::three;
 use crate::words::Words;
 use numa_machine::PageSize;
-use numa_requests::Command;
+use numa_requests::{Command, HugeRefusal};
 
 /// A line about pages of 2 MiB, or about a first touch of a page of any size.
 #[derive(Clone, Copy, Drop)]
@@ -54,32 +54,6 @@ pub enum HugeLine {
 pub struct HugeWords {
     pub task: u32,
     pub reserves: bool,
-}
-
-/// Why such a line is refused: the first of these that applies. Nothing has changed, but for free
-/// surplus pages, which end where a mapping is refused that had reserved some.
-#[derive(Clone, Copy, Debug, PartialEq, Eq)]
-pub enum HugeRefusal {
-    /// The machine lacks the node, or the node has no memory.
-    NoSuchNode,
-    /// The machine has no node by this number, on a CPU of which the task should run.
-    BadCpu,
-    /// Linux subtracts more pages than there are, and takes all the node's memory.
-    Unsure,
-    /// There are too few free pages for the mapping, or too few on its nodes.
-    NoHugePages,
-    /// The page isn't mapped.
-    Unmapped,
-    /// No node has room for the page.
-    Exhausted,
-    /// No node gives a page of 2 MiB, and the task gets a signal.
-    Killed,
-    /// A page of the span has 2 MiB.
-    NotSupported,
-    /// There would be more than 1,048,576 runs of placed pages.
-    TooManyRuns,
-    /// Out of memory for the runs that the line makes.
-    NoMemory,
 }
 
 /// The names of the refusals, with their error numbers (errno(3)), in their order.

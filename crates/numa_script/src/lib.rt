@@ -24,7 +24,7 @@ pub mod tell;
 mod words;
 pub mod work;
 
-pub use huge_line::{HugeLine, HugeRefusal, HugeWords};
+pub use huge_line::{HugeLine, HugeWords};
 pub use line::{Line, MachineLine, Question, ScriptLine};
 pub use malformed::{Cause, Malformed, why_malformed};
 pub use page_line::{BoundPages, MoveWords, PageLine};

@@ -427,7 +427,6 @@ pub(crate) fn is_told(keyword: Keyword) -> bool
         Keyword::Weight | Keyword::Room | Keyword::MemoryMigrate | Keyword::Host => false,
         Keyword::Group | Keyword::GroupMems | Keyword::Process | Keyword::Exit => false,
         Keyword::Attach | Keyword::Fork | Keyword::In => false,
-        Keyword::Pool | Keyword::Fault => false,
         _ => true,
     }
 }

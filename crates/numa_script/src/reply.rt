@@ -2,11 +2,11 @@
 ghost use Rattle.std.specs.Prelude.{◌≡◌, ◌↔◌, IsTrue};
 ghost use Rattle.numa_script.specs.Replies.{LacksMemory, done_reply, fault_in, reply_to, win_of};
 
-use crate::huge_line::HugeRefusal;
 use crate::policy::WordError;
 use numa_machine::{Frame, MachineFault};
 use numa_requests::{
-    CoreRefusal, CoreReply, HostRefusal, MoveRefusal, PlacedRefusal, Placement, Refusal,
+    CoreRefusal, CoreReply, HostRefusal, HugeRefusal, MoveRefusal, PlacedRefusal, Placement,
+    Refusal,
 };
 
 /// A frame that was won: the version of the fallback list that led to it, its node, its number on
