@@ -129,6 +129,27 @@ impl Pools {
         self.surplus[node as usize]
     }
 
+    /// How many pages each node has, used, free and surplus ones.
+    pub fn totals(&self) -> [u64; NODES]
+        ensures { result ≡ self.now.total }
+    {
+        self.total
+    }
+
+    /// How many pages of each node are free, reserved ones among them.
+    pub fn all_free(&self) -> [u64; NODES]
+        ensures { result ≡ self.now.free }
+    {
+        self.free
+    }
+
+    /// How many pages of each node are surplus.
+    pub fn surpluses(&self) -> [u64; NODES]
+        ensures { result ≡ self.now.surplus }
+    {
+        self.surplus
+    }
+
     /// How many free pages are reserved, on all nodes together.
     pub fn reserved(&self) -> u64
         ensures { result ≡ self.now.reserved }
