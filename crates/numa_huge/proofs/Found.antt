@@ -1,5 +1,5 @@
 -- Whether a page of a span is mapped, by the runs that are left.
-use Rattle.std.proofs.Common.{◌≡◌, ℕ, ◌+◌, ◌<◌, ◌≤◌, ◌∙◌, Bool, true, false, None, List, []}
+use Rattle.std.proofs.Common.{◌≡◌, ℕ, ◌+◌, ◌<◌, ◌≤◌, ◌∙◌, Bool, true, false, Some, None, List, []}
 use Rattle.std.proofs.Common.{◌∷◌, refl, ap, subst, arith, inl, inr}
 use Rattle.std.specs.Prelude.{is_some}
 use Rattle.std.proofs.lemmas.Bool.{cases_lt}
@@ -28,6 +28,11 @@ module _ (other : ℕ) (before rest : List (Run HugeSpot)) (run : Run HugeSpot)
   at-behind ends =
       ap (λ (runs : List (Run HugeSpot)). huge_at runs other) steps
       ∙ rw (in_pages-above run.first run.pages other ends) refl
+
+  pub at-within : run.first ≤ other → other < end_of run → huge_at before other ≡ Some run.value
+  at-within from ends =
+      ap (λ (runs : List (Run HugeSpot)). huge_at runs other) steps
+      ∙ rw (in_pages-true run.first run.pages other from ends) refl
 
   pub at-before : other < run.first → huge_at before other ≡ None
   at-before low =

@@ -17,7 +17,8 @@ use Rattle.numa_pools.specs.Pools.{refusing, reserving, taking}
 use Rattle.numa_pools.specs.Resize.{goal_for, resized, resized_node}
 use Rattle.numa_huge.specs.Huge.{HugeLying, fits, freeing_below, fresh_spot, has_huge, has_reserved}
 use Rattle.numa_huge.specs.Huge.{huge_at, most_pages, node_of, on_node, pages_in, with_span}
-use Rattle.numa_huge.specs.Kept.{AreKept, AreOwn, ArePooled, HasNode, Others}
+use Rattle.numa_huge.specs.Huge.{HugePlaced, places_of}
+use Rattle.numa_huge.specs.Kept.{AreKept, AreOwn, ArePooled, HasNode, Keeps, Others}
 use Rattle.numa_huge.specs.declared.spot.HugeSpot.{HugeSpot}
 use Rattle.numa_huge.specs.declared.spot.HugeSpot.TheVariants.{On}
 use Rattle.numa_huge.proofs.Own.{own-mapped, own-node, own-page, own-without, spots-mapped}
@@ -46,7 +47,7 @@ lying-is pools one spots other same alike = λ i. record {
 -- ---- nothing is mapped
 
 -- no other process has pages
-abbrev nobody : Others
+abbrev pub nobody : Others
 nobody = record { on = λ node. 0; reserved = 0; few = λ node small. omega arith }
 
 pub kept-none : (memory : ℕ) → (others : Others) × AreKept others (no_pages memory) []
@@ -66,6 +67,14 @@ kept-none memory = (
     };
   },
 )
+
+-- where nothing is mapped yet, pools can have pages of others alone
+pub kept-empty : (others : Others) (pools : PoolCounts)
+    → ArePooled others pools (λ page. None) → AreKept others pools []
+kept-empty others pools pooled = record {
+  own = λ page. tt;
+  pooled = pooled-same others pools (λ page. None) (huge_at []) (λ page. refl) pooled;
+}
 
 -- ---- a span is mapped
 
@@ -226,3 +235,18 @@ kept-refused others pools after runs pages are so kept is = record {
   pooled = subst (λ (p : PoolCounts). ArePooled others p (huge_at runs)) (sym is)
       (pooled-refusing others pools (huge_at runs) pages are (subst ArePools is so) kept.pooled);
 }
+
+-- ---- what others have is kept
+
+pub keeps-same : (old new : HugePlaced) → new ≡ old → Keeps (places_of old) (places_of new)
+keeps-same old new same others pooled =
+    subst (λ (p : HugePlaced). ArePooled others p.pools (huge_at p.runs)) (sym same) pooled
+
+pub keeps-then : (a b c : HugeLying) → Keeps a b → Keeps b c → Keeps a c
+keeps-then a b c one other others pooled = other others (one others pooled)
+
+-- pages are kept as they are shown
+pub keeps-shown : (inside shown after : HugePlaced) → inside ≡ shown
+    → Keeps (places_of inside) (places_of after) → Keeps (places_of shown) (places_of after)
+keeps-shown inside shown after is keeps =
+    subst (λ (p : HugePlaced). Keeps (places_of p) (places_of after)) is keeps

@@ -1,4 +1,5 @@
 pub mod Astray
+pub mod Bare
 pub mod Changed
 pub mod Flowing
 pub mod Found

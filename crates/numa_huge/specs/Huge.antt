@@ -141,6 +141,21 @@ abbrev pub faulting : Option ℕ → ℕ → HugeLying → HugeLying
 faulting None page huge = huge
 faulting (Some node) page huge = with_page page node huge
 
+-- ---- pools that processes share
+
+-- a child has the pages of its parent, untouched and without a reservation
+abbrev pub bare_spot : Option HugeSpot → Option HugeSpot
+bare_spot None = None
+bare_spot (Some spot) = Some Bare
+
+-- before its first page a process finds these pools
+abbrev pub lent_none : PoolCounts → HugeLying
+lent_none pools = record { pools = pools; spots = λ page. None }
+
+-- all pages are gone: those that lie somewhere become free, and reservations are given back
+abbrev pub all_gone : HugeLying → PoolCounts
+all_gone huge = (unmapping 0 most_pages huge).pools
+
 -- ---- as it is kept
 
 -- the pools, and runs of pages of which the same is known

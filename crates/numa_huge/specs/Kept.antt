@@ -5,7 +5,7 @@ use Rattle.numa_ranges.specs.Runs.{page_at}
 use Rattle.numa_ranges.specs.declared.run.Run.{Run}
 use Rattle.numa_placed.specs.Shifts.{ArePages}
 use Rattle.numa_pools.specs.Pools.{PoolCounts, free_at, total_at}
-use Rattle.numa_huge.specs.Huge.{has_reserved, huge_at, most_pages, on_node, pages_of}
+use Rattle.numa_huge.specs.Huge.{HugeLying, has_reserved, huge_at, most_pages, on_node, pages_of}
 use Rattle.numa_huge.specs.Moves.{count_on}
 use Rattle.numa_huge.specs.declared.spot.HugeSpot.{HugeSpot}
 use Rattle.numa_huge.specs.declared.spot.HugeSpot.TheVariants.{Bare, Reserved, On}
@@ -52,3 +52,12 @@ pub record AreLeaving (others : Others) (from : ℕ) (go : ℕ → ℕ) (counts 
   pub on : ArePages counts (count_on spots)
   pub nodes : (page node : ℕ) → spots page ≡ Some (On node) → node < 256
   pub stay : (node : ℕ) → node < 256 → has from node ≡ false → go node ≡ node
+
+-- a change keeps what the process and all others have, whichever they are
+abbrev pub Keeps : HugeLying → HugeLying → Type 0
+Keeps old new = (others : Others) → ArePooled others old.pools old.spots
+    → ArePooled others new.pools new.spots
+
+-- pools have the pages of a process, beside those of others
+abbrev pub HavePages : PoolCounts → (ℕ → Option HugeSpot) → Type 0
+HavePages pools spots = (others : Others) × ArePooled others pools spots

@@ -1,5 +1,5 @@
 //! What the last move did to pages of 2 MiB.
-ghost use Rattle.std.specs.Prelude.{◌≡◌, ◌+◌, ◌<◌, ◌^◌, ℕ, OnOk, if◌then◌else◌, length};
+ghost use Rattle.std.specs.Prelude.{◌≡◌, ◌+◌, ◌<◌, ◌^◌, ℕ, IfOk, OnOk, if◌then◌else◌, length};
 ghost use Rattle.std.specs.Prelude.{slice_index};
 ghost use Rattle.numa_huge.specs.Moves.{HugeTold, stayed, with_left, with_moved};
 ghost use Rattle.numa_huge.specs.Tallies.{HasTold, flow_by_nodes, flow_in, flow_of, is_flow};
@@ -66,6 +66,23 @@ impl Flows {
             moves: Vec::new(alloc),
             left: 0,
         }
+    }
+
+    /// A copy.
+    ///
+    /// # Errors
+    /// `NoMemory`: there is no memory for it.
+    pub(crate) fn copy(&self, alloc: Global) -> Result<Flows, NoMemory>
+        ensures { (told : HugeTold) → HasTold (HugeLast.Pages self.now) told
+            → IfOk result (λ copy. HasTold (HugeLast.Pages copy) told) }
+    {
+        let Ok(moves) = Vec::from_slice(alloc, &self.moves) else {
+            return Err(NoMemory);
+        };
+        Ok(Flows {
+            moves,
+            left: self.left,
+        })
     }
 
     /// How many pages moved.
@@ -137,6 +154,23 @@ fn flow_in(moves: &[HugeMove], from: u8) -> [u64; 256]
 }
 
 impl HugeLast {
+    /// A copy. Later changes of one of the two don't affect the other.
+    ///
+    /// # Errors
+    /// `NoMemory`: there is no memory for it.
+    pub fn copy(&self, alloc: Global) -> Result<HugeLast, NoMemory>
+        ensures { (told : HugeTold) → HasTold self.now told
+            → IfOk result (λ copy. HasTold copy told) }
+    {
+        match self {
+            HugeLast::Nodes(told) => Ok(HugeLast::Nodes(*told)),
+            HugeLast::Pages(flows) => match flows.copy(alloc) {
+                Ok(copy) => Ok(HugeLast::Pages(copy)),
+                Err(lack) => Err(lack),
+            },
+        }
+    }
+
     /// How many pages moved.
     pub fn moved(&self) -> u64
         ensures { result ≡ moved_of self.now }

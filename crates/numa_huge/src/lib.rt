@@ -15,6 +15,10 @@
 //! **Moves.** A page goes whole: a free page of its new node serves, or one of the total changes
 //! nodes. Moves never lack room (`follow`, `move_page`, `sent`).
 //!
+//! **Processes** share pools: they are lent to one that acts (`lend`), and taken back (`pools`).
+//! A child has the pages of its parent, untouched (`inherited`); those of one that ends become free
+//! (`pools_without`).
+//!
 //! **Runs.** Pages in a row of which the same is known are one run, of which there may be
 //! 1,048,576.
 #![tactic(auto)]

@@ -1,5 +1,5 @@
 //! Pages of 2 MiB of a process, and what the last move and the last first touches did to them.
-ghost use Rattle.std.specs.Prelude.{Option, None};
+ghost use Rattle.std.specs.Prelude.{◌≡◌, IfOk, Option, None};
 ghost use Rattle.numa_huge.specs.Huge.{places_of};
 ghost use Rattle.numa_huge.specs.Moves.{HugeMemory, memory_or, stayed};
 ghost use Rattle.numa_huge.specs.Tallies.{IsMemory};
@@ -7,7 +7,7 @@ ghost use Rattle.numa_huge.specs.Tallies.{IsMemory};
 use crate::arrived::HugeArrived;
 use crate::last::{HugeLast, still};
 use crate::places::HugePlaces;
-use numa_machine::Machine;
+use numa_machine::{Machine, NoMemory};
 use std::alloc::Global;
 
 /// The pages of 2 MiB of a process with the pools that they come from; what the last move did to
@@ -31,10 +31,47 @@ impl HugePages {
         }
     }
 
+    /// Pages that neither moved nor were touched yet.
+    pub fn of(places: HugePlaces) -> HugePages
+        ensures places { result.places ≡ places }
+        ensures memory { IsMemory result
+            (record { pages = places_of places; told = stayed; arrived = None }) }
+    {
+        HugePages {
+            places,
+            last: HugeLast::Nodes(still()),
+            arrived: None,
+        }
+    }
+
+    /// A copy. Later changes of one of the two don't affect the other.
+    ///
+    /// # Errors
+    /// `NoMemory`: there is no memory for it.
+    pub fn copy(&self, alloc: Global) -> Result<HugePages, NoMemory>
+        ensures places { IfOk result (λ copy. copy.places ≡ self.now.places) }
+        ensures memory { (memory : HugeMemory) → IsMemory self.now memory
+            → IfOk result (λ copy. IsMemory copy memory) }
+    {
+        let Ok(places) = self.places.copy() else {
+            return Err(NoMemory);
+        };
+        let Ok(last) = self.last.copy(alloc) else {
+            drop(places);
+            return Err(NoMemory);
+        };
+        Ok(HugePages {
+            places,
+            last,
+            arrived: self.arrived,
+        })
+    }
+
     /// The last move moved no page of 2 MiB.
     pub fn rest(&mut self)
-        ensures { (memory : HugeMemory) → IsMemory self.old memory
+        ensures memory { (memory : HugeMemory) → IsMemory self.old memory
             → IsMemory self.new (record memory { told = stayed }) }
+        ensures places { self.new.places ≡ self.old.places }
     {
         self.last = HugeLast::Nodes(still());
     }

@@ -8,6 +8,7 @@ ghost use Rattle.numa_huge.specs.Tallies.{AreCounts};
 mod binding;
 mod mapping;
 mod moving;
+mod sharing;
 mod sizing;
 mod touching;
 
@@ -20,7 +21,7 @@ use std::alloc::Global;
 use std::marker::Model;
 
 /// The most runs that are kept of pages of which the same is known.
-const MOST_RUNS: u32 = 1 << 20;
+pub(crate) const MOST_RUNS: u32 = 1 << 20;
 
 /// The number of pages of 2 MiB below address 2^47.
 pub(crate) const MOST_PAGES: u64 = 1 << 26;
@@ -95,7 +96,7 @@ impl HugePlaces {
 
     /// The first page from `page` on and below `end` that is mapped as one of 2 MiB; `end`, if none
     /// is.
-    pub(crate) fn next_mapped(&self, page: u64, end: u64) -> u64
+    pub fn next_mapped(&self, page: u64, end: u64) -> u64
         requires { page ≤ end }
         ensures rises { page ≤ result }
         ensures within { result ≤ end }
@@ -106,6 +107,27 @@ impl HugePlaces {
             let behind = run.first + run.pages;
             if behind > page {
                 return run.first.max(page).min(end);
+            }
+        }
+        end
+    }
+
+    /// The end of some pages from `page` on, at most `end`, of which the same is known as of that
+    /// one: the rest of its run, or up to the next one.
+    pub fn alike_end(&self, page: u64, end: u64) -> u64
+        requires { page < end }
+        ensures rises { page < result }
+        ensures within { result ≤ end }
+        ensures alike { (other : ℕ) → page ≤ other → other < result
+            → huge_at self.now.runs other ≡ huge_at self.now.runs page }
+    {
+        for run in self.map.iter_from(page) {
+            let behind = run.first + run.pages;
+            if behind > page {
+                if run.first > page {
+                    return run.first.min(end);
+                }
+                return behind.min(end);
             }
         }
         end

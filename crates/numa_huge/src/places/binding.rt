@@ -6,6 +6,7 @@ ghost use Rattle.numa_ranges.specs.Maps.{any_page};
 ghost use Rattle.numa_placed.specs.Binds.{nodes_in};
 ghost use Rattle.numa_huge.specs.Huge.{huge_at, places_of, most_pages};
 ghost use Rattle.numa_huge.specs.Moves.{goal, is_astray, sent_page, sent_pages, walk_from};
+ghost use Rattle.numa_huge.specs.Kept.{Keeps};
 ghost use Rattle.numa_huge.specs.Moves.{HugeTold};
 ghost use Rattle.numa_huge.specs.Tallies.{HasTold, IsWalk};
 
@@ -76,6 +77,7 @@ impl HugePlaces {
         requires page { page ≤ most_pages }
         requires left { flows.old.left < 2 ^ 63 }
         ensures left { flows.new.left ≤ flows.old.left + 1 }
+        ensures keeps { Keeps (places_of self.old) (places_of self.new) }
         ensures sent { (told : HugeTold) → HasTold (HugeLast.Pages flows.old) told → OnOk result
             (IsWalk (sent_page said.now (λ page. nodes_in space.now task cpu (page * 512)) page
             (record { huge = places_of self.old; told = told })) self.new flows.new) }
@@ -112,6 +114,7 @@ impl HugePlaces {
         requires within { to ≤ most_pages }
         requires left { flows.old.left ≤ from }
         ensures left { flows.new.left ≤ flows.old.left + (to - from) }
+        ensures keeps { Keeps (places_of self.old) (places_of self.new) }
         ensures sent { (told : HugeTold) → HasTold (HugeLast.Pages flows.old) told → OnOk result
             (IsWalk (sent_pages said.now (λ page. nodes_in space.now task cpu (page * 512)) from
             (to - from) (record { huge = places_of self.old; told = told })) self.new flows.new) }
@@ -142,9 +145,10 @@ impl HugePlaces {
         cpu: u32,
     ) -> Result<(HugePlaces, Flows), NoMemory>
         requires { first + pages ≤ most_pages }
-        ensures { IfOk result (λ done. IsWalk (sent_pages list.now
+        ensures sent { IfOk result (λ done. IsWalk (sent_pages list.now
             (λ page. nodes_in space.now task cpu (page * 512)) first pages
             (walk_from (places_of self.now))) done.0 done.1) }
+        ensures keeps { IfOk result (λ done. Keeps (places_of self.now) (places_of done.0)) }
     {
         let Ok(mut sent) = self.copy() else {
             return Err(NoMemory);

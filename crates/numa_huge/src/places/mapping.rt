@@ -4,6 +4,7 @@ ghost use Rattle.std.specs.Prelude.{if◌then◌else◌, slice_index};
 ghost use Rattle.numa_pools.specs.Pools.{free_at, reserving, total_at, unreserved};
 ghost use Rattle.numa_huge.specs.Huge.{fits, freeing_below, fresh_spot, huge_at, mapping};
 ghost use Rattle.numa_huge.specs.Huge.{places_of, most_pages, unmapping, with_span};
+ghost use Rattle.numa_huge.specs.Kept.{Keeps};
 ghost use Rattle.numa_huge.specs.Tallies.{IsLackFor, lack_of};
 
 use crate::counts::counts_of;
@@ -34,7 +35,7 @@ fn reserve_if(pools: &mut Pools, reserves: bool, pages: u64)
 }
 
 /// So many pages of each node become free, which processes had.
-fn free_all(pools: &mut Pools, on: &[u64; 256])
+pub(crate) fn free_all(pools: &mut Pools, on: &[u64; 256])
     requires { (node : ℕ) → node < 256
         → free_at pools.old node + slice_index on.now node ≤ total_at pools.old node }
     ensures { pools.new ≡ freeing_below 256 (slice_index on.now) pools.old }
@@ -60,6 +61,7 @@ impl HugePlaces {
         requires room { reserves ≡ true → pages ≤ unreserved self.now.pools }
         ensures ok { IfOk result (λ after.
             places_of after ≡ mapping first pages reserves (places_of self.now)) }
+        ensures keeps { IfOk result (λ after. Keeps (places_of self.now) (places_of after)) }
         ensures err { IfErr result (IsLackFor (with_span first pages (Some (fresh_spot reserves))
             (huge_at self.now.runs))) }
     {
@@ -84,6 +86,7 @@ impl HugePlaces {
         requires within { first + pages ≤ most_pages }
         ensures ok { IfOk result (λ after.
             places_of after ≡ unmapping first pages (places_of self.now)) }
+        ensures keeps { IfOk result (λ after. Keeps (places_of self.now) (places_of after)) }
         ensures err { IfErr result (IsLackFor
             (with_span first pages None (huge_at self.now.runs))) }
     {

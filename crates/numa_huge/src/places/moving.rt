@@ -8,8 +8,8 @@ ghost use Rattle.numa_pools.specs.Kept.{AreKept};
 ghost use Rattle.numa_pools.specs.Moves.{moving};
 ghost use Rattle.numa_pools.specs.Pools.{used_at};
 ghost use Rattle.numa_huge.specs.Huge.{huge_at, node_of, places_of, with_span};
-ghost use Rattle.numa_huge.specs.Kept.{AreLeaving, AreOwn, ArePooled, Others};
-ghost use Rattle.numa_huge.specs.Moves.{following, gone_spot, leaving, moved_to};
+ghost use Rattle.numa_huge.specs.Kept.{AreLeaving, AreOwn, ArePooled, Keeps, Others};
+ghost use Rattle.numa_huge.specs.Moves.{following, gone_spot, leave_from, leaving, moved_to};
 ghost use Rattle.numa_huge.specs.Moves.{passing, told_following, told_moving};
 ghost use Rattle.numa_huge.specs.Tallies.{HasTold, IsLackFor};
 ghost use Rattle.numa_huge.specs.declared.spot.HugeSpot.{HugeSpot};
@@ -106,6 +106,9 @@ impl HugePlaces {
         ensures pages { places_of self.new ≡ following old.now new.now (places_of self.old) }
         ensures told { HasTold (HugeLast.Nodes result)
             (told_following old.now new.now (huge_at self.old.runs)) }
+        ensures keeps { Keeps (places_of self.old) (places_of self.new) }
+        ensures from { (node : ℕ) → node < 256 → slice_index result.from node
+            ≡ leave_from old.now new.now (huge_at self.old.runs) node }
     {
         let counts = counts_of(&self.map, 0, MOST_PAGES);
         let told = all_departures(&counts.on, old, new);
@@ -131,6 +134,7 @@ impl HugePlaces {
             (IsLackFor (with_span page 1 (Some (On node)) (huge_at self.old.runs))) }
         ensures other { OnErr result (node_of (huge_at self.old.runs page) ≢ Some node) }
         ensures unchanged { OnErr result (self.new ≡ self.old) }
+        ensures keeps { Keeps (places_of self.old) (places_of self.new) }
     {
         let Some(from) = self.node_at(page) else {
             return Ok(still());
@@ -160,6 +164,7 @@ impl HugePlaces {
             (IsLackFor (with_span page 1 (Some (On node)) (huge_at self.old.runs))) }
         ensures other { OnErr result (from ≢ node) }
         ensures unchanged { OnErr result (self.new ≡ self.old) }
+        ensures keeps { Keeps (places_of self.old) (places_of self.new) }
     {
         if from == node {
             return Ok(());

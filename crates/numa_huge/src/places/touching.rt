@@ -8,7 +8,7 @@ ghost use Rattle.numa_huge.specs.Moves.{touched_pages};
 ghost use Rattle.numa_huge.specs.Tallies.{AreFew, HasArrived, IsFaultLack, IsLackFor, IsTouch};
 ghost use Rattle.numa_placed.specs.Binds.{nodes_in};
 ghost use Rattle.numa_placed.specs.Spots.{most_runs};
-ghost use Rattle.numa_huge.specs.Kept.{AreOwn};
+ghost use Rattle.numa_huge.specs.Kept.{AreOwn, Keeps};
 ghost use Rattle.numa_huge.specs.declared.spot.HugeSpot.TheVariants.{On};
 
 use crate::arrived::HugeArrived;
@@ -84,6 +84,7 @@ impl HugePlaces {
             ≡ faulting given page (places_of self.old)) }
         ensures err { IfErr result (IsFaultLack (places_of self.old) page nodes.now) }
         ensures unchanged { OnErr result (self.new ≡ self.old) }
+        ensures keeps { Keeps (places_of self.old) (places_of self.new) }
     {
         self.pools.keep();
         let by_reservation = self.is_reserved(page);
@@ -122,6 +123,7 @@ impl HugePlaces {
             (IsTouch (touched_page (λ page. nodes_in space.now task cpu (page * 512)) page
             (record { huge = places_of self.old; arrived = told })) self.new arrived.new) }
         ensures few { AreFew arrived.new (page + 1) }
+        ensures keeps { Keeps (places_of self.old) (places_of self.new) }
     {
         if !self.is_untouched(page) {
             return Ok(());
@@ -149,9 +151,10 @@ impl HugePlaces {
         cpu: u32,
     ) -> Result<(HugePlaces, HugeArrived), NoMemory>
         requires { first + pages ≤ most_pages }
-        ensures { IfOk result (λ done. IsTouch (touched_pages
+        ensures touched { IfOk result (λ done. IsTouch (touched_pages
             (λ page. nodes_in space.now task cpu (page * 512)) first pages
             (touch_from (places_of self.now))) done.0 done.1) }
+        ensures keeps { IfOk result (λ done. Keeps (places_of self.now) (places_of done.0)) }
     {
         let Ok(mut touched) = self.copy() else {
             return Err(NoMemory);

@@ -9,7 +9,7 @@ use Rattle.numa_huge.specs.Kept.{AreKept}
 use Rattle.numa_huge.specs.Tallies.{IsLackFor}
 use Rattle.numa_huge.specs.declared.spot.HugeSpot.{HugeSpot}
 use Rattle.numa_huge.specs.declared.spot.HugeSpot.TheVariants.{On}
-use Rattle.numa_huge.proofs.Keeping.{kept-touched, lying-is}
+use Rattle.numa_huge.proofs.Keeping.{keeps-same, keeps-shown, kept-touched, lying-is}
 use Rattle.numa_huge.proofs.Own.{own-some}
 use Rattle.numa_huge.proofs.places.HugePlaces.fault.Goals as goal
 
@@ -118,3 +118,36 @@ returns-clause-pages c =
     (λ other. c.in_default-put.ensures.ok other
     ∙ ap (λ (p : HugePlaced). with_span page 1 (Some (On node)) (huge_at p.runs) other)
     c.self.view_is)
+
+pub returns-in_default-clause-keeps : goal.returns-in_default-clause-keeps
+returns-in_default-clause-keeps c = λ others pooled. pooled
+
+pub returns-in-Err-clause-keeps : goal.returns-in-Err-clause-keeps
+returns-in-Err-clause-keeps c = keeps-same c.args.self.now
+    (record { pools = c.self.inside.pools; runs = c.put.new.map.runs })
+    (ap (λ (m : Ranges HugeSpot). record { pools = c.self.inside.pools; runs = m.runs })
+    c.in-Err.ensures.unchanged ∙ c.self.view_is)
+
+pub returns-clause-keeps : goal.returns-clause-keeps
+returns-clause-keeps c =
+    let runs = c.self.inside.map.runs in
+    let pools = c.self.inside.pools in
+    let node = c.in-Some.node in
+    let by = c.is_reserved-by_reservation.result in
+    let nowhere = ap (λ (p : HugePlaced). node_of (huge_at p.runs c.args.page)) c.self.view_is
+    ∙ c.requires.untouched in
+    let took : c.take.result ≡ Some node =
+    c.take.ensures.node ∙ sym c.giver.ensures.node ∙ c.in-Some.is in
+    let reserved = c.is_reserved-by_reservation.ensures
+    ∙ sym (ap (λ (p : HugePlaced). has_reserved (huge_at p.runs c.args.page)) c.self.view_is) in
+    keeps-shown (record { pools = pools; runs = runs }) c.args.self.now
+    (record { pools = c.take.new.self; runs = c.put.new.map.runs }) c.self.view_is
+    (λ others pooled. (kept-touched others pools c.take.new.self runs c.put.new.map.runs c.args.page
+    node (own-some runs c.args.page c.self.invariant.1.own
+    (ap (λ (p : HugePlaced). is_some (huge_at p.runs c.args.page)) c.self.view_is
+    ∙ c.requires.mapped))
+    (omega (arith, c.keep.ensures.frees)) nowhere c.in-Some.ensures.free
+    (record { own = c.self.invariant.1.own; pooled = pooled }) c.in_default-put.ensures.own
+    c.in_default-put.ensures.ok
+    (c.take.ensures.pools ∙ ap (λ (g : Option ℕ). taken_from pools g by) took
+    ∙ ap (λ (b : Bool). taking pools node b) reserved)).pooled)

@@ -14,7 +14,7 @@ use Rattle.numa_huge.specs.Moves.{told_following}
 use Rattle.numa_huge.specs.Tallies.{HasTold}
 use Rattle.numa_huge.specs.declared.last.HugeLast.TheVariants.{Nodes}
 use Rattle.numa_huge.specs.declared.spot.HugeSpot.{HugeSpot}
-use Rattle.numa_huge.proofs.Keeping.{lying-is, pooled-same}
+use Rattle.numa_huge.proofs.Keeping.{keeps-shown, lying-is, pooled-same}
 use Rattle.numa_huge.proofs.Own.{own-node}
 use Rattle.numa_huge.proofs.Passing.{used-of}
 use Rattle.numa_huge.proofs.places.HugePlaces.follow.Goals as goal
@@ -96,3 +96,33 @@ returns-clause-told c =
       flow = λ one other small near i.
           if c.all_departures-told.ensures.to one small i == other then from one small i else 0;
     })
+
+pub returns-clause-keeps : goal.returns-clause-keeps
+returns-clause-keeps c =
+    let runs : List (Run HugeSpot) = c.self.inside.map.runs in
+    let spots : ℕ → Option HugeSpot = huge_at runs in
+    let old : ℕ = c.args.old.now in
+    let go : ℕ → ℕ = moved_node old c.args.new.now in
+    keeps-shown (record { pools = c.self.inside.pools; runs = runs }) c.args.self.now
+    (record { pools = c.leave.new.pools; runs = c.send.new.map.runs }) c.self.view_is
+    (λ others pooled. pooled-same others c.leave.new.pools (λ page. gone_spot go (spots page))
+    (huge_at c.send.new.map.runs) (c.send.ensures.spots go c.all_departures-told.ensures.to)
+    (c.leave.ensures.pooled others go spots c.all_departures-told.ensures.to (record {
+      pooled = pooled;
+      on = c.counts_of-counts.ensures.on;
+      nodes = λ page node is. own-node runs page node c.self.invariant.1.own is;
+      stay = λ node small out. outside old c.args.new.now node out;
+    })))
+
+pub returns-clause-from : goal.returns-clause-from
+returns-clause-from c =
+    let old : ℕ = c.args.old.now in
+    let new : ℕ = c.args.new.now in
+    let spots : ℕ → Option HugeSpot = huge_at c.self.inside.map.runs in
+    let told = c.all_departures-told.result in
+    subst (λ (h : HugePlaced). (node : ℕ) → node < 256
+    → slice_index told.from node ≡ leave_from old new (huge_at h.runs) node) c.self.view_is
+    (λ node small. c.all_departures-told.ensures.from node small
+    ∙ leave-same (slice_index told.to) (moved_node old new)
+    (slice_index c.counts_of-counts.result.on) (count_on spots) node
+    (c.all_departures-told.ensures.to node small) (c.counts_of-counts.ensures.on node small))

@@ -8,7 +8,7 @@ use Rattle.numa_huge.specs.Huge.{HugePlaced, fits, fresh_spot, huge_at, with_spa
 use Rattle.numa_huge.specs.Kept.{AreKept}
 use Rattle.numa_huge.specs.Tallies.{IsLackFor, lack_of}
 use Rattle.numa_huge.specs.declared.spot.HugeSpot.{HugeSpot}
-use Rattle.numa_huge.proofs.Keeping.{IsFit, fits-are, kept-mapped, lying-is}
+use Rattle.numa_huge.proofs.Keeping.{IsFit, fits-are, keeps-shown, kept-mapped, lying-is}
 use Rattle.numa_huge.proofs.Own.{lack-map, spots-mapped}
 use Rattle.numa_huge.proofs.places.HugePlaces.mapped.Goals as goal
 
@@ -94,3 +94,22 @@ returns-clause-ok c =
     (huge_at m.runs) page) c.in-Ok.ensures
     ∙ ap (λ (p : HugePlaced). with_span first n (Some (fresh_spot c.args.reserves))
     (huge_at p.runs) page) c.self.view_is)
+
+pub returns-clause-keeps : goal.returns-clause-keeps
+returns-clause-keeps c =
+    let map = c.in-Ok.map in
+    let fit = fit-of map c.self.inside.map c.args.self.now.runs c.args.first c.args.pages
+    c.in-Ok.ensures (ap (λ (p : HugePlaced). p.runs) c.self.view_is) c.requires.fits in
+    keeps-shown (record { pools = c.self.inside.pools; runs = map.runs }) c.args.self.now
+    (record { pools = c.reserve_if.new.pools; runs = c.map_span.new.self.runs })
+    (ap (λ (m : Ranges HugeSpot). record { pools = c.self.inside.pools; runs = m.runs })
+    c.in-Ok.ensures ∙ c.self.view_is)
+    (λ others pooled. (kept-mapped others c.self.inside.pools c.reserve_if.new.pools map.runs
+    c.map_span.new.self.runs c.args.first c.args.pages c.args.reserves c.fresh.result fit
+    (record {
+      own = (subst (λ (m : Ranges HugeSpot).
+          AreKept c.self.invariant.0 c.self.inside.pools m.runs)
+          (sym c.in-Ok.ensures) c.self.invariant.1).own;
+      pooled = pooled;
+    })
+    c.fresh.ensures c.in_default-map_span.ensures.ok c.reserve_if.ensures).pooled)

@@ -1,9 +1,10 @@
-use Rattle.std.proofs.Common.{◌∙◌, ℕ, Option, ap, subst, sym}
+use Rattle.std.proofs.Common.{◌∙◌, ℕ, Option, ap, refl, subst, sym}
 use Rattle.std.specs.Prelude.{unwrap_or}
 use Rattle.numa_huge.specs.Huge.{huge_at, places_of}
 use Rattle.numa_huge.specs.Moves.{HugeTold}
 use Rattle.numa_huge.specs.Tallies.{HasTold}
 use Rattle.numa_huge.specs.declared.last.HugeLast.TheVariants.{Nodes}
+use Rattle.numa_huge.proofs.Keeping.{keeps-same}
 use Rattle.numa_huge.proofs.Where.{moved-nowhere, moved-on, on-of, told-nowhere, told-on}
 use Rattle.numa_huge.proofs.places.HugePlaces.move_page.Goals as goal
 
@@ -43,3 +44,12 @@ pub returns-in-Err-clause-other : goal.returns-in-Err-clause-other
 returns-in-Err-clause-other c same =
     c.in-Err.ensures.other (ap (λ (o : Option ℕ). unwrap_or o 0)
     (sym c.in-Some.is ∙ c.node_at.ensures ∙ same))
+
+pub returns-in_default-clause-keeps : goal.returns-in_default-clause-keeps
+returns-in_default-clause-keeps c = keeps-same c.args.self.now c.args.self.now refl
+
+pub returns-in-Err-clause-keeps : goal.returns-in-Err-clause-keeps
+returns-in-Err-clause-keeps c = c.pass.ensures.keeps
+
+pub returns-clause-keeps : goal.returns-clause-keeps
+returns-clause-keeps c = c.pass.ensures.keeps

@@ -8,7 +8,7 @@ use Rattle.numa_huge.specs.Kept.{AreKept}
 use Rattle.numa_huge.specs.Tallies.{IsLackFor}
 use Rattle.numa_huge.specs.declared.spot.HugeSpot.{HugeSpot}
 use Rattle.numa_huge.specs.declared.spot.HugeSpot.TheVariants.{On}
-use Rattle.numa_huge.proofs.Keeping.{kept-passed, lying-is}
+use Rattle.numa_huge.proofs.Keeping.{keeps-same, keeps-shown, kept-passed, lying-is}
 use Rattle.numa_huge.proofs.Own.{own-node, own-page}
 use Rattle.numa_huge.proofs.Passing.{pass-used}
 use Rattle.numa_huge.proofs.places.HugePlaces.pass.Goals as goal
@@ -95,3 +95,25 @@ returns-clause-pages c =
     (λ other. c.in_default.ensures.ok other
     ∙ ap (λ (p : HugePlaced). with_span page 1 (Some (On node)) (huge_at p.runs) other)
     c.self.view_is))
+
+pub returns-then-from-node-clause-keeps : goal.returns-then-from-node-clause-keeps
+returns-then-from-node-clause-keeps c = keeps-same c.args.self.now c.args.self.now refl
+
+pub returns-in-Err-clause-keeps : goal.returns-in-Err-clause-keeps
+returns-in-Err-clause-keeps c = keeps-same c.args.self.now
+    (record { pools = c.self.inside.pools; runs = c.put.new.map.runs })
+    (ap (λ (m : Ranges HugeSpot). record { pools = c.self.inside.pools; runs = m.runs })
+    c.in-Err.ensures.unchanged ∙ c.self.view_is)
+
+pub returns-clause-keeps : goal.returns-clause-keeps
+returns-clause-keeps c =
+    let runs = c.self.inside.map.runs in
+    let lies = ap (λ (p : HugePlaced). huge_at p.runs c.args.page) c.self.view_is
+    ∙ c.requires in
+    keeps-shown (record { pools = c.self.inside.pools; runs = runs }) c.args.self.now
+    (record { pools = c.move_page.new.self; runs = c.put.new.map.runs }) c.self.view_is
+    (λ others pooled. (kept-passed others c.self.inside.pools c.move_page.new.self runs
+    c.put.new.map.runs c.args.page c.args.from c.args.node lies (omega arith)
+    c.if-from-node.false c.keep.ensures c.keep-2.ensures
+    (record { own = c.self.invariant.1.own; pooled = pooled }) c.in_default.ensures.own
+    c.in_default.ensures.ok c.move_page.ensures).pooled)

@@ -2,6 +2,7 @@ use Rattle.std.proofs.Common.{◌+◌, ◌-◌, ◌*◌, ℕ, List, arith}
 use Rattle.numa_placed.specs.Binds.{nodes_in}
 use Rattle.numa_huge.specs.Huge.{places_of}
 use Rattle.numa_huge.specs.Moves.{touch_from, touched_pages}
+use Rattle.numa_huge.proofs.Keeping.{keeps-same, keeps-then}
 use Rattle.numa_huge.proofs.Touched.{few-more, few-none, touching-end, touching-next}
 use Rattle.numa_huge.proofs.Touched.{touching-passed, touching-start}
 use Rattle.numa_huge.proofs.places.HugePlaces.populated.Goals as goal
@@ -17,6 +18,7 @@ loop-page-init c =
     let within = c.next_mapped-page.ensures.within in
     record {
       high = within;
+      keeps = keeps-same c.args.self.now c.in-Ok.touched c.in-Ok.ensures;
       few = few-none c.new-arrived.result page (places_of c.args.self.now)
           (c.new-arrived.ensures (places_of c.args.self.now));
       so = touching-passed nodes
@@ -48,6 +50,8 @@ loop-page-preserved c =
     let within = c.next_mapped-page-in-loop-page.ensures.within in
     record {
       high = within;
+      keeps = keeps-then (places_of c.args.self.now) (places_of c.loop-page.touched)
+          (places_of c.touch_page.new.self) c.loop-page.invariant.keeps c.touch_page.ensures.keeps;
       few = few-more c.touch_page.new.arrived (page + 1) next rises c.touch_page.ensures.few;
       so = touching-passed nodes all (page + 1) next (end - next) (end - (page + 1))
           c.touch_page.new.self c.touch_page.new.arrived rises (omega (arith, rises, within))
@@ -58,8 +62,11 @@ loop-page-preserved c =
           (c.in-Ok-touch_page.ensures.touched so.told so.has));
     }
 
-pub returns : goal.returns
-returns c =
+pub returns-clause-keeps : goal.returns-clause-keeps
+returns-clause-keeps c = c.loop-page.invariant.keeps
+
+pub returns-clause-touched : goal.returns-clause-touched
+returns-clause-touched c =
     let nodes : ℕ → List ℕ =
     λ page. nodes_in c.args.space.now c.args.task c.args.cpu (page * 512) in
     touching-end nodes (touched_pages nodes c.args.first c.args.pages

@@ -4,6 +4,7 @@ use Rattle.numa_placed.specs.Binds.{nodes_in}
 use Rattle.numa_huge.specs.Huge.{huge_at, places_of}
 use Rattle.numa_huge.specs.Moves.{HugeWalk, goal, is_astray, sending}
 use Rattle.numa_huge.specs.Tallies.{IsWalk}
+use Rattle.numa_huge.proofs.Keeping.{keeps-same}
 use Rattle.numa_huge.proofs.Where.{on-of, sent-astray, sent-kept, sent-nowhere}
 use Rattle.numa_huge.proofs.places.HugePlaces.send_page.Goals as goals
 
@@ -64,3 +65,18 @@ returns-clause-sent c told has =
     subst (λ (w : HugeWalk). IsWalk w c.pass.new.self c.pass-2.new.self) (sym is)
     (record { pages = c.in-Ok.ensures.pages; told = so }))
     (c.pass-2.ensures.told told has)
+
+pub returns-in_default-clause-keeps : goals.returns-in_default-clause-keeps
+returns-in_default-clause-keeps c = keeps-same c.args.self.now c.args.self.now refl
+
+pub returns-then-has-clause-keeps : goals.returns-then-has-clause-keeps
+returns-then-has-clause-keeps c = keeps-same c.args.self.now c.args.self.now refl
+
+pub returns-in_default-goal-clause-keeps : goals.returns-in_default-goal-clause-keeps
+returns-in_default-goal-clause-keeps c = keeps-same c.args.self.now c.args.self.now refl
+
+pub returns-in_default-pass-clause-keeps : goals.returns-in_default-pass-clause-keeps
+returns-in_default-pass-clause-keeps c = c.pass.ensures.keeps
+
+pub returns-clause-keeps : goals.returns-clause-keeps
+returns-clause-keeps c = c.pass.ensures.keeps

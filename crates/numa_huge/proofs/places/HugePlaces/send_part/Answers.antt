@@ -2,6 +2,7 @@ use Rattle.std.proofs.Common.{◌*◌, ◌+◌, ◌-◌, ℕ, List, arith, refl}
 use Rattle.numa_placed.specs.Binds.{nodes_in}
 use Rattle.numa_huge.specs.Huge.{places_of}
 use Rattle.numa_huge.specs.Moves.{sent_pages}
+use Rattle.numa_huge.proofs.Keeping.{keeps-same, keeps-then}
 use Rattle.numa_huge.proofs.Where.{sending-end, sending-next}
 use Rattle.numa_huge.proofs.places.HugePlaces.send_part.Goals as goal
 
@@ -10,6 +11,7 @@ loop-page-init c = record {
   sending = λ told has. record { told = told; has = has; all_is = refl };
   few = omega arith;
   high = omega (arith, c.requires.rises);
+  keeps = keeps-same c.args.self.now c.args.self.now refl;
 }
 
 pub send_page-requires-clause-page : goal.send_page-requires-clause-page
@@ -39,6 +41,8 @@ loop-page-preserved c =
           (c.in-Ok.ensures.sent so.told so.has);
       few = omega (arith, c.send_page.ensures.left, c.loop-page.invariant.few);
       high = omega (arith, c.loop-page-test.true);
+      keeps = keeps-then (places_of c.args.self.now) (places_of c.loop-page.self)
+          (places_of c.send_page.new.self) c.loop-page.invariant.keeps c.send_page.ensures.keeps;
     }
 
 pub returns-in_default-clause-left : goal.returns-in_default-clause-left
@@ -60,3 +64,11 @@ returns-clause-sent c told has =
     (c.args.to - c.args.from) (record { huge = places_of c.args.self.now; told = told }))
     c.loop-page.page (c.args.to - c.loop-page.page) c.loop-page.self c.loop-page.flows
     (omega (arith, c.loop-page-test.false)) (c.loop-page.invariant.sending told has)
+
+pub returns-in_default-clause-keeps : goal.returns-in_default-clause-keeps
+returns-in_default-clause-keeps c = keeps-then (places_of c.args.self.now)
+    (places_of c.loop-page.self) (places_of c.send_page.new.self) c.loop-page.invariant.keeps
+    c.send_page.ensures.keeps
+
+pub returns-clause-keeps : goal.returns-clause-keeps
+returns-clause-keeps c = c.loop-page.invariant.keeps

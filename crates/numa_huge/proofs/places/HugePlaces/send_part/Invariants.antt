@@ -2,6 +2,7 @@
 use Rattle.std.proofs.Common.{◌≤◌, ◌*◌, ◌+◌, ◌-◌, ℕ}
 use Rattle.numa_placed.specs.Binds.{nodes_in}
 use Rattle.numa_huge.specs.Huge.{places_of}
+use Rattle.numa_huge.specs.Kept.{Keeps}
 use Rattle.numa_huge.specs.Moves.{HugeTold, sent_pages}
 use Rattle.numa_huge.specs.Tallies.{HasTold}
 use Rattle.numa_huge.specs.declared.last.HugeLast.TheVariants.{Pages}
@@ -17,4 +18,5 @@ invariant-loop-page l = record {
       (l.to - l.page) l.self l.flows;
   few : l.flows.left + l.from ≤ l.initial.flows.left + l.page;
   high : l.page ≤ l.to;
+  keeps : Keeps (places_of l.initial.self) (places_of l.self);
 }

@@ -7,6 +7,7 @@ use Rattle.numa_placed.proofs.Stating.{AreLeft, left-fits, left-next}
 use Rattle.numa_huge.specs.Huge.{HugePlaced, huge_at, places_of, spot_in}
 use Rattle.numa_huge.specs.Moves.{HugeWalk, is_astray, sent_pages, walk_from}
 use Rattle.numa_huge.specs.declared.spot.HugeSpot.{HugeSpot}
+use Rattle.numa_huge.proofs.Keeping.{keeps-same, keeps-then}
 use Rattle.numa_huge.proofs.Sending.{part-within, reached-end, reached-from, reached-next}
 use Rattle.numa_huge.proofs.Sending.{reached-over}
 use Rattle.numa_huge.proofs.Where.{sending-start}
@@ -32,6 +33,7 @@ loop-run-init c =
       left = subst AreLeft (sym same)
           (record { low = 0; apart = c.iter_from-run-items.ensures.rising });
       few = omega (arith, c.new-flows.ensures.left);
+      keeps = keeps-same c.args.self.now c.in-Ok.sent c.in-Ok.ensures;
     }
 
 pub overflow_add-behind : goal.overflow_add-behind
@@ -42,8 +44,8 @@ overflow_add-behind c =
           c.loop-run.invariant.left c.in-Some.ensures.steps,
     )
 
-pub returns-then-run-end : goal.returns-then-run-end
-returns-then-run-end c =
+pub returns-then-run-end-clause-sent : goal.returns-then-run-end-clause-sent
+returns-then-run-end-clause-sent c =
     let nodes : ℕ → List ℕ =
     λ page. nodes_in c.args.space.now c.args.task c.args.cpu (page * 512) in
     reached-over c.args.list.now nodes (sent_pages c.args.list.now nodes c.args.first c.args.pages
@@ -114,10 +116,18 @@ loop-run-preserved c =
         within.0,
         within.1,
       );
+      keeps = keeps-then (places_of c.args.self.now) (places_of c.loop-run.sent)
+          (places_of c.send_part.new.self) c.loop-run.invariant.keeps c.send_part.ensures.keeps;
     }
 
-pub returns : goal.returns
-returns c =
+pub returns-then-run-end-clause-keeps : goal.returns-then-run-end-clause-keeps
+returns-then-run-end-clause-keeps c = c.loop-run.invariant.keeps
+
+pub returns-clause-keeps : goal.returns-clause-keeps
+returns-clause-keeps c = c.loop-run.invariant.keeps
+
+pub returns-clause-sent : goal.returns-clause-sent
+returns-clause-sent c =
     let nodes : ℕ → List ℕ =
     λ page. nodes_in c.args.space.now c.args.task c.args.cpu (page * 512) in
     reached-end c.args.list.now nodes (sent_pages c.args.list.now nodes c.args.first c.args.pages

@@ -3,6 +3,7 @@ use Rattle.std.proofs.Common.{◌≤◌, ◌*◌, ◌+◌, ℕ}
 use Rattle.numa_placed.specs.Binds.{nodes_in}
 use Rattle.numa_placed.proofs.Stating.{AreLeft}
 use Rattle.numa_huge.specs.Huge.{places_of}
+use Rattle.numa_huge.specs.Kept.{Keeps}
 use Rattle.numa_huge.specs.Moves.{sent_pages, walk_from}
 use Rattle.numa_huge.proofs.Sending.{IsReached}
 use Rattle.numa_huge.proofs.places.HugePlaces.sent.Given as goal
@@ -14,4 +15,5 @@ invariant-loop-run l = record {
       (walk_from (places_of l.self))) (l.first + l.pages) l.page l.run-iterator l.sent l.flows;
   left : AreLeft l.run-iterator;
   few : l.flows.left + l.first ≤ l.page;
+  keeps : Keeps (places_of l.self) (places_of l.sent);
 }

@@ -3,6 +3,7 @@ use Rattle.numa_placed.specs.Binds.{nodes_in}
 use Rattle.numa_huge.specs.Huge.{giver_for, huge_at, places_of}
 use Rattle.numa_huge.specs.Moves.{HugeTouch, touched_page}
 use Rattle.numa_huge.specs.Tallies.{IsTouch}
+use Rattle.numa_huge.proofs.Keeping.{keeps-same}
 use Rattle.numa_huge.proofs.Touched.{few-given, few-next, touch-same, touch_at, touched-given}
 use Rattle.numa_huge.proofs.Touched.{touched-same, untouched-is}
 use Rattle.numa_huge.proofs.places.HugePlaces.touch_page.Goals as goal
@@ -53,3 +54,12 @@ pub returns-clause-few : goal.returns-clause-few
 returns-clause-few c =
     few-given c.args.arrived.now c.count.new.self c.in-Ok.given c.args.page c.requires.few
     c.count.ensures
+
+pub returns-then-not-is_untouched-clause-keeps : goal.returns-then-not-is_untouched-clause-keeps
+returns-then-not-is_untouched-clause-keeps c = keeps-same c.args.self.now c.args.self.now refl
+
+pub returns-in_default-clause-keeps : goal.returns-in_default-clause-keeps
+returns-in_default-clause-keeps c = c.fault.ensures.keeps
+
+pub returns-clause-keeps : goal.returns-clause-keeps
+returns-clause-keeps c = c.fault.ensures.keeps

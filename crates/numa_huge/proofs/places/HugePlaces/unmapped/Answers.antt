@@ -9,7 +9,7 @@ use Rattle.numa_huge.specs.Huge.{pages_in, with_span}
 use Rattle.numa_huge.specs.Kept.{AreKept}
 use Rattle.numa_huge.specs.Tallies.{IsLackFor, lack_of}
 use Rattle.numa_huge.specs.declared.spot.HugeSpot.{HugeSpot}
-use Rattle.numa_huge.proofs.Keeping.{kept-unmapped, lying-is, unmapped-pools}
+use Rattle.numa_huge.proofs.Keeping.{keeps-shown, kept-unmapped, lying-is, unmapped-pools}
 use Rattle.numa_huge.proofs.Own.{lack-unmap, spots-without}
 use Rattle.numa_huge.proofs.Pooled.{giving-fits, unmapping-fits, unmapping-reserved}
 use Rattle.numa_huge.proofs.places.HugePlaces.unmapped.Goals as goal
@@ -108,3 +108,27 @@ returns-clause-ok c =
     (λ page. spots-without map.runs c.unmap_span.new.self.runs first n
     c.in_default-unmap_span.ensures.ok page
     ∙ ap (λ (r : List (Run HugeSpot)). with_span first n None (huge_at r) page) runs)
+
+pub returns-clause-keeps : goal.returns-clause-keeps
+returns-clause-keeps c =
+    let map = c.in-Ok.map in
+    let counts = c.counts_of-counts in
+    keeps-shown (record { pools = c.self.inside.pools; runs = map.runs }) c.args.self.now
+    (record { pools = c.give_back.new.self; runs = c.unmap_span.new.self.runs })
+    (ap (λ (m : Ranges HugeSpot). record { pools = c.self.inside.pools; runs = m.runs })
+    c.in-Ok.ensures ∙ c.self.view_is)
+    (λ others pooled. (kept-unmapped others c.self.inside.pools c.give_back.new.self map.runs
+    c.unmap_span.new.self.runs c.args.first c.args.pages c.requires.within c.keep.ensures
+    c.keep-2.ensures
+    (record {
+      own = (subst (λ (m : Ranges HugeSpot).
+          AreKept c.self.invariant.0 c.self.inside.pools m.runs)
+          (sym c.in-Ok.ensures) c.self.invariant.1).own;
+      pooled = pooled;
+    })
+    c.in_default-unmap_span.ensures.ok
+    (c.give_back.ensures
+    ∙ ap (λ (p : PoolCounts). giving_back p counts.result.reserved) c.free_all.ensures
+    ∙ unmapped-pools c.self.inside.pools (huge_at map.runs) c.args.first c.args.pages
+    counts.result.reserved (slice_index counts.result.on) counts.ensures.on
+    counts.ensures.reserved)).pooled)
