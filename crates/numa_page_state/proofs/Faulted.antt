@@ -125,6 +125,14 @@ unfolding lack_by
 starved-by true = refl
 starved-by false = refl
 
+-- that memory lacked is told
+pub starved-why : (after : ℕ → Option HugeSpot) (starved : Bool) (why : PlacedRefusal)
+    → lack_for starved after ≡ Some why → is_starved (lack_by starved) ≡ true
+    → why ≡ cause.NoMemory
+starved-why after true why is on = let said : Some cause.NoMemory ≡ Some why = is in cc
+starved-why after false why is odd = let no : false ≡ true = sym (starved-by false) ∙ odd in
+    absurd (cc)
+
 module _ (old : HugePlaced) (page : ℕ) (nodes : List ℕ) where
   abbrev huge : HugeLying
   huge = places_of old
@@ -139,6 +147,7 @@ module _ (old : HugePlaced) (page : ℕ) (nodes : List ℕ) where
     Enough,
     ap (λ (lies : Option ℕ). (huge_fault_at lies Enough page nodes huge).0) is,
     ap (λ (lies : Option ℕ). (huge_fault_at lies Enough page nodes huge).1) is,
+    λ odd. absurd (cc),
   )
 
   -- a node gave it, or none did
@@ -166,17 +175,20 @@ module _ (old : HugePlaced) (page : ℕ) (nodes : List ℕ) where
         Enough,
         ap (λ (o : Outcome). o.0) outcome,
         ap (λ (o : Outcome). o.1) outcome ∙ sym is,
+        λ odd. absurd (cc),
       )
 
   refused-by : (given : Option ℕ) (why : PlacedRefusal) → IsSomeAnd given (λ node.
       IsLackFor (with_span page 1 (Some (On node)) huge.spots) why)
       → (lack : Lack) × (given_by lack given ≡ (Err why, huge))
+      × (is_starved lack ≡ true → why ≡ cause.NoMemory)
   refused-by None why lacks = absurd lacks
   refused-by (Some node) why lacks = (
     lack_by lacks.0,
     ap (λ (l : Option PlacedRefusal). given_fault l (Some node) page huge)
         (ap (λ (b : Bool). lack_for b (with_span page 1 (Some (On node)) huge.spots))
         (starved-by lacks.0) ∙ lacks.1),
+    starved-why (with_span page 1 (Some (On node)) huge.spots) lacks.0 why lacks.1,
   )
 
   pub huge-lacks : (new : HugePlaced) (why : PlacedRefusal) → node_of (huge.spots page) ≡ None
@@ -191,6 +203,8 @@ module _ (old : HugePlaced) (page : ℕ) (nodes : List ℕ) where
         refused.0,
         ap (λ (o : Outcome). o.0) outcome,
         ap (λ (o : Outcome). o.1) outcome ∙ ap places_of (sym same),
+        λ on. ap {B = Result (Option ℕ) PlacedRefusal} (λ (w : PlacedRefusal). Err w)
+            (refused.2 on),
       )
 
   -- by what the call came to

@@ -13,6 +13,7 @@ use Rattle.numa_requests.specs.declared.command.Command.{Command}
 use Rattle.numa_requests.specs.declared.page_refusal.MoveRefusal.{MoveRefusal}
 use Rattle.numa_requests.specs.declared.page_refusal.MoveRefusal.TheVariants as move
 use Rattle.numa_requests.specs.declared.page_refusal.PlacedRefusal.{PlacedRefusal}
+use Rattle.numa_requests.specs.declared.page_refusal.PlacedRefusal.TheVariants as placed
 use Rattle.numa_space.specs.History.{page_count, page_of}
 use Rattle.numa_space.specs.Pages.{page_in}
 use Rattle.numa_space.specs.Refusals.{refusal_of}
@@ -46,7 +47,7 @@ use Rattle.numa_page_state.specs.declared.binding.Binding.{Binding}
 use Rattle.numa_page_state.specs.declared.sending.Rebinding.{Rebinding}
 use Rattle.numa_page_state.specs.declared.sending.Toucher.{Toucher}
 use Rattle.numa_page_state.proofs.Asking.{nodes-same}
-use Rattle.numa_page_state.proofs.Faulted.{lack_by, starved-by}
+use Rattle.numa_page_state.proofs.Faulted.{lack_by, starved-by, starved-why}
 use Rattle.numa_page_state.proofs.Judging.{mapped-alike}
 
 -- ---- when allowed nodes change
@@ -93,6 +94,7 @@ module _ (old : HugePages) (memory : HugeMemory) (basis : Ground) (page node : �
         Enough,
         ap (λ (o : Outcome). o.0) outcome,
         subst (λ (o : Outcome). IsMemory old o.1) (sym outcome) stands,
+        λ odd. absurd (cc),
       )
 
   -- whether it goes to its own node
@@ -141,6 +143,7 @@ module _ (old : HugePages) (memory : HugeMemory) (basis : Ground) (page node : �
                   HasTold (went.Nodes told) (told_moving (h.spots page) node)) stands.pages tells;
               arrived = stands.arrived;
             }),
+        λ odd. absurd (cc),
       )
 
   -- what may move lies somewhere
@@ -175,6 +178,13 @@ module _ (old : HugePages) (memory : HugeMemory) (basis : Ground) (page node : �
       (ap (λ (b : Bool). lack_for b (with_span page 1 (Some (On node)) memory.pages.spots))
       (starved-by starved) ∙ lacks)
 
+  -- that memory lacked is told
+  refusal-starved : (why : PlacedRefusal) (refusal : MoveRefusal) → why ≡ placed.NoMemory
+      → move_lack_by (Some why) ≡ Some refusal → refusal ≡ move.NoMemory
+  refusal-starved why refusal starved is =
+      let said : Some move.NoMemory ≡ Some refusal =
+      ap (λ (w : PlacedRefusal). move_lack_by (Some w)) (sym starved) ∙ is in cc
+
   pub move-lacks : (why : PlacedRefusal) (refusal : MoveRefusal) → cause ≡ None
       → IsLackFor (with_span page 1 (Some (On node)) (huge_at old.places.runs)) why
       → node_of (huge_at old.places.runs page) ≢ Some node
@@ -194,6 +204,9 @@ module _ (old : HugePages) (memory : HugeMemory) (basis : Ground) (page node : �
         lack,
         ap (λ (o : Outcome). o.0) outcome,
         subst (λ (o : Outcome). IsMemory old o.1) (sym outcome) stands,
+        λ on. ap {B = Result (Unit {0}) MoveRefusal} (λ (w : MoveRefusal). Err w)
+            (refusal-starved why refusal (starved-why
+            (with_span page 1 (Some (On node)) memory.pages.spots) so.0 why so.1 on) is),
       )
 
 -- ---- mbind

@@ -3,6 +3,7 @@ pub mod Asking
 pub mod Begun
 pub mod Emptied
 pub mod Faulted
+pub mod Few
 pub mod Flows
 pub mod Follows
 pub mod Fronts
@@ -15,6 +16,7 @@ pub mod Keeping
 pub mod Mapped
 pub mod Migrating
 pub mod Moving
+pub mod Nodes
 pub mod Parts
 pub mod PartsTouched
 pub mod Populating

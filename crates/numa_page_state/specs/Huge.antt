@@ -22,6 +22,7 @@ use Rattle.numa_placed.specs.Binds.{nodes_in}
 use Rattle.numa_placed.specs.Laid.{Laid}
 use Rattle.numa_placed.specs.Refusals.{move_cause}
 use Rattle.numa_placed.specs.Spots.{node_of as small_node, spot_at}
+use Rattle.numa_placed.specs.declared.moved.Moved.{Moved}
 use Rattle.numa_placed.specs.declared.rooms.Rooms.{Rooms}
 use Rattle.numa_placed.specs.declared.spot.Spot.{Spot}
 use Rattle.numa_placed.specs.declared.spot.Spot.TheVariants.{Nowhere, Stated}
@@ -31,6 +32,9 @@ use Rattle.numa_huge.specs.Moves.{HugeMemory, HugeTouch, HugeWalk, following, is
 use Rattle.numa_huge.specs.Moves.{sent_pages, stayed, told_following, told_moving, touch_from}
 use Rattle.numa_huge.specs.Moves.{touched_pages, walk_from}
 use Rattle.numa_huge.specs.Tallies.{IsMemory}
+use Rattle.numa_huge.specs.declared.arrived.HugeArrived.{HugeArrived}
+use Rattle.numa_huge.specs.declared.last.HugeLast.{HugeLast}
+use Rattle.numa_huge.specs.declared.last.HugeLast.TheVariants as went
 use Rattle.numa_huge.specs.declared.pages.HugePages.{HugePages}
 use Rattle.numa_huge.specs.declared.spot.HugeSpot.{HugeSpot}
 use Rattle.numa_huge.specs.declared.spot.HugeSpot.TheVariants.{On}
@@ -320,19 +324,40 @@ TouchesBeside old rooms basis huge start bytes task cpu result new rooms_then = 
     (λ why. is_starved (lack_told why) ≡ false
     → cause_beside (lack_told why) basis huge start bytes task cpu at ≡ Some why)
 
--- a page of 2 MiB was touched as the definition says, by what it lacked
+-- a page of 2 MiB was touched as the definition says, by what it lacked; where that was memory, this
+-- came of it
 abbrev pub HugeFaults : HugePlaced → Result (Option ℕ) PlacedRefusal → HugePlaced → ℕ → List ℕ
     → Type 0
 HugeFaults old result new page nodes = (lack : Lack)
     × ((huge_fault lack page nodes (places_of old)).0 ≡ result)
     × ((huge_fault lack page nodes (places_of old)).1 ≡ places_of new)
+    × (is_starved lack ≡ true → result ≡ Err cause.NoMemory)
 
--- a page of 2 MiB moved as the definition says, by what it lacked
+-- what a call did without what it tells, and the last move once it was done
+abbrev pub told_done : Result Moved MoveRefusal → Result (Unit {0}) MoveRefusal
+told_done (Ok told) = Ok tt
+told_done (Err why) = Err why
+
+abbrev pub last_after : Result Moved MoveRefusal → HugeLast → HugeLast
+last_after (Ok told) last = went.Nodes told
+last_after (Err why) last = last
+
+-- a page of 2 MiB moved as the definition says, by what it lacked; where that was memory, this came of
+-- it
 abbrev pub HugeMoves : HugeMemory → Result (Unit {0}) MoveRefusal → HugePages → Ground → ℕ → ℕ
     → Type 0
 HugeMoves memory result new basis page node = (lack : Lack)
     × ((huge_move lack basis page node memory).0 ≡ result)
     × IsMemory new (huge_move lack basis page node memory).1
+    × (is_starved lack ≡ true → result ≡ Err move.NoMemory)
+
+-- the same of the pages alone: whatever the last move and the last first touches did
+abbrev pub HugeGoes : HugePlaced → Result Moved MoveRefusal → HugePlaced → Ground → ℕ → ℕ → Type 0
+HugeGoes old result new basis page node = (last : HugeLast) (arrived : Option HugeArrived)
+    (memory : HugeMemory)
+    → IsMemory (record { places = old; last = last; arrived = arrived }) memory
+    → HugeMoves memory (told_done result)
+    (record { places = new; last = last_after result last; arrived = arrived }) basis page node
 
 -- pages of a span went in a space that has the policy
 abbrev pub huge_walk_in : SpaceState → Rebinding → Toucher → HugeMemory → HugeWalk

@@ -1,5 +1,5 @@
 //! First touches of pages of 4 KiB beside pages of 2 MiB, whose parts they pass over.
-ghost use Rattle.std.specs.Prelude.{◌≡◌, ◌+◌, ◌<◌, ◌≤◌, ℕ, Err, OnOk};
+ghost use Rattle.std.specs.Prelude.{◌≡◌, ◌+◌, ◌<◌, ◌≤◌, ℕ, Err, OnErr, OnOk};
 ghost use Rattle.numa_placed.specs.Spots.{spot_at};
 ghost use Rattle.numa_huge.specs.Huge.{huge_at, most_pages, places_of};
 ghost use Rattle.numa_huge.specs.Moves.{HugeMemory};
@@ -20,31 +20,40 @@ use numa_requests::{PAGE_BYTES, PlacedRefusal};
 use numa_space::Space;
 use std::mem;
 
-/// States that the parts of a page lie somewhere, if it is mapped as one of 2 MiB.
-fn mark_page(placed: &mut Placed, huge: &HugePlaces, page: u64) -> Result<(), NoMemory>
-    requires { page < most_pages }
+/// States that the parts of pages of which the same is known lie somewhere, if they are mapped as
+/// ones of 2 MiB.
+fn mark_run(placed: &mut Placed, huge: &HugePlaces, first: u64, pages: u64) -> Result<(), NoMemory>
+    requires some { 0 < pages }
+    requires within { first + pages ≤ most_pages }
+    requires alike { (page : ℕ) → first ≤ page → page < first + pages
+        → huge_at huge.now.runs page ≡ huge_at huge.now.runs first }
     ensures { OnOk result ((part : ℕ) → spot_at placed.new part
-        ≡ with_parts (Spot.Stated 0) (huge_at huge.now.runs) page 1 (spot_at placed.old) part) }
+        ≡ with_parts (Spot.Stated 0) (huge_at huge.now.runs) first pages
+        (spot_at placed.old) part) }
 {
-    let Some(_) = huge.at(page) else {
+    let Some(_) = huge.at(first) else {
         return Ok(());
     };
-    match placed.set(page * PARTS, PARTS, 0) {
+    match placed.set(first * PARTS, pages * PARTS, 0) {
         Ok(()) => Ok(()),
         Err(_) => Err(NoMemory),
     }
 }
 
 /// Takes that back.
-fn clear_page(placed: &mut Placed, huge: &HugePlaces, page: u64) -> Result<(), NoMemory>
-    requires { page < most_pages }
+fn clear_run(placed: &mut Placed, huge: &HugePlaces, first: u64, pages: u64) -> Result<(), NoMemory>
+    requires some { 0 < pages }
+    requires within { first + pages ≤ most_pages }
+    requires alike { (page : ℕ) → first ≤ page → page < first + pages
+        → huge_at huge.now.runs page ≡ huge_at huge.now.runs first }
     ensures { OnOk result ((part : ℕ) → spot_at placed.new part
-        ≡ with_parts Spot.Nowhere (huge_at huge.now.runs) page 1 (spot_at placed.old) part) }
+        ≡ with_parts Spot.Nowhere (huge_at huge.now.runs) first pages
+        (spot_at placed.old) part) }
 {
-    let Some(_) = huge.at(page) else {
+    let Some(_) = huge.at(first) else {
         return Ok(());
     };
-    match placed.forget(page * HUGE_BYTES, HUGE_BYTES) {
+    match placed.forget(first * HUGE_BYTES, pages * HUGE_BYTES) {
         Ok(()) => Ok(()),
         Err(_) => Err(NoMemory),
     }
@@ -58,10 +67,14 @@ fn mark_parts(placed: &mut Placed, huge: &HugePlaces, span: HugeSpan) -> Result<
         ≡ with_parts (Spot.Stated 0) (huge_at huge.now.runs) span.first span.pages
         (spot_at placed.old) part) }
 {
-    for page in span.first..span.first + span.pages {
-        let Ok(()) = mark_page(placed, huge, page) else {
+    let end = span.first + span.pages;
+    let mut page = span.first;
+    while page < end {
+        let next = huge.alike_end(page, end);
+        let Ok(()) = mark_run(placed, huge, page, next - page) else {
             return Err(NoMemory);
         };
+        page = next;
     }
     Ok(())
 }
@@ -73,10 +86,14 @@ fn clear_parts(placed: &mut Placed, huge: &HugePlaces, span: HugeSpan) -> Result
         ≡ with_parts Spot.Nowhere (huge_at huge.now.runs) span.first span.pages
         (spot_at placed.old) part) }
 {
-    for page in span.first..span.first + span.pages {
-        let Ok(()) = clear_page(placed, huge, page) else {
+    let end = span.first + span.pages;
+    let mut page = span.first;
+    while page < end {
+        let next = huge.alike_end(page, end);
+        let Ok(()) = clear_run(placed, huge, page, next - page) else {
             return Err(NoMemory);
         };
+        page = next;
     }
     Ok(())
 }
@@ -126,10 +143,11 @@ impl PageState {
         task: u32,
         cpu: u32,
     ) -> Result<(), PlacedRefusal>
-        ensures { (memory : HugeMemory) → places_of huge.now ≡ memory.pages
+        ensures does { (memory : HugeMemory) → places_of huge.now ≡ memory.pages
             → DoesAs self.old result self.new (Err PlacedRefusal.NoMemory) (λ lack at.
             small_populated lack (ground_in space.now resident.now) start length task cpu memory
             at) }
+        ensures unchanged { OnErr result (self.new ≡ self.old) }
     {
         let Ok(mut placed) = self.placed.copy() else {
             return Err(PlacedRefusal::NoMemory);

@@ -1,6 +1,8 @@
 //! Pages of 2 MiB beside the other pages of a process, and first touches of pages of either size.
-ghost use Rattle.std.specs.Prelude.{◌≡◌, ◌+◌, ◌<◌, ◌≤◌, ◌^◌, ℕ, Err, IfErr, IfOk, IsSomeAnd, List};
-ghost use Rattle.std.specs.Prelude.{[], MatchResult, None, OnOk, Option, Some, true, is_some};
+ghost use Rattle.std.specs.Prelude.{◌≡◌, ◌+◌, ◌<◌, ◌≤◌, ◌^◌, ℕ, Err, IfErr, IfOk, IfSome, IsSomeAnd};
+ghost use Rattle.std.specs.Prelude.{List};
+ghost use Rattle.std.specs.Prelude.{[], MatchResult, None, OnErr, OnOk, Option, Some, true};
+ghost use Rattle.std.specs.Prelude.{is_some};
 ghost use Rattle.numa_mask.specs.NodeSet.{with_node};
 ghost use Rattle.numa_mode.specs.Policy.{is_local_mode};
 ghost use Rattle.numa_maps.specs.Residents.{Kept};
@@ -11,16 +13,18 @@ ghost use Rattle.numa_space.specs.Standing.{StandsFor};
 ghost use Rattle.numa_requests.specs.declared.command.Command.{Command};
 ghost use Rattle.numa_huge.specs.Huge.{has_huge, huge_at, most_pages, node_of, places_of};
 ghost use Rattle.numa_huge.specs.Huge.{unmapping, with_span};
+ghost use Rattle.numa_huge.specs.Kept.{Keeps};
 ghost use Rattle.numa_huge.specs.Moves.{HugeMemory};
 ghost use Rattle.numa_huge.specs.Tallies.{IsLackFor, IsMemory, IsTouch, IsWalk, StandsForHuge};
-ghost use Rattle.numa_page_state.specs.Huge.{HugeFaults, HugeMoves, fault_outcome, has_huge_in};
+ghost use Rattle.numa_page_state.specs.Huge.{HugeFaults, HugeGoes, HugeMoves, fault_outcome};
+ghost use Rattle.numa_page_state.specs.Huge.{has_huge_in};
 ghost use Rattle.numa_page_state.specs.Huge.{huge_at_address, huge_astray, huge_count, huge_first};
 ghost use Rattle.numa_page_state.specs.Huge.{huge_followed, huge_page, huge_walk, huge_walk_in};
 ghost use Rattle.numa_page_state.specs.Huge.{is_bind, mapping_nodes, move_lack_by};
 ghost use Rattle.numa_page_state.specs.Huge.{resizing_nodes, small_fault, spot_of, touch_walk};
 ghost use Rattle.numa_page_state.specs.Lying.{Lying, OfNodes, ground_in, process_in, still};
 ghost use Rattle.numa_page_state.specs.Sending.{command_of};
-ghost use Rattle.numa_page_state.specs.Standing.{DoesAs, Lies};
+ghost use Rattle.numa_page_state.specs.Standing.{DoesAs, Lies, LiesAs};
 
 use crate::binding::{Binding, page_count};
 use crate::last::{Last, keep};
@@ -31,7 +35,7 @@ use numa_machine::NoMemory;
 use numa_maps::Resident;
 use numa_mask::{NodeId, NodeMask};
 use numa_mode::{Mode, Record};
-use numa_placed::{Spot, judged_pages, lacks_node};
+use numa_placed::{Moved, Spot, judged_pages, lacks_node};
 use numa_requests::{MoveRefusal, PAGE_BYTES, PlacedRefusal};
 use numa_space::Space;
 use std::alloc::Global;
@@ -88,7 +92,14 @@ pub fn has_huge_in(huge: &Option<HugePages>, first: u64, pages: u64) -> bool
     kept.places.has_huge(span.first, span.pages)
 }
 
-/// Whether the page of an address, in bytes, has 2 MiB.
+/// Whether the page of an address, in bytes, is mapped as one of 2 MiB.
+pub fn is_huge_in(huge: &HugePlaces, address: u64) -> bool
+    ensures { result ≡ is_some (huge_at huge.now.runs (huge_page address)) }
+{
+    huge.at(address / HUGE_BYTES).is_some()
+}
+
+/// The same, where any are kept.
 pub fn is_huge_at(huge: &Option<HugePages>, address: u64) -> bool
     ensures { (memory : Option HugeMemory) → StandsForHuge huge.now memory
         → result ≡ is_some (huge_at_address memory address) }
@@ -96,7 +107,7 @@ pub fn is_huge_at(huge: &Option<HugePages>, address: u64) -> bool
     let Some(kept) = huge else {
         return false;
     };
-    kept.places.at(address / HUGE_BYTES).is_some()
+    is_huge_in(&kept.places, address)
 }
 
 /// Whether a policy of this mode binds pages to its nodes.
@@ -219,7 +230,9 @@ pub fn huge_fault(
     nodes: &[u8],
 ) -> Result<Option<u8>, PlacedRefusal>
     requires { is_some (huge_at huge.old.runs (huge_page address)) ≡ true }
-    ensures { HugeFaults huge.old result huge.new (huge_page address) nodes.now }
+    ensures faults { HugeFaults huge.old result huge.new (huge_page address) nodes.now }
+    ensures keeps { Keeps (places_of huge.old) (places_of huge.new) }
+    ensures unchanged { OnErr result (huge.new ≡ huge.old) }
 {
     let page = address / HUGE_BYTES;
     let Some(spot) = huge.at(page) else {
@@ -245,6 +258,7 @@ pub fn huge_without(huge: &HugePlaces, start: u64, length: u64) -> Result<HugePl
         (huge_count (page_of start) (page_count length)) ≡ true }
     ensures ok { IfOk result (λ after. places_of after ≡ unmapping (huge_first (page_of start))
         (huge_count (page_of start) (page_count length)) (places_of huge.now)) }
+    ensures keeps { IfOk result (λ after. Keeps (places_of huge.now) (places_of after)) }
     ensures err { IfErr result (IsLackFor (with_span (huge_first (page_of start))
         (huge_count (page_of start) (page_count length)) None (huge_at huge.now.runs))) }
 {
@@ -266,8 +280,9 @@ pub fn follows_in(state: &Option<PageState>) -> bool
 
 /// Pages of 2 MiB leave one set of nodes for another, if they are to.
 pub fn follow_huge(huge: &mut HugePages, follows: bool, old: &NodeMask, new: &NodeMask)
-    ensures { (memory : HugeMemory) → IsMemory huge.old memory
+    ensures follows { (memory : HugeMemory) → IsMemory huge.old memory
         → IsMemory huge.new (huge_followed follows old.now new.now memory) }
+    ensures keeps { Keeps (places_of huge.old.places) (places_of huge.new.places) }
 {
     if !follows {
         huge.rest();
@@ -319,37 +334,72 @@ fn judge_huge(space: &Space, node: u32, spot: Spot) -> Result<(), MoveRefusal>
     }
 }
 
-/// Moves the page of an address, in bytes, which has 2 MiB, to a node, as move_pages(2) does.
+/// Moves the page of an address, in bytes, which has 2 MiB, to a node, as move_pages(2) does, and
+/// tells what moved.
 ///
 /// # Errors
 /// The first of these that applies; nothing has changed: `NoSuchNode`, `NodesNotAllowed`,
 /// `NotPlaced`, `TooManyRuns`, `NoMemory`, as [`MoveRefusal`] says.
+pub fn huge_goes(
+    huge: &mut HugePlaces,
+    space: &Space,
+    address: u64,
+    node: u32,
+) -> Result<Moved, MoveRefusal>
+    ensures goes { HugeGoes huge.old result huge.new (ground_in space.now []) (huge_page address)
+        node }
+    ensures keeps { Keeps (places_of huge.old) (places_of huge.new) }
+    ensures unchanged { OnErr result (huge.new ≡ huge.old) }
+{
+    let page = address / HUGE_BYTES;
+    let spot = spot_of(huge, page);
+    if let Err(why) = judge_huge(space, node, spot) {
+        return Err(why);
+    }
+    match huge.move_page(page, node as u8) {
+        Ok(told) => {
+            // Tells the proof that the runs are few.
+            let _ = huge.runs();
+            Ok(told)
+        }
+        Err(why) => Err(move_lack(why)),
+    }
+}
+
+/// The same, of pages that tell what the last move did.
+///
+/// # Errors
+/// As [`huge_goes`].
 pub fn huge_move(
     huge: &mut HugePages,
     space: &Space,
     address: u64,
     node: u32,
 ) -> Result<(), MoveRefusal>
-    ensures { (memory : HugeMemory) → IsMemory huge.old memory → HugeMoves memory result huge.new
-        (ground_in space.now []) (huge_page address) node }
+    ensures moves { (memory : HugeMemory) → IsMemory huge.old memory → HugeMoves memory result
+        huge.new (ground_in space.now []) (huge_page address) node }
+    ensures keeps { Keeps (places_of huge.old.places) (places_of huge.new.places) }
 {
-    let page = address / HUGE_BYTES;
-    let spot = spot_of(&huge.places, page);
-    if let Err(why) = judge_huge(space, node, spot) {
-        return Err(why);
-    }
-    match huge.places.move_page(page, node as u8) {
+    match huge_goes(&mut huge.places, space, address, node) {
         Ok(told) => {
-            // Tells the proof that the runs are few.
-            let _ = huge.places.runs();
             huge.last = HugeLast::Nodes(told);
             Ok(())
         }
-        Err(why) => Err(move_lack(why)),
+        Err(why) => Err(why),
     }
 }
 
-/// The last move moved no page of 4 KiB.
+impl PageState {
+    /// The last move moved no page of 4 KiB.
+    pub fn rest(&mut self)
+        ensures { (lying : Lying) → LiesAs self.old lying
+            → LiesAs self.new (record lying { last = OfNodes still }) }
+    {
+        keep(&mut self.last, Last::Nodes(still()));
+    }
+}
+
+/// The last move moved no page of 4 KiB, where some are kept.
 pub fn rest_small(state: &mut Option<PageState>)
     ensures { (lying : Lying) → Lies state.old lying → is_some state.old ≡ true
         → Lies state.new (record lying { last = OfNodes still }) }
@@ -385,8 +435,9 @@ pub fn huge_sent(
     said: &Rebinding,
     toucher: Toucher,
 ) -> Result<(HugePlaces, Flows), NoMemory>
-    ensures { (memory : HugeMemory) → places_of huge.now ≡ memory.pages → IfOk result (λ done.
-        IsWalk (huge_walk_in space.now said.now toucher memory) done.0 done.1) }
+    ensures sent { (memory : HugeMemory) → places_of huge.now ≡ memory.pages → IfOk result
+        (λ done. IsWalk (huge_walk_in space.now said.now toucher memory) done.0 done.1) }
+    ensures keeps { IfOk result (λ done. Keeps (places_of huge.now) (places_of done.0)) }
 {
     let span = huge_span(said.start / PAGE_BYTES, page_count(said.length));
     let list = said.spec.mask();
@@ -412,11 +463,13 @@ pub fn huge_sent_from(
     said: &Rebinding,
     toucher: Toucher,
 ) -> Result<Option<(HugePlaces, Flows)>, NoMemory>
-    ensures { (memory : HugeMemory) (history : List Command) (kept : Kept)
+    ensures sent { (memory : HugeMemory) (history : List Command) (kept : Kept)
         → places_of huge.now ≡ memory.pages → StandsFor space.now history
         → refusal_of space.now.machine space.now.bounds history (command_of said.now) ≡ None
         → IfOk result (λ done. IsSomeAnd done (λ done. IsWalk
         (huge_walk (process_in space.now history kept) said.now toucher memory) done.0 done.1)) }
+    ensures keeps { IfOk result (λ done. IfSome done
+        (λ done. Keeps (places_of huge.now) (places_of done.0))) }
 {
     let Ok(found) = with_policy(alloc, space, said) else {
         return Err(NoMemory);
@@ -446,8 +499,10 @@ pub fn huge_populated(
     task: u32,
     cpu: u32,
 ) -> Result<(HugePlaces, HugeArrived), NoMemory>
-    ensures { (memory : HugeMemory) → places_of huge.now ≡ memory.pages → IfOk result (λ done.
-        IsTouch (touch_walk (ground_in space.now []) start length task cpu memory) done.0 done.1) }
+    ensures touched { (memory : HugeMemory) → places_of huge.now ≡ memory.pages → IfOk result
+        (λ done. IsTouch (touch_walk (ground_in space.now []) start length task cpu memory) done.0
+        done.1) }
+    ensures keeps { IfOk result (λ done. Keeps (places_of huge.now) (places_of done.0)) }
 {
     let span = huge_span(start / PAGE_BYTES, page_count(length));
     huge.populated(space, span.first, span.pages, task, cpu)

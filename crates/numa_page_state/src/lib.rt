@@ -19,6 +19,7 @@ pub mod huge;
 pub mod last;
 pub mod laws;
 pub mod lending;
+pub mod pooling;
 pub mod sending;
 mod shift;
 pub mod state;

@@ -1,5 +1,5 @@
 -- The parts of the pages so far.
-use Rattle.std.proofs.Common.{◌≡◌, ◌≤◌, ◌-◌, ℕ}
+use Rattle.std.proofs.Common.{◌≡◌, ◌≤◌, ◌+◌, ◌-◌, ℕ}
 use Rattle.numa_placed.specs.Spots.{spot_at}
 use Rattle.numa_placed.specs.declared.spot.Spot.TheVariants.{Nowhere}
 use Rattle.numa_huge.specs.Huge.{huge_at}
@@ -9,6 +9,10 @@ use Rattle.numa_page_state.proofs.beside.clear_parts.Given as goal
 abbrev pub invariant-loop-page : goal.invariant-loop-page
 invariant-loop-page l = record {
   rises : l.fn.span.first ≤ l.page;
-  spots : (part : ℕ) → spot_at l.placed part ≡ with_parts Nowhere (huge_at l.huge.runs) l.fn.span.first
-      (l.page - l.fn.span.first) (spot_at l.fn.placed) part;
+  high : l.page ≤ l.fn.span.first + l.fn.span.pages;
+  spots : (part : ℕ) → spot_at l.placed part ≡ with_parts Nowhere (huge_at l.huge.runs)
+      l.fn.span.first (l.page - l.fn.span.first) (spot_at l.fn.placed) part;
 }
+
+abbrev pub decreases-loop-page : goal.decreases-loop-page
+decreases-loop-page l = l.fn.span.first + l.fn.span.pages - l.page

@@ -12,3 +12,6 @@ unmapped-requires-clause-some c =
     (subst (λ (n : ℕ). has_huge (huge_at c.args.huge.now.runs) (huge_first at) n ≡ true)
     (sym (c.huge_span-span.ensures.pages ∙ ap (huge_count at) c.page_count.ensures.pages))
     c.requires)
+
+pub returns-clause-keeps : goal.returns-clause-keeps
+returns-clause-keeps c = c.unmapped.ensures.keeps

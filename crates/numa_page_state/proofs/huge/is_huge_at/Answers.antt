@@ -14,5 +14,5 @@ returns-in_default c memory stands =
 
 pub returns : goal.returns
 returns c memory stands =
-    c.is_some.ensures ∙ ap is_some (c.at.ensures ∙ at-some c.in-Some.kept memory c.args.address
+    c.is_huge_in.ensures ∙ ap is_some (at-some c.in-Some.kept memory c.args.address
     (subst (λ (kept : Option HugePages). StandsForHuge kept memory) c.in-Some.is stands))

@@ -9,8 +9,8 @@ use Rattle.numa_page_state.specs.Lying.{ground_in}
 use Rattle.numa_page_state.proofs.PartsTouched.{beside-denied, beside-done}
 use Rattle.numa_page_state.proofs.state.PageState.populate_beside.Goals as goal
 
-pub returns-in-Ok-touch_beside : goal.returns-in-Ok-touch_beside
-returns-in-Ok-touch_beside c memory is lying lies =
+pub returns-in-Ok-touch_beside-clause-does : goal.returns-in-Ok-touch_beside-clause-does
+returns-in-Ok-touch_beside-clause-does c memory is lying lies =
     let basis = ground_in c.args.space.now c.args.resident.now in
     let touched = subst (λ (huge : ℕ → Option HugeSpot). TouchesBeside c.in-Ok.placed
     c.args.self.now.rooms basis huge c.args.start c.args.length c.args.task c.args.cpu
@@ -32,8 +32,8 @@ returns-in-Ok-touch_beside c memory is lying lies =
     c.args.length c.args.task c.args.cpu lying)) (sym c.replace.ensures.after) so.1)
     refl refl refl
 
-pub returns-in-Err : goal.returns-in-Err
-returns-in-Err c memory is lying lies =
+pub returns-in-Err-clause-does : goal.returns-in-Err-clause-does
+returns-in-Err-clause-does c memory is lying lies =
     let basis = ground_in c.args.space.now c.args.resident.now in
     let touched = subst (λ (huge : ℕ → Option HugeSpot). TouchesBeside c.in-Ok.placed
     c.args.self.now.rooms basis huge c.args.start c.args.length c.args.task c.args.cpu

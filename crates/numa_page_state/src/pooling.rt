@@ -1,0 +1,90 @@
+//! Pools that are resized, and mappings of pages of 2 MiB that find too few, whoever asks; and the
+//! words in which calls about such pages are refused.
+ghost use Rattle.std.specs.Prelude.{◌≡◌, ◌≤◌, ◌<◌, ◌^◌, ◌&&◌, OnErr, OnOk, false, true};
+ghost use Rattle.std.specs.Result.{result_err};
+ghost use Rattle.numa_pools.specs.Pools.{lacks_pages, unreserved};
+ghost use Rattle.numa_pools.specs.Resize.{node_refusal, resized_node};
+ghost use Rattle.numa_page_state.specs.Pooling.{fault_cause, mapped_pages, place_cause};
+ghost use Rattle.numa_page_state.specs.Pooling.{pool_refusal};
+
+use numa_huge::HugePlaces;
+use numa_machine::{PageSize, PlaceRefusal};
+use numa_mask::{NodeId, NodeMask};
+use numa_pools::{PoolRefusal, Pools};
+use numa_requests::{HugeRefusal, PlacedRefusal};
+
+/// Why a pool isn't resized.
+pub fn pool_refusal(refusal: PoolRefusal) -> HugeRefusal
+    ensures { result ≡ pool_refusal refusal }
+{
+    match refusal {
+        PoolRefusal::NoSuchNode => HugeRefusal::NoSuchNode,
+        PoolRefusal::Unsure => HugeRefusal::Unsure,
+    }
+}
+
+/// Why a page isn't touched that has no list of nodes.
+pub fn place_cause(refusal: PlaceRefusal) -> HugeRefusal
+    ensures { result ≡ place_cause refusal }
+{
+    match refusal {
+        PlaceRefusal::BadCpu => HugeRefusal::BadCpu,
+        PlaceRefusal::Unmapped => HugeRefusal::Unmapped,
+    }
+}
+
+/// Why a page isn't touched though it has one.
+pub fn fault_cause(refusal: PlacedRefusal) -> HugeRefusal
+    ensures { result ≡ fault_cause refusal }
+{
+    match refusal {
+        PlacedRefusal::TooManyRuns => HugeRefusal::TooManyRuns,
+        _ => HugeRefusal::NoMemory,
+    }
+}
+
+/// How many pages of 2 MiB so many bytes take.
+pub fn mapped_pages(length: u64) -> u64
+    ensures { result ≡ mapped_pages length }
+{
+    PageSize::Huge.parts_in(length) / 512
+}
+
+/// Whether a mapping of so many pages finds too few, if it reserves them.
+pub fn lacks_if(pools: &Pools, reserves: bool, pages: u64, nodes: &NodeMask) -> bool
+    ensures lacks { result ≡ reserves && lacks_pages pools.now pages nodes.now }
+    ensures enough { result ≡ false → reserves ≡ true → pages ≤ unreserved pools.now }
+{
+    if !reserves {
+        return false;
+    }
+    pools.lacks(pages, nodes)
+}
+
+/// Makes the pool of a node have so many pages, whatever number says the node.
+///
+/// # Errors
+/// As [`Pools::resize_node`](numa_pools::Pools::resize_node). Then nothing has changed.
+pub fn resize_node(
+    places: &mut HugePlaces,
+    node: u32,
+    allowed: &NodeMask,
+    pages: u64,
+) -> Result<(), PoolRefusal>
+    requires { pages < 2 ^ 63 }
+    ensures refusal { result_err result ≡ node_refusal places.old.pools node pages }
+    ensures resized { OnOk result
+        (places.new.pools ≡ resized_node node allowed.now pages places.old.pools) }
+    ensures unchanged { OnErr result (places.new ≡ places.old) }
+    ensures runs { places.new.runs ≡ places.old.runs }
+{
+    if node > 255 {
+        // Tells the proof that nodes with memory are below 256.
+        let _ = places.pools().memory().weight();
+        return Err(PoolRefusal::NoSuchNode);
+    }
+    let Some(node) = NodeId::new(node as u8) else {
+        unreachable!()
+    };
+    places.resize_node(node, allowed, pages)
+}
