@@ -38,7 +38,7 @@ use Rattle.numa_run.specs.declared.running.Running.{Running}
 use Rattle.numa_run.proofs.Accepting.{Accepts, accepted-is, runs-both, runs-then, served}
 use Rattle.numa_run.proofs.Accepting.{starved-or, state_then}
 use Rattle.numa_run.proofs.Binds.{accepted-version}
-use Rattle.numa_run.proofs.Few.{sent-few, walk-few}
+use Rattle.numa_page_state.proofs.Few.{sent-few, walk-few}
 use Rattle.numa_run.proofs.Keeping.{kept-memory, kept-some}
 use Rattle.numa_run.proofs.Processes.{process-same, process_by}
 

@@ -22,12 +22,12 @@ use Rattle.numa_page_state.specs.Huge.{huge_at_address, huge_fault, huge_followe
 use Rattle.numa_page_state.specs.Huge.{huge_page, resizing_nodes, unmap_lack, unmapped_in}
 use Rattle.numa_script.specs.declared.huge_line.HugeLine.{HugeLine}
 use Rattle.numa_script.specs.declared.huge_line.HugeLine.TheVariants as huge
-use Rattle.numa_script.specs.declared.huge_line.HugeRefusal.TheVariants as because
+use Rattle.numa_requests.specs.declared.page_refusal.HugeRefusal.TheVariants as because
 use Rattle.numa_run.specs.HugeLines.{begun_on, fault_unless, fitting_outcome, huge_faulted}
 use Rattle.numa_run.specs.HugeLines.{huge_outcome, huge_so, lacking_outcome, lacks_huge}
-use Rattle.numa_run.specs.HugeLines.{map_outcome, mapped_first, mapped_pages, memory_on, pools_on}
-use Rattle.numa_run.specs.HugeLines.{most_said, refused_for, resize_outcome, resize_unless}
-use Rattle.numa_run.specs.HugeLines.{small_fault_outcome, small_faulted, with_pages, with_pools}
+use Rattle.numa_run.specs.HugeLines.{map_outcome, memory_on, most_said, pools_on, refused_for}
+use Rattle.numa_run.specs.HugeLines.{resize_outcome, resize_unless, small_fault_outcome}
+use Rattle.numa_run.specs.HugeLines.{small_faulted, with_pages, with_pools}
 use Rattle.numa_run.specs.Obeying.{any_astray, both_so, huge_unmap, lying_lack, lying_without}
 use Rattle.numa_run.specs.Obeying.{mems_where, sent_with, small_unmap, unmap_where, with_huge}
 use Rattle.numa_run.specs.PageLines.{both_populate, huge_move_outcome, huge_moved, migrate_where}
@@ -47,6 +47,7 @@ use Rattle.numa_requests.specs.declared.refusal.Refusal.{Refusal}
 use Rattle.numa_page_state.specs.Lying.{Lying, ground_of, with_spots}
 use Rattle.numa_page_state.specs.Outcomes.{Enough, Lack, followed, forgotten, has_stated}
 use Rattle.numa_page_state.specs.Outcomes.{is_starved, lack_of}
+use Rattle.numa_page_state.specs.Pooling.{mapped_first, mapped_pages}
 use Rattle.numa_page_state.specs.Sending.{asked_of, command_of, rebinding_in, sent_spots}
 use Rattle.numa_page_state.specs.Strict.{is_late, strict_binding_in}
 use Rattle.numa_page_state.specs.declared.binding.Binding.{Binding}

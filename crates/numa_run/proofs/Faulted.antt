@@ -20,18 +20,18 @@ use Rattle.numa_page_state.specs.Huge.{HugeFaults, fault_outcome, huge_at_addres
 use Rattle.numa_page_state.specs.Huge.{huge_page}
 use Rattle.numa_page_state.specs.Lying.{Ground, Lying, ground_in, ground_of}
 use Rattle.numa_page_state.specs.Outcomes.{Enough, Lack, Starved, is_starved}
+use Rattle.numa_page_state.specs.Pooling.{place_cause}
 use Rattle.numa_page_state.specs.Standing.{DoesAs, Lies, LiesAs}
 use Rattle.numa_page_state.specs.declared.state.PageState.{PageState}
 use Rattle.numa_script.specs.declared.huge_line.HugeLine.{HugeLine}
-use Rattle.numa_script.specs.declared.huge_line.HugeRefusal.TheVariants as because
+use Rattle.numa_requests.specs.declared.page_refusal.HugeRefusal.TheVariants as because
 use Rattle.numa_script.specs.declared.line.Line.TheVariants as line
 use Rattle.numa_script.specs.declared.reply.Reply.{Reply}
 use Rattle.numa_script.specs.declared.reply.Reply.TheVariants as reply
 use Rattle.numa_run.specs.Answering.{Replied, Served, Shown, with_reply}
 use Rattle.numa_run.specs.HugeLines.{begins, begun_on, begun_outcome, fault_reply, fault_unless}
-use Rattle.numa_run.specs.HugeLines.{huge_faulted, huge_outcome, memory_on, place_cause}
-use Rattle.numa_run.specs.HugeLines.{pools_on, refused_for, small_fault_outcome, small_faulted}
-use Rattle.numa_run.specs.HugeLines.{with_pages}
+use Rattle.numa_run.specs.HugeLines.{huge_faulted, huge_outcome, memory_on, pools_on, refused_for}
+use Rattle.numa_run.specs.HugeLines.{small_fault_outcome, small_faulted, with_pages}
 use Rattle.numa_run.specs.PageLines.{arrived_text}
 use Rattle.numa_run.specs.PoolTexts.{pools_line}
 use Rattle.numa_run.specs.Standing.{ComesTo, RunsAs, Serves, Takes}

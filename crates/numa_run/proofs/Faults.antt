@@ -31,10 +31,14 @@ use Rattle.numa_run.proofs.Taking.{IsUnready, arrived-is, left-fault, maps-same,
 use Rattle.numa_run.proofs.Taking.{question-same, text-same, told-unready, unready}
 
 -- a question is judged by what refuses it
-pub question-told : (old new : Running) (asked : Question) (cause : Option CoreRefusal)
-    → ((state : State) → RunsAs old state → (lack : Lack) × RunsAs new state
+abbrev pub IsCaused : Question → Option CoreRefusal → Running → Running → Type 0
+IsCaused asked cause new old = (state : State) → RunsAs old state → (lack : Lack)
+    × RunsAs new state
     × (cause ≡ question_cause (is_starved lack) (setup_of old.core).machine state.world.history
-    asked))
+    asked)
+
+pub question-told : (old new : Running) (asked : Question) (cause : Option CoreRefusal)
+    → IsCaused asked cause new old
     → (state : State) → RunsAs old state → (lack : Lack)
     × (option_map reply.Refused cause ≡ fault_of lack state (line.Question asked))
     × RunsAs new state

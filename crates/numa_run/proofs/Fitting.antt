@@ -25,15 +25,16 @@ use Rattle.numa_huge.specs.declared.pages.HugePages.{HugePages}
 use Rattle.numa_huge.specs.declared.spot.HugeSpot.{HugeSpot}
 use Rattle.numa_page_state.specs.Huge.{mapping_nodes}
 use Rattle.numa_page_state.specs.Outcomes.{Enough, Lack, Starved, is_starved}
+use Rattle.numa_page_state.specs.Pooling.{mapped_first, mapped_pages}
 use Rattle.numa_page_state.specs.Strict.{is_late}
 use Rattle.numa_script.specs.Replies.{reply_to}
-use Rattle.numa_script.specs.declared.huge_line.HugeRefusal.TheVariants as because
+use Rattle.numa_requests.specs.declared.page_refusal.HugeRefusal.TheVariants as because
 use Rattle.numa_script.specs.declared.reply.Reply.{Reply}
 use Rattle.numa_script.specs.declared.reply.Reply.TheVariants as reply
 use Rattle.numa_run.specs.Answering.{Served, with_reply}
 use Rattle.numa_run.specs.HugeLines.{fitting_outcome, huge_so, lacking_outcome, lacks_huge}
-use Rattle.numa_run.specs.HugeLines.{map_outcome, mapped_first, mapped_pages, memory_on, pools_on}
-use Rattle.numa_run.specs.HugeLines.{refused_for, with_pages, with_pools}
+use Rattle.numa_run.specs.HugeLines.{map_outcome, memory_on, pools_on, refused_for, with_pages}
+use Rattle.numa_run.specs.HugeLines.{with_pools}
 use Rattle.numa_run.specs.Obeying.{accepted_outcome, command_reply, unless_pages}
 use Rattle.numa_run.specs.Standing.{RunsAs, Serves}
 use Rattle.numa_run.specs.States.{State}

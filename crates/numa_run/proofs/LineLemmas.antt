@@ -1,6 +1,8 @@
 -- What serving a line of each kind comes to.
 use Rattle.std.specs.Prelude.{◌≡◌, ℕ, Bool, true, false, Option, Some}
 use Rattle.std.specs.Prelude.{None, List, [], refl, Result, Ok, Err, if◌then◌else◌}
+use Rattle.std.proofs.Common.{Box}
+use Rattle.std.specs.Global.{Global}
 use Rattle.std.proofs.Common.{sym, ◌∙◌, ap, subst}
 use Rattle.numa_mask.specs.declared.list.ListFault.{ListFault}
 use Rattle.numa_machine.specs.Machine.{Hardware}
@@ -167,12 +169,13 @@ same_fault settings state lack said memory stands = λ i. described_fault lack s
     (stands.1 i) (stands.2 i)
 
 -- a machine that is ready
-pub first_ready : (settings : Settings) (said : MachineLine) (memory : ℕ) (running : Running)
-    → said.memory ≡ Ok memory → described_fault Enough said memory settings.rules settings.cpus
+pub first_ready : (settings : Settings) (said : MachineLine) (memory : ℕ)
+    (running : Box Running Global) → said.memory ≡ Ok memory → described_fault Enough said memory settings.rules settings.cpus
     ≡ None
-    → setup_of running.core ≡ setup_with (described said memory settings.rules settings.cpus)
-    settings.limits → LeadsTo [] running.core → running.resident ≡ [] → running.pages ≡ None
-    → running.huge ≡ None
+    → setup_of running.value.core ≡ setup_with
+    (described said memory settings.rules settings.cpus) settings.limits
+    → LeadsTo [] running.value.core → running.value.resident ≡ [] → running.value.pages ≡ None
+    → running.value.huge ≡ None
     → Replies settings None (line.Machine said) (Some reply.Ready) settings (Some running)
 first_ready settings said memory running named sound setup leads resident pages huge =
     λ state stands.
@@ -191,7 +194,7 @@ first_ready settings said memory running named sound setup leads resident pages 
     (same_fault settings state Enough said memory stands ∙ sound) in
     let same : hardware ≡ described said memory settings.rules settings.cpus =
     λ i. described said memory (stands.1 i) (stands.2 i) in
-    let reached : RunsAs running ready = record {
+    let reached : RunsAs running.value ready = record {
       core = record {
         bounds = stands.0 ∙ sym (ap (λ s. s.bounds) setup);
         machine = ap Some (same ∙ sym (ap (λ s. s.machine) setup));
@@ -204,7 +207,7 @@ first_ready settings said memory running named sound setup leads resident pages 
     } in (
       Enough,
       sym (ap (λ r. reply_in r.answer) is),
-      subst (λ (r : Served). RunsAs running r.state)
+      subst (λ (r : Served). RunsAs running.value r.state)
           (sym is) reached,
     )
 

@@ -12,7 +12,7 @@ use Rattle.numa_huge.specs.declared.pages.HugePages.{HugePages}
 use Rattle.numa_page_state.specs.Huge.{has_huge_in, huge_at_address}
 use Rattle.numa_page_state.specs.Huge.{huge_followed, huge_rested}
 use Rattle.numa_page_state.specs.Outcomes.{Enough, Lack}
-use Rattle.numa_script.specs.declared.huge_line.HugeRefusal.TheVariants as because
+use Rattle.numa_requests.specs.declared.page_refusal.HugeRefusal.TheVariants as because
 use Rattle.numa_script.specs.declared.page_line.PageLine.TheVariants as page
 use Rattle.numa_script.specs.declared.reply.Reply.{Reply}
 use Rattle.numa_script.specs.declared.reply.Reply.TheVariants as reply
@@ -26,7 +26,8 @@ use Rattle.numa_run.specs.Standing.{Changes, RunsAs, Serves}
 use Rattle.numa_run.specs.States.{State}
 use Rattle.numa_run.specs.declared.running.Running.{Running}
 use Rattle.numa_run.proofs.Accepting.{served, serves-by}
-use Rattle.numa_run.proofs.Few.{changed-few, leave-few}
+use Rattle.numa_page_state.proofs.Few.{leave-few}
+use Rattle.numa_run.proofs.Few.{changed-few}
 use Rattle.numa_run.proofs.Keeping.{huge-so}
 use Rattle.numa_run.proofs.PageChanges.{changed-huge}
 

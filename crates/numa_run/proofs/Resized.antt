@@ -1,28 +1,26 @@
 -- What lines that resize pools make of a running machine.
-use Rattle.std.proofs.Common.{◌≡◌, ℕ, ◌<◌, ◌≤◌, ◌^◌, Bool, true, false, Option, Some, None, Result}
+use Rattle.std.proofs.Common.{◌≡◌, ℕ, Bool, true, false, Option, Some, None, Result}
 use Rattle.std.proofs.Common.{List, Ok, Err, sym, ap, subst, ◌∙◌}
 use Rattle.std.specs.Prelude.{if◌then◌else◌, nat_le}
 use Rattle.std.specs.Result.{result_err}
 use Rattle.numa_machine.specs.Machine.{Hardware}
-use Rattle.numa_mask.proofs.Images.{has-above}
-use Rattle.numa_mask.specs.NodeSet.{has}
 use Rattle.numa_mode.specs.Policy.{PolicyRecord}
 use Rattle.numa_requests.specs.declared.command.Command.{Command}
 use Rattle.numa_space.specs.Policies.{task_record}
 use Rattle.numa_space.specs.Standing.{StandsFor}
 use Rattle.numa_pools.specs.Pools.{PoolCounts}
-use Rattle.numa_pools.specs.Resize.{is_unsure, node_refusal, resized_node}
+use Rattle.numa_pools.specs.Resize.{node_refusal, resized_node}
 use Rattle.numa_pools.specs.declared.refusal.PoolRefusal.{PoolRefusal}
-use Rattle.numa_pools.specs.declared.refusal.PoolRefusal.TheVariants as pool
 use Rattle.numa_huge.specs.Huge.{HugeLying}
 use Rattle.numa_huge.specs.declared.pages.HugePages.{HugePages}
 use Rattle.numa_page_state.specs.Huge.{resizing_nodes}
 use Rattle.numa_page_state.specs.Outcomes.{Enough, Lack}
-use Rattle.numa_script.specs.declared.huge_line.HugeRefusal.TheVariants as because
+use Rattle.numa_page_state.specs.Pooling.{pool_refusal}
+use Rattle.numa_requests.specs.declared.page_refusal.HugeRefusal.TheVariants as because
 use Rattle.numa_script.specs.declared.reply.Reply.TheVariants as reply
 use Rattle.numa_run.specs.Answering.{Served, Shown}
-use Rattle.numa_run.specs.HugeLines.{pool_refusal, pools_on, refused_for, resize_for_outcome}
-use Rattle.numa_run.specs.HugeLines.{resize_outcome, resize_unless}
+use Rattle.numa_run.specs.HugeLines.{pools_on, refused_for, resize_for_outcome, resize_outcome}
+use Rattle.numa_run.specs.HugeLines.{resize_unless}
 use Rattle.numa_run.specs.PageLines.{arrived_text}
 use Rattle.numa_run.specs.PoolTexts.{pools_line}
 use Rattle.numa_run.specs.Standing.{ComesTo, RunsAs, Serves, Shows}
@@ -64,16 +62,6 @@ comes-by old new taken.Moved serve other is comes = absurd comes
 comes-by old new taken.Rooms serve other is comes = absurd comes
 
 -- ---- one node
-
-pub some-same : (one other : ℕ) → Some one ≡ Some other → one ≡ other
-some-same one other is = cc
-
--- no node above 255 has memory
-pub none-above : (pools : PoolCounts) (node pages : ℕ) → pools.memory < 2 ^ 256 → 256 ≤ node
-    → Some pool.NoSuchNode ≡ node_refusal pools node pages
-none-above pools node pages few far = ap (λ (b : Bool). if b
-    then if is_unsure pools node then Some pool.Unsure else None
-    else Some pool.NoSuchNode) (sym (has-above pools.memory node few far))
 
 -- what a call tells of it
 pub free-of : {refusal : Option PoolRefusal} (result : Result (Unit {0}) PoolRefusal)

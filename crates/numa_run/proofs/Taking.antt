@@ -262,6 +262,11 @@ module _ {W : Type 0} (contents : W → Option (List ℕ)) (output output_then :
       → IsAnswered (Stands settings None) (line.Pages (Ok asked)) state
   text-unready settings asked = unready-written settings (line.Pages (Ok asked)) (λ state. refl)
 
+  -- it told this of each state that it stands for
+  abbrev pub Tells : (Hardware → State → List ℕ) → Running → Type 0
+  Tells text running = (state : State) → RunsAs running state
+      → Said contents output output_then (text (setup_of running.core).machine state)
+
   -- the ranges were listed
   pub maps-written : (running : Running) (task : ℕ)
       → ((state : State) → RunsAs running state → Said contents output output_then

@@ -1,12 +1,10 @@
 -- What lines about pages of 2 MiB, and about first touches, are answered, and the state after them.
 -- `lack` says what a line lacked while it was served.
-use Rattle.std.specs.Prelude.{ℕ, ◌/◌, ◌&&◌, Bool, true, false, not, Option, Some, None, Result}
+use Rattle.std.specs.Prelude.{ℕ, ◌&&◌, Bool, true, false, not, Option, Some, None, Result}
 use Rattle.std.specs.Prelude.{Ok, Err, is_some, min, nat_le, if◌then◌else◌}
 use Rattle.numa_machine.specs.Machine.{Hardware}
-use Rattle.numa_machine.specs.Sizes.{whole}
 use Rattle.numa_machine.specs.declared.page_size.PageSize.TheVariants.{Huge}
 use Rattle.numa_machine.specs.declared.refusal.PlaceRefusal.{PlaceRefusal}
-use Rattle.numa_machine.specs.declared.refusal.PlaceRefusal.TheVariants as place
 use Rattle.numa_requests.specs.declared.command.Command.{Command}
 use Rattle.numa_requests.specs.declared.command.Command.TheVariants.{Map}
 use Rattle.numa_requests.specs.declared.page_refusal.PlacedRefusal.{PlacedRefusal}
@@ -16,21 +14,22 @@ use Rattle.numa_space.specs.Lists.{node_list}
 use Rattle.numa_space.specs.Policies.{allowed_nodes, task_record}
 use Rattle.numa_space.specs.Refusals.{refusal_of}
 use Rattle.numa_space.specs.Standing.{place_refusal_of}
-use Rattle.numa_pools.specs.Pools.{PoolCounts, lacks_pages, refusing}
+use Rattle.numa_pools.specs.Pools.{PoolCounts, refusing}
 use Rattle.numa_pools.specs.Resize.{node_refusal, resized, resized_node}
 use Rattle.numa_pools.specs.declared.refusal.PoolRefusal.{PoolRefusal}
-use Rattle.numa_pools.specs.declared.refusal.PoolRefusal.TheVariants as pool
 use Rattle.numa_huge.specs.Huge.{HugeLying, fits, fresh_spot, lack_for, mapping, with_span}
 use Rattle.numa_huge.specs.Moves.{HugeMemory, memory_or}
 use Rattle.numa_page_state.specs.Huge.{fault_outcome, huge_at_address, huge_fault, huge_page}
-use Rattle.numa_page_state.specs.Huge.{mapping_nodes, resizing_nodes}
+use Rattle.numa_page_state.specs.Huge.{resizing_nodes}
 use Rattle.numa_page_state.specs.Lying.{Lying, ground_of}
 use Rattle.numa_page_state.specs.Outcomes.{Enough, Lack, is_starved}
+use Rattle.numa_page_state.specs.Pooling.{fault_cause, lacks_huge_in, mapped_first, mapped_pages}
+use Rattle.numa_page_state.specs.Pooling.{place_cause, pool_refusal}
 use Rattle.numa_page_state.specs.Strict.{is_late}
 use Rattle.numa_script.specs.declared.huge_line.HugeLine.{HugeLine}
 use Rattle.numa_script.specs.declared.huge_line.HugeLine.TheVariants as huge
-use Rattle.numa_script.specs.declared.huge_line.HugeRefusal.{HugeRefusal}
-use Rattle.numa_script.specs.declared.huge_line.HugeRefusal.TheVariants as because
+use Rattle.numa_requests.specs.declared.page_refusal.HugeRefusal.{HugeRefusal}
+use Rattle.numa_requests.specs.declared.page_refusal.HugeRefusal.TheVariants as because
 use Rattle.numa_script.specs.declared.reply.Reply.{Reply}
 use Rattle.numa_script.specs.declared.reply.Reply.TheVariants as reply
 use Rattle.numa_run.specs.Answering.{Answer, Replied, Served, Shown, with_reply, with_text}
@@ -84,10 +83,6 @@ resize_outcome machine nodes pages state = pools_shown machine (with_pools
     (resized nodes (allowed_nodes machine state.world.history) pages (pools_on machine state))
     machine state)
 
-abbrev pub pool_refusal : PoolRefusal → HugeRefusal
-pool_refusal pool.NoSuchNode = because.NoSuchNode
-pool_refusal pool.Unsure = because.Unsure
-
 abbrev pub resize_unless : Option PoolRefusal → Hardware → ℕ → ℕ → State → Served
 resize_unless (Some why) machine node pages state = refused_for (pool_refusal why) state
 resize_unless None machine node pages state = pools_shown machine (with_pools
@@ -103,18 +98,10 @@ resize_for_outcome machine pages task cpu state =
 
 -- ---- map START LENGTH OFFSET huge TASK [noreserve]
 
-abbrev pub mapped_first : ℕ → ℕ
-mapped_first start = start / 2097152
-
-abbrev pub mapped_pages : ℕ → ℕ
-mapped_pages bytes = whole Huge bytes / 2097152
-
 -- a mapping that reserves its pages finds too few
 abbrev pub lacks_huge : Hardware → ℕ → ℕ → Bool → State → Bool
-lacks_huge machine bytes task reserves state = reserves
-    && lacks_pages (pools_on machine state) (mapped_pages bytes)
-    (mapping_nodes (task_record machine state.world.history task)
-    (allowed_nodes machine state.world.history))
+lacks_huge machine bytes task reserves state = lacks_huge_in machine state.world.history
+    (pools_on machine state) bytes task reserves
 
 -- then the first cause against the command is answered, where it stands before the limits and
 -- lack of memory; else that it finds too few, and nothing is mapped
@@ -152,14 +139,6 @@ map_outcome lack machine start bytes offset task reserves state =
     (Map start bytes offset Huge)
 
 -- ---- fault TASK ADDR CPU
-
-abbrev pub place_cause : PlaceRefusal → HugeRefusal
-place_cause place.BadCpu = because.BadCpu
-place_cause place.Unmapped = because.Unmapped
-
-abbrev pub fault_cause : PlacedRefusal → HugeRefusal
-fault_cause cause.TooManyRuns = because.TooManyRuns
-fault_cause _ = because.NoMemory
 
 -- the node where the page lies then, or what there is where none gives it
 abbrev pub fault_reply : HugeRefusal → Result (Option ℕ) PlacedRefusal → Reply

@@ -20,7 +20,7 @@ use Rattle.numa_page_state.specs.Outcomes.{Lack, at_outcome, is_starved, migrate
 use Rattle.numa_page_state.specs.Outcomes.{move_outcome, room_outcome, rooms_of}
 use Rattle.numa_page_state.specs.Touching.{populate_outcome}
 use Rattle.numa_page_state.specs.declared.shift.Shift.{Shift}
-use Rattle.numa_script.specs.declared.huge_line.HugeRefusal.TheVariants as because
+use Rattle.numa_requests.specs.declared.page_refusal.HugeRefusal.TheVariants as because
 use Rattle.numa_script.specs.declared.page_line.PageLine.{PageLine}
 use Rattle.numa_script.specs.declared.page_line.PageLine.TheVariants as page
 use Rattle.numa_script.specs.declared.policy.WordError.TheVariants as word_fault

@@ -1,5 +1,6 @@
 -- Which states a running machine stands for, and what it does with lines.
-use Rattle.std.specs.Prelude.{◌≡◌, ℕ, Bool, true, List, Option, Some, None, Result, Ok, Err}
+use Rattle.std.specs.Prelude.{◌≡◌, ℕ, Bool, Box, true, List, Option, Some, None, Result, Ok, Err}
+use Rattle.std.specs.Global.{Global}
 use Rattle.numa_machine.specs.Machine.{Hardware}
 use Rattle.numa_requests.specs.declared.page_refusal.PlacedRefusal.{PlacedRefusal}
 use Rattle.numa_requests.specs.declared.page_refusal.PlacedRefusal.TheVariants.{NoMemory}
@@ -53,11 +54,11 @@ pub record RunsAs (running : Running) (state : State) : Type 0 where
 
 -- without a running machine the limits, the rules and the nodes with CPUs are those of the machine
 -- to come
-abbrev pub Stands : Settings → Option Running → State → Type 0
+abbrev pub Stands : Settings → Option (Box Running Global) → State → Type 0
 Stands settings None state =
     (state.bounds ≡ settings.limits) × (state.rules ≡ settings.rules)
     × (state.cpus ≡ settings.cpus) × (state.machine ≡ None)
-Stands settings (Some running) state = RunsAs running state
+Stands settings (Some running) state = RunsAs running.value state
 
 -- the state, with what the line made of its world and placed pages
 abbrev pub state_with : State → Outcome → State
@@ -135,8 +136,8 @@ Populates old huge result new huge_then outcome = (memory : HugeMemory) (lying :
     → (result ≡ Err NoMemory) × (new ≡ old) × (huge_then ≡ huge))
 
 -- the line has the reply that the definition says, and the state that it says is reached
-abbrev pub Replies : Settings → Option Running → Line → Option Reply → Settings → Option Running
-    → Type 0
+abbrev pub Replies : Settings → Option (Box Running Global) → Line → Option Reply → Settings
+    → Option (Box Running Global) → Type 0
 Replies settings running said answer settings_then running_then =
     (state : State) → Stands settings running state
     → (lack : Lack) × (answer ≡ reply_of lack state said)

@@ -1,70 +1,40 @@
 //! Lines about pages of 2 MiB, and about first touches, of a running machine.
-ghost use Rattle.std.specs.Prelude.{◌≡◌, ◌≤◌, ◌<◌, ◌^◌, ◌&&◌, IsSomeAnd, OnErr, OnOk, false};
-ghost use Rattle.std.specs.Prelude.{is_some, true};
+ghost use Rattle.std.specs.Prelude.{◌≡◌, ◌≤◌, ◌<◌, ◌^◌, IsSomeAnd, OnErr, OnOk, is_some, true};
 ghost use Rattle.std.specs.Result.{result_err};
 ghost use Rattle.numa_huge.specs.Huge.{huge_at};
 ghost use Rattle.numa_page_state.specs.Huge.{HugeFaults, huge_page};
 ghost use Rattle.numa_space.specs.History.{page_of};
 ghost use Rattle.numa_space.specs.Standing.{place_refusal_of};
-ghost use Rattle.numa_pools.specs.Pools.{lacks_pages, refusing, unreserved};
+ghost use Rattle.numa_pools.specs.Pools.{refusing, unreserved};
 ghost use Rattle.numa_pools.specs.Resize.{node_refusal, resized, resized_node};
-ghost use Rattle.numa_run.specs.HugeLines.{begins, begun_on, begun_outcome, fault_cause};
-ghost use Rattle.numa_run.specs.HugeLines.{fault_reply, fault_unless, fitting_outcome};
-ghost use Rattle.numa_run.specs.HugeLines.{lacking_outcome, map_outcome, mapped_pages};
-ghost use Rattle.numa_run.specs.HugeLines.{place_cause, pool_refusal, pools_on};
-ghost use Rattle.numa_run.specs.HugeLines.{resize_for_outcome, resize_outcome, resize_unless};
-ghost use Rattle.numa_run.specs.HugeLines.{small_fault_outcome};
+ghost use Rattle.numa_run.specs.HugeLines.{begins, begun_on, begun_outcome, fault_reply};
+ghost use Rattle.numa_run.specs.HugeLines.{fault_unless, fitting_outcome, lacking_outcome};
+ghost use Rattle.numa_run.specs.HugeLines.{map_outcome, pools_on, resize_for_outcome};
+ghost use Rattle.numa_run.specs.HugeLines.{resize_outcome, resize_unless, small_fault_outcome};
 ghost use Rattle.numa_run.specs.Standing.{ComesTo, RunsAs, Serves, Takes};
 ghost use Rattle.numa_script.specs.declared.line.Line.{Line};
 
 use crate::obeying::{accept_reply, command_reply};
 use crate::running::{Running, Taken};
 use numa_huge::HugePages;
-use numa_machine::{PageSize, PlaceRefusal};
-use numa_mask::{NodeId, NodeMask};
+use numa_machine::PageSize;
+use numa_mask::NodeMask;
 use numa_page_state::huge::{huge_fault, is_huge_at, mapping_nodes, resizing_nodes};
 use numa_page_state::is_late_in;
+use numa_page_state::pooling::{
+    fault_cause, lacks_if, mapped_pages, place_cause, pool_refusal, resize_node,
+};
 use numa_page_state::state::begins_starved;
-use numa_pools::{PoolRefusal, Pools};
-use numa_requests::{Command, PAGE_BYTES, PlacedRefusal};
-use numa_script::{HugeLine, HugeRefusal, Reply};
+use numa_pools::PoolRefusal;
+use numa_requests::{Command, HugeRefusal, PAGE_BYTES, PlacedRefusal};
+use numa_script::{HugeLine, Reply};
 use std::alloc::Global;
 
 /// The most pages that a line says.
-const MOST_PAGES: u64 = (1 << 63) - 1;
-
-/// Why a pool isn't resized.
-fn pool_refusal(refusal: PoolRefusal) -> HugeRefusal
-    ensures { result ≡ pool_refusal refusal }
-{
-    match refusal {
-        PoolRefusal::NoSuchNode => HugeRefusal::NoSuchNode,
-        PoolRefusal::Unsure => HugeRefusal::Unsure,
-    }
-}
-
-/// Why a page isn't touched that has no list of nodes.
-fn place_cause(refusal: PlaceRefusal) -> HugeRefusal
-    ensures { result ≡ place_cause refusal }
-{
-    match refusal {
-        PlaceRefusal::BadCpu => HugeRefusal::BadCpu,
-        PlaceRefusal::Unmapped => HugeRefusal::Unmapped,
-    }
-}
-
-/// Why a page isn't touched though it has one.
-fn fault_cause(refusal: PlacedRefusal) -> HugeRefusal
-    ensures { result ≡ fault_cause refusal }
-{
-    match refusal {
-        PlacedRefusal::TooManyRuns => HugeRefusal::TooManyRuns,
-        _ => HugeRefusal::NoMemory,
-    }
-}
+pub const MOST_PAGES: u64 = (1 << 63) - 1;
 
 /// The reply to `fault`; where no node gives the page, this is told.
-fn fault_reply(none: HugeRefusal, done: Result<Option<u8>, PlacedRefusal>) -> Reply
+pub fn fault_reply(none: HugeRefusal, done: Result<Option<u8>, PlacedRefusal>) -> Reply
     ensures { result ≡ fault_reply none done }
 {
     match done {
@@ -72,24 +42,6 @@ fn fault_reply(none: HugeRefusal, done: Result<Option<u8>, PlacedRefusal>) -> Re
         Ok(None) => Reply::HugeRefused(none),
         Err(why) => Reply::HugeRefused(fault_cause(why)),
     }
-}
-
-/// How many pages of 2 MiB so many bytes take.
-fn mapped_pages(length: u64) -> u64
-    ensures { result ≡ mapped_pages length }
-{
-    PageSize::Huge.parts_in(length) / 512
-}
-
-/// Whether a mapping of so many pages finds too few, if it reserves them.
-fn lacks_if(pools: &Pools, reserves: bool, pages: u64, nodes: &NodeMask) -> bool
-    ensures lacks { result ≡ reserves && lacks_pages pools.now pages nodes.now }
-    ensures enough { result ≡ false → reserves ≡ true → pages ≤ unreserved pools.now }
-{
-    if !reserves {
-        return false;
-    }
-    pools.lacks(pages, nodes)
 }
 
 /// Makes the pools of these nodes have so many pages in all.
@@ -120,15 +72,7 @@ fn resize_node_kept(
     ensures unchanged { OnErr result (kept.new ≡ kept.old) }
     ensures runs { kept.new.places.runs ≡ kept.old.places.runs }
 {
-    if node > 255 {
-        // Tells the proof that nodes with memory are below 256.
-        let _ = kept.places.pools().memory().weight();
-        return Err(PoolRefusal::NoSuchNode);
-    }
-    let Some(node) = NodeId::new(node as u8) else {
-        unreachable!()
-    };
-    kept.places.resize_node(node, allowed, pages)
+    resize_node(&mut kept.places, node, allowed, pages)
 }
 
 /// A mapping found too few pages.

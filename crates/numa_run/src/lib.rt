@@ -4,7 +4,7 @@
 pub mod arrived;
 pub mod binding;
 mod build;
-mod huge;
+pub mod huge;
 pub mod judging;
 pub mod listing;
 pub mod moved;

@@ -236,7 +236,7 @@ fn say_both_counts<W: Write>(output: &mut Watched<W>, version: u64, last: &Last,
 }
 
 /// Writes what the last move of pages of both sizes did, at a version.
-fn say_added<W: Write>(output: &mut Watched<W>, version: u64, last: &Last, huge: &HugeLast)
+pub fn say_added<W: Write>(output: &mut Watched<W>, version: u64, last: &Last, huge: &HugeLast)
     ensures { Said W.contents output.old output.new (told_line version
         (moved_last (last_of last.now) + moved_of huge.now)
         (left_last (last_of last.now) + left_of huge.now) (all_flows_text

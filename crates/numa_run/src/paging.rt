@@ -25,8 +25,8 @@ use numa_page_state::huge::{
 };
 use numa_page_state::state::begins_starved;
 use numa_page_state::{PageState, Shift};
-use numa_requests::{MoveRefusal, PAGE_BYTES, PlacedRefusal};
-use numa_script::{HugeRefusal, PageLine, Reply, WordError};
+use numa_requests::{HugeRefusal, MoveRefusal, PAGE_BYTES, PlacedRefusal};
+use numa_script::{PageLine, Reply, WordError};
 use numa_space::Space;
 use std::alloc::Global;
 

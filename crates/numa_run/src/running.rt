@@ -1,6 +1,6 @@
 //! Running machines.
 ghost use Rattle.std.specs.Prelude.{◌≡◌, Bool, List, [], None, Option, Some, true, false, length};
-ghost use Rattle.std.specs.Prelude.{MatchResult};
+ghost use Rattle.std.specs.Prelude.{IfOk, MatchResult};
 ghost use Rattle.numa_lines.specs.Written.{Said};
 ghost use Rattle.numa_core.specs.Standing.{setup_of};
 ghost use Rattle.numa_space.specs.Standing.{StandsFor};
@@ -36,6 +36,7 @@ use crate::questions::{fault_at, say_by_plan, say_place_in};
 use numa_core::Core;
 use numa_huge::HugePages;
 use numa_lines::Watched;
+use numa_machine::NoMemory;
 use numa_maps::{RecordRefusal, Resident};
 use numa_page_state::arrived::untouched;
 use numa_page_state::huge::has_huge_in;
@@ -43,10 +44,10 @@ use numa_page_state::state::is_there;
 use numa_page_state::{Arrived, PageState};
 use numa_placed::Rooms;
 use numa_pools::Pools;
-use numa_requests::{CoreRefusal, CoreReply, Event, Placement, Request};
+use numa_requests::{CoreRefusal, CoreReply, Event, HugeRefusal, Placement, Request};
 use numa_script::commands::empty_bind;
 use numa_script::tell::{say_ranges, say_starved};
-use numa_script::{HugeRefusal, Line, Question, Reply, Win, WordError, Work};
+use numa_script::{Line, Question, Reply, Win, WordError, Work};
 use std::alloc::Global;
 use std::io::Write;
 
@@ -191,7 +192,7 @@ pub(crate) struct Running {
 
 impl Running {
     /// A machine with no page placed.
-    pub fn new(alloc: Global, core: Core) -> Running
+    fn new(alloc: Global, core: Core) -> Running
         ensures core { result.core ≡ core }
         ensures resident { result.resident ≡ [] }
         ensures pages { result.pages ≡ None }
@@ -202,6 +203,22 @@ impl Running {
             resident: Resident::new(alloc),
             pages: None,
             huge: None,
+        }
+    }
+
+    /// The same, on the heap.
+    ///
+    /// # Errors
+    /// `NoMemory`: there is no memory for it.
+    pub fn ready(alloc: Global, core: Core) -> Result<Box<Running>, NoMemory>
+        ensures core { IfOk result (λ made. made.value.core ≡ core) }
+        ensures resident { IfOk result (λ made. made.value.resident ≡ []) }
+        ensures pages { IfOk result (λ made. made.value.pages ≡ None) }
+        ensures huge { IfOk result (λ made. made.value.huge ≡ None) }
+    {
+        match Box::new(alloc, Running::new(alloc, core)) {
+            Ok(made) => Ok(made),
+            Err(_) => Err(NoMemory),
         }
     }
 

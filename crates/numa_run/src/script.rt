@@ -1,5 +1,7 @@
 //! Running scripts.
 ghost use Rattle.std.specs.Prelude.{◌≡◌, ◌⊎◌, ℕ, Option, None, Some, Ok, MatchOption, false};
+ghost use Rattle.std.specs.Prelude.{is_some};
+ghost use Rattle.numa_machine.specs.Machine.{Hardware};
 ghost use Rattle.numa_page_state.specs.Lying.{nothing};
 ghost use Rattle.numa_page_state.specs.Standing.{LiesAs};
 ghost use Rattle.numa_run.specs.Answers.{State, own_line, start, start_by};
@@ -27,10 +29,10 @@ use std::io::Write;
 const WORKERS: u32 = 4;
 
 /// A running script: the limits, the rules and the nodes with CPUs of the machine to come, and the
-/// machine once it is ready.
+/// machine once it is ready, which lies on the heap, since a script is handed on by value.
 pub struct Script {
     pub(crate) settings: Settings,
-    pub(crate) running: Option<Running>,
+    pub(crate) running: Option<Box<Running>>,
 }
 
 // (By hand, so that it is proved here alone: a derived one is proved in each crate that drops.)
@@ -72,7 +74,7 @@ impl Script {
         ensures { (state : State) → ScriptStandsFor self.now state
             → MatchOption result (state.machine ≡ None) (λ core. IsCoreIn core.now state) }
     {
-        let running = self.running.as_ref()?;
+        let running = self.running.as_deref()?;
         Some(&running.core)
     }
 
@@ -81,7 +83,7 @@ impl Script {
         ensures { (state : State) → ScriptStandsFor self.now state
             → MatchOption result (state.machine ≡ None) (λ kept. IsResidentIn kept.now state) }
     {
-        let running = self.running.as_ref()?;
+        let running = self.running.as_deref()?;
         Some(&running.resident)
     }
 
@@ -92,8 +94,19 @@ impl Script {
             → MatchOption result ((state.machine ≡ None) ⊎ (state.lying ≡ nothing))
             (λ pages. LiesAs pages.now state.lying) }
     {
-        let running = self.running.as_ref()?;
+        let running = self.running.as_deref()?;
         running.pages.as_ref()
+    }
+
+    /// Whether pages of 2 MiB are kept, as a line said that is about them.
+    pub fn keeps_huge(&self) -> bool
+        ensures { (state : State) (machine : Hardware) → ScriptStandsFor self.now state
+            → state.machine ≡ Some machine → result ≡ is_some state.huge }
+    {
+        match &self.running {
+            Some(running) => running.huge.is_some(),
+            None => false,
+        }
     }
 
     /// Carries out a line. Its answer is still to be written ([`Script::write`]) or judged
@@ -348,9 +361,13 @@ impl Script {
             Ok(machine) => machine,
             Err(fault) => return Reply::BadMachine(fault),
         };
-        match Core::new(alloc, machine, self.settings.limits, WORKERS) {
-            Ok(core) => {
-                drop(self.running.replace(Running::new(alloc, core)));
+        let core = match Core::new(alloc, machine, self.settings.limits, WORKERS) {
+            Ok(core) => core,
+            Err(_) => return Reply::BadMachine(MachineFault::NoMemory),
+        };
+        match Running::ready(alloc, core) {
+            Ok(running) => {
+                drop(self.running.replace(running));
                 Reply::Ready
             }
             Err(_) => Reply::BadMachine(MachineFault::NoMemory),

@@ -21,12 +21,12 @@ pub returns-in-Err : goal.returns-in-Err
 returns-in-Err c =
     huge-refused c.args.self.now c.args.address c.args.node c.requires c.in-Some.kept c.in-Some.is
     c.begins_starved.new.state (c.begins_starved.ensures.kept c.if-begins_starved.false)
-    c.huge_move.new.huge c.huge_move.result (rw c.space.ensures.space at c.huge_move.ensures)
+    c.huge_move.new.huge c.huge_move.result (rw c.space.ensures.space at c.huge_move.ensures.moves)
     c.in-Err.why c.in-Err.is
 
 pub returns : goal.returns
 returns c =
     huge-done c.args.self.now c.args.address c.args.node c.requires c.in-Some.kept c.in-Some.is
     c.begins_starved.new.state (c.begins_starved.ensures.kept c.if-begins_starved.false)
-    c.huge_move.new.huge c.huge_move.result (rw c.space.ensures.space at c.huge_move.ensures)
+    c.huge_move.new.huge c.huge_move.result (rw c.space.ensures.space at c.huge_move.ensures.moves)
     c.in_default-huge_move.is c.rest_small.new.state c.rest_small.ensures

@@ -30,17 +30,27 @@ returns-in-Err-new c =
     (core-starved cpus (described c.args.said.now c.in-Ok.memory settings.rules settings.cpus)
     sound))
 
-pub returns-in-Ok-new : goal.returns-in-Ok-new
-returns-in-Ok-new c =
+pub returns-in-Err-ready : goal.returns-in-Err-ready
+returns-in-Err-ready c =
     let made = c.in-Ok-build.ensures.ok in
     let settings = c.args.self.now.settings in
     let cpus = nodes_with_cpus c.args.said.now.nodes settings.cpus in
-    let core = c.new-in-Ok-new.ensures.core in
+    let sound = ap (first_fault Enough cpus) (sym made.0) ∙ made.1 in
+    rw c.requires (first_bad settings c.args.said.now c.in-Ok.memory Starved machine_fault.NoMemory
+    c.in-Ok.is
+    (core-starved cpus (described c.args.said.now c.in-Ok.memory settings.rules settings.cpus)
+    sound))
+
+pub returns-in-Ok-ready : goal.returns-in-Ok-ready
+returns-in-Ok-ready c =
+    let made = c.in-Ok-build.ensures.ok in
+    let settings = c.args.self.now.settings in
+    let cpus = nodes_with_cpus c.args.said.now.nodes settings.cpus in
+    let core = c.in-Ok-ready.ensures.core in
     let setup = ap setup_of core ∙ c.in-Ok-new.ensures.setup
     ∙ ap (λ machine. setup_with machine settings.limits) made.0 in
     rw c.replace.ensures.after
-    (first_ready settings c.args.said.now c.in-Ok.memory c.new-in-Ok-new.result c.in-Ok.is
+    (first_ready settings c.args.said.now c.in-Ok.memory c.in-Ok-ready.running c.in-Ok.is
     (ap (first_fault Enough cpus) (sym made.0) ∙ made.1) setup
     (subst (LeadsTo []) (sym core) c.in-Ok-new.ensures.opens)
-    c.new-in-Ok-new.ensures.resident c.new-in-Ok-new.ensures.pages
-    c.new-in-Ok-new.ensures.huge)
+    c.in-Ok-ready.ensures.resident c.in-Ok-ready.ensures.pages c.in-Ok-ready.ensures.huge)

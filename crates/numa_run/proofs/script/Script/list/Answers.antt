@@ -1,4 +1,7 @@
-use Rattle.numa_run.proofs.Taking.{maps-unready, maps-written}
+use Rattle.std.proofs.Common.{subst}
+use Rattle.numa_run.specs.Listings.{both_listing}
+use Rattle.numa_run.specs.States.{process_on}
+use Rattle.numa_run.proofs.Taking.{Tells, maps-unready, maps-written}
 use Rattle.numa_run.proofs.script.Script.list.Goals as goal
 
 pub returns-in_default : goal.returns-in_default
@@ -10,5 +13,7 @@ returns-in_default g c =
 pub returns : goal.returns
 returns g c =
     rw c.in-Some.is
-    (maps-written g.W.Write.contents c.args.output.now c.list.new.output c.in-Some.running
-    c.args.task c.list.ensures)
+    (maps-written g.W.Write.contents c.args.output.now c.list.new.output c.in-Some.running.value
+    c.args.task (subst (Tells g.W.Write.contents c.args.output.now c.list.new.output
+    (λ machine state. both_listing (process_on machine state) state.lying.spots state.huge
+    c.args.task)) c.deref.ensures c.list.ensures))

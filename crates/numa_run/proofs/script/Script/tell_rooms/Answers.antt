@@ -1,6 +1,7 @@
+use Rattle.std.proofs.Common.{subst}
 use Rattle.numa_script.specs.declared.page_line.PageLine.TheVariants as page
 use Rattle.numa_run.proofs.JudgeLemmas.{rooms-text, rooms_left}
-use Rattle.numa_run.proofs.Taking.{text-unready, text-written}
+use Rattle.numa_run.proofs.Taking.{Tells, text-unready, text-written}
 use Rattle.numa_run.proofs.script.Script.tell_rooms.Goals as goal
 
 pub returns-in_default : goal.returns-in_default
@@ -13,4 +14,6 @@ pub returns : goal.returns
 returns g c =
     rw c.in-Some.is
     (text-written g.W.Write.contents c.args.output.now c.tell_rooms.new.output page.Rooms
-    rooms_left rooms-text c.in-Some.running c.tell_rooms.ensures)
+    rooms_left rooms-text c.in-Some.running.value (subst (Tells g.W.Write.contents
+    c.args.output.now c.tell_rooms.new.output (λ machine state. rooms_left state))
+    c.deref.ensures c.tell_rooms.ensures))

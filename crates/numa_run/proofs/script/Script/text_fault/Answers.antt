@@ -5,21 +5,21 @@ use Rattle.numa_run.proofs.Faults.{pools-told, text-bad, text-told}
 use Rattle.numa_run.proofs.script.Script.text_fault.Goals as goal
 
 pub returns-in-Some-clause-maps : goal.returns-in-Some-clause-maps
-returns-in-Some-clause-maps c = λ task. rw c.in-Some.is (maps-told c.in-Some.field-0 task)
+returns-in-Some-clause-maps c = λ task. rw c.in-Some.is (maps-told c.in-Some.field-0.value task)
 
 pub returns-in-Some-clause-moved : goal.returns-in-Some-clause-moved
 returns-in-Some-clause-moved c =
-    rw c.in-Some.is (text-told page.Moved last_text moved-text c.in-Some.field-0)
+    rw c.in-Some.is (text-told page.Moved last_text moved-text c.in-Some.field-0.value)
 
 pub returns-in-Some-clause-rooms : goal.returns-in-Some-clause-rooms
 returns-in-Some-clause-rooms c =
-    rw c.in-Some.is (text-told page.Rooms rooms_left rooms-text c.in-Some.field-0)
+    rw c.in-Some.is (text-told page.Rooms rooms_left rooms-text c.in-Some.field-0.value)
 
 pub returns-in-Some-clause-arrived : goal.returns-in-Some-clause-arrived
-returns-in-Some-clause-arrived c = rw c.in-Some.is (arrived-told c.in-Some.field-0)
+returns-in-Some-clause-arrived c = rw c.in-Some.is (arrived-told c.in-Some.field-0.value)
 
 pub returns-in-Some-clause-pools : goal.returns-in-Some-clause-pools
-returns-in-Some-clause-pools c = rw c.in-Some.is (pools-told c.in-Some.field-0)
+returns-in-Some-clause-pools c = rw c.in-Some.is (pools-told c.in-Some.field-0.value)
 
 pub returns-in-None-clause-maps : goal.returns-in-None-clause-maps
 returns-in-None-clause-maps c = λ task. rw c.in-None.is (maps-bad c.args.self.now.settings task)
