@@ -13,6 +13,7 @@ pub mod Born
 pub mod Ended
 pub mod Attached
 pub mod Forked
+pub mod Caused
 pub mod Refusing
 pub mod Copied
 pub mod Rows

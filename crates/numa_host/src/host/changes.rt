@@ -1,7 +1,8 @@
 //! What each command does.
-ghost use Rattle.std.specs.Prelude.{◌≡◌, ◌<◌};
+ghost use Rattle.std.specs.Prelude.{◌≡◌, ◌<◌, List};
+ghost use Rattle.numa_host.specs.Causes.{host_refusal_of};
 ghost use Rattle.numa_requests.specs.declared.host_command.HostCommand.{HostCommand};
-ghost use Rattle.numa_host.specs.Standing.{IsHostApplied};
+ghost use Rattle.numa_host.specs.Standing.{HostStandsFor, IsHostApplied};
 
 use crate::group::{ControlGroup, is_group, names_beyond, set_mems};
 use crate::host::Host;
@@ -158,6 +159,42 @@ impl Host {
         let _ = self.limits.max_commands();
         self.version += 1;
         Ok(())
+    }
+
+    /// Why a process can't make a child, apart from want of memory: the first cause that stands
+    /// against the command. `None` if none does.
+    pub fn fork_refusal(&self, parent: u32, child: u32, from: u32, task: u32) -> Option<HostRefusal>
+        ensures { (history : List HostCommand) → HostStandsFor self.now history → result
+            ≡ host_refusal_of self.now.blank.machine self.now.blank.bounds history
+            (HostCommand.Fork parent child from task) }
+    {
+        if self.version >= u64::from(self.limits.max_commands()) {
+            return Some(HostRefusal::CommandsSpent);
+        }
+        self.fork_cause(parent, child, from, task)
+    }
+
+    /// The same while there are commands left.
+    fn fork_cause(&self, parent: u32, child: u32, from: u32, task: u32) -> Option<HostRefusal>
+        requires { self.now.version < self.now.blank.bounds.max_commands }
+        ensures { (history : List HostCommand) → HostStandsFor self.now history → result
+            ≡ host_refusal_of self.now.blank.machine self.now.blank.bounds history
+            (HostCommand.Fork parent child from task) }
+    {
+        if is_there(&self.processes, child) {
+            return Some(HostRefusal::ProcessExists);
+        }
+        let Some(place) = place_of(&self.processes, parent) else {
+            return Some(HostRefusal::NoSuchProcess);
+        };
+        if self.processes.len() >= MAX_PROCESSES {
+            return Some(HostRefusal::TooManyProcesses);
+        }
+        let most = self.limits.max_tasks();
+        if has_no_place(&self.processes, place, from, task, most) {
+            return Some(HostRefusal::OfSpace(Refusal::TooManyTasks));
+        }
+        None
     }
 
     /// A copy of a process in the same group, whose task `task` begins with the policy that `from`
