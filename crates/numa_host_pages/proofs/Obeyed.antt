@@ -2,6 +2,7 @@
 use Rattle.std.proofs.Common.{◌≡◌, ◌≢◌, ◌<◌, ◌≤◌, ℕ, ◌+◌, Bool, true, false, not, List, [], ◌∷◌}
 use Rattle.std.proofs.Common.{◌++◌, Option, Some, None, Result, Ok, Err, map, filter, length, eqb}
 use Rattle.std.proofs.Common.{leb, refl}
+use Rattle.std.specs.Prelude.{MatchOption}
 use Rattle.std.proofs.Common.{sym, ap, ◌∙◌, arith, inl, inr, subst, suc, length-append, is_some}
 use Rattle.std.proofs.Common.{AllPairs, get_or, unwrap_or, zero}
 use Rattle.std.proofs.lemmas.Bool.{both_ways, cases_Bool, cases_lt, le-leb, eqb-true, eq-eqb}
@@ -56,6 +57,21 @@ accepted old pages said new later applied does = record {
   applied = applied;
   lies = λ history at stands lies are.
       does history at stands lies are (applied.ok history stands).0;
+}
+
+-- there is no memory for a child's pages, or something stands against it: nothing has changed
+pub childless : (host : HostState) (parent child from task : ℕ) (why : HostRefusal)
+    → ((history : List HostCommand) → HostStandsFor host history → MatchOption
+    (host_refusal_of host.blank.machine host.blank.bounds history
+    (command.Fork parent child from task)) (why ≡ cause.NoMemory) (λ first. why ≡ first))
+    → IsHostApplied host (command.Fork parent child from task) (Err why) host
+childless host parent child from task why stands_against = record {
+  ok = λ history stands. tt;
+  err = stands_against;
+  unchanged = refl;
+  room = λ same. tt;
+  machine = refl;
+  bounds = refl;
 }
 
 -- a command that no page minds

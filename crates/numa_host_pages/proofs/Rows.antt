@@ -40,7 +40,7 @@ came-back = refl
 
 -- a host with these processes, none with pages
 here : HostLying
-here = with_born 3 1 6 (with_born 1 2 9 (with_born 2 1 6 empty_host))
+here = with_born 3 1 6 (with_born 1 2 9 (with_born 2 1 6 (empty_host 15)))
 
 abbrev bare : ℕ → ℕ → ℕ → Bool → Home
 bare process group nodes along = record {

@@ -46,7 +46,7 @@ from-1-to-1 : (sum_of went).flow 1 1 ≡ 0
 from-1-to-1 = refl
 
 -- `exit 11`: what it did to 11 is told no more: `moved => v12: moved 2 left 2 N1->N2=2`
-left-alone : (sum_of (with_ended 11 (record empty_host { homes = went })).homes).moved ≡ 2
+left-alone : (sum_of (with_ended 11 (record (empty_host 15) { homes = went })).homes).moved ≡ 2
 left-alone = refl
 
 -- `attach 20 0`: 20 alone goes along, and nothing of it had to go: `moved => v13: moved 0 left 0`

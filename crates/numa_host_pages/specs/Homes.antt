@@ -4,8 +4,13 @@ use Rattle.std.specs.Prelude.{◌++◌, filter, map, if◌then◌else◌, suc, f
 use Rattle.numa_machine.specs.Machine.{Hardware}
 use Rattle.numa_requests.specs.declared.page_refusal.PlacedRefusal.{PlacedRefusal}
 use Rattle.numa_placed.specs.declared.spot.Spot.TheVariants.{Nowhere}
-use Rattle.numa_page_state.specs.Lying.{Lying, nothing, with_spots}
-use Rattle.numa_page_state.specs.Outcomes.{Enough, Lack, followed, room_outcome}
+use Rattle.numa_pools.specs.Pools.{PoolCounts}
+use Rattle.numa_huge.specs.Moves.{HugeMemory}
+use Rattle.numa_host_huge.specs.Sharing.{Sharing, ended, followed, forked, memory_in, no_sharing}
+use Rattle.numa_host_huge.specs.Sharing.{given_back as huge_back, with_pools as pools_given}
+use Rattle.numa_page_state.specs.Lying.{Lying, OfNodes, nothing, still, with_spots}
+use Rattle.numa_page_state.specs.Outcomes.{Enough, Lack, room_outcome}
+use Rattle.numa_page_state.specs.Outcomes.{followed as small_followed}
 
 -- how many more pages each node takes, once a line says so of one
 abbrev pub Room : Type 0
@@ -21,15 +26,22 @@ pub record Home : Type 0 where
   pub along : Bool
 
 -- how many more pages each node takes, whichever process they are of; whether pages follow the
--- allowed nodes; and the processes, in the order in which they came to their groups
+-- allowed nodes; the processes, in the order in which they came to their groups; and their pages of
+-- 2 MiB, with the pools
 pub record HostLying : Type 0 where
   pub room : Room
   pub follows : Bool
   pub homes : List Home
+  pub huge : Sharing
 
--- before the first process; pages follow
-abbrev pub empty_host : HostLying
-empty_host = record { room = None; follows = true; homes = [] }
+-- before the first process, where these nodes have memory; pages follow
+abbrev pub empty_host : ℕ → HostLying
+empty_host memory = record {
+  room = None;
+  follows = true;
+  homes = [];
+  huge = no_sharing memory;
+}
 
 -- ---- one process
 
@@ -59,11 +71,20 @@ pages_lent process at = lent_or_new at.room at.follows (pages_in process at.home
 
 -- they lie so now; the room that is left is the host's again
 abbrev pub given_back : ℕ → Lying → HostLying → HostLying
-given_back process done at = record {
+given_back process done at = record at {
   room = done.room;
-  follows = at.follows;
   homes = with_pages process (Some done) at.homes;
 }
+
+-- the same of its pages of 2 MiB
+abbrev pub memory_of : ℕ → HostLying → Option HugeMemory
+memory_of process at = memory_in process at.huge
+
+abbrev pub with_huge : ℕ → HugeMemory → HostLying → HostLying
+with_huge process memory at = record at { huge = huge_back process memory at.huge }
+
+abbrev pub with_pools : PoolCounts → HostLying → HostLying
+with_pools pools at = record at { huge = pools_given pools at.huge }
 
 -- a line says how many more pages a node takes
 abbrev pub with_room : Hardware → ℕ → ℕ → HostLying → Result (Unit {0}) PlacedRefusal × HostLying
@@ -97,11 +118,18 @@ room_without room None = room
 room_without room (Some lying) =
     (with_spots (λ page. Nowhere) (record lying { room = room })).room
 
--- a process ends, and its pages give their room back
+-- a process ends, and its pages give their room back, those of 2 MiB to the pools
 abbrev pub with_ended : ℕ → HostLying → HostLying
 with_ended process at = record at {
   room = room_without at.room (pages_in process at.homes);
   homes = other_homes process at.homes;
+  huge = ended process at.huge;
+}
+
+-- a child comes to a group; of its pages of 2 MiB it has touched none
+abbrev pub with_child : ℕ → ℕ → ℕ → ℕ → HostLying → HostLying
+with_child parent child group nodes at = record (with_born child group nodes at) {
+  huge = forked parent child at.huge;
 }
 
 -- ---- the host's last move
@@ -121,13 +149,23 @@ along_homes process homes =
 abbrev pub taken_along : ℕ → HostLying → HostLying
 taken_along process at = record at { homes = along_homes process at.homes }
 
+-- a page of 2 MiB of one moved, and none of 4 KiB, where some are kept
+abbrev pub rested : Option Lying → Option Lying
+rested None = None
+rested (Some lying) = Some (record lying { last = OfNodes still })
+
+abbrev pub still_pages : ℕ → HostLying → HostLying
+still_pages process at = record at {
+  homes = with_pages process (rested (pages_in process at.homes)) at.homes;
+}
+
 -- ---- pages follow the nodes that their process is allowed
 
 -- the pages of a process that was allowed some nodes and is allowed others, and the rooms then
 abbrev pub pages_followed : Lack → Bool → ℕ → ℕ → Option Lying → Room → Option Lying × Room
 pages_followed lack follows old new None room = (None, room)
 pages_followed lack follows old new (Some lying) room =
-    let done = followed lack old new [] (lent room follows lying) in (Some done, done.room)
+    let done = small_followed lack old new [] (lent room follows lying) in (Some done, done.room)
 
 -- the same of a process, which then went along; where it is allowed what it was, nothing changes
 abbrev pub home_followed : Lack → Bool → ℕ → Home → Room → Home × Room
@@ -167,11 +205,24 @@ pages_told follows group nodes process (home ∷ homes) =
     else home.lying
     else pages_told follows group nodes process homes
 
+-- pages of 2 MiB of a process that was allowed some nodes and is allowed others; where these are
+-- the same, nothing changes
+abbrev pub huge_moved : Bool → ℕ → ℕ → ℕ → Sharing → Sharing
+huge_moved follows process old new huge =
+    if old == new then huge else followed process follows old new huge
+
+-- those of the processes of a group, one after the other
+abbrev pub huge_of_group : Bool → ℕ → ℕ → List Home → Sharing → Sharing
+huge_of_group follows group nodes [] huge = huge
+huge_of_group follows group nodes (home ∷ homes) huge =
+    huge_of_group follows group nodes homes (if home.group == group
+    then huge_moved follows home.id home.allowed nodes huge else huge)
+
 abbrev pub group_followed : (ℕ → Lack) → ℕ → ℕ → HostLying → HostLying
-group_followed lacks group nodes at = record {
+group_followed lacks group nodes at = record at {
   room = (homes_followed lacks at.follows group nodes at.homes at.room).1;
-  follows = at.follows;
   homes = (homes_followed lacks at.follows group nodes at.homes at.room).0;
+  huge = huge_of_group at.follows group nodes at.homes at.huge;
 }
 
 -- groups one after the other, each with the nodes that it allows; `lacks` says it of each place
@@ -189,7 +240,7 @@ FollowEach nodes (group ∷ groups) at after = (lacks : ℕ → Lack)
 
 -- a process comes to another group, behind all that are there, and goes along alone
 abbrev pub with_attached : Lack → ℕ → ℕ → ℕ → ℕ → HostLying → HostLying
-with_attached lack process group old new at = record {
+with_attached lack process group old new at = record at {
   room = (home_followed lack at.follows new (record {
     id = process;
     group = group;
@@ -197,7 +248,7 @@ with_attached lack process group old new at = record {
     lying = pages_in process at.homes;
     along = false;
   }) at.room).1;
-  follows = at.follows;
+  huge = huge_moved at.follows process old new at.huge;
   homes = other_homes process (all_still at).homes ++ (home_followed lack at.follows new (record {
     id = process;
     group = group;

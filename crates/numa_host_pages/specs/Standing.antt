@@ -10,6 +10,7 @@ use Rattle.numa_page_state.specs.Lying.{Lying}
 use Rattle.numa_page_state.specs.Outcomes.{Lack}
 use Rattle.numa_page_state.specs.Standing.{HaveRoom, LiesAs}
 use Rattle.numa_page_state.specs.declared.state.PageState.{PageState}
+use Rattle.numa_host_huge.specs.Standing.{HugeLies}
 use Rattle.numa_host_pages.specs.Homes.{Home, HostLying, Room, lent}
 use Rattle.numa_host_pages.specs.Obeying.{pages_after}
 use Rattle.numa_host_pages.specs.TopDown.{arrivals_of}
@@ -49,6 +50,7 @@ pub record HostLies (pages : HostPages) (at : HostLying) : Type 0 where
   pub room : HaveRoom pages.rooms at.room
   pub follows : pages.follows ≡ at.follows
   pub homes : AreHomes pages.members.items at.homes
+  pub huge : HugeLies pages.huge at.huge
   pub places : 4096 ≤ vec_capacity pages.members
 
 -- ---- whose pages they are

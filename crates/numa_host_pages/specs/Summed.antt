@@ -5,7 +5,9 @@
 use Rattle.std.specs.Prelude.{ℕ, ◌+◌, ◌==◌, Option, Some, None, List, [], ◌∷◌, min}
 use Rattle.std.specs.Prelude.{if◌then◌else◌}
 use Rattle.numa_page_state.specs.Lying.{LastMove, Lying, OfNodes, OfPages, Sent, Told}
-use Rattle.numa_host_pages.specs.Homes.{Home}
+use Rattle.numa_huge.specs.Moves.{HugeMemory}
+use Rattle.numa_host_huge.specs.Sharing.{HugeHome, Sharing, memory_in}
+use Rattle.numa_host_pages.specs.Homes.{Home, HostLying}
 
 -- the most pages that are told: 2^64 - 1
 abbrev pub most : ℕ
@@ -46,3 +48,29 @@ abbrev pub sum_of : List Home → Sent
 sum_of [] = none_sent
 sum_of (home ∷ homes) =
     if home.along then both_sent (sent_of home.lying) (sum_of homes) else sum_of homes
+
+-- ---- with pages of 2 MiB
+
+-- what the last move did to those of a process; none where it has none
+abbrev pub huge_sent : Option HugeMemory → Sent
+huge_sent None = none_sent
+huge_sent (Some memory) = record {
+  moved = memory.told.moved;
+  left = memory.told.left;
+  flow = memory.told.flow;
+}
+
+-- to those of the processes that went along, together
+abbrev pub huge_sum : List Home → Sharing → Sent
+huge_sum [] huge = none_sent
+huge_sum (home ∷ homes) huge = if home.along
+    then both_sent (huge_sent (memory_in home.id huge)) (huge_sum homes huge)
+    else huge_sum homes huge
+
+-- to pages of both sizes
+abbrev pub sum_with : List HugeHome → HostLying → Sent
+sum_with [] at = sum_of at.homes
+sum_with (one ∷ rest) at = both_sent (sum_of at.homes) (huge_sum at.homes at.huge)
+
+abbrev pub sum_in : HostLying → Sent
+sum_in at = sum_with at.huge.homes at

@@ -4,14 +4,18 @@ ghost use Rattle.numa_host.specs.Groups.{effective_mems};
 ghost use Rattle.numa_page_state.specs.Lying.{Lying};
 ghost use Rattle.numa_page_state.specs.Outcomes.{Lack};
 ghost use Rattle.numa_page_state.specs.Standing.{HaveRoom};
+ghost use Rattle.numa_host_huge.specs.Sharing.{Sharing};
+ghost use Rattle.numa_host_huge.specs.Standing.{HugeLies};
 ghost use Rattle.numa_host_pages.specs.Homes.{FollowEach, Home, HostLying, Room, home_followed};
-ghost use Rattle.numa_host_pages.specs.Homes.{homes_followed, pages_followed};
+ghost use Rattle.numa_host_pages.specs.Homes.{homes_followed, huge_moved, huge_of_group};
+ghost use Rattle.numa_host_pages.specs.Homes.{pages_followed};
 ghost use Rattle.numa_host_pages.specs.Standing.{AreHomes, IsHome, Sits};
 ghost use Rattle.numa_host_pages.specs.TopDown.{below_in};
 
 use crate::member::Member;
 use numa_host::ControlGroup;
 use numa_host::group::effective;
+use numa_host_huge::HostHuge;
 use numa_mask::NodeMask;
 use numa_page_state::PageState;
 use numa_placed::Rooms;
@@ -57,6 +61,46 @@ pub(crate) fn follow_home(
     member.along = true;
 }
 
+/// Pages of 2 MiB of a process follow, which was allowed some nodes and is allowed others.
+pub(crate) fn follow_huge(
+    huge: &mut HostHuge,
+    process: u32,
+    follows: bool,
+    old: &NodeMask,
+    new: &NodeMask,
+)
+    ensures { (at : Sharing) → HugeLies huge.old at
+        → HugeLies huge.new (huge_moved follows process old.now new.now at) }
+{
+    if *old == *new {
+        return;
+    }
+    huge.follow(process, follows, old, new);
+}
+
+/// Those of the processes of a group, one after the other.
+fn follow_sharers(
+    members: &[Member],
+    huge: &mut HostHuge,
+    follows: bool,
+    group: u32,
+    nodes: &NodeMask,
+)
+    ensures { (homes : List Home) (at : Sharing) → AreHomes members.now homes
+        → HugeLies huge.old at
+        → HugeLies huge.new (huge_of_group follows group nodes.now homes at) }
+{
+    let Some((first, rest)) = members.split_first() else {
+        return;
+    };
+    if first.group != group {
+        follow_sharers(rest, huge, follows, group, nodes);
+        return;
+    }
+    follow_huge(huge, first.id, follows, &first.allowed, nodes);
+    follow_sharers(rest, huge, follows, group, nodes);
+}
+
 /// The processes of a group are allowed nodes, one after the other.
 fn follow_group(
     members: &mut [Member],
@@ -89,23 +133,27 @@ pub(crate) fn follow_below(
     all: &[ControlGroup],
     members: &mut [Member],
     rooms: &mut Option<Rooms>,
+    huge: &mut HostHuge,
     follows: bool,
 )
     ensures { (at : HostLying) → AreHomes members.old at.homes → HaveRoom rooms.old at.room
-        → follows ≡ at.follows → (after : HostLying)
+        → HugeLies huge.old at.huge → follows ≡ at.follows → (after : HostLying)
         × FollowEach (effective_mems memory all.now) (below_in (reverse groups.now) name) at after
         × AreHomes members.new after.homes × HaveRoom rooms.new after.room
-        × (follows ≡ after.follows) }
+        × HugeLies huge.new after.huge × (follows ≡ after.follows) }
 {
     let Some((group, newer)) = groups.split_last() else {
         return;
     };
     if group.parent != name {
-        follow_below(newer, name, memory, all, members, rooms, follows);
+        follow_below(newer, name, memory, all, members, rooms, huge, follows);
         return;
     }
     let nodes = effective(memory, all, group.name);
+    follow_sharers(members, huge, follows, group.name, &nodes);
     follow_group(members, rooms, follows, group.name, &nodes);
-    follow_below(newer, group.name, memory, all, members, rooms, follows);
-    follow_below(newer, name, memory, all, members, rooms, follows);
+    follow_below(
+        newer, group.name, memory, all, members, rooms, huge, follows,
+    );
+    follow_below(newer, name, memory, all, members, rooms, huge, follows);
 }

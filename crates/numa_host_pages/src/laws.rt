@@ -1,13 +1,17 @@
 //! Laws about the definitions that the contracts of this crate cite. The functions do nothing: what
 //! each one ensures is a law.
-ghost use Rattle.std.specs.Prelude.{◌≡◌, ℕ, Bool, List, None, Option, false, length, map};
+ghost use Rattle.std.specs.Prelude.{◌≡◌, ℕ, Bool, List, [], None, Option, false, length, map};
+ghost use Rattle.numa_machine.specs.Machine.{Hardware};
+ghost use Rattle.numa_requests.specs.declared.host_command.HostCommand.{HostCommand};
 ghost use Rattle.numa_page_state.specs.Lying.{Lying};
 ghost use Rattle.numa_page_state.specs.Outcomes.{Lack};
 ghost use Rattle.numa_host_pages.specs.Homes.{FollowEach, Home, HostLying, all_still, given_back};
 ghost use Rattle.numa_host_pages.specs.Homes.{homes_followed, pages_followed, pages_in};
 ghost use Rattle.numa_host_pages.specs.Homes.{pages_told, taken_along, with_born, with_pages};
+ghost use Rattle.numa_host_huge.specs.Sharing.{Sharing};
+ghost use Rattle.numa_host_pages.specs.Obeying.{pages_after};
 ghost use Rattle.numa_host_pages.specs.Standing.{arrival_of, count_of};
-ghost use Rattle.numa_host_pages.specs.Summed.{both_sent, none_sent, sent_of, sum_of};
+ghost use Rattle.numa_host_pages.specs.Summed.{both_sent, none_sent, sent_of, sum_in, sum_of};
 
 /// What a process does changes where its own pages lie, and those of no other.
 pub fn others_stay()
@@ -42,4 +46,19 @@ pub fn moves_add_up()
         ≡ both_sent (sent_of (pages_in process at.homes)) none_sent }
     ensures born { (process group nodes : ℕ) (at : HostLying)
         → sum_of (with_born process group nodes at).homes ≡ sum_of at.homes }
+{}
+
+/// Where no process has mapped pages of 2 MiB, there is nothing of them: no command changes the
+/// pools or gives a process such pages, and what the host's last move did is what it did to pages of
+/// 4 KiB. What a command does to these is the same whatever pages of 2 MiB there are.
+pub fn small_hosts()
+    ensures stay { (lacks : ℕ → ℕ → Lack) (machine : Hardware) (history : List HostCommand)
+        (said : HostCommand) (at : HostLying) → at.huge.homes ≡ []
+        → (pages_after lacks machine history said at).huge ≡ at.huge }
+    ensures apart { (lacks : ℕ → ℕ → Lack) (machine : Hardware) (history : List HostCommand)
+        (said : HostCommand) (at : HostLying) (huge : Sharing)
+        → record (pages_after lacks machine history said (record at { huge = huge })) {
+          huge = at.huge;
+        } ≡ record (pages_after lacks machine history said at) { huge = at.huge } }
+    ensures last { (at : HostLying) → at.huge.homes ≡ [] → sum_in at ≡ sum_of at.homes }
 {}

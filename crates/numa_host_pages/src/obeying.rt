@@ -1,5 +1,6 @@
 //! Commands of a host, and what they do to the pages of its processes.
-ghost use Rattle.std.specs.Prelude.{◌≡◌, List, unwrap_or};
+ghost use Rattle.std.specs.Prelude.{◌≡◌, List, MatchOption, unwrap_or};
+ghost use Rattle.numa_host.specs.Causes.{host_refusal_of};
 ghost use Rattle.numa_host.specs.Groups.{effective_mems};
 ghost use Rattle.numa_host.specs.Processes.{group_in, members_of, nodes_of};
 ghost use Rattle.numa_host.specs.Standing.{HostStandsFor};
@@ -54,7 +55,22 @@ fn begin(
     }
 }
 
-/// A process makes a child, which has no page.
+/// Why a process makes no child: what stands against it, or there is no memory for its pages of
+/// 2 MiB.
+fn no_child(host: &Host, parent: u32, child: u32, from: u32, task: u32) -> HostRefusal
+    ensures { (history : List HostCommand) → HostStandsFor host.now history → MatchOption
+        (host_refusal_of host.now.blank.machine host.now.blank.bounds history
+        (HostCommand.Fork parent child from task)) (result ≡ HostRefusal.NoMemory)
+        (λ first. result ≡ first) }
+{
+    match host.fork_refusal(parent, child, from, task) {
+        Some(refusal) => refusal,
+        None => HostRefusal::NoMemory,
+    }
+}
+
+/// A process makes a child, which has no page; but it has mapped the pages of 2 MiB that its parent
+/// has mapped.
 fn fork(
     host: &mut Host,
     pages: &mut HostPages,
@@ -73,12 +89,18 @@ fn fork(
         from,
         task,
     };
+    let Ok(made) = pages.huge.inherited(host.machine(), parent) else {
+        return Err(no_child(host, parent, child, from, task));
+    };
     match host.apply(&command) {
         Ok(()) => {
-            pages.born(child, group, &nodes);
+            pages.forked(child, group, &nodes, made);
             Ok(())
         }
-        Err(refusal) => Err(refusal),
+        Err(refusal) => {
+            drop(made);
+            Err(refusal)
+        }
     }
 }
 

@@ -8,19 +8,23 @@ ghost use Rattle.numa_page_state.specs.Outcomes.{Lack};
 ghost use Rattle.numa_page_state.specs.Standing.{LiesAs};
 ghost use Rattle.numa_host_pages.specs.Homes.{FollowEach, HostLying, all_still, empty_host};
 ghost use Rattle.numa_host_pages.specs.Homes.{given_back, lent, other_homes, pages_in};
-ghost use Rattle.numa_host_pages.specs.Homes.{taken_along, with_attached, with_born, with_ended};
-ghost use Rattle.numa_host_pages.specs.Homes.{with_pages, with_room};
+ghost use Rattle.numa_host_pages.specs.Homes.{still_pages, taken_along, with_attached, with_born};
+ghost use Rattle.numa_host_pages.specs.Homes.{with_child, with_ended, with_pages, with_room};
+ghost use Rattle.numa_host_huge.specs.Kept.{IsMade};
+ghost use Rattle.numa_host_huge.specs.Standing.{HasChild};
 ghost use Rattle.numa_host_pages.specs.Standing.{HostLies, IsLent, LiesApart};
-ghost use Rattle.numa_host_pages.specs.Summed.{sum_of};
+ghost use Rattle.numa_host_pages.specs.Summed.{sum_in};
 ghost use Rattle.numa_host_pages.specs.TopDown.{top_down};
 
-use crate::following::{follow_below, follow_home};
+use crate::following::{follow_below, follow_home, follow_huge};
 use crate::member::{
     Member, add, add_again, boxed, pages_of, put_pages, remove, rooms_without, still_all,
     take_along, take_pages,
 };
-use crate::summing::{add_flows, sum_of};
+use crate::summing::{add_flows, add_row, both, huge_flows, huge_sum, sum_of};
 use numa_host::ControlGroup;
+use numa_host_huge::HostHuge;
+use numa_huge::HugePages;
 use numa_machine::{Machine, NoMemory};
 use numa_mask::NodeMask;
 use numa_page_state::lending::limit_rooms;
@@ -38,6 +42,8 @@ pub struct HostPages {
     pub(crate) rooms: Option<Rooms>,
     pub(crate) follows: bool,
     pub(crate) members: Vec<Member>,
+    /// Pages of 2 MiB, and the pools that they come from.
+    pub huge: HostHuge,
 }
 
 // (By hand, so that it is proved here alone: a derived one is proved in each crate that drops.)
@@ -47,8 +53,10 @@ impl Drop for HostPages {
             rooms: _,
             follows: _,
             members,
+            huge,
         } = self;
         drop(members);
+        drop(huge);
     }
 }
 
@@ -58,16 +66,21 @@ impl HostPages {
     ///
     /// # Errors
     /// `NoMemory`: there is no memory for it.
-    pub fn new(alloc: Global) -> Result<HostPages, NoMemory>
-        ensures { IfOk result (λ pages. HostLies pages empty_host) }
+    pub fn new(alloc: Global, machine: &Machine) -> Result<HostPages, NoMemory>
+        ensures { IfOk result (λ pages. HostLies pages (empty_host machine.now.memory)) }
     {
+        let Ok(huge) = HostHuge::new(alloc, machine) else {
+            return Err(NoMemory);
+        };
         let Ok(members) = Vec::with_capacity(alloc, MAX_PROCESSES) else {
+            drop(huge);
             return Err(NoMemory);
         };
         Ok(HostPages {
             rooms: None,
             follows: true,
             members,
+            huge,
         })
     }
 
@@ -86,10 +99,15 @@ impl HostPages {
             drop(members);
             return Err(NoMemory);
         };
+        let Ok(huge) = self.huge.copy() else {
+            drop(members);
+            return Err(NoMemory);
+        };
         Ok(HostPages {
             rooms: self.rooms,
             follows: self.follows,
             members,
+            huge,
         })
     }
 
@@ -186,7 +204,19 @@ impl HostPages {
         add(&mut self.members, member);
     }
 
-    /// A process ends; its pages give their room back.
+    /// A child comes to the group of its parent, with pages of 2 MiB that were made for it
+    /// ([`HostHuge::inherited`]); it has no other pages.
+    pub fn forked(&mut self, child: u32, group: u32, nodes: &NodeMask, made: Option<Box<HugePages>>)
+        requires { IsMade made self.old.huge.sharers }
+        ensures { (at : HostLying) (parent : ℕ) → HostLies self.old at → length at.homes < 4096
+            → HasChild self.old.huge parent child made
+            → HostLies self.new (with_child parent child group nodes.now at) }
+    {
+        self.huge.born(child, made);
+        self.born(child, group, nodes);
+    }
+
+    /// A process ends; its pages give their room back, those of 2 MiB to the pools.
     pub fn ended(&mut self, process: u32)
         ensures { (at : HostLying) → HostLies self.old at
             → HostLies self.new (with_ended process at) }
@@ -195,6 +225,7 @@ impl HostPages {
         let rooms = rooms_without(pages, &self.rooms);
         self.rooms = rooms;
         remove(&mut self.members, process);
+        self.huge.ended(process);
     }
 
     /// A process that was allowed some nodes comes to a group that allows others, behind all that
@@ -213,6 +244,7 @@ impl HostPages {
             along: false,
         };
         follow_home(&mut member, &mut self.rooms, self.follows, nodes);
+        follow_huge(&mut self.huge, process, self.follows, old, nodes);
         remove(&mut self.members, process);
         still_all(&mut self.members);
         add(&mut self.members, member);
@@ -234,8 +266,21 @@ impl HostPages {
             groups,
             &mut self.members,
             &mut self.rooms,
+            &mut self.huge,
             self.follows,
         );
+    }
+
+    /// No page of 4 KiB of a process moved, if it has some.
+    pub fn rest(&mut self, process: u32)
+        ensures { (at : HostLying) → HostLies self.old at
+            → HostLies self.new (still_pages process at) }
+    {
+        let Some(mut state) = take_pages(&mut self.members, process) else {
+            return;
+        };
+        state.rest();
+        put_pages(&mut self.members, process, Some(state));
     }
 
     /// The last move of a process is the host's: `migrate`, `move` or `mbind .. move`.
@@ -250,18 +295,27 @@ impl HostPages {
     /// many had a node to go to and stayed; at most 2^64 - 1 each.
     pub fn last(&self) -> Shift
         ensures { (at : HostLying) → HostLies self.now at
-            → (result.moved ≡ (sum_of at.homes).moved) × (result.left ≡ (sum_of at.homes).left) }
+            → (result.moved ≡ (sum_in at).moved) × (result.left ≡ (sum_in at).left) }
     {
-        sum_of(&self.members)
+        let small = sum_of(&self.members);
+        if self.huge.is_empty() {
+            return small;
+        }
+        both(small, huge_sum(&self.members, &self.huge))
     }
 
     /// How many pages the host's last move took from a node to each; at most 2^64 - 1 each.
     pub fn flow_from(&self, from: u8) -> [u64; 256]
         ensures { (at : HostLying) → HostLies self.now at → (to : ℕ) → to < 256
-            → slice_index result to ≡ (sum_of at.homes).flow from to }
+            → slice_index result to ≡ (sum_in at).flow from to }
     {
         let mut flow = [0; 256];
         add_flows(&self.members, from, &mut flow);
+        if self.huge.is_empty() {
+            return flow;
+        }
+        let huge = huge_flows(&self.members, &self.huge, from);
+        add_row(&mut flow, &huge);
         flow
     }
 }

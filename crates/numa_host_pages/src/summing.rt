@@ -5,9 +5,13 @@ ghost use Rattle.numa_page_state.specs.Lying.{LastMove, Lying};
 ghost use Rattle.numa_page_state.specs.Standing.{LastAs};
 ghost use Rattle.numa_host_pages.specs.Homes.{Home};
 ghost use Rattle.numa_host_pages.specs.Standing.{AreHomes, Sits};
-ghost use Rattle.numa_host_pages.specs.Summed.{both_pages, most, sent_last, sent_of, sum_of};
+ghost use Rattle.numa_host_huge.specs.Sharing.{Sharing, memory_in};
+ghost use Rattle.numa_host_huge.specs.Standing.{HugeLies};
+ghost use Rattle.numa_host_pages.specs.Summed.{both_pages, huge_sent, huge_sum, most, sent_last};
+ghost use Rattle.numa_host_pages.specs.Summed.{sent_of, sum_of};
 
 use crate::member::Member;
+use numa_host_huge::HostHuge;
 use numa_page_state::between::flow_from;
 use numa_page_state::{Last, PageState, Shift};
 
@@ -69,7 +73,7 @@ fn add_pages(flow: &mut [u64; 256], node: u8, pages: u64)
 }
 
 /// Adds pages that went to each node.
-fn add_row(flow: &mut [u64; 256], row: &[u64; 256])
+pub(crate) fn add_row(flow: &mut [u64; 256], row: &[u64; 256])
     ensures { (to : ℕ) → to < 256 → slice_index flow.new to
         ≡ both_pages (slice_index row.now to) (slice_index flow.old to) }
 {
@@ -125,4 +129,76 @@ pub(crate) fn add_flows(members: &[Member], from: u8, flow: &mut [u64; 256])
         return;
     }
     add_own(flow, &first.pages, from);
+}
+
+// ---- pages of 2 MiB
+
+/// Two moves together.
+pub(crate) fn both(one: Shift, other: Shift) -> Shift
+    ensures moved { result.moved ≡ both_pages one.moved other.moved }
+    ensures left { result.left ≡ both_pages one.left other.left }
+{
+    Shift {
+        moved: one.moved.saturating_add(other.moved),
+        left: one.left.saturating_add(other.left),
+    }
+}
+
+/// How many pages of 2 MiB the last move of a process took along, and left.
+fn huge_counts(huge: &HostHuge, process: u32) -> Shift
+    ensures { (at : Sharing) → HugeLies huge.now at
+        → (result.moved ≡ (huge_sent (memory_in process at)).moved)
+        × (result.left ≡ (huge_sent (memory_in process at)).left) }
+{
+    match huge.pages_of(process) {
+        Some(kept) => Shift {
+            moved: kept.last.moved(),
+            left: kept.last.left(),
+        },
+        None => Shift { moved: 0, left: 0 },
+    }
+}
+
+/// How many pages of 2 MiB the last move of the host took along, and left.
+pub(crate) fn huge_sum(members: &[Member], huge: &HostHuge) -> Shift
+    ensures { (homes : List Home) (at : Sharing) → AreHomes members.now homes
+        → HugeLies huge.now at → (result.moved ≡ (huge_sum homes at).moved)
+        × (result.left ≡ (huge_sum homes at).left) }
+{
+    let Some((first, rest)) = members.split_first() else {
+        return Shift { moved: 0, left: 0 };
+    };
+    let others = huge_sum(rest, huge);
+    if !first.along {
+        return others;
+    }
+    both(huge_counts(huge, first.id), others)
+}
+
+/// How many pages of 2 MiB the last move of a process took from a node to each.
+fn huge_row(huge: &HostHuge, process: u32, from: u8) -> [u64; 256]
+    ensures { (at : Sharing) → HugeLies huge.now at → (to : ℕ) → to < 256
+        → slice_index result to ≡ (huge_sent (memory_in process at)).flow from to }
+{
+    match huge.pages_of(process) {
+        Some(kept) => kept.last.flow_from(from),
+        None => [0; 256],
+    }
+}
+
+/// How many pages of 2 MiB the last move of the host took from a node to each.
+pub(crate) fn huge_flows(members: &[Member], huge: &HostHuge, from: u8) -> [u64; 256]
+    ensures { (homes : List Home) (at : Sharing) → AreHomes members.now homes
+        → HugeLies huge.now at → (to : ℕ) → to < 256
+        → slice_index result to ≡ (huge_sum homes at).flow from to }
+{
+    let Some((first, rest)) = members.split_first() else {
+        return [0; 256];
+    };
+    let mut flow = huge_flows(rest, huge, from);
+    if !first.along {
+        return flow;
+    }
+    add_row(&mut flow, &huge_row(huge, first.id, from));
+    flow
 }

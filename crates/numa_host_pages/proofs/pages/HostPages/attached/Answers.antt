@@ -4,7 +4,9 @@ use Rattle.std.specs.Prelude.{vec_capacity}
 use Rattle.std.specs.Vec.{with_items}
 use Rattle.numa_page_state.specs.Outcomes.{Lack}
 use Rattle.numa_page_state.specs.Standing.{HaveRoom}
-use Rattle.numa_host_pages.specs.Homes.{Home, all_still, home_followed, other_homes, pages_in}
+use Rattle.numa_host_huge.specs.Standing.{HugeLies}
+use Rattle.numa_host_pages.specs.Homes.{Home, all_still, home_followed, huge_moved, other_homes}
+use Rattle.numa_host_pages.specs.Homes.{pages_in}
 use Rattle.numa_host_pages.specs.Homes.{with_pages}
 use Rattle.numa_host_pages.specs.Standing.{AreHomes, IsHome}
 use Rattle.numa_host_pages.specs.declared.member.Member.{Member}
@@ -62,6 +64,9 @@ returns c = λ at lies small.
         room = done.2;
         follows = lies.follows;
         homes = c.add.ensures.added all _ them done.1 few places;
+        huge = subst (λ (f : Bool). HugeLies c.follow_huge.new.huge
+            (huge_moved f process c.args.old.now c.args.nodes.now at.huge)) lies.follows
+            (c.follow_huge.ensures at.huge lies.huge);
         places = omega (arith, places, c.add.ensures.room);
       },
     )

@@ -9,5 +9,6 @@ returns c = λ at lies. record {
   follows = lies.follows;
   homes = c.in-Ok-add_again.ensures.added [] at.homes (rw c.in-Ok.ensures.items tt)
       (subst (λ (ms : List Member). AreHomes ms at.homes) (sym c.deref.ensures.value) lies.homes);
+  huge = c.in-Ok-copy.ensures at.huge lies.huge;
   places = omega (arith, c.in-Ok.ensures.capacity, c.add_again.ensures.room);
 }

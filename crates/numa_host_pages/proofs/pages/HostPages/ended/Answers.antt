@@ -24,5 +24,6 @@ returns c = λ at lies.
       follows = lies.follows;
       homes = subst (λ (ms : List Member). AreHomes ms (other_homes process at.homes))
           (sym c.remove.ensures.items) left;
+      huge = c.ended.ensures at.huge lies.huge;
       places = subst (λ n. 4096 ≤ n) (sym c.remove.ensures.room) lies.places;
     }

@@ -18,17 +18,18 @@ returns c = λ at lies.
     (still-count at.homes ∙ sym (homes-length had.items at.homes lies.homes)) in
     let told = c.follow_below.ensures (all_still at)
     (subst (λ (ms : List Member). AreHomes ms (all_still at).homes)
-    (sym c.deref_mut-2.ensures.value) quiet) lies.room lies.follows in (
+    (sym c.deref_mut-2.ensures.value) quiet) lies.room lies.huge lies.follows in (
       told.0,
       told.1,
       record {
         room = told.3;
-        follows = told.4;
+        follows = told.5;
         homes = put-items (with_items had c.still_all.new.members) c.follow_below.new.members
             told.0.homes told.2 (each-length (effective_mems c.args.memory c.args.groups.now)
             (top_down c.args.groups.now) (all_still at) told.0 told.1
             ∙ sym (homes-length (with_items had c.still_all.new.members).items
             (all_still at).homes quiet));
+        huge = told.4;
         places = lies.places;
       },
     )

@@ -24,5 +24,6 @@ returns c = λ at done lies is.
           (with_pages process (Some done) at.homes) homes
           (pages-length process (Some done) at.homes ∙ sym (pages-length process None at.homes)
           ∙ sym (homes-length c.args.self.now.members.items had lies.homes));
+      huge = lies.huge;
       places = lies.places;
     }

@@ -27,6 +27,7 @@ returns c = λ at lies.
             (with_pages process None at.homes) taken.1
             (pages-length process None at.homes
             ∙ sym (homes-length c.args.self.now.members.items at.homes lies.homes));
+        huge = lies.huge;
         places = lies.places;
       },
     )

@@ -16,5 +16,6 @@ returns c = λ at lies. record {
       (sym c.deref_mut.ensures.value) lies.homes))
       (along-count c.args.process at.homes
       ∙ sym (homes-length c.args.self.now.members.items at.homes lies.homes));
+  huge = lies.huge;
   places = lies.places;
 }
