@@ -31,7 +31,8 @@ use Rattle.numa_run.specs.Replies.{Shown, reply_in}
 use Rattle.numa_host_script.specs.Hosts.{Hosting, HostLack, Outcome, plenty, with_reply}
 use Rattle.numa_host_script.specs.Paging.{arrived_text, changed, own_page_outcome, page_outcome}
 use Rattle.numa_host_script.specs.Paging.{page_there, page_where, pages_changed, process_in}
-use Rattle.numa_host_script.specs.Paging.{along_if, tells_move, told_by, with_change}
+use Rattle.numa_host_script.specs.Paging.{along_if, memory_at, small_where, tells_move, told_by}
+use Rattle.numa_host_script.specs.Paging.{with_change}
 use Rattle.numa_host_script.specs.Sessions.{host_outcome}
 use Rattle.numa_host_script.specs.Standing.{Changes, ChangesPages, Replies, RunsAs, Takes}
 use Rattle.numa_host_script.specs.Standing.{hosting_with, told}
@@ -45,7 +46,7 @@ use Rattle.numa_host_script.proofs.Unmapped.{flag}
 -- ---- pages
 
 -- that a line was accepted says nothing of where pages lie
-begins : (state : PageState) (lying : Lying) → LiesAs state lying
+pub begins : (state : PageState) (lying : Lying) → LiesAs state lying
     → LiesAs state (record lying { begun = true })
 begins state lying lies = record {
   spots = lies.spots;
@@ -146,45 +147,52 @@ changed-are lacked basis process said at history are =
 -- what it came to, and the host after it
 abbrev ChangesTo : Option Reply → RunningHost → ℕ → Hosting → Outcome → Type 0
 ChangesTo answer new process at done =
-    (done.answer ≡ told_by answer (length done.history) (pages_lent process done.lying))
+    (done.answer ≡ told_by answer (length done.history) process done.lying)
     × RunsAs new (hosting_with at done)
 
-there-changes : (said : PageLine) → said ≢ page.Moved → (lacked : Lack) (at : Hosting)
-    (process : ℕ) → page_there lacked at process said ≡ changed lacked at process said
-there-changes (page.At start bytes node) moved lacked at process = refl
-there-changes (page.Room node pages) moved lacked at process = refl
-there-changes (page.MemoryMigrate follows) moved lacked at process = refl
-there-changes (page.Migrate from to) moved lacked at process = refl
-there-changes (page.Move address node) moved lacked at process = refl
-there-changes (page.Populate start bytes task cpu) moved lacked at process = refl
-there-changes page.Rooms moved lacked at process = refl
-there-changes page.Moved moved lacked at process = absurd (moved refl)
+-- where a process has no page of 2 MiB, it is of those of 4 KiB alone
+pub there-changes : (said : PageLine) → said ≢ page.Moved → (lacked : Lack) (at : Hosting)
+    (process : ℕ) → memory_at at process ≡ None
+    → page_there lacked at process said ≡ changed lacked at process said
+there-changes (page.At start bytes node) moved lacked at process none = rw none refl
+there-changes (page.Room node pages) moved lacked at process none = refl
+there-changes (page.MemoryMigrate follows) moved lacked at process none = refl
+there-changes (page.Migrate from to) moved lacked at process none = rw none refl
+there-changes (page.Move address node) moved lacked at process none = rw none refl
+there-changes (page.Populate start bytes task cpu) moved lacked at process none = rw none refl
+there-changes page.Rooms moved lacked at process none = refl
+there-changes page.Moved moved lacked at process none = absurd (moved refl)
 
 abbrev pub page_by : ℕ → PageLine → Lack → Hosting → Outcome
 page_by process said lacked at =
     page_where (is_there (members_of at.history) process) lacked at process said
+
+-- of pages of 4 KiB alone
+abbrev pub small_by : ℕ → PageLine → Lack → Hosting → Outcome
+small_by process said lacked at =
+    small_where (is_there (members_of at.history) process) lacked at process said
 
 -- nobody is there
 pub changed-nobody : (running : RunningHost) (process : ℕ) (said : PageLine)
     → ((history : List HostCommand) → HostStandsFor running.host history
     → is_there (members_of history) process ≡ false)
     → Changes running (Some (reply.HostRefused NoSuchProcess)) running process
-    (λ lacked at. page_by process said lacked at)
+    (λ lacked at. small_by process said lacked at)
 changed-nobody running process said nobody = λ at stands.
     let done = subst (λ (b : Bool). ChangesTo (Some (reply.HostRefused NoSuchProcess)) running
-    process at (page_where b Enough at process said)) (sym (nobody at.history stands.stands))
+    process at (small_where b Enough at process said)) (sym (nobody at.history stands.stands))
     (refl, stands) in
     (Enough, done.0, done.1)
 
 -- whether it was a move changes no text
 told-along : (answer : Option Reply) (version process : ℕ) (at : HostLying)
-    → told_by answer version (pages_lent process at)
-    ≡ told_by answer version (pages_lent process (along_if (tells_move answer) process at))
+    → told_by answer version process at
+    ≡ told_by answer version process (along_if (tells_move answer) process at)
 told-along (Some answer) version process at = refl
 told-along None version process at = refl
 
 pub changed-there : (running : RunningHost) (space : SpaceState) (pages pages_then : HostPages)
-    (answer : Option Reply) (process : ℕ) (said : PageLine) → said ≢ page.Moved
+    (answer : Option Reply) (process : ℕ) (said : PageLine)
     → ((history : List HostCommand) → HostStandsFor running.host history
     → (is_there (members_of history) process ≡ true)
     × IsSpaceOf running.host.blank.machine running.host.blank.bounds
@@ -194,16 +202,15 @@ pub changed-there : (running : RunningHost) (space : SpaceState) (pages pages_th
     → ((at : HostLying) → HostLies pages at
     → HostLies pages_then (along_if (tells_move answer) process at))
     → Changes running answer (record { host = running.host; pages = pages_then }) process
-    (λ lacked at. page_by process said lacked at)
-changed-there running space pages pages_then answer process said moved owns changes goes =
+    (λ lacked at. small_by process said lacked at)
+changed-there running space pages pages_then answer process said owns changes goes =
     λ at stands.
     let own = owns at.history stands.stands in
     let d = changes at.lying stands.lies in
     let basis = same-ground running.host at process space stands.machine stands.bounds own.1 in
     let done = pages_changed d.0 (ground_in space []) process said at.lying in
-    let is : page_by process said d.0 at ≡ with_change at process done =
-    ap (λ (b : Bool). page_where b d.0 at process said) own.0
-    ∙ there-changes said moved d.0 at process
+    let is : small_by process said d.0 at ≡ with_change at process done =
+    ap (λ (b : Bool). small_where b d.0 at process said) own.0
     ∙ ap (λ (g : Ground). with_change at process (pages_changed d.0 g process said at.lying))
     (sym basis) in
     let moves : Option Reply → HostLying = λ t. along_if (tells_move t) process done.1 in
@@ -211,8 +218,7 @@ changed-there running space pages pages_then answer process said moved owns chan
     (ChangesTo answer (record { host = running.host; pages = pages_then }) process at)
     (sym is) (
       told-along done.0 (length at.history) process done.1
-          ∙ ap (λ (t : Option Reply). told_by t (length at.history)
-          (pages_lent process (moves done.0))) d.1,
+          ∙ ap (λ (t : Option Reply). told_by t (length at.history) process (moves done.0)) d.1,
       record {
         machine = stands.machine;
         bounds = stands.bounds;
@@ -224,6 +230,24 @@ changed-there running space pages pages_then answer process said moved owns chan
       },
     ) in
     (d.0, to.0, to.1)
+
+-- a process without pages of 2 MiB
+pub small-acts : (old new : RunningHost) (answer : Option Reply) (process : ℕ) (said : PageLine)
+    → said ≢ page.Moved
+    → ((at : Hosting) → RunsAs old at → memory_at at process ≡ None)
+    → Changes old answer new process (λ lacked at. small_by process said lacked at)
+    → Changes old answer new process (λ lacked at. page_by process said lacked at)
+small-acts old new answer process said moved none changes = λ at stands.
+    let d = changes at stands in
+    let is : page_by process said d.0 at ≡ small_by process said d.0 at =
+    by_there (is_there (members_of at.history) process) d.0 at (none at stands) in
+    let to = subst (ChangesTo answer new process at) (sym is) (d.1, d.2) in
+    (d.0, to.0, to.1)
+  where
+    by_there : (there : Bool) (lacked : Lack) (at : Hosting) → memory_at at process ≡ None
+        → page_where there lacked at process said ≡ small_where there lacked at process said
+    by_there true lacked at gone = there-changes said moved lacked at process gone
+    by_there false lacked at gone = refl
 
 -- ---- every line about pages that a process is told
 

@@ -17,8 +17,11 @@ use Rattle.numa_requests.specs.declared.refusal.Refusal.{Refusal}
 use Rattle.numa_host.specs.Processes.{commands_of, is_there, members_of}
 use Rattle.numa_host.specs.Standing.{HostStandsFor, IsSpaceOf}
 use Rattle.numa_host_pages.specs.Homes.{HostLying, pages_in}
-use Rattle.numa_host_pages.specs.Homes.{pages_lent}
+use Rattle.numa_host_pages.specs.Homes.{memory_of, pages_lent}
 use Rattle.numa_host_pages.specs.Standing.{HostLies}
+use Rattle.numa_placed.specs.declared.spot.Spot.{Spot}
+use Rattle.numa_huge.specs.Moves.{HugeMemory}
+use Rattle.numa_host_huge.specs.Sharing.{astray_in}
 use Rattle.numa_page_state.specs.Lying.{Lying, Process, nothing}
 use Rattle.numa_page_state.specs.Lying.{process_in as process_by}
 use Rattle.numa_page_state.specs.Outcomes.{Enough, Lack, Starved}
@@ -33,11 +36,11 @@ use Rattle.numa_script.specs.declared.page_line.MoveWords.{MoveWords}
 use Rattle.numa_script.specs.declared.policy.WordError.{WordError}
 use Rattle.numa_script.specs.declared.reply.Reply.{Reply}
 use Rattle.numa_script.specs.declared.reply.Reply.TheVariants as reply
-use Rattle.numa_run.specs.Obeying.{bound_command}
+use Rattle.numa_run.specs.Obeying.{any_astray, bound_command}
 use Rattle.numa_run.specs.Replies.{reply_in}
 use Rattle.numa_host_script.specs.Hosts.{Hosting, HostLack, Outcome, process_outcome, with_reply}
 use Rattle.numa_host_script.specs.Paging.{astray_outcome, bound_by, bound_outcome, bound_where}
-use Rattle.numa_host_script.specs.Paging.{judged_by, moved_by, own_cause, pages_at}
+use Rattle.numa_host_script.specs.Paging.{judged_by, memory_at, moved_by, own_cause, pages_at}
 use Rattle.numa_host_script.specs.Paging.{pages_reply}
 use Rattle.numa_host_script.specs.Paging.{takes_more}
 use Rattle.numa_host_script.specs.Standing.{Replies, RepliesThere}
@@ -67,6 +70,19 @@ module _ (space : SpaceState) (history : List Command) (process : ℕ) (at : Hos
       → astray ≡ strays lying → astray ≡ strays (pages_lent process at)
   astray-some lying is astray found =
       found ∙ sym (ap (λ (l : Lying). strays l) (lent-some process at lying is))
+
+or-end : (b : Bool) → (b || false) ≡ b
+or-end true = refl
+or-end false = refl
+
+-- and of either size
+pub astray-both : (memory : Option HugeMemory) (process : Process) (spots : ℕ → Spot)
+    (binding : Binding) (small huge : Bool) → small ≡ has_astray process spots binding
+    → huge ≡ astray_in memory process binding
+    → (small || huge) ≡ any_astray memory process spots binding
+astray-both None process spots binding small huge one other =
+    (λ i. one i || other i) ∙ or-end (has_astray process spots binding)
+astray-both (Some memory) process spots binding small huge one other = λ i. one i || other i
 
 -- ---- a process that is there
 
@@ -101,8 +117,9 @@ nobody-replies old new answer process outcome nobody = λ at stands more.
 -- ---- mbind .. strict
 
 -- what it comes to, by what is known of it
-alike : (answer : Reply) (new : RunningHost) (at : Hosting) (outcome : HostLack → Hosting → Outcome)
-    (lack : HostLack) (other : Outcome) → outcome lack at ≡ other
+pub alike : (answer : Reply) (new : RunningHost) (at : Hosting)
+    (outcome : HostLack → Hosting → Outcome) (lack : HostLack) (other : Outcome)
+    → outcome lack at ≡ other
     → Some answer ≡ reply_in other.answer → RunsAs new (hosting_with at other)
     → (l : HostLack) × (Some answer ≡ reply_in (outcome l at).answer)
     × RunsAs new (hosting_with at (outcome l at))
@@ -141,8 +158,8 @@ module _ (old : RunningHost) (process : ℕ) (command : Command) where
       (astray : Bool)
       (found : (at : HostLying) (history : List Command) → HostLies old.pages at
       → StandsFor space history
-      → astray ≡ has_astray (process_by space history []) (pages_lent process at).spots
-      binding) where
+      → astray ≡ any_astray (memory_of process at) (process_by space history [])
+      (pages_lent process at).spots binding) where
     own-at : (at : Hosting) → RunsAs old at
         → IsSpaceOf at.machine at.bounds (commands_of at.machine at.history process) space
     own-at at stands = own-space old.host at process space stands.machine stands.bounds
@@ -157,7 +174,8 @@ module _ (old : RunningHost) (process : ℕ) (command : Command) where
     judged-is lacked at stands =
         ap (λ (b : Option Binding). judged_by b lacked at process command) sets
         ∙ ap (λ (b : Bool). by_astray b lacked at)
-        (ap (λ (p : Process). has_astray p (pages_at at process).spots binding)
+        (ap (λ (p : Process). any_astray (memory_at at process) p (pages_at at process).spots
+        binding)
         (sym (same-process old.host at process space stands.machine stands.bounds
         (owns at.history stands.stands).1 [] refl))
         ∙ sym (found at.lying (commands_of at.machine at.history process) stands.lies

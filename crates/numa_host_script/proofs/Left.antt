@@ -34,7 +34,7 @@ use Rattle.numa_host_script.specs.Sessions.{asked_where, listed_where, session_a
 use Rattle.numa_host_script.specs.Sessions.{session_served}
 use Rattle.numa_host_script.specs.Standing.{StandsIn, told}
 use Rattle.numa_host_script.specs.Taking.{IsLeft, Left, Open, Pooled, Told, Touched, answer_left}
-use Rattle.numa_host_script.specs.Taking.{asks_move, fault_left, left_in, misplaced_reply}
+use Rattle.numa_host_script.specs.Taking.{asks_move, asks_pools, fault_left, left_in, misplaced_reply}
 use Rattle.numa_host_script.specs.declared.running.RunningHost.{RunningHost}
 use Rattle.numa_host_script.specs.declared.taking.HostTaken.{HostTaken}
 use Rattle.numa_host_script.specs.declared.taking.HostTaken.TheVariants as taken
@@ -123,17 +123,17 @@ own-fault lack state own.Rooms = refl
 own-fault lack state own.Arrived = refl
 own-fault lack state own.Pools = refl
 
--- and as a host does: by a reply, by what its last move did, or by its rooms
-abbrev pub misplaced_as : Option Reply → Bool → Hosting → Answer
-misplaced_as (Some answer) moves at = Replied answer
-misplaced_as None moves at = Shown (shown_text moves at)
+-- and as a host does: by a reply, by what its last move did, its pools, or its rooms
+abbrev pub misplaced_as : Option Reply → Bool → Bool → Hosting → Answer
+misplaced_as (Some answer) moves pools at = Replied answer
+misplaced_as None moves pools at = Shown (shown_text moves pools at)
 
 abbrev pub misplaced_fault : Option Reply → Option Reply
 misplaced_fault (Some answer) = fault_in answer
 misplaced_fault None = None
 
 pub misplaced-answer : (lack : HostLack) (at : Hosting) (found : Taken)
-    → misplaced_as (misplaced_reply found) (asks_move found) at
+    → misplaced_as (misplaced_reply found) (asks_move found) (asks_pools found) at
     ≡ answer_left lack (Hosted at) (left_in (taken.Own found))
 unfolding session_served
 misplaced-answer lack at (own.Reply answer) = refl
@@ -241,6 +241,7 @@ pub stays : (lack : HostLack) (session : Session) (found : HostTaken)
 unfolding session_served
 stays lack session (taken.Reply answer) = tt
 stays lack session (taken.Arrived process) = tt
+stays lack session taken.Pools = tt
 stays lack session (taken.Own (own.Reply answer)) = tt
 stays lack session (taken.Own own.Arrived) = tt
 stays lack session (taken.Own own.Pools) = tt

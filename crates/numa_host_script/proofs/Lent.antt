@@ -158,5 +158,6 @@ same-back pages process at lying is lies = record {
   room = lies.room;
   follows = lies.follows;
   homes = homes-back process at.room at.follows lying pages.members.items at.homes is lies.homes;
+  huge = lies.huge;
   places = lies.places;
 }

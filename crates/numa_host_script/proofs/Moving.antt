@@ -15,6 +15,10 @@ use Rattle.numa_requests.specs.declared.page_refusal.PlacedRefusal.TheVariants a
 use Rattle.numa_requests.specs.declared.refusal.Refusal.{Refusal}
 use Rattle.numa_host.specs.Processes.{commands_of, is_there, members_of}
 use Rattle.numa_host.specs.Standing.{HostState, HostStandsFor, IsHostApplied, IsSpaceOf}
+use Rattle.numa_huge.specs.Moves.{HugeMemory}
+use Rattle.numa_host_huge.specs.Kept.{HugeKept}
+use Rattle.numa_host_huge.specs.Sharing.{Sharing, memory_in}
+use Rattle.numa_host_huge.specs.Standing.{HugeLies}
 use Rattle.numa_host_pages.specs.Homes.{HostLying, given_back, lent, pages_in}
 use Rattle.numa_host_pages.specs.Homes.{taken_along, with_pages}
 use Rattle.numa_host_pages.specs.Standing.{AreOf, HostLies, IsLent}
@@ -38,9 +42,10 @@ use Rattle.numa_run.specs.Replies.{Replied, reply_in}
 use Rattle.numa_host_script.specs.Hosts.{Hosting, HostLack, Outcome, process_outcome, with_reply}
 use Rattle.numa_host_script.specs.Paging.{lying_with, moved_by, own_cause, pages_at}
 use Rattle.numa_host_script.specs.Paging.{pages_reply, process_in, sent_outcome, sent_unless}
-use Rattle.numa_host_script.specs.Paging.{sent_where, takes_more, unless_pages}
+use Rattle.numa_host_script.specs.Paging.{sent_where, sent_with, small_sent, takes_more}
+use Rattle.numa_host_script.specs.Paging.{unless_pages}
 use Rattle.numa_host_script.specs.Standing.{Answers, HostRuns, IsSentTo, Replies, RepliesThere}
-use Rattle.numa_host_script.specs.Standing.{RunsAs, SendsIn, SendsLent, hosting_with}
+use Rattle.numa_host_script.specs.Standing.{RunsAs, SendsFound, SendsIn, SendsLent, hosting_with}
 use Rattle.numa_host_script.specs.declared.running.RunningHost.{RunningHost}
 use Rattle.numa_host_script.proofs.Bindings.{nobody-takes}
 use Rattle.numa_host_script.proofs.Lent.{along-are, given-are, lent-none, lent-some, none-in}
@@ -64,16 +69,17 @@ starved-why cause.NoRoom is = cc
 starved-why cause.TooManyRuns is = cc
 
 -- where nobody is there, nothing is owed
-pub nobody-sends : (host new : HostState) (state after : PageState) (answer : Reply)
-    (process : ℕ) (said : Rebinding) (words : MoveWords)
+pub nobody-sends : (host new : HostState) (huge huge_then : HugeKept) (state after : PageState)
+    (answer : Reply) (process : ℕ) (said : Rebinding) (words : MoveWords)
     → ((history : List HostCommand) → HostStandsFor host history
     → is_there (members_of history) process ≡ false)
-    → SendsIn host state (Err answer) new after process said words
-nobody-sends host new state after answer process said words nobody = λ at runs more lies.
+    → SendsIn host huge state (Err answer) new huge_then after process said words
+nobody-sends host new huge huge_then state after answer process said words nobody =
+    λ at runs shares more lies.
     absurd (nobody-takes at process (nobody at.history runs.stands) more)
 
-module _ (host : HostState) (state : PageState) (process : ℕ) (said : Rebinding)
-    (words : MoveWords) (space : SpaceState)
+module _ (host : HostState) (huge : HugeKept) (state : PageState) (process : ℕ)
+    (said : Rebinding) (words : MoveWords) (space : SpaceState)
     (owns : (history : List HostCommand) → HostStandsFor host history
     → (is_there (members_of history) process ≡ true)
     × IsSpaceOf host.blank.machine host.blank.bounds
@@ -101,6 +107,16 @@ module _ (host : HostState) (state : PageState) (process : ℕ) (said : Rebindin
       (all (commands_of at.machine at.history process) (pages_at at process)
       (own-space host at process space runs.machine runs.bounds own.1).stands lies)
 
+  -- what holds once pages of 4 KiB have been found that go
+  pub found-sends : (result : Result Reply Reply) (new : HostState) (huge_then : HugeKept)
+      (after : PageState) (done : Sending) → FindsSent (Ok (Some done))
+      → SendsFound host huge state result new huge_then after process said words done
+      → SendsIn host huge state result new huge_then after process said words
+  found-sends (Ok answer) new huge_then after done all found = λ at runs shares more lies.
+      found at (finds-here (Ok (Some done)) all at runs lies) runs shares more lies
+  found-sends (Err answer) new huge_then after done all found = λ at runs shares more lies.
+      found at (finds-here (Ok (Some done)) all at runs lies) runs shares more lies
+
   passes : (first : Option Refusal) (at : Hosting) → is_some first ≡ true
       → sent_unless Enough first at process said words
       ≡ process_outcome Enough at process (command_of said)
@@ -110,8 +126,8 @@ module _ (host : HostState) (state : PageState) (process : ℕ) (said : Rebindin
   -- something refuses the policy
   pub send-refused : (new : HostState) (answer : Reply) → FindsSent (Ok None)
       → Answers host command answer new
-      → SendsIn host state (Err answer) new state process said words
-  send-refused new answer all answers = λ at runs more lies.
+      → SendsIn host huge state (Err answer) new huge state process said words
+  send-refused new answer all answers = λ at runs shares more lies.
       let some = finds-here (Ok None) all at runs lies in
       let plain = refused-plain host new at process (command_of said) answer runs
       (cause-some at.machine at.bounds at.history process (command_of said) some) answers in (
@@ -119,18 +135,20 @@ module _ (host : HostState) (state : PageState) (process : ℕ) (said : Rebindin
         passes (own_cause at process (command_of said)) at some ∙ plain.0,
         plain.1,
         refl,
+        shares,
       )
 
   -- runs or memory lack
   pub send-denied : (why : PlacedRefusal) → FindsSent (Err why)
-      → SendsIn host state (Err (pages_reply why)) host state process said words
-  send-denied why all = λ at runs more lies.
+      → SendsIn host huge state (Err (pages_reply why)) host huge state process said words
+  send-denied why all = λ at runs shares more lies.
       elim (cases_Bool (is_starved (lack_told why))) [
         | inl t ↦ (
           Starved,
           ap (λ (w : PlacedRefusal). with_reply (pages_reply w) at) (sym (starved-why why t)),
           runs,
           refl,
+          shares,
         )
         | inr e ↦
             let so = finds-here (Err why) all at runs lies e in
@@ -144,18 +162,20 @@ module _ (host : HostState) (state : PageState) (process : ℕ) (said : Rebindin
                   unless_pages o at (sent_outcome at process said words)) so.1,
               runs,
               refl,
+              shares,
             )
       ]
 
   -- memory lacked when the policy was to be set
   pub send-starved : (new : HostState) (why : HostRefusal)
       → IsHostApplied host command (Err why) new
-      → SendsIn host state (Err (pages_reply cause.NoMemory)) new state process said words
-  send-starved new why applied = λ at runs more lies. (
+      → SendsIn host huge state (Err (pages_reply cause.NoMemory)) new huge state process said words
+  send-starved new why applied = λ at runs shares more lies. (
     Starved,
     refl,
     subst (λ (h : HostState). HostRuns h at) (sym applied.unchanged) runs,
     refl,
+    shares,
   )
 
   -- the policy is set, and the pages went
@@ -176,9 +196,11 @@ module _ (host : HostState) (state : PageState) (process : ℕ) (said : Rebindin
         arrived = state.arrived;
       }
       → late ≡ tells_left words.strict said.spec done.left
-      → SendsIn host state (Ok (reply.Sent version done.moved done.left late)) new after process
-      said words
-  send-done new version done after late applied counts all is tells = λ at runs more lies.
+      → ((at : Sharing) → HugeLies huge at → memory_in process at ≡ None)
+      → SendsIn host huge state (Ok (reply.Sent version done.moved done.left late)) new huge after
+      process said words
+  send-done new version done after late applied counts all is tells small =
+      λ at runs shares more lies.
       let from : Lying = pages_at at process in
       let so = finds-here (Ok (Some done)) all at runs lies in
       let asked = asked_of (process_in at process) said (toucher_of words) in
@@ -187,17 +209,21 @@ module _ (host : HostState) (state : PageState) (process : ℕ) (said : Rebindin
       let counted : version ≡ suc (length at.history) = counts (command ∷ at.history) ok.1 in
       let lateness : late ≡ tells_left words.strict said.spec (sent_in [] asked from).left =
       tells ∙ ap (tells_left words.strict said.spec) so.1.left in
+      let alone : sent_outcome at process said words ≡ small_sent at process said words =
+      ap (λ (m : Option HugeMemory). sent_with m at process said words)
+      (small at.lying.huge shares) in
       let told : sent_outcome at process said words ≡ record {
         answer = Replied (reply.Sent version done.moved done.left late);
         history = command ∷ at.history;
         lying = taken_along process (lying_with at process lying);
-      } = λ i. record {
+      } = alone ∙ (λ i. record {
         answer = Replied (reply.Sent (sym counted i) (sym so.1.moved i) (sym so.1.left i)
             (sym lateness i));
         history = command ∷ at.history;
         lying = taken_along process (lying_with at process lying);
-      } in (
+      }) in (
         lying,
+        at.lying.huge,
         ap (λ (o : Option Refusal). sent_unless Enough o at process said words) so.0 ∙ told,
         record {
           machine = applied.machine ∙ runs.machine;
@@ -205,11 +231,12 @@ module _ (host : HostState) (state : PageState) (process : ℕ) (said : Rebindin
           stands = ok.1;
         },
         settles state done after from [] asked is lies so.1,
+        shares,
       )
 
 -- ---- pages are given back
 
-module _ (host : HostState) (pages pages_then : HostPages) (state after : PageState)
+module _ (host : HostState) (pages pages_mid pages_then : HostPages) (state after : PageState)
     (new : HostState) (process : ℕ) (said : Rebinding) (words : MoveWords) where
   abbrev pub given : RunningHost
   given = record { host = new; pages = pages_then }
@@ -222,47 +249,69 @@ module _ (host : HostState) (pages pages_then : HostPages) (state after : PageSt
   Goes pages_last = (at : HostLying) → HostLies pages_then at
       → HostLies pages_last (taken_along process at)
 
+  -- the pools and the pages of 2 MiB are so, and all else as it was
+  abbrev pub Keeps : Type 0
+  Keeps = pages_mid ≡ record pages { huge = pages_mid.huge }
+
+  keeps-rest : Keeps → (at : HostLying) (shared : Sharing) → HostLies pages at
+      → HugeLies pages_mid.huge shared → HostLies pages_mid (record at { huge = shared })
+  keeps-rest keeps at shared lies shares =
+      subst (λ (p : HostPages). HostLies p (record at { huge = shared })) (sym keeps) (record {
+        room = lies.room;
+        follows = lies.follows;
+        homes = lies.homes;
+        huge = shares;
+        places = lies.places;
+      })
+
   abbrev pub Gives : Type 0
   Gives = (at : HostLying) (done : Lying)
-      → HostLies pages (record at { homes = with_pages process None at.homes })
+      → HostLies pages_mid (record at { homes = with_pages process None at.homes })
       → LiesAs after done → HostLies pages_then (given_back process done at)
 
   -- the pages went
   sent-given : (pages_last : HostPages) (answer : Reply)
-      → SendsIn host state (Ok answer) new after process said words
-      → Gives → Goes pages_last → (at : Hosting) → HostRuns host at → AreOf at.lying at.history
+      → SendsIn host pages.huge state (Ok answer) new pages_mid.huge after process said
+      words
+      → Keeps → Gives → Goes pages_last → (at : Hosting) → HostRuns host at
+      → AreOf at.lying at.history
       → takes_more at process ≡ true → LiesAs state (pages_at at process)
       → HostLies pages (record at.lying { homes = with_pages process None at.lying.homes })
       → IsSentTo answer (moved pages_last) at process said words
-  sent-given pages_last answer sends gives goes at runs are more lies out =
-      let d = sends at runs more lies in
-      let back : HostLying = given_back process d.0 at.lying in
-      let kept = along-are process back at.history
-      (given-are process d.0 at.lying at.history are) in (
+  sent-given pages_last answer sends keeps gives goes at runs are more lies out =
+      let d = sends at runs out.huge more lies in
+      let mid : HostLying = record at.lying { huge = d.1 } in
+      let back : HostLying = given_back process d.0 mid in
+      let kept = along-are process back at.history (given-are process d.0 mid at.history
+      (record { order = are.order; same = are.same })) in (
         flag Enough,
-        sym (ap (λ (o : Outcome). reply_in o.answer) d.1),
-        subst (λ (o : Outcome). RunsAs (moved pages_last) (hosting_with at o)) (sym d.1) (record {
-          machine = d.2.machine;
-          bounds = d.2.bounds;
-          stands = d.2.stands;
-          lies = goes back (gives at.lying d.0 out d.3);
+        sym (ap (λ (o : Outcome). reply_in o.answer) d.2),
+        subst (λ (o : Outcome). RunsAs (moved pages_last) (hosting_with at o)) (sym d.2) (record {
+          machine = d.3.machine;
+          bounds = d.3.bounds;
+          stands = d.3.stands;
+          lies = goes back (gives mid d.0 (keeps-rest keeps (record at.lying {
+            homes = with_pages process None at.lying.homes;
+          }) d.1 out d.5) d.4);
           are = record { order = kept.order; same = kept.same };
         }),
       )
 
   pub lent-sent : (pages_last : HostPages) (answer : Reply)
-      → SendsIn host state (Ok answer) new after process said words → Gives → Goes pages_last
+      → SendsIn host pages.huge state (Ok answer) new pages_mid.huge after process said
+      words → Keeps → Gives → Goes pages_last
       → SendsLent host pages state answer (moved pages_last) process said words
-  lent-sent pages_last answer sends gives goes = λ at lying runs are is out has more.
-      sent-given pages_last answer sends gives goes at runs are more
+  lent-sent pages_last answer sends keeps gives goes = λ at lying runs are is out has more.
+      sent-given pages_last answer sends keeps gives goes at runs are more
       (subst (λ (l : Lying). LiesAs state l) (sym (lent-some process at.lying lying is)) has) out
 
   -- they are as they were
-  pub lent-kept : (answer : Reply) → SendsIn host state (Err answer) new after process said words
-      → Gives → SendsLent host pages state answer given process said words
-  lent-kept answer sends gives = λ at lying runs are is out has more.
+  pub lent-kept : (answer : Reply)
+      → SendsIn host pages.huge state (Err answer) new pages_mid.huge after process said words
+      → Keeps → Gives → SendsLent host pages state answer given process said words
+  lent-kept answer sends keeps gives = λ at lying runs are is out has more.
       let from : Lying = lent at.lying.room at.lying.follows lying in
-      let d = sends at runs more
+      let d = sends at runs out.huge more
       (subst (λ (l : Lying). LiesAs state l) (sym (lent-some process at.lying lying is)) has) in
       let back : LiesAs after from = subst (λ (s : PageState). LiesAs s from) (sym d.3) has in (
         flag d.0,
@@ -271,7 +320,10 @@ module _ (host : HostState) (pages pages_then : HostPages) (state after : PageSt
           machine = d.2.machine;
           bounds = d.2.bounds;
           stands = d.2.stands;
-          lies = same-back pages_then process at.lying lying is (gives at.lying from out back);
+          lies = same-back pages_then process at.lying lying is (gives at.lying from
+              (keeps-rest keeps (record at.lying {
+                homes = with_pages process None at.lying.homes;
+              }) at.lying.huge out d.4) back);
           are = are;
         }),
       )
@@ -295,29 +347,32 @@ module _ (host : HostState) (pages pages_then : HostPages) (state after : PageSt
       (sym (lent-none process at.lying none)) (begins at.lying stands.lies)
 
   pub first-sent : (pages_last : HostPages) (answer : Reply)
-      → SendsIn host state (Ok answer) new after process said words → Gives → Goes pages_last
+      → SendsIn host pages.huge state (Ok answer) new pages_mid.huge after process said
+      words → Keeps → Gives → Goes pages_last
       → ((at : HostLying) → HostLies pages at → LiesAs state (lent at.room at.follows nothing))
       → (at : Hosting) → RunsAs before at → pages_in process at.lying.homes ≡ None
       → takes_more at process ≡ true → IsSentTo answer (moved pages_last) at process said words
-  first-sent pages_last answer sends gives goes begins at stands none more =
-      sent-given pages_last answer sends gives goes at (runs-before at stands) stands.are more
+  first-sent pages_last answer sends keeps gives goes begins at stands none more =
+      sent-given pages_last answer sends keeps gives goes at (runs-before at stands) stands.are more
       (first-lies begins at stands none) (none-out pages process at.lying none stands.lies)
 
-  pub first-kept : (answer : Reply) → SendsIn host state (Err answer) new after process said words
+  pub first-kept : (answer : Reply)
+      → SendsIn host pages.huge state (Err answer) new pages_mid.huge after process said words
       → ((at : HostLying) → HostLies pages at → LiesAs state (lent at.room at.follows nothing))
       → (at : Hosting) → RunsAs before at → pages_in process at.lying.homes ≡ None
-      → takes_more at process ≡ true
-      → IsSentTo answer (record { host = new; pages = pages }) at process said words
-  first-kept answer sends begins at stands none more =
-      let d = sends at (runs-before at stands) more (first-lies begins at stands none) in
-      let same : RunningHost = record { host = new; pages = pages } in (
+      → takes_more at process ≡ true → Keeps
+      → IsSentTo answer (record { host = new; pages = pages_mid }) at process said words
+  first-kept answer sends begins at stands none more keeps =
+      let d = sends at (runs-before at stands) stands.lies.huge more
+      (first-lies begins at stands none) in
+      let same : RunningHost = record { host = new; pages = pages_mid } in (
         flag d.0,
         sym (ap (λ (o : Outcome). reply_in o.answer) d.1),
         subst (λ (o : Outcome). RunsAs same (hosting_with at o)) (sym d.1) (record {
           machine = d.2.machine;
           bounds = d.2.bounds;
           stands = d.2.stands;
-          lies = stands.lies;
+          lies = keeps-rest keeps at.lying at.lying.huge stands.lies d.4;
           are = stands.are;
         }),
       )

@@ -15,6 +15,7 @@ use Rattle.numa_requests.specs.declared.host_command.HostCommand.{HostCommand}
 use Rattle.numa_requests.specs.declared.host_refusal.HostRefusal.TheVariants.{NoMemory}
 use Rattle.numa_page_state.specs.Outcomes.{Enough, Lack, Starved}
 use Rattle.numa_script.specs.Lines.{alone}
+use Rattle.numa_script.specs.declared.huge_line.HugeLine.{HugeLine}
 use Rattle.numa_script.specs.declared.line.Line.{Line}
 use Rattle.numa_script.specs.declared.line.Line.TheVariants as line
 use Rattle.numa_script.specs.declared.line.Question.{Question}
@@ -136,43 +137,45 @@ pub in-nothing : (running : RunningHost) (process : ℕ) (said : Line)
     → ((shown : Result PageLine ListFault) → said ≢ line.Pages shown)
     → ((start bytes : ℕ) (policy : Result Specification WordError) (pages : BoundPages)
     → said ≢ line.Bind start bytes policy pages)
+    → ((told_so : HugeLine) → said ≢ line.Huge told_so)
     → Takes running (told process said) (taken.Reply reply.BadState) running
-in-nothing running process line.Silent given none asks lists shows binds =
+in-nothing running process line.Silent given none asks lists shows binds huge =
     λ at stands. (plenty, refl, stands)
-in-nothing running process line.Malformed given none asks lists shows binds =
+in-nothing running process line.Malformed given none asks lists shows binds huge =
     λ at stands. (plenty, refl, stands)
-in-nothing running process (line.Limits ranges tasks commands) given none asks lists shows binds =
+in-nothing running process (line.Limits ranges tasks commands) given none asks lists shows binds
+    huge = λ at stands. (plenty, refl, stands)
+in-nothing running process (line.Rules rules) given none asks lists shows binds huge =
     λ at stands. (plenty, refl, stands)
-in-nothing running process (line.Rules rules) given none asks lists shows binds =
+in-nothing running process (line.Cpus said) given none asks lists shows binds huge =
     λ at stands. (plenty, refl, stands)
-in-nothing running process (line.Cpus said) given none asks lists shows binds =
+in-nothing running process (line.Machine said) given none asks lists shows binds huge =
     λ at stands. (plenty, refl, stands)
-in-nothing running process (line.Machine said) given none asks lists shows binds =
-    λ at stands. (plenty, refl, stands)
-in-nothing running process (line.Command said) given none asks lists shows binds =
+in-nothing running process (line.Command said) given none asks lists shows binds huge =
     absurd (given said refl)
-in-nothing running process (line.EmptyBind start fault) given none asks lists shows binds =
+in-nothing running process (line.EmptyBind start fault) given none asks lists shows binds huge =
     absurd (none start fault refl)
-in-nothing running process (line.Question said) given none asks lists shows binds =
+in-nothing running process (line.Question said) given none asks lists shows binds huge =
     absurd (asks said refl)
-in-nothing running process (line.Maps task) given none asks lists shows binds =
+in-nothing running process (line.Maps task) given none asks lists shows binds huge =
     absurd (lists task refl)
-in-nothing running process (line.Work said) given none asks lists shows binds =
+in-nothing running process (line.Work said) given none asks lists shows binds huge =
     λ at stands. (plenty, refl, stands)
-in-nothing running process (line.Pages said) given none asks lists shows binds =
+in-nothing running process (line.Pages said) given none asks lists shows binds huge =
     absurd (shows said refl)
 in-nothing running process (line.Bind start bytes policy pages) given none asks lists shows
-    binds = absurd (binds start bytes policy pages refl)
-in-nothing running process (line.Huge said) given none asks lists shows binds =
+    binds huge = absurd (binds start bytes policy pages refl)
+in-nothing running process (line.Huge said) given none asks lists shows binds huge =
+    absurd (huge said refl)
+in-nothing running process line.Host given none asks lists shows binds huge =
     λ at stands. (plenty, refl, stands)
-in-nothing running process line.Host given none asks lists shows binds =
-    λ at stands. (plenty, refl, stands)
-in-nothing running process (line.HostCommand said) given none asks lists shows binds =
+in-nothing running process (line.HostCommand said) given none asks lists shows binds huge =
     λ at stands. (plenty, refl, stands)
 
--- a line that names no process and isn't about pages, by the command that it says
+-- a line that names no process and isn't about pages or pools, by the command that it says
 abbrev pub IsOther : Line → Type 0
 IsOther (line.Pages (Ok said)) = ⊥
+IsOther (line.Huge said) = ⊥
 IsOther said = Unit {0}
 
 own-is : (said : Line) → IsOther said → (lack : HostLack) (at : Hosting)
@@ -191,28 +194,29 @@ own-is (line.Work said) other lack at = refl
 own-is (line.Pages (Ok said)) other lack at = absurd other
 own-is (line.Pages (Err fault)) other lack at = refl
 own-is (line.Bind start bytes policy pages) other lack at = refl
-own-is (line.Huge said) other lack at = refl
+own-is (line.Huge said) other lack at = absurd other
 own-is line.Host other lack at = refl
 own-is (line.HostCommand said) other lack at = refl
 
-pub is-other : (said : Line) → ((shown : PageLine) → said ≢ line.Pages (Ok shown)) → IsOther said
-is-other line.Silent none = tt
-is-other line.Malformed none = tt
-is-other (line.Limits ranges tasks commands) none = tt
-is-other (line.Rules rules) none = tt
-is-other (line.Cpus said) none = tt
-is-other (line.Machine said) none = tt
-is-other (line.Command said) none = tt
-is-other (line.EmptyBind start fault) none = tt
-is-other (line.Question said) none = tt
-is-other (line.Maps task) none = tt
-is-other (line.Work said) none = tt
-is-other (line.Pages (Ok said)) none = absurd (none said refl)
-is-other (line.Pages (Err fault)) none = tt
-is-other (line.Bind start bytes policy pages) none = tt
-is-other (line.Huge said) none = tt
-is-other line.Host none = tt
-is-other (line.HostCommand said) none = tt
+pub is-other : (said : Line) → ((shown : PageLine) → said ≢ line.Pages (Ok shown))
+    → ((huge : HugeLine) → said ≢ line.Huge huge) → IsOther said
+is-other line.Silent pages huge = tt
+is-other line.Malformed pages huge = tt
+is-other (line.Limits ranges tasks commands) pages huge = tt
+is-other (line.Rules rules) pages huge = tt
+is-other (line.Cpus said) pages huge = tt
+is-other (line.Machine said) pages huge = tt
+is-other (line.Command said) pages huge = tt
+is-other (line.EmptyBind start fault) pages huge = tt
+is-other (line.Question said) pages huge = tt
+is-other (line.Maps task) pages huge = tt
+is-other (line.Work said) pages huge = tt
+is-other (line.Pages (Ok said)) pages huge = absurd (pages said refl)
+is-other (line.Pages (Err fault)) pages huge = tt
+is-other (line.Bind start bytes policy bound) pages huge = tt
+is-other (line.Huge said) pages huge = absurd (huge said refl)
+is-other line.Host pages huge = tt
+is-other (line.HostCommand said) pages huge = tt
 
 pub own-taken : (old new : RunningHost) (said : Line) (answer : Reply) → IsOther said
     → Replies old answer new (λ lack at. own_where (host_command_of said) lack at said)
@@ -297,7 +301,7 @@ module _ (script : Script) (limits : Bounds) where
   pub begun-now : (machine : Hardware) (host : RunningHost) (session : Session)
       → StandsIn script limits None session → IsFresh machine
       → host.host.blank.machine ≡ machine → host.host.blank.bounds ≡ limits
-      → HostStandsFor host.host [] → HostLies host.pages empty_host
+      → HostStandsFor host.host [] → HostLies host.pages (empty_host machine.memory)
       → BeginsAt reply.HostReady script limits (Some host) session
   begun-now machine host (Hosted at) stands fresh same bounds empty lies = absurd stands
   begun-now machine host (Single state) stands fresh same bounds empty lies =
@@ -347,6 +351,8 @@ module _ (script : Script) (limits : Bounds) where
   left-hosted lack at said (taken.Moved process) same left = left
   left-hosted lack at said taken.MovedAll same left = left
   left-hosted lack at said taken.Rooms same left = left
+  left-hosted lack at said taken.Pools same left =
+      (subst (λ (s : Served). pooled_answer s.session ≡ s.answer) (sym same) left.0, left.1)
   left-hosted lack at said (taken.Arrived process) same left = (
     subst (λ (s : Served). touched_answer s.session (Some process) ≡ s.answer) (sym same) left.0,
     left.1,

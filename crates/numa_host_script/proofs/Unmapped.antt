@@ -45,7 +45,7 @@ use Rattle.numa_script.specs.declared.reply.Reply.TheVariants as reply
 use Rattle.numa_run.specs.Replies.{reply_in}
 use Rattle.numa_host_script.specs.Hosts.{Hosting, HostLack, Outcome, command_unless, host_needs_room}
 use Rattle.numa_host_script.specs.Hosts.{plenty, process_outcome, with_reply}
-use Rattle.numa_host_script.specs.Paging.{lying_with, obeyed, pages_at, pages_reply, unmap_outcome}
+use Rattle.numa_host_script.specs.Paging.{lying_with, obeyed, pages_at, pages_reply, small_unmap}
 use Rattle.numa_host_script.specs.Standing.{Answers, ForgetsIn, HostRuns, IsReplyTo, Replies}
 use Rattle.numa_host_script.specs.Standing.{RunsAs, hosting_with}
 use Rattle.numa_host_script.specs.declared.running.RunningHost.{RunningHost}
@@ -221,7 +221,7 @@ module _ (old : RunningHost) (process start bytes : ℕ) where
   said = In process (own.Unmap start bytes)
 
   abbrev pub unmaps : HostLack → Hosting → Outcome
-  unmaps lack at = unmap_outcome lack.lacked at process start bytes
+  unmaps lack at = small_unmap lack.lacked at process start bytes
 
   abbrev pub ForgetsAll : Result (Option Laid) PlacedRefusal → Type 0
   ForgetsAll found = (at : HostLying) → HostLies old.pages at

@@ -7,7 +7,8 @@ use Rattle.numa_machine.specs.declared.rules.Rules.TheVariants.{Document}
 use Rattle.numa_machine.specs.declared.page_size.PageSize.TheVariants.{Small}
 use Rattle.numa_requests.specs.declared.command.Command.TheVariants as own
 use Rattle.numa_requests.specs.declared.host_command.HostCommand.TheVariants as command
-use Rattle.numa_host_pages.specs.Summed.{none_sent, sum_of}
+use Rattle.numa_host_huge.specs.Sharing.{no_sharing}
+use Rattle.numa_host_pages.specs.Summed.{none_sent, sum_in}
 use Rattle.numa_script.specs.Lines.{alone, keyword_of, line_of}
 use Rattle.numa_script.specs.Numbers.{number_of, numeral_of, in_64_bits}
 use Rattle.numa_script.specs.Texts.{text_of}
@@ -46,6 +47,7 @@ run = record {
     room = None;
     follows = true;
     homes = record { id = 1; group = 5; allowed = 6; lying = None; along = false } ∷ [];
+    huge = no_sharing 15;
   };
 }
 
@@ -82,7 +84,7 @@ moved-of_a_host : (session_served plenty (Hosted run) (alone (line.Pages (Ok pag
 unfolding session_served
 moved-of_a_host = refl
 
-moved-of_nothing : sum_of run.lying.homes ≡ none_sent
+moved-of_nothing : sum_in run.lying ≡ none_sent
 moved-of_nothing = refl
 
 page-of_a_host : session_answer_to plenty (Hosted run) (codes "at 0 4096 0")

@@ -23,8 +23,8 @@ use Rattle.numa_script.specs.declared.line.Question.TheVariants as question
 use Rattle.numa_script.specs.declared.line.ScriptLine.{ScriptLine}
 use Rattle.numa_script.specs.declared.reply.Reply.{Reply}
 use Rattle.numa_script.specs.declared.reply.Reply.TheVariants as reply
-use Rattle.numa_run.specs.Listings.{there_listing}
-use Rattle.numa_run.specs.MovedTexts.{last_line}
+use Rattle.numa_run.specs.Listings.{both_listing}
+use Rattle.numa_run.specs.MovedTexts.{both_line}
 use Rattle.numa_run.specs.Questions.{question_text}
 use Rattle.numa_run.specs.Answers.{State}
 use Rattle.numa_run.specs.Replies.{bytes_of, reply_in}
@@ -35,12 +35,13 @@ use Rattle.numa_run.specs.declared.script.Script.{Script}
 use Rattle.numa_run.proofs.JudgeLemmas.{cause-starved, reply-starved}
 use Rattle.numa_host_script.specs.Hosts.{plenty}
 use Rattle.numa_host_script.specs.Judged.{Starves}
-use Rattle.numa_host_script.specs.Paging.{arrived_text, pages_at, process_in, shown_text}
+use Rattle.numa_host_script.specs.Paging.{arrived_text, memory_at, pages_at, process_in, shown_text}
 use Rattle.numa_host_script.specs.Sessions.{Hosted, Hosting, HostLack, Session, Single}
 use Rattle.numa_host_script.specs.Sessions.{session_after, session_answer, session_served}
 use Rattle.numa_host_script.specs.Standing.{RunsAs, StandsIn, told}
 use Rattle.numa_host_script.specs.Taking.{IsLeft, Left, Open, Pooled, Told, Touched, answer_left}
-use Rattle.numa_host_script.specs.Taking.{asks_move, fault_left, left_in, misplaced_reply}
+use Rattle.numa_host_script.specs.Taking.{asks_move, asks_pools, fault_left, left_in}
+use Rattle.numa_host_script.specs.Taking.{misplaced_reply}
 use Rattle.numa_host_script.specs.declared.running.RunningHost.{RunningHost}
 use Rattle.numa_host_script.specs.declared.taking.HostTaken.{HostTaken}
 use Rattle.numa_host_script.specs.declared.taking.HostTaken.TheVariants as taken
@@ -87,14 +88,16 @@ module _ {W : Type 0} (contents : W → Option (List ℕ)) (output output_then :
   misplaced-at : (script : Script) (limits : Bounds) (host : RunningHost) (found : Taken)
       (shown : Option Reply) (lacks : Bool) (at : Hosting) → shown ≡ misplaced_reply found
       → RunsAs host at
-      → Said contents output output_then (bytes_of (misplaced_as shown (asks_move found) at))
+      → Said contents output output_then (bytes_of (misplaced_as shown (asks_move found)
+      (asks_pools found) at))
       → (IsTrue lacks ↔ IsSomeAnd (misplaced_fault shown) LacksMemory)
       → WritesAt (left_in (taken.Own found)) lacks script limits (Some host) (Hosted at)
   misplaced-at script limits host found shown lacks at is stands said starved = (
     plenty,
     stands,
     said_same contents output output_then _ _
-        (ap (λ (s : Option Reply). bytes_of (misplaced_as s (asks_move found) at)) is
+        (ap (λ (s : Option Reply).
+        bytes_of (misplaced_as s (asks_move found) (asks_pools found) at)) is
         ∙ ap bytes_of (misplaced-answer plenty at found)) said,
     subst (λ (o : Option Reply). IsTrue lacks ↔ IsSomeAnd o LacksMemory)
         (ap misplaced_fault is ∙ misplaced-fault plenty at found) starved,
@@ -112,13 +115,14 @@ module _ {W : Type 0} (contents : W → Option (List ℕ)) (output output_then :
       misplaced-at script limits host found (Some answer) lacks at is stands said
       (reply-starved answer lacks starved)
 
-  -- what its last move did, or its rooms
-  abbrev pub TellsShown : RunningHost → Bool → Type 0
-  TellsShown host moves = (at : Hosting) → RunsAs host at
-      → Said contents output output_then (shown_text moves at)
+  -- what its last move did, its pools, or its rooms
+  abbrev pub TellsShown : RunningHost → Bool → Bool → Type 0
+  TellsShown host moves pools = (at : Hosting) → RunsAs host at
+      → Said contents output output_then (shown_text moves pools at)
 
   pub written-shown : (script : Script) (limits : Bounds) (host : RunningHost) (found : Taken)
-      (session : Session) → None ≡ misplaced_reply found → TellsShown host (asks_move found)
+      (session : Session) → None ≡ misplaced_reply found
+      → TellsShown host (asks_move found) (asks_pools found)
       → StandsIn script limits (Some host) session
       → WritesAt (left_in (taken.Own found)) false script limits (Some host) session
   written-shown script limits host found (Single state) is tells stands = absurd stands
@@ -272,7 +276,8 @@ module _ {W : Type 0} (contents : W → Option (List ℕ)) (output output_then :
   ListsThere host process task space = (at : Hosting) → RunsAs host at
       → (own_one : Process) → StandsFor space own_one.history → own_one.machine ≡ space.machine
       → own_one.kept ≡ []
-      → Said contents output output_then (there_listing own_one (pages_at at process).spots task)
+      → Said contents output output_then (both_listing own_one (pages_at at process).spots
+      (memory_at at process) task)
 
   pub listed-there : (script : Script) (limits : Bounds) (host : RunningHost)
       (process task : ℕ) (space : SpaceState) (session : Session)
@@ -319,7 +324,7 @@ module _ {W : Type 0} (contents : W → Option (List ℕ)) (output output_then :
 
   abbrev pub TellsLast : RunningHost → ℕ → Type 0
   TellsLast host process = (at : Hosting) → RunsAs host at → Said contents output output_then
-      (last_line (length at.history) (pages_at at process).last)
+      (both_line (length at.history) (pages_at at process).last (memory_at at process))
 
   pub moved-there : (script : Script) (limits : Bounds) (host : RunningHost) (process : ℕ)
       (space : SpaceState) (session : Session) → IsSpaceOf host.host process space

@@ -24,14 +24,15 @@ use Rattle.numa_script.specs.declared.reply.Reply.{Reply}
 use Rattle.numa_script.specs.declared.reply.Reply.TheVariants as reply
 use Rattle.numa_run.specs.Answers.{State, after, own_line, start_by}
 use Rattle.numa_run.specs.Machines.{limits_fit}
-use Rattle.numa_run.specs.Listings.{there_listing}
+use Rattle.numa_run.specs.Listings.{both_listing}
 use Rattle.numa_run.specs.Obeying.{bound_command}
 use Rattle.numa_run.specs.Questions.{question_text}
 use Rattle.numa_run.specs.Replies.{Answer, Replied, bind_nothing, bytes_of, outcome_of}
 pub use Rattle.numa_host_script.specs.Hosts.{Hosting, HostLack, Outcome, command_outcome, said_outcome}
 pub use Rattle.numa_host_script.specs.Hosts.{cause_by, command_unless, with_reply, with_text}
 pub use Rattle.numa_host_script.specs.Hosts.{host_needs_room}
-use Rattle.numa_host_script.specs.Paging.{bound_outcome, own_page_outcome, pages_at}
+use Rattle.numa_host_script.specs.Paging.{bound_outcome, memory_at, own_page_outcome, pages_at}
+use Rattle.numa_host_script.specs.Pooling.{huge_outcome, own_huge_outcome}
 use Rattle.numa_host_script.specs.Paging.{pages_outcome, process_in}
 pub use Rattle.numa_host_script.specs.Paging.{given_outcome}
 
@@ -55,7 +56,8 @@ asked_where true lacked at process asked =
 abbrev pub listed_where : Bool → Hosting → ℕ → ℕ → Outcome
 listed_where false at process task = with_reply (reply.HostRefused NoSuchProcess) at
 listed_where true at process task =
-    with_text (there_listing (process_in at process) (pages_at at process).spots task) at
+    with_text (both_listing (process_in at process) (pages_at at process).spots
+    (memory_at at process) task) at
 
 -- a line that a process is told
 abbrev pub in_outcome : Lack → Hosting → ℕ → Line → Outcome
@@ -69,6 +71,7 @@ in_outcome lacked at process (line.Maps task) =
 in_outcome lacked at process (line.Pages said) = pages_outcome lacked at process said
 in_outcome lacked at process (line.Bind start bytes policy pages) =
     bound_outcome lacked at process pages (bound_command at.machine.rules start bytes policy)
+in_outcome lacked at process (line.Huge said) = huge_outcome lacked at process said
 in_outcome lacked at process _ = with_reply reply.BadState at
 
 -- ---- every line of a host
@@ -92,6 +95,7 @@ own_where (Some told) lack at said = said_outcome lack at told
 
 abbrev pub own_outcome : HostLack → Hosting → Line → Outcome
 own_outcome lack at (line.Pages (Ok said)) = own_page_outcome at said
+own_outcome lack at (line.Huge said) = own_huge_outcome at said
 own_outcome lack at said = own_where (host_command_of said) lack at said
 
 -- a line of the host, or of one of its processes
@@ -122,11 +126,13 @@ pub record Served : Type 0 where
 abbrev pub replied : Reply → Session → Served
 replied answer session = record { answer = Replied answer; session = session }
 
--- a machine is ready, and no command is accepted yet
+-- a machine is ready, no command is accepted yet, and no page of 2 MiB is kept: a `pool` with a
+-- number keeps some
 abbrev pub is_fresh : State → Bool
-is_fresh state = is_some state.machine && length state.world.history == 0
+is_fresh state = is_some state.machine
+    && (length state.world.history == 0 && not (is_some state.huge))
 
--- `host`, behind `machine` and before every command: all that follows is a host's
+-- `host`, behind `machine` and before every command and `pool`: all that follows is a host's
 abbrev pub begun_on : Option Hardware → Lack → State → Served
 begun_on None lacked state = replied reply.BadState (Single state)
 begun_on (Some machine) lacked state =
@@ -135,7 +141,7 @@ begun_on (Some machine) lacked state =
       machine = machine;
       bounds = state.bounds;
       history = [];
-      lying = empty_host;
+      lying = empty_host machine.memory;
     }))
 
 abbrev pub begun_where : Bool → Lack → State → Served

@@ -1,16 +1,28 @@
 -- Which states a running script of a host stands for, and what it does with lines.
 use Rattle.std.specs.Prelude.{◌≡◌, ℕ, Bool, true, false, Option, Some, None, IsSome, Result}
-use Rattle.std.specs.Prelude.{◌∷◌, Ok, Err, length}
+use Rattle.std.specs.Prelude.{[], ◌∷◌, Ok, Err, IsSomeAnd, length}
 use Rattle.numa_space.specs.Limited.{Bounds}
 use Rattle.numa_host.specs.Standing.{HostState, HostStandsFor, IsHostApplied}
-use Rattle.numa_host_pages.specs.Homes.{HostLying, lent, pages_in, pages_lent, taken_along}
-use Rattle.numa_host_pages.specs.Homes.{with_pages}
+use Rattle.numa_huge.specs.Huge.{HugeLying}
+use Rattle.numa_host_huge.specs.Kept.{HugeKept}
+use Rattle.numa_host_huge.specs.Sharing.{Sharing, begun_in, given_back as huge_back, memory_in}
+use Rattle.numa_host_huge.specs.Standing.{HugeLies}
+use Rattle.numa_requests.specs.declared.command.Command.{Command}
+use Rattle.numa_host_pages.specs.Homes.{HostLying, lent, memory_of, pages_in, taken_along}
+use Rattle.numa_host_pages.specs.Homes.{with_huge, with_pages}
 use Rattle.numa_host_pages.specs.Standing.{AreOf, HostLies}
 use Rattle.numa_host_pages.specs.declared.pages.HostPages.{HostPages}
-use Rattle.numa_page_state.specs.Lying.{Lying}
+use Rattle.numa_page_state.specs.Lying.{Ground, Lying}
 use Rattle.numa_page_state.specs.Outcomes.{Enough, Lack, forgotten, has_stated, lack_of, lack_told}
-use Rattle.numa_page_state.specs.Sending.{command_of}
-use Rattle.numa_page_state.specs.Standing.{LiesAs}
+use Rattle.numa_page_state.specs.Sending.{asked_of, command_of}
+use Rattle.numa_page_state.specs.Huge.{huge_walk}
+use Rattle.numa_page_state.specs.declared.sending.Sending.{Sending}
+use Rattle.numa_huge.specs.Huge.{HugePlaced}
+use Rattle.numa_huge.specs.Moves.{HugeMemory}
+use Rattle.numa_huge.specs.Tallies.{IsWalk}
+use Rattle.numa_huge.specs.declared.last.Flows.{Flows}
+use Rattle.numa_run.specs.Obeying.{toucher_of}
+use Rattle.numa_page_state.specs.Standing.{HasSent, LiesAs}
 use Rattle.numa_page_state.specs.declared.sending.Rebinding.{Rebinding}
 use Rattle.numa_page_state.specs.declared.state.PageState.{PageState}
 use Rattle.numa_placed.specs.Laid.{Laid}
@@ -31,14 +43,18 @@ use Rattle.numa_script.specs.declared.reply.Reply.TheVariants as reply
 use Rattle.numa_requests.specs.declared.host_command.HostCommand.{HostCommand}
 use Rattle.numa_requests.specs.declared.host_command.HostCommand.TheVariants.{In}
 use Rattle.numa_requests.specs.declared.host_refusal.HostRefusal.{HostRefusal}
+use Rattle.numa_run.specs.PoolTexts.{pools_line}
 use Rattle.numa_run.specs.Replies.{Replied, Shown, reply_in}
 use Rattle.numa_run.specs.Scripts.{ScriptStandsFor}
 use Rattle.numa_run.specs.declared.script.Script.{Script}
 use Rattle.numa_host_script.specs.Judged.{refused_by}
-use Rattle.numa_host_script.specs.Paging.{arrived_text, lying_with, own_cause, pages_at}
-use Rattle.numa_host_script.specs.Paging.{sent_unless, takes_more, told_by}
+use Rattle.numa_host_script.specs.Paging.{arrived_text, huge_unmap, lying_with, memory_at}
+use Rattle.numa_host_script.specs.Paging.{own_cause, pages_at}
+use Rattle.numa_host_script.specs.Paging.{populated_both, sent_unless, takes_more, told_by}
+use Rattle.numa_host_script.specs.Paging.{process_in}
+use Rattle.numa_page_state.specs.Huge.{both_populated, unmapped_in}
 use Rattle.numa_host_script.specs.Sessions.{Hosting, HostLack, Session, Single, Hosted, Outcome}
-use Rattle.numa_host_script.specs.Sessions.{host_outcome, with_reply}
+use Rattle.numa_host_script.specs.Sessions.{cause_by, command_unless, host_outcome, with_reply}
 use Rattle.numa_host_script.specs.declared.running.RunningHost.{RunningHost}
 use Rattle.numa_host_script.specs.declared.taking.HostTaken.{HostTaken}
 use Rattle.numa_host_script.specs.declared.taking.HostTaken.TheVariants as taken
@@ -125,8 +141,48 @@ abbrev pub Changes : RunningHost → Option Reply → RunningHost → ℕ → (L
     → Type 0
 Changes old told new process outcome = (at : Hosting) → RunsAs old at
     → (lacked : Lack) × ((outcome lacked at).answer ≡ told_by told
-    (length (outcome lacked at).history) (pages_lent process (outcome lacked at).lying))
+    (length (outcome lacked at).history) process (outcome lacked at).lying)
     × RunsAs new (hosting_with at (outcome lacked at))
+
+-- what was taken is the reply, or what the pools have then
+abbrev pub ComesTo : RunningHost → HostTaken → RunningHost → (HostLack → Hosting → Outcome)
+    → Type 0
+ComesTo old (taken.Reply answer) new outcome = Replies old answer new outcome
+ComesTo old taken.Pools new outcome = (at : Hosting) → RunsAs old at → (lack : HostLack)
+    × (Shown (pools_line (outcome lack at).lying.huge.pools) ≡ (outcome lack at).answer)
+    × RunsAs new (hosting_with at (outcome lack at))
+ComesTo old _ new outcome = ⊥
+
+-- pages are so once one was touched, which is answered so
+abbrev pub FaultsSo : Option Reply × HostLying → Reply → HostPages → Type 0
+FaultsSo done answer new = (done.0 ≡ Some answer) × HostLies new done.1
+
+-- pages of both sizes of a process were touched, as the outcome says by what it lacked
+abbrev pub PopulatesIn : HostLying → ℕ → Ground → ℕ → ℕ → ℕ → ℕ
+    → Result (Unit {0}) PlacedRefusal → HostPages → Type 0
+PopulatesIn at process basis start bytes task cpu result new = IsSomeAnd (memory_of process at)
+    (λ memory. (lacked : Lack)
+    × ((populated_both lacked basis process start bytes task cpu memory at).0 ≡ result)
+    × HostLies new (populated_both lacked basis process start bytes task cpu memory at).1)
+
+-- the same while those of 4 KiB are lent
+abbrev pub PopulatesBoth : HugeKept → PageState → Result (Unit {0}) PlacedRefusal → HugeKept
+    → PageState → ℕ → Ground → ℕ → ℕ → ℕ → ℕ → Type 0
+PopulatesBoth huge state result huge_then state_then process basis start bytes task cpu =
+    (at : Sharing) (lying : Lying) → HugeLies huge at → LiesAs state lying
+    → IsSomeAnd (memory_in process at) (λ memory. (lacked : Lack)
+    × ((both_populated lacked basis start bytes task cpu memory
+    (record lying { begun = true })).0 ≡ result)
+    × LiesAs state_then (both_populated lacked basis start bytes task cpu memory
+    (record lying { begun = true })).1.0
+    × HugeLies huge_then (huge_back process (both_populated lacked basis start bytes task cpu
+    memory (record lying { begun = true })).1.1 at))
+
+-- a span was mapped for whose pages the process's are so then, unless the host refuses the command
+abbrev pub MapsMade : RunningHost → Reply → RunningHost → ℕ → Command → HugeLying → Type 0
+MapsMade old answer new process said pages = Replies old answer new (λ lack at. command_unless
+    (cause_by lack.lacked at (In process said)) (with_huge process
+    (record (begun_in process at.lying.huge) { pages = pages }) at.lying) at (In process said))
 
 -- the same of the pages alone
 abbrev pub ChangesPages : HostPages → Option Reply → HostPages
@@ -144,6 +200,17 @@ ForgetsIn had spots start bytes (Ok (Some after)) =
 ForgetsIn had spots start bytes (Err why) = (has_stated spots start bytes ≡ true)
     × (lack_of (lack_told why) (forgotten start bytes spots) ≡ Some why)
 
+-- pages of both sizes of a process are so once a span was unmapped, unless the host refuses that
+abbrev pub UnmapsBoth : RunningHost → Reply → RunningHost → ℕ → ℕ → ℕ → Option Laid → HugeLying
+    → Type 0
+UnmapsBoth old answer new process start bytes small huge = (at : Hosting) (memory : HugeMemory)
+    → RunsAs old at
+    → ForgetsIn (pages_in process at.lying.homes) (pages_at at process).spots start bytes (Ok small)
+    → memory_at at process ≡ Some memory → huge ≡ (unmapped_in start bytes memory).pages
+    → (lack : HostLack) × (Some answer ≡ reply_in (huge_unmap lack.lacked at process start bytes
+    memory).answer) × RunsAs new (hosting_with at (huge_unmap lack.lacked at process start bytes
+    memory))
+
 -- ---- mbind .. move
 
 -- the host's machine and limits are these, and it stands for the commands
@@ -154,22 +221,50 @@ pub record HostRuns (host : HostState) (at : Hosting) : Type 0 where
 
 -- the policy was set, and pages that were lent went; or it was answered so, and they are as they
 -- were
-abbrev pub SendsIn : HostState → PageState → Result Reply Reply → HostState → PageState → ℕ
-    → Rebinding → MoveWords → Type 0
-SendsIn old before (Ok answer) new after process said words = (at : Hosting) → HostRuns old at
-    → takes_more at process ≡ true → LiesAs before (pages_at at process) → (done : Lying)
+abbrev pub SendsOf : Hosting → HostState → HugeKept → PageState → Result Reply Reply → HostState
+    → HugeKept → PageState → ℕ → Rebinding → MoveWords → Type 0
+SendsOf at old huge before (Ok answer) new huge_then after process said words = HostRuns old at
+    → HugeLies huge at.lying.huge → takes_more at process ≡ true
+    → LiesAs before (pages_at at process) → (done : Lying) × (shared : Sharing)
     × (sent_unless Enough (own_cause at process (command_of said)) at process said words ≡ record {
       answer = Replied answer;
       history = In process (command_of said) ∷ at.history;
-      lying = taken_along process (lying_with at process done);
+      lying = taken_along process (record (lying_with at process done) { huge = shared });
     })
     × HostRuns new (record at { history = In process (command_of said) ∷ at.history })
-    × LiesAs after done
-SendsIn old before (Err answer) new after process said words = (at : Hosting) → HostRuns old at
-    → takes_more at process ≡ true → LiesAs before (pages_at at process) → (lacked : Lack)
+    × LiesAs after done × HugeLies huge_then shared
+SendsOf at old huge before (Err answer) new huge_then after process said words = HostRuns old at
+    → HugeLies huge at.lying.huge → takes_more at process ≡ true
+    → LiesAs before (pages_at at process) → (lacked : Lack)
     × (sent_unless lacked (own_cause at process (command_of said)) at process said words
     ≡ with_reply answer at)
-    × HostRuns new at × (after ≡ before)
+    × HostRuns new at × (after ≡ before) × HugeLies huge_then at.lying.huge
+
+abbrev pub SendsIn : HostState → HugeKept → PageState → Result Reply Reply → HostState → HugeKept
+    → PageState → ℕ → Rebinding → MoveWords → Type 0
+SendsIn old huge before result new huge_then after process said words = (at : Hosting)
+    → SendsOf at old huge before result new huge_then after process said words
+
+-- the same, once pages of 4 KiB have been found that go
+abbrev pub IsFoundIn : Hosting → ℕ → Rebinding → MoveWords → Sending → Type 0
+IsFoundIn at process said words sent = (own_cause at process (command_of said) ≡ None)
+    × HasSent sent [] (asked_of (process_in at process) said (toucher_of words))
+    (pages_at at process)
+
+abbrev pub SendsFound : HostState → HugeKept → PageState → Result Reply Reply → HostState
+    → HugeKept → PageState → ℕ → Rebinding → MoveWords → Sending → Type 0
+SendsFound old huge before result new huge_then after process said words sent = (at : Hosting)
+    → IsFoundIn at process said words sent
+    → SendsOf at old huge before result new huge_then after process said words
+
+-- and pages of 2 MiB
+abbrev pub SettlesIn : HostState → HugeKept → PageState → Result Reply Reply → HostState
+    → HugeKept → PageState → ℕ → Rebinding → MoveWords → Sending → HugePlaced → Flows → Type 0
+SettlesIn old huge before result new huge_then after process said words sent places flows =
+    (at : Hosting) (memory : HugeMemory) → IsFoundIn at process said words sent
+    → memory_at at process ≡ Some memory
+    → IsWalk (huge_walk (process_in at process) said (toucher_of words) memory) places flows
+    → SendsOf at old huge before result new huge_then after process said words
 
 -- it was answered so, and all is as the definition says
 abbrev pub IsSentTo : Reply → RunningHost → Hosting → ℕ → Rebinding → MoveWords → Type 0
@@ -211,6 +306,9 @@ IsTakenIn lack at said (taken.Arrived process) =
     (Shown (arrived_text (hosting_with at (host_outcome lack at said)) process)
     ≡ (host_outcome lack at said).answer)
     × (None ≡ refused_by said.process lack.lacked at said.line)
+IsTakenIn lack at said taken.Pools =
+    (Shown (pools_line (host_outcome lack at said).lying.huge.pools)
+    ≡ (host_outcome lack at said).answer) × (None ≡ refused_by said.process lack.lacked at said.line)
 IsTakenIn lack at said (taken.Own found) = ⊥
 
 abbrev pub Takes : RunningHost → ScriptLine → HostTaken → RunningHost → Type 0

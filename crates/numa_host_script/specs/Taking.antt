@@ -13,6 +13,7 @@ use Rattle.numa_script.specs.declared.reply.Reply.TheVariants as reply
 use Rattle.numa_run.specs.Judged.{fault_or}
 use Rattle.numa_run.specs.Replies.{Answer, Replied, Shown, bytes_of, reply_in}
 use Rattle.numa_run.specs.HugeLines.{pools_answer}
+use Rattle.numa_run.specs.PoolTexts.{pools_line}
 use Rattle.numa_run.specs.Scripts.{arrived_answer}
 use Rattle.numa_run.specs.declared.running.Taken.{Taken}
 use Rattle.numa_run.specs.declared.running.Taken.TheVariants as own
@@ -48,6 +49,7 @@ left_in (taken.Listed process task) = Open (told process (line.Maps task))
 left_in (taken.Moved process) = Open (told process (line.Pages (Ok page.Moved)))
 left_in taken.MovedAll = Open (alone (line.Pages (Ok page.Moved)))
 left_in taken.Rooms = Open (alone (line.Pages (Ok page.Rooms)))
+left_in taken.Pools = Pooled
 left_in (taken.Arrived process) = Touched (Some process)
 
 -- what pages that were touched did, those of the one process or of one of a host
@@ -59,10 +61,10 @@ abbrev pub touched_answer : Session → Option ℕ → Answer
 touched_answer (Single state) process = arrived_answer state
 touched_answer (Hosted at) process = touched_by process at
 
--- what the pools of the one process have
+-- what the pools have, those of the one process or the host's
 abbrev pub pooled_answer : Session → Answer
 pooled_answer (Single state) = pools_answer state
-pooled_answer (Hosted at) = Replied reply.BadState
+pooled_answer (Hosted at) = Shown (pools_line at.lying.huge.pools)
 
 -- the reply is the one that the definition says, or the line is left as it is
 abbrev pub IsLeft : HostLack → Session → ScriptLine → Left → Type 0
@@ -93,7 +95,7 @@ fault_left lack session (Touched process) =
 fault_left lack session Pooled = fault_or (reply_in (pooled_answer session)) None
 
 -- where there is a host, a line that names no process and shows what is has no place; but the rooms
--- are the host's, and so is its last move
+-- and the pools are the host's, and so is its last move
 abbrev pub misplaced_reply : Taken → Option Reply
 misplaced_reply (own.Reply answer) = Some answer
 misplaced_reply (own.Question asked) = Some reply.BadState
@@ -101,12 +103,16 @@ misplaced_reply (own.Maps task) = Some reply.BadState
 misplaced_reply own.Moved = None
 misplaced_reply own.Rooms = None
 misplaced_reply own.Arrived = Some reply.BadState
-misplaced_reply own.Pools = Some reply.BadState
+misplaced_reply own.Pools = None
 
--- of these two it is the last move
+-- of these three it is the last move, or the pools
 abbrev pub asks_move : Taken → Bool
 asks_move own.Moved = true
 asks_move _ = false
+
+abbrev pub asks_pools : Taken → Bool
+asks_pools own.Pools = true
+asks_pools _ = false
 
 -- ---- what a script does with a line
 

@@ -29,9 +29,10 @@ impl RunningHost {
     /// `NoMemory`: out of memory; the host is dropped.
     pub fn new(alloc: Global, host: Host) -> Result<RunningHost, NoMemory>
         ensures host { IfOk result (λ running. running.host ≡ host) }
-        ensures pages { IfOk result (λ running. HostLies running.pages empty_host) }
+        ensures pages { IfOk result (λ running. HostLies running.pages
+            (empty_host host.blank.machine.memory)) }
     {
-        let Ok(pages) = HostPages::new(alloc) else {
+        let Ok(pages) = HostPages::new(alloc, host.machine()) else {
             drop(host);
             return Err(NoMemory);
         };

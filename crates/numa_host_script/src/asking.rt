@@ -1,9 +1,12 @@
 //! What a process answers: questions by a plan that is made of its space, and `maps` by the space.
-ghost use Rattle.std.specs.Prelude.{◌≡◌, ℕ, [], Bool, List, MatchOption, false};
+ghost use Rattle.std.specs.Prelude.{◌≡◌, ℕ, [], Bool, IsSomeAnd, List, MatchOption, None, Option};
+ghost use Rattle.std.specs.Prelude.{false};
 ghost use Rattle.numa_lines.specs.Written.{Said};
 ghost use Rattle.numa_run.specs.Judged.{question_cause};
 ghost use Rattle.numa_run.specs.Questions.{question_text};
-ghost use Rattle.numa_run.specs.Listings.{there_listing};
+ghost use Rattle.numa_run.specs.Listings.{both_listing};
+ghost use Rattle.numa_huge.specs.Huge.{huge_at};
+ghost use Rattle.numa_huge.specs.Moves.{HugeMemory};
 ghost use Rattle.numa_page_state.specs.Lying.{Process};
 ghost use Rattle.numa_page_state.specs.Outcomes.{Lack, is_starved};
 ghost use Rattle.numa_page_state.specs.Standing.{LieThere};
@@ -13,12 +16,13 @@ ghost use Rattle.numa_space.specs.Standing.{StandsFor};
 ghost use Rattle.numa_requests.specs.declared.command.Command.{Command};
 
 use numa_compile::compile;
+use numa_huge::HugePages;
 use numa_lines::Watched;
 use numa_maps::Resident;
 use numa_page_state::PageState;
 use numa_requests::CoreRefusal;
 use numa_run::judging::{cause_at, refusal_by_plan};
-use numa_run::listing::say_there;
+use numa_run::listing::{say_each, say_there};
 use numa_run::questions::say_by_plan;
 use numa_script::Question;
 use numa_script::tell::{say_ranges, say_starved};
@@ -57,19 +61,25 @@ pub fn list<W: Write>(
     space: &Space,
     task: u32,
     pages: Option<&PageState>,
+    huge: Option<&HugePages>,
     output: &mut Watched<W>,
 )
-    ensures { (spots : ℕ → Spot) (history : List Command) (process : Process)
+    ensures { (spots : ℕ → Spot) (memory : Option HugeMemory) (history : List Command)
+        (process : Process)
         → StandsFor space.now history → process.machine ≡ space.now.machine
         → process.history ≡ history → process.kept ≡ []
         → MatchOption pages.entry ((page : ℕ) → spots page ≡ Nowhere)
-        (λ kept. LieThere kept.now spots)
-        → Said W.contents output.old output.new (there_listing process spots task) }
+        (λ kept. LieThere kept.now spots) → MatchOption huge.entry (memory ≡ None)
+        (λ kept. IsSomeAnd memory (λ memory. huge_at kept.now.places.runs ≡ memory.pages.spots))
+        → Said W.contents output.old output.new (both_listing process spots memory task) }
 {
     // Tells the proof that the ranges are in ascending order and maximal.
     let _ = space.range_iter();
     let resident = Resident::new(alloc);
-    say_there(space, task, &resident, pages, output);
+    match huge {
+        Some(kept) => say_each(space, task, &resident, pages, &kept.places, output),
+        None => say_there(space, task, &resident, pages, output),
+    }
 }
 
 /// The first cause that refuses a question about a space.

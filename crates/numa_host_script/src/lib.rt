@@ -10,9 +10,11 @@
 mod acting;
 pub mod asking;
 mod binding;
+mod both;
 pub mod laws;
 mod lines;
 mod paging;
+mod pooling;
 pub mod running;
 pub mod script;
 pub mod streams;

@@ -1,7 +1,7 @@
 //! What kind of line a script is told, and which lines of one process have no place in a host.
 ghost use Rattle.std.specs.Prelude.{◌≡◌, IfSome, MatchOption, Some, true, false};
 ghost use Rattle.numa_host_script.specs.Sessions.{bounds_after, is_begin, is_fresh};
-ghost use Rattle.numa_host_script.specs.Taking.{asks_move, misplaced_reply};
+ghost use Rattle.numa_host_script.specs.Taking.{asks_move, asks_pools, misplaced_reply};
 ghost use Rattle.numa_run.specs.Answers.{State};
 ghost use Rattle.numa_run.specs.Scripts.{ScriptStandsFor};
 ghost use Rattle.numa_script.specs.Lines.{alone};
@@ -39,7 +39,8 @@ pub(crate) fn plain_question(said: &ScriptLine<'_>) -> Option<Question>
     }
 }
 
-/// The machine of a script, if it is ready and no command is accepted yet.
+/// The machine of a script, if it is ready, no command is accepted yet, and no page of 2 MiB is
+/// kept.
 pub(crate) fn fresh_machine(script: &Script) -> Option<&Machine>
     ensures { (state : State) → ScriptStandsFor script.now state → MatchOption result
         (is_fresh state ≡ false) (λ machine. (state.machine ≡ Some machine.now)
@@ -47,6 +48,9 @@ pub(crate) fn fresh_machine(script: &Script) -> Option<&Machine>
 {
     let core = script.core()?;
     if core.space().version() > 0 {
+        return None;
+    }
+    if script.keeps_huge() {
         return None;
     }
     Some(core.space().machine())
@@ -75,7 +79,7 @@ pub(crate) fn limits_after(script: &Script, limits: Limits, line: &Line<'_>) -> 
 }
 
 /// The reply to what was taken of a line of one process, where there is a host; none where the host
-/// tells its rooms, or what its last move did.
+/// tells its rooms, its pools, or what its last move did.
 pub(crate) fn misplaced(taken: Taken) -> Option<Reply>
     ensures { result ≡ misplaced_reply taken }
 {
@@ -86,7 +90,7 @@ pub(crate) fn misplaced(taken: Taken) -> Option<Reply>
         Taken::Moved => None,
         Taken::Rooms => None,
         Taken::Arrived => Some(Reply::BadState),
-        Taken::Pools => Some(Reply::BadState),
+        Taken::Pools => None,
     }
 }
 
@@ -97,6 +101,17 @@ pub(crate) fn asks_move(taken: &Taken) -> bool
 {
     match taken {
         Taken::Moved => true,
+        _ => false,
+    }
+}
+
+/// Whether a line asks what the pools have.
+#[inline(always)]
+pub(crate) fn asks_pools(taken: &Taken) -> bool
+    ensures { result ≡ asks_pools taken.now }
+{
+    match taken {
+        Taken::Pools => true,
         _ => false,
     }
 }

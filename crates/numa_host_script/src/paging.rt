@@ -1,5 +1,5 @@
 //! Lines about pages in a host.
-ghost use Rattle.std.specs.Prelude.{◌≡◌, ◌≢◌, ℕ, [], Bool, IfErr, IsSome, None, Ok, Some};
+ghost use Rattle.std.specs.Prelude.{◌≡◌, ◌≢◌, ℕ, [], Bool, IfErr, IfSome, IsSome, None, Ok, Some};
 ghost use Rattle.std.specs.Prelude.{false, true};
 ghost use Rattle.numa_host.specs.Processes.{is_there, members_of};
 ghost use Rattle.numa_host_pages.specs.Homes.{HostLying, given_back, lent, pages_in, pages_lent};
@@ -7,10 +7,16 @@ ghost use Rattle.numa_host_pages.specs.Homes.{with_pages};
 ghost use Rattle.numa_host_pages.specs.Standing.{HostLies};
 ghost use Rattle.numa_host_script.specs.Acting.{AppliesTo, IsLackOf};
 ghost use Rattle.numa_host_script.specs.Paging.{along_if, given_outcome, is_move, obeyed};
-ghost use Rattle.numa_host_script.specs.Paging.{page_where, pages_changed, pages_reply, tells_move};
+ghost use Rattle.numa_host_huge.specs.Kept.{spots_in};
+ghost use Rattle.numa_host_huge.specs.Standing.{CanBe};
+ghost use Rattle.numa_huge.specs.Huge.{has_huge, places_of};
+ghost use Rattle.numa_page_state.specs.Huge.{huge_count, huge_first};
+ghost use Rattle.numa_space.specs.History.{page_count, page_of};
+ghost use Rattle.numa_host_script.specs.Paging.{page_where, pages_changed, pages_reply};
+ghost use Rattle.numa_host_script.specs.Paging.{small_unmap, small_where, tells_move};
 ghost use Rattle.numa_host_script.specs.Paging.{unmap_outcome};
 ghost use Rattle.numa_host_script.specs.Standing.{Answers, Changes, ChangesPages, ForgetsIn};
-ghost use Rattle.numa_host_script.specs.Standing.{Replies, Takes, told};
+ghost use Rattle.numa_host_script.specs.Standing.{Replies, Takes, UnmapsBoth, told};
 ghost use Rattle.numa_page_state.specs.Lying.{Lying, ground_in, with_spots};
 ghost use Rattle.numa_page_state.specs.Outcomes.{Lack};
 ghost use Rattle.numa_page_state.specs.Standing.{LiesAs};
@@ -21,15 +27,18 @@ ghost use Rattle.numa_requests.specs.declared.host_command.HostCommand.{HostComm
 ghost use Rattle.numa_run.specs.PageLines.{lack_reply};
 ghost use Rattle.numa_script.specs.Lines.{alone};
 
+use crate::both::change_both;
 use crate::running::{RunningHost, space_of};
 use crate::taking::HostTaken;
 use numa_host::Host;
 use numa_host_pages::HostPages;
+use numa_huge::HugePlaces;
 use numa_maps::Resident;
 use numa_mask::ListFault;
 use numa_page_state::PageState;
+use numa_page_state::binding::page_count;
 use numa_placed::Placed;
-use numa_requests::{Command, HostCommand, HostRefusal, MoveRefusal, PlacedRefusal};
+use numa_requests::{Command, HostCommand, HostRefusal, MoveRefusal, PAGE_BYTES, PlacedRefusal};
 use numa_run::paging::{change, lack_reply, page_reply};
 use numa_script::{Line, PageLine, Reply, WordError};
 use numa_space::Space;
@@ -132,7 +141,7 @@ fn is_move(reply: &Reply) -> bool
 }
 
 /// Whether a line is answered so.
-fn tells_move(told: &Option<Reply>) -> bool
+pub(crate) fn tells_move(told: &Option<Reply>) -> bool
     ensures { result ≡ tells_move told.now }
 {
     match told {
@@ -152,6 +161,27 @@ fn take_along(pages: &mut HostPages, process: u32, told: &Option<Reply>)
     pages.take_along(process);
 }
 
+/// Carries out a line that changes where the pages of 4 KiB of a process lie.
+pub(crate) fn change_small(
+    running: &mut RunningHost,
+    alloc: Global,
+    process: u32,
+    line: &PageLine,
+) -> Option<Reply>
+    requires moved { line.now ≢ PageLine.Moved }
+    requires rooms { line.now ≢ PageLine.Rooms }
+    ensures host { running.new.host ≡ running.old.host }
+    ensures runs { Changes running.old result running.new process (λ lacked at. small_where
+        (is_there (members_of at.history) process) lacked at process line.now) }
+{
+    let Some(space) = space_of(&running.host, process) else {
+        return Some(Reply::HostRefused(HostRefusal::NoSuchProcess));
+    };
+    let told = change_pages(&mut running.pages, alloc, process, space, line);
+    take_along(&mut running.pages, process, &told);
+    told
+}
+
 /// Carries out a line that changes where the pages of a process lie.
 pub(crate) fn change_in(
     running: &mut RunningHost,
@@ -165,12 +195,10 @@ pub(crate) fn change_in(
     ensures runs { Changes running.old result running.new process (λ lacked at. page_where
         (is_there (members_of at.history) process) lacked at process line.now) }
 {
-    let Some(space) = space_of(&running.host, process) else {
-        return Some(Reply::HostRefused(HostRefusal::NoSuchProcess));
-    };
-    let told = change_pages(&mut running.pages, alloc, process, space, line);
-    take_along(&mut running.pages, process, &told);
-    told
+    if running.pages.huge.is_sharer(process) {
+        return change_both(running, alloc, process, line);
+    }
+    change_small(running, alloc, process, line)
 }
 
 /// Carries out a line about pages that a process is told. What `moved` and a `populate` that isn't
@@ -284,11 +312,12 @@ fn replace(pages: &mut HostPages, process: u32, after: Placed)
     pages.give_back(process, state);
 }
 
-/// Unmaps pages of a process; if the host accepts that, nothing is stated of them any more.
-fn unmap(running: &mut RunningHost, process: u32, start: u64, length: u64) -> Reply
+/// Unmaps pages of a process, none of which has 2 MiB; if the host accepts that, nothing is stated
+/// of them any more.
+fn unmap_small(running: &mut RunningHost, process: u32, start: u64, length: u64) -> Reply
     ensures host { AppliesTo running.old.host (HostCommand.In process (Command.Unmap start length))
         result running.new.host }
-    ensures runs { Replies running.old result running.new (λ lack at. unmap_outcome lack.lacked at
+    ensures runs { Replies running.old result running.new (λ lack at. small_unmap lack.lacked at
         process start length) }
 {
     let command = Command::Unmap { start, length };
@@ -310,6 +339,95 @@ fn unmap(running: &mut RunningHost, process: u32, start: u64, length: u64) -> Re
             Reply::HostRefused(refusal)
         }
     }
+}
+
+/// Pages of 4 KiB of a process lie so from now on, where they lie elsewhere than before.
+fn replace_if(pages: &mut HostPages, process: u32, after: Option<Placed>)
+    ensures none { after ≡ None → pages.new ≡ pages.old }
+    ensures some { IfSome after (λ after. (at : HostLying) (spots : ℕ → Spot)
+        → HostLies pages.old at → IsSome (pages_in process at.homes)
+        → ((page : ℕ) → spot_at after page ≡ spots page)
+        → HostLies pages.new (given_back process (with_spots spots (pages_lent process at)) at)) }
+{
+    if let Some(laid) = after {
+        replace(pages, process, laid);
+    }
+}
+
+/// Unmaps pages of a process, where they are so then, if the host accepts that.
+fn unmap_both(
+    running: &mut RunningHost,
+    process: u32,
+    start: u64,
+    length: u64,
+    small: Option<Placed>,
+    huge: HugePlaces,
+) -> Reply
+    requires { CanBe process running.old.pages.huge huge }
+    ensures host { AppliesTo running.old.host (HostCommand.In process (Command.Unmap start length))
+        result running.new.host }
+    ensures runs { UnmapsBoth running.old result running.new process start length small
+        (places_of huge) }
+{
+    // Tells the proof that its runs aren't too many.
+    let _ = huge.runs();
+    let command = Command::Unmap { start, length };
+    match running.host.apply(&HostCommand::In { process, command }) {
+        Ok(()) => {
+            running.pages.huge.settle(process, huge);
+            replace_if(&mut running.pages, process, small);
+            Reply::Accepted(running.host.version())
+        }
+        Err(refusal) => {
+            drop(small);
+            drop(huge);
+            Reply::HostRefused(refusal)
+        }
+    }
+}
+
+/// Unmaps pages of a process, of which some have 2 MiB: these become free, or their reservations
+/// are given back.
+fn unmap_huge(running: &mut RunningHost, process: u32, start: u64, length: u64) -> Reply
+    requires { has_huge (spots_in process running.old.pages.huge.sharers)
+        (huge_first (page_of start)) (huge_count (page_of start) (page_count length)) ≡ true }
+    ensures host { AppliesTo running.old.host (HostCommand.In process (Command.Unmap start length))
+        result running.new.host }
+    ensures runs { Replies running.old result running.new (λ lack at. unmap_outcome lack.lacked at
+        process start length) }
+{
+    let huge = match running.pages.huge.unmapped(process, start, length) {
+        Ok(huge) => huge,
+        Err(why) => return pages_reply(why),
+    };
+    // Tells the proof that its runs aren't too many.
+    let _ = huge.runs();
+    let small = match without_span(&running.pages, process, start, length) {
+        Ok(small) => small,
+        Err(why) => {
+            drop(huge);
+            return pages_reply(why);
+        }
+    };
+    unmap_both(running, process, start, length, small, huge)
+}
+
+/// Unmaps pages of a process.
+fn unmap(running: &mut RunningHost, process: u32, start: u64, length: u64) -> Reply
+    ensures host { AppliesTo running.old.host (HostCommand.In process (Command.Unmap start length))
+        result running.new.host }
+    ensures runs { Replies running.old result running.new (λ lack at. unmap_outcome lack.lacked at
+        process start length) }
+{
+    let pages = page_count(length);
+    if running
+        .pages
+        .huge
+        .has_huge_in(process, start / PAGE_BYTES, pages)
+    {
+        return unmap_huge(running, process, start, length);
+    }
+    unmap_small(running, process, start, length)
 }
 
 /// Carries out a command of a process.

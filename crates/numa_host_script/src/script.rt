@@ -16,7 +16,9 @@ ghost use Rattle.numa_script.specs.declared.line.Line.{Line};
 ghost use Rattle.numa_script.specs.declared.page_line.PageLine.{PageLine};
 
 use crate::asking::{ask, list, question_cause};
-use crate::lines::{asks_move, fresh_machine, is_begin, limits_after, misplaced, plain_question};
+use crate::lines::{
+    asks_move, asks_pools, fresh_machine, is_begin, limits_after, misplaced, plain_question,
+};
 use crate::running::RunningHost;
 use crate::taking::{HostTaken, take};
 use crate::telling::{say_arrived_in, say_last_in, say_shown_in};
@@ -84,7 +86,7 @@ impl HostScript {
         let Ok(copy) = machine.copy(alloc) else {
             return Reply::HostRefused(HostRefusal::NoMemory);
         };
-        let Ok(pages) = HostPages::new(alloc) else {
+        let Ok(pages) = HostPages::new(alloc, machine) else {
             drop(copy);
             return Reply::HostRefused(HostRefusal::NoMemory);
         };
@@ -172,6 +174,7 @@ impl HostScript {
             }
             HostTaken::MovedAll => self.write_own(alloc, Taken::Moved, output),
             HostTaken::Rooms => self.write_own(alloc, Taken::Rooms, output),
+            HostTaken::Pools => self.write_own(alloc, Taken::Pools, output),
             HostTaken::Arrived(process) => self.tell_arrived(alloc, process, output),
         }
     }
@@ -184,8 +187,9 @@ impl HostScript {
     {
         if let Some(running) = &self.host {
             let moves = asks_move(&taken);
+            let pools = asks_pools(&taken);
             let Some(reply) = misplaced(taken) else {
-                say_shown_in(running, moves, output);
+                say_shown_in(running, moves, pools, output);
                 return false;
             };
             say_reply(output, &reply);
@@ -234,7 +238,15 @@ impl HostScript {
             say_reply(output, &Reply::HostRefused(HostRefusal::NoSuchProcess));
             return;
         };
-        list(alloc, space, task, running.pages.pages_of(process), output);
+        let pages = running.pages.pages_of(process);
+        list(
+            alloc,
+            space,
+            task,
+            pages,
+            running.pages.huge.pages_of(process),
+            output,
+        );
     }
 
     /// Writes what the last move of a process did.
@@ -286,6 +298,7 @@ impl HostScript {
             HostTaken::Moved(process) => self.listed_fault(process),
             HostTaken::MovedAll => self.own_fault(Taken::Moved),
             HostTaken::Rooms => self.own_fault(Taken::Rooms),
+            HostTaken::Pools => self.own_fault(Taken::Pools),
             HostTaken::Arrived(_) => self.arrived_fault(),
         }
     }

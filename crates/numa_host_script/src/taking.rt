@@ -9,6 +9,7 @@ ghost use Rattle.numa_run.specs.Replies.{bind_nothing};
 
 use crate::binding::bind;
 use crate::paging::{give, own_page, pages_in};
+use crate::pooling::{huge_in, own_huge};
 use crate::running::RunningHost;
 use numa_host_pages::obey;
 use numa_requests::{Command, HostCommand};
@@ -34,6 +35,8 @@ pub enum HostTaken {
     MovedAll,
     /// How many more pages nodes take is still to be told.
     Rooms,
+    /// What the pools of pages of 2 MiB have is still to be told.
+    Pools,
     /// Pages of a process were touched, and what came of it is still to be told.
     Arrived(u32),
 }
@@ -85,6 +88,7 @@ fn take_in(running: &mut RunningHost, alloc: Global, process: u32, line: &Line<'
             policy,
             pages,
         } => HostTaken::Reply(bind(running, alloc, process, *start, *length, policy, pages)),
+        Line::Huge(said) => huge_in(running, alloc, process, said),
         _ => HostTaken::Reply(Reply::BadState),
     }
 }
@@ -116,7 +120,7 @@ fn plain_reply(line: &Line<'_>) -> Reply
     }
 }
 
-/// Carries out a line that names no process and isn't about pages.
+/// Carries out a line that names no process and isn't about pages or pools.
 fn reply_own(running: &mut RunningHost, line: &Line<'_>) -> Reply
     ensures { Replies running.old result running.new
         (λ lack at. own_where (host_command_of line.now) lack at line.now) }
@@ -137,6 +141,7 @@ fn take_own(running: &mut RunningHost, line: &Line<'_>) -> HostTaken
             Ok(shown) => own_page(running, shown),
             Err(_) => HostTaken::Reply(reply_own(running, line)),
         },
+        Line::Huge(said) => own_huge(running, said),
         _ => HostTaken::Reply(reply_own(running, line)),
     }
 }

@@ -1,20 +1,21 @@
-use Rattle.std.proofs.Common.{List, sym, ap, subst, ◌∙◌}
-use Rattle.numa_host_pages.specs.Homes.{lent}
+use Rattle.std.proofs.Common.{[], false, refl, sym, true, ◌∙◌}
+use Rattle.numa_host_huge.specs.Sharing.{astray_in}
+use Rattle.numa_host_pages.specs.Homes.{memory_of, pages_lent}
 use Rattle.numa_page_state.specs.Lying.{process_in}
-use Rattle.numa_page_state.specs.Strict.{has_astray}
-use Rattle.numa_host_script.proofs.Bindings.{astray-none, astray-some}
+use Rattle.numa_host_script.proofs.Bindings.{astray-both}
 use Rattle.numa_host_script.proofs.binding.has_astray.Goals as goal
 
-pub returns-in-Some : goal.returns-in-Some
-returns-in-Some c = λ at history lies stands.
-    let had = c.in-Some.ensures at lies in
-    astray-some c.args.space.now history c.args.process at c.args.binding.now had.0 had.1
-    c.has_astray.result
-    (c.has_astray.ensures (lent had.2.0 had.2.1 had.0) history had.2.2 stands
-    ∙ ap (λ kept. has_astray (process_in c.args.space.now history kept) had.0.spots
-    c.args.binding.now) c.new-resident.ensures)
+pub returns-then-small_astray : goal.returns-then-small_astray
+returns-then-small_astray c = λ at history lies stands.
+    astray-both (memory_of c.args.process at) (process_in c.args.space.now history [])
+    (pages_lent c.args.process at).spots c.args.binding.now true
+    (astray_in (memory_of c.args.process at) (process_in c.args.space.now history [])
+    c.args.binding.now)
+    (sym c.if-small_astray.true ∙ c.small_astray.ensures at history lies stands) refl
 
 pub returns : goal.returns
 returns c = λ at history lies stands.
-    astray-none c.args.space.now history c.args.process at c.args.binding.now
-    (c.in-None.ensures at lies)
+    astray-both (memory_of c.args.process at) (process_in c.args.space.now history [])
+    (pages_lent c.args.process at).spots c.args.binding.now false c.has_astray.result
+    (sym c.if-small_astray.false ∙ c.small_astray.ensures at history lies stands)
+    (c.has_astray.ensures at.huge history lies.huge stands)

@@ -1,12 +1,11 @@
-use Rattle.numa_host_script.proofs.Acted.{changed-nobody, changed-there}
+use Rattle.numa_host_script.proofs.Acted.{small-acts}
+use Rattle.numa_host_script.proofs.Shared.{none-there}
 use Rattle.numa_host_script.proofs.paging.change_in.Goals as goal
-
-pub returns-in_default-clause-runs : goal.returns-in_default-clause-runs
-returns-in_default-clause-runs c = changed-nobody c.args.running.now c.args.process c.args.line.now
-    c.in_default.ensures
 
 pub returns-clause-runs : goal.returns-clause-runs
 returns-clause-runs c =
-    changed-there c.args.running.now c.in-Some.space.now c.change_pages-told.new.pages
-    c.take_along.new.pages c.change_pages-told.result c.args.process c.args.line.now
-    c.requires.moved c.in-Some.ensures c.change_pages-told.ensures c.take_along.ensures
+    small-acts c.args.running.now c.change_small.new.running c.change_small.result c.args.process
+    c.args.line.now c.requires.moved
+    (λ at stands. none-there c.args.process at c.is_sharer.result
+    (c.is_sharer.ensures.sharer at.lying.huge stands.lies.huge) c.if-is_sharer.false)
+    c.change_small.ensures.runs

@@ -1,54 +1,24 @@
-use Rattle.numa_host_script.proofs.Unmapped.{answered, unmap-denied, unmap-done, unmap-plain}
-use Rattle.numa_host_script.proofs.Unmapped.{unmap-refused}
-use Rattle.std.proofs.Common.{Err, refl}
-use Rattle.numa_requests.specs.declared.command.Command.TheVariants as own
-use Rattle.numa_requests.specs.declared.host_command.HostCommand.TheVariants.{In}
-use Rattle.numa_script.specs.declared.reply.Reply.TheVariants as reply
-use Rattle.numa_host_script.proofs.Applied.{answered-so, applied, pages-stand}
+use Rattle.std.proofs.Common.{ℕ, ap, sym, ◌∙◌}
+use Rattle.numa_huge.specs.Huge.{has_huge}
+use Rattle.numa_host_huge.specs.Kept.{spots_in}
+use Rattle.numa_page_state.specs.Huge.{has_huge_in, huge_count, huge_first}
+use Rattle.numa_space.specs.History.{page_of}
+use Rattle.numa_host_script.specs.Paging.{memory_at}
+use Rattle.numa_host_script.proofs.UnmappedBoth.{small-unmaps}
 use Rattle.numa_host_script.proofs.paging.unmap.Goals as goal
 
-pub returns-in-Err-clause-runs : goal.returns-in-Err-clause-runs
-returns-in-Err-clause-runs c =
-    rw c.pages_reply.ensures
-    (unmap-denied c.args.running.now c.args.process c.args.start c.args.length c.in-Err.refusal
-    c.in-Err.ensures.forgets)
+pub unmap_huge-requires : goal.unmap_huge-requires
+unmap_huge-requires c =
+    ap (λ (n : ℕ). has_huge (spots_in c.args.process c.args.running.now.pages.huge.sharers)
+    (huge_first (page_of c.args.start)) (huge_count (page_of c.args.start) n))
+    (sym c.page_count-pages.ensures.pages)
+    ∙ sym c.has_huge_in.ensures.kept ∙ c.if-has_huge_in.true
 
-pub returns-in_default-clause-runs : goal.returns-in_default-clause-runs
-returns-in_default-clause-runs c =
-    unmap-plain c.args.running.now c.args.process c.args.start c.args.length _ c.obey_in.result
-    (rw c.in_default.is at c.in-Ok.ensures.forgets)
-    (answered c.args.running.now c.obey_in.new.host c.args.process
-    (own.Unmap c.args.start c.args.length) c.obey_in.result c.obey_in.ensures)
-
-pub returns-in-Ok-apply-clause-runs : goal.returns-in-Ok-apply-clause-runs
-returns-in-Ok-apply-clause-runs c =
-    unmap-done c.args.running.now c.args.process c.args.start c.args.length c.in-Some.after
-    (rw c.in-Some.is at c.in-Ok.ensures.forgets) c.apply.new.self c.replace.new.pages c.version.result
-    c.in-Ok-apply.ensures c.version.ensures.meaning c.replace.ensures
-
-pub returns-in-Err-apply-clause-runs : goal.returns-in-Err-apply-clause-runs
-returns-in-Err-apply-clause-runs c =
-    unmap-refused c.args.running.now c.args.process c.args.start c.args.length c.in-Some.after
-    (rw c.in-Some.is at c.in-Ok.ensures.forgets) c.apply.new.self c.in-Err-apply.refusal
-    c.in-Err-apply.ensures
-
-pub returns-in-Err-clause-host : goal.returns-in-Err-clause-host
-returns-in-Err-clause-host c =
-    rw c.pages_reply.ensures
-    (pages-stand c.args.running.now.host c.args.process c.args.start c.args.length
-    c.in-Err.refusal c.in-Err.ensures.lack)
-
-pub returns-in_default-clause-host : goal.returns-in_default-clause-host
-returns-in_default-clause-host c =
-    answered-so c.args.running.now.host c.obey_in.new.host
-    (In c.args.process (own.Unmap c.args.start c.args.length)) c.obey_in.result c.obey_in.ensures
-
-pub returns-in-Ok-apply-clause-host : goal.returns-in-Ok-apply-clause-host
-returns-in-Ok-apply-clause-host c = (c.version.ensures.meaning, c.in-Ok-apply.ensures)
-
-pub returns-in-Err-apply-clause-host : goal.returns-in-Err-apply-clause-host
-returns-in-Err-apply-clause-host c =
-    applied c.args.running.now.host c.apply.new.self
-    (In c.args.process (own.Unmap c.args.start c.args.length))
-    (reply.HostRefused c.in-Err-apply.refusal) (Err c.in-Err-apply.refusal) c.in-Err-apply.ensures
-    refl
+pub returns-clause-runs : goal.returns-clause-runs
+returns-clause-runs c =
+    small-unmaps c.args.running.now c.args.process c.args.start c.args.length
+    c.unmap_small.new.running c.unmap_small.result
+    (λ at stands. ap (λ (n : ℕ). has_huge_in (memory_at at c.args.process) (page_of c.args.start) n)
+    (sym c.page_count-pages.ensures.pages)
+    ∙ sym (c.has_huge_in.ensures.huge at.lying.huge stands.lies.huge) ∙ c.if-has_huge_in.false)
+    c.unmap_small.ensures.runs

@@ -21,8 +21,11 @@ returns-in-Pages c = rw c.in-Pages.is c.pages_in.ensures
 pub returns-in-Bind : goal.returns-in-Bind
 returns-in-Bind c = rw c.in-Bind.is c.bind.ensures
 
+pub returns-in-Huge : goal.returns-in-Huge
+returns-in-Huge c = rw c.in-Huge.is c.huge_in.ensures
+
 pub returns-in_default : goal.returns-in_default
 returns-in_default c =
     in-nothing c.args.running.now c.args.process c.args.line.now c.in_default.not-Command
     c.in_default.not-EmptyBind c.in_default.not-Question c.in_default.not-Maps
-    c.in_default.not-Pages c.in_default.not-Bind
+    c.in_default.not-Pages c.in_default.not-Bind c.in_default.not-Huge

@@ -10,9 +10,12 @@ returns-in-Err c =
     own-taken c.args.running.now c.reply_own.new.running c.args.line.now c.reply_own.result
     (rw (c.in-Pages.is, c.in-Err.is) tt) c.reply_own.ensures
 
+pub returns-in-Huge : goal.returns-in-Huge
+returns-in-Huge c = rw c.in-Huge.is c.own_huge.ensures
+
 pub returns-in_default : goal.returns-in_default
 returns-in_default c =
     own-taken c.args.running.now c.reply_own-in_default.new.running c.args.line.now
     c.reply_own-in_default.result
-    (is-other c.args.line.now (λ shown. c.in_default.not-Pages (Ok shown)))
+    (is-other c.args.line.now (λ shown. c.in_default.not-Pages (Ok shown)) c.in_default.not-Huge)
     c.reply_own-in_default.ensures

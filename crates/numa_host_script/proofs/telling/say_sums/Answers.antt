@@ -1,6 +1,6 @@
 use Rattle.std.proofs.Common.{ℕ, sym, arith}
 use Rattle.numa_lines.proofs.Adding.{said_both, said_nothing, said_same}
-use Rattle.numa_host_pages.specs.Summed.{sum_of}
+use Rattle.numa_host_pages.specs.Summed.{sum_in}
 use Rattle.numa_run.proofs.Telling.{all-flows, flows_of, from-alike, texts-more}
 use Rattle.numa_run.proofs.Telling.{texts-none}
 use Rattle.numa_host_script.proofs.telling.say_sums.Goals as goal
@@ -8,12 +8,12 @@ use Rattle.numa_host_script.proofs.telling.say_sums.Goals as goal
 pub loop-from-init : goal.loop-from-init
 loop-from-init g c = λ at lies.
     said_same g.W.Write.contents c.args.output.now c.args.output.now _ _
-    (sym (texts-none (flows_of (sum_of at.homes).flow)))
+    (sym (texts-none (flows_of (sum_in at).flow)))
     (said_nothing g.W.Write.contents c.args.output.now)
 
 pub loop-from-preserved : goal.loop-from-preserved
 loop-from-preserved g c = λ at lies.
-    let flow : ℕ → ℕ → ℕ = (sum_of at.homes).flow in
+    let flow : ℕ → ℕ → ℕ = (sum_in at).flow in
     said_same g.W.Write.contents c.args.output.now c.say_flows_from.new.output _ _
     (sym (texts-more (flows_of flow) c.loop-from.from))
     (said_both g.W.Write.contents c.args.output.now c.loop-from.output
@@ -25,7 +25,7 @@ loop-from-preserved g c = λ at lies.
 
 pub returns : goal.returns
 returns g c = λ at lies.
-    let flow : ℕ → ℕ → ℕ = (sum_of at.homes).flow in
+    let flow : ℕ → ℕ → ℕ = (sum_in at).flow in
     said_same g.W.Write.contents c.args.output.now c.loop-from.output _ _
     (all-flows flow c.loop-from.from
     (omega (arith, c.loop-from.auto.from-end, c.loop-from-test.false)))

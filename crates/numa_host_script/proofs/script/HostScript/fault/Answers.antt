@@ -27,5 +27,8 @@ returns-in-MovedAll c = rw c.in-MovedAll.is c.own_fault-in-MovedAll.ensures
 pub returns-in-Rooms : goal.returns-in-Rooms
 returns-in-Rooms c = rw c.in-Rooms.is c.own_fault-in-Rooms.ensures
 
+pub returns-in-Pools : goal.returns-in-Pools
+returns-in-Pools c = rw c.in-Pools.is c.own_fault-in-Pools.ensures
+
 pub returns-in-Arrived : goal.returns-in-Arrived
 returns-in-Arrived c = rw c.in-Arrived.is (c.arrived_fault.ensures c.in-Arrived.field-0)

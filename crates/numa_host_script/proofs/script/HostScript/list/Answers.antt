@@ -1,6 +1,6 @@
 use Rattle.std.proofs.Common.{refl}
-use Rattle.numa_host_script.specs.Paging.{pages_at}
-use Rattle.numa_host_script.proofs.Told.{pages-there}
+use Rattle.numa_host_script.specs.Paging.{memory_at, pages_at}
+use Rattle.numa_host_script.proofs.Told.{huge-there, pages-there}
 use Rattle.numa_host_script.proofs.Written.{listed-foreign, listed-nobody, listed-there}
 use Rattle.numa_host_script.proofs.script.HostScript.list.Goals as goal
 
@@ -28,6 +28,9 @@ returns g c =
     c.args.self.now.limits c.in-Some.running c.args.process c.args.task
     c.in-Some-process.space.now session c.in-Some-process.ensures
     (λ at runs one there machine kept.
-    c.list.ensures (pages_at at c.args.process).spots one.history one there machine refl kept
-    (pages-there c.pages_of.result c.args.process at.lying
-    (c.pages_of.ensures at.lying runs.lies))) stands)
+    c.list.ensures (pages_at at c.args.process).spots (memory_at at c.args.process) one.history
+    one there machine refl kept
+    (pages-there c.pages_of-pages.result c.args.process at.lying
+    (c.pages_of-pages.ensures at.lying runs.lies))
+    (huge-there c.pages_of.result c.args.process at.lying.huge
+    (c.pages_of.ensures.home at.lying.huge runs.lies.huge))) stands)

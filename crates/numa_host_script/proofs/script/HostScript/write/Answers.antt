@@ -43,5 +43,8 @@ returns-in-MovedAll g c = rw c.in-MovedAll.is c.write_own-in-MovedAll.ensures
 pub returns-in-Rooms : goal.returns-in-Rooms
 returns-in-Rooms g c = rw c.in-Rooms.is c.write_own-in-Rooms.ensures
 
+pub returns-in-Pools : goal.returns-in-Pools
+returns-in-Pools g c = rw c.in-Pools.is c.write_own-in-Pools.ensures
+
 pub returns-in-Arrived : goal.returns-in-Arrived
 returns-in-Arrived g c = rw c.in-Arrived.is c.tell_arrived.ensures

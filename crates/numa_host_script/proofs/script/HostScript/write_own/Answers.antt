@@ -9,7 +9,7 @@ returns-in_default-misplaced g c =
     written-shown g.W.Write.contents c.args.output.now c.say_shown_in.new.output
     c.args.self.now.script c.args.self.now.limits c.in-Some.running c.args.taken session
     (sym c.in_default-misplaced.is ∙ c.misplaced.ensures)
-    (rw (← c.asks_move-moves.ensures) c.say_shown_in.ensures) stands)
+    (rw (← c.asks_move-moves.ensures, ← c.asks_pools-pools.ensures) c.say_shown_in.ensures) stands)
 
 pub returns-in-Some : goal.returns-in-Some
 returns-in-Some g c =
