@@ -97,10 +97,24 @@ pub(crate) fn plain_words(line: &[u8]) -> Detail {
     }
 }
 
+/// Why a line is answered so whose words are as they must be: what the pools have isn't a process's
+/// to tell.
+fn untold_detail(line: &[u8]) -> Detail {
+    let Some(word) = word_at(line, TOLD) else {
+        return Detail::None;
+    };
+    let Some(Keyword::Pool) = read_keyword(word) else {
+        return Detail::None;
+    };
+    let column = line.len().saturating_sub(word.len()).saturating_add(1);
+    let cause = Cause::NotTold(Keyword::Pool);
+    Detail::Malformed(Malformed { cause, column })
+}
+
 /// Why a line of a host's script is answered so.
 pub(crate) fn host_words(line: &[u8]) -> Detail {
     match why_malformed(line) {
-        None => Detail::None,
+        None => untold_detail(line),
         Some(malformed) => malformed_detail(line, malformed),
     }
 }

@@ -5,11 +5,11 @@ use crate::pages::{first_mapped, first_unmapped, first_without_home, is_mapped};
 use numa_machine::{Machine, PageSize};
 use numa_mask::ListFault;
 use numa_mask::parts::first_place;
-use numa_requests::{Command, CoreRefusal, Event, MoveRefusal, PlacedRefusal, Refusal};
-use numa_script::parts::{items, words};
-use numa_script::{
-    HugeLine, HugeRefusal, Line, PageLine, Question, Reply, ScriptLine, WordError, Work,
+use numa_requests::{
+    Command, CoreRefusal, Event, HugeRefusal, MoveRefusal, PlacedRefusal, Refusal,
 };
+use numa_script::parts::{items, words};
+use numa_script::{HugeLine, Line, PageLine, Question, Reply, ScriptLine, WordError, Work};
 use numa_space::Space;
 
 /// The size of a page in bytes.

@@ -54,8 +54,6 @@ pub enum Detail {
     NeedsProcess,
     /// A worker's line, which has no place in a host.
     NoWorkers,
-    /// A line about pages of 2 MiB, or about a first touch, which has none either.
-    NoHuge,
     /// The number of the group or of the process in question.
     Number(u32),
     /// A host's process was told or asked: its group says which nodes are allowed, and no worker

@@ -125,7 +125,8 @@ fn cause_words(cause: Cause) -> &'static str {
         Cause::TwoSpaces => "two spaces in a row; write one",
         Cause::UnknownWord => "no line begins with this word",
         Cause::NotTold(_) => {
-            "in P is followed by a command, a question, maps, populate, at, migrate, move or moved"
+            "in P is followed by a command, a question, maps, populate, fault, at, migrate, move, \
+             moved or pool with a count"
         }
         Cause::TooFewWords(_) => "too few words",
         Cause::TooManyWords(_) => "too many words",
@@ -301,9 +302,6 @@ fn detail_words(detail: Detail) -> &'static str {
         Detail::HostReady => ": the script is a host's already; take the line out",
         Detail::NeedsProcess => ": in a host a line of one process follows in P; write that",
         Detail::NoWorkers => ": a host has no workers; they are for scripts of one process",
-        Detail::NoHuge => {
-            ": a host has no pools; they, pages of 2 MiB and fault are for scripts of one process"
-        }
         Detail::NoMachine => ": no machine is ready; limits and machine come first",
         Detail::MachineReady => {
             ": a machine is ready already; limits, rules, cpus and machine come before it"

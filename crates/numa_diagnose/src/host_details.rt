@@ -11,9 +11,6 @@ use numa_script::{Line, Reply, ScriptLine, WordError};
 
 /// The details of a line that has no place where it stands.
 fn state_detail(said: &ScriptLine<'_>) -> Detail {
-    if let Line::Huge(_) = said.line {
-        return Detail::NoHuge;
-    }
     if said.process.is_some() {
         return Detail::NoWorkers;
     }

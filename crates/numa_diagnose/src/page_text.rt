@@ -1,9 +1,8 @@
 //! Why lines about pages that are there are refused, as text.
 use crate::finding::Detail;
 use crate::finding_text::put_refusal;
-use numa_requests::{CoreRefusal, MoveRefusal, PlacedRefusal, Refusal};
+use numa_requests::{CoreRefusal, HugeRefusal, MoveRefusal, PlacedRefusal, Refusal};
 use numa_rules::Text;
-use numa_script::HugeRefusal;
 use numa_script::huge_line::huge_cause;
 use numa_script::names::{move_cause, placed_cause};
 
